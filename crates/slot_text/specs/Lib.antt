@@ -2,3 +2,4 @@ pub mod Lines
 pub mod Fields
 pub mod Numbers
 pub mod Reads
+pub mod Stations
