@@ -3,3 +3,4 @@ pub mod Fields
 pub mod Numbers
 pub mod Reads
 pub mod Stations
+pub mod Texts
