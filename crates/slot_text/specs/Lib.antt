@@ -4,3 +4,5 @@ pub mod Numbers
 pub mod Reads
 pub mod Stations
 pub mod Texts
+pub mod Ended
+pub mod Forms
