@@ -1,0 +1,3 @@
+pub mod SeasonLemmas
+pub mod CivilLemmas
+pub mod PeriodLemmas

@@ -1,0 +1,81 @@
+ghost use Rattle.std.specs.Prelude.{◌≡◌, ◌≢◌, ◌↔◌, ◌<◌, map, [], ℕ, Ok, IfOk, IfErr, IsErrOf};
+ghost use Rattle.season_days.specs.Seasons.{date_count, date_at, is_on, dates_of, IsDatesFault, NamesDate, number_named, IsDayNamed, IsOutside, IsDayOfFault};
+
+use crate::day::{Day, DayFault, Period};
+use crate::season::Season;
+use std::alloc::Global;
+
+impl Season {
+    /// The day of the season that a month (1 to 12) and a day of the month name. In a winter season the months July to
+    /// December are those of the first year and January to June those of the second.
+    ///
+    /// `NoSuchDate`: that year has no such date. `OutsideSeason`: it has, before the season's first date or after its last.
+    pub fn day_of(&self, month: u8, day: u8) -> Result<Day, DayFault>
+        ensures found { IfOk result (λ found. IsDayNamed self.now month day found.0) }
+        ensures only { (found : ℕ) → IsDayNamed self.now month day found → result ≡ Ok (record { 0 = found }) }
+        ensures no_such_date { IsErrOf result DayFault.NoSuchDate ↔ ¬ (NamesDate self.now month day) }
+        ensures outside { IsErrOf result DayFault.OutsideSeason → NamesDate self.now month day × IsOutside self.now (number_named self.now month day) }
+        ensures no_other { IfErr result IsDayOfFault }
+    {
+        let Some(date) = self.date_named(month, day) else {
+            return Err(DayFault::NoSuchDate);
+        };
+        let days = self.first().to_plain().until(date.to_plain());
+        if days < 0 {
+            return Err(DayFault::OutsideSeason);
+        }
+        let found = days.unsigned_abs();
+        if found >= self.length() {
+            return Err(DayFault::OutsideSeason);
+        }
+        Ok(Day(found))
+    }
+
+    /// The month (1 to 12) and the day of the month of a day of the season.
+    pub fn date_of(&self, day: Day) -> (u8, u8)
+        requires day { day.0 < date_count self.now }
+        ensures month { result.0 ≡ (date_at self.now day.0).month }
+        ensures of_month { result.1 ≡ (date_at self.now day.0).of_month }
+        ensures named { IsDayNamed self.now result.0 result.1 day.0 }
+    {
+        let date = self.date_on(day).to_plain();
+        (date.month, date.day)
+    }
+
+    /// The dates of a period, in rising order: the days from first to last whose weekday is in the set. Time in
+    /// proportion to the number of days from first to last.
+    ///
+    /// `Reversed`: the first day is after the last. `NoDates`: no day from first to last has one of the weekdays.
+    pub fn dates_of(&self, alloc: Global, period: Period) -> Result<Vec<Day>, DayFault>
+        requires first { period.first.0 < date_count self.now }
+        requires last { period.last.0 < date_count self.now }
+        ensures found { IfOk result (λ days. map (λ day. day.0) days.items ≡ dates_of self.now period) }
+        ensures some { IfOk result (λ days. dates_of self.now period ≢ []) }
+        ensures reversed { IsErrOf result DayFault.Reversed ↔ (period.last.0 < period.first.0) }
+        ensures no_dates { IsErrOf result DayFault.NoDates → dates_of self.now period ≡ [] }
+        ensures no_other { IfErr result IsDatesFault }
+    {
+        if period.last.0 < period.first.0 {
+            return Err(DayFault::Reversed);
+        }
+        let mut days = Vec::new(alloc);
+        let end = period.last.0 + 1;
+        for day in period.first.0..end {
+            if self.is_on(period.days, Day(day)) {
+                days.push(Day(day))?;
+            }
+        }
+        if days.is_empty() {
+            return Err(DayFault::NoDates);
+        }
+        Ok(days)
+    }
+
+    /// Whether the weekday of a day is in a set, whose bit 0 is Monday.
+    pub fn is_on(&self, days: u8, day: Day) -> bool
+        ensures { result ≡ is_on self.now days day.0 }
+    {
+        let weekday = self.weekday(day);
+        (days >> (weekday - 1)) % 2 == 1
+    }
+}
