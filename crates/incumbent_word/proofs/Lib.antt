@@ -1,0 +1,6 @@
+mod Costs
+mod Workers
+mod Sound
+mod Keeps
+mod Allowed
+mod Ends
