@@ -70,7 +70,7 @@ left_half v log = record v { share = v.share - v.share / 2; log = log }
 abbrev pub right_half : View → ℕ → List Event → View
 right_half v number log = record v { number = number; worker = newcomer v.worker.seen; share = v.share / 2; log = log }
 
--- the worker of w is new, was split off from that of v, and has only seen what that one has
+-- the worker of this number is new: it was split off from that of v, and has only seen what that one has
 pub record Parted (v : View) (number : ℕ) (log : List Event) : Type 0 where
   pub after : Core
   pub left : Has after v.number v.worker
@@ -96,7 +96,7 @@ pub record United (v : View) (number : ℕ) (worker : Worker) (known log : List 
   pub both_known : (rest : List Event) × (log ≡ (known ++ rest) ++ Join v.number number ∷ []) × All (λ e. maker e ≢ number) rest
 
 module _ {S : Type 0} where
-  -- the seat holds no slot and has no guest, before and after
+  -- the seat keeps the slots and the guest that it has
   abbrev pub Alone : Me S SeatState → Me S SeatState → Type 0
   Alone m m' = (m'.1 ≡ m.1) × (m'.0.guest ≡ m.0.guest)
 

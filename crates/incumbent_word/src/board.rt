@@ -59,7 +59,8 @@ impl Model for Board {
 }
 
 /// The right of one worker to take part in a search. Workers come and go by `split` and `join`. A seat
-/// has no bytes but two marks, which say that it once found no piece or no number left.
+/// has no bytes but two marks, which say that it once found no piece or no number left. A seat that is
+/// dropped takes its share with it: its board can then be dropped, but not closed.
 #[derive(Drop)]
 pub struct BoardSeat {
     seat: Seat<(), SeatState>,

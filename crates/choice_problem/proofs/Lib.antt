@@ -1,0 +1,13 @@
+pub mod SumLemmas
+pub mod ProblemLemmas
+pub mod StripLemmas
+pub mod VectorLemmas
+pub mod BoundLemmas
+pub mod AllowedLemmas
+pub mod TreeLemmas
+pub mod ShapeLemmas
+pub mod GraftLemmas
+pub mod FloorLemmas
+pub mod DrivenLemmas
+pub mod GreedyLemmas
+pub mod RootLemmas

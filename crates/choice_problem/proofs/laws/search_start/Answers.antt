@@ -1,0 +1,12 @@
+use Rattle.choice_problem.proofs.GreedyLemmas.{IsGreedy-feasible, IsGreedyCost-only}
+use Rattle.choice_problem.proofs.RootLemmas.{IsNodeVector-only}
+use Rattle.choice_problem.proofs.laws.search_start.Goals as goal
+
+pub returns-clause-feasible : goal.returns-clause-feasible
+returns-clause-feasible c = IsGreedy-feasible
+
+pub returns-clause-one_cost : goal.returns-clause-one_cost
+returns-clause-one_cost c = IsGreedyCost-only
+
+pub returns-clause-one_vector : goal.returns-clause-one_vector
+returns-clause-one_vector c = IsNodeVector-only

@@ -1,0 +1,15 @@
+pub mod Sums
+pub mod Strips
+pub mod Counts
+pub mod Problems
+pub mod Allowed
+pub mod Choices
+pub mod Bounds
+pub mod Trees
+pub mod Greedy
+pub mod Roots
+pub mod Splits
+pub mod Driven
+pub mod Grafts
+pub mod Floors
+pub mod Loops

@@ -1,0 +1,129 @@
+//! Laws of closed ranges, of trees, and of what trees prove. The functions do nothing; their contracts are the laws.
+
+ghost use Rattle.std.specs.Prelude.{◌≡◌, ℕ, ◌≤◌, List, Option, Some, None, All, [], ◌∷◌, ◌++◌, count_by, ◌==◌};
+ghost use Rattle.choice_problem.specs.declared.strips.Strip.{Strip};
+ghost use Rattle.choice_problem.specs.Strips.{strip_uses, strip_resources};
+ghost use Rattle.choice_problem.specs.declared.nodes.Node.{Node};
+ghost use Rattle.choice_problem.specs.declared.nodes.Node.TheVariants as node;
+ghost use Rattle.choice_problem.specs.declared.vectors.Price.{Price};
+ghost use Rattle.choice_problem.specs.Problems.{ProblemView, unit_count};
+ghost use Rattle.choice_problem.specs.Choices.{IsFeasible, IsBest, HasNone, choice_cost};
+ghost use Rattle.choice_problem.specs.Bounds.{IsWithin, IsVector, Closes, IsOver, whole_of};
+ghost use Rattle.choice_problem.specs.Trees.{
+  AreSound,
+  IsSound,
+  IsWhole,
+  IsTree,
+  OverHolds,
+  CanSplit,
+  low_part,
+  high_part,
+  parts_of,
+};
+ghost use Rattle.choice_problem.specs.Greedy.{IsGreedy, IsGreedyCost};
+ghost use Rattle.choice_problem.specs.Roots.{IsNodeVector};
+ghost use Rattle.choice_problem.specs.Driven.{IsDriven, AreDriven};
+ghost use Rattle.choice_problem.specs.Grafts.{open_ranges, graft, AreSoundOn, AreDrivenOn};
+ghost use Rattle.choice_problem.specs.Floors.{IsFloored, AreFloors, IsAtMost};
+
+/// A strip uses a resource as often as the resource comes in the list that the strip stands for.
+pub fn strip_list()
+    ensures { (s : Strip) (r : ℕ) → strip_uses s r ≡ count_by (λ c. c == r) (strip_resources s) }
+{}
+
+/// What closed ranges say of the feasible choices within them, by weak Lagrangian duality. What closes for none closes
+/// for every cost, and what closes for a cost closes for every smaller one. A feasible choice within ranges that are
+/// closed for a cost costs at least that; within ranges that are closed for none, or by an over leaf, there is none.
+pub fn closed_ranges()
+    ensures none_closes_all { (p : ProblemView) (ranges : List (ℕ × ℕ)) (prices : List Price) (scale u : ℕ) →
+        Closes p ranges prices scale None → Closes p ranges prices scale (Some u) }
+    ensures smaller { (p : ProblemView) (ranges : List (ℕ × ℕ)) (prices : List Price) (scale u v : ℕ) →
+        v ≤ u → Closes p ranges prices scale (Some u) → Closes p ranges prices scale (Some v) }
+    ensures cost { (p : ProblemView) (ranges : List (ℕ × ℕ)) (prices : List Price) (scale u : ℕ) (x : List ℕ) →
+        IsVector p prices → Closes p ranges prices scale (Some u) → IsFeasible p x → IsWithin p ranges x →
+        u ≤ choice_cost p x }
+    ensures none { (p : ProblemView) (ranges : List (ℕ × ℕ)) (prices : List Price) (scale : ℕ) (x : List ℕ) →
+        IsVector p prices → Closes p ranges prices scale None → IsFeasible p x → IsWithin p ranges x → ⊥ }
+    ensures over { (p : ProblemView) (ranges : List (ℕ × ℕ)) (resource : ℕ) (x : List ℕ) →
+        OverHolds p ranges resource → IsFeasible p x → IsWithin p ranges x → ⊥ }
+{}
+
+/// What a sound and whole tree on all alternatives says of all choices: with the cost of a feasible choice it makes that
+/// choice best, and without a cost it leaves no feasible choice.
+pub fn sound_tree()
+    ensures best { (p : ProblemView) (vectors : List (List Price)) (nodes : List Node) (x : List ℕ) →
+        All (IsVector p) vectors → IsFeasible p x →
+        IsSound p vectors (Some (choice_cost p x)) (whole_of p) nodes → IsWhole nodes → IsBest p x }
+    ensures none { (p : ProblemView) (vectors : List (List Price)) (nodes : List Node) →
+        All (IsVector p) vectors → IsSound p vectors None (whole_of p) nodes → IsWhole nodes → HasNone p }
+{}
+
+/// Trees that are closed for a floor but may have undone nodes: where the bound of each undone node closes its ranges for
+/// the floor, no feasible choice costs less. `listed` says the same of a tree that is sound for a cost, or for none, with
+/// one vector and scale for each undone node.
+pub fn floored_tree()
+    ensures closed { (p : ProblemView) (vectors : List (List Price)) (floor : ℕ) (nodes : List Node) (x : List ℕ) →
+        All (IsVector p) vectors → IsFloored p vectors floor nodes → IsFeasible p x → floor ≤ choice_cost p x }
+    ensures listed { (p : ProblemView) (vectors : List (List Price)) (cost : Option ℕ) (floor : ℕ) (nodes : List Node)
+        (floors : List (ℕ × ℕ)) (x : List ℕ) →
+        All (IsVector p) vectors → IsSound p vectors cost (whole_of p) nodes → IsAtMost floor cost →
+        AreFloors p vectors floor nodes floors → IsFeasible p x → floor ≤ choice_cost p x }
+{}
+
+/// The shape of trees: a sound split is followed by exactly two trees, sound on the low and on the high part, and two such
+/// trees make one; nothing follows another node; no tree is the beginning of another.
+pub fn split_trees()
+    ensures split { (p : ProblemView) (vectors : List (List Price)) (cost : Option ℕ) (ranges : List (ℕ × ℕ))
+        (unit cut : ℕ) (seen : Option ℕ) (nodes : List Node) →
+        IsSound p vectors cost ranges (node.Split unit cut seen ∷ nodes) →
+        CanSplit ranges unit cut × ((low high : List Node) × (nodes ≡ low ++ high)
+        × IsSound p vectors cost (low_part ranges unit cut) low
+        × IsSound p vectors cost (high_part ranges unit cut) high) }
+    ensures joined { (p : ProblemView) (vectors : List (List Price)) (cost : Option ℕ) (ranges : List (ℕ × ℕ))
+        (unit cut : ℕ) (seen : Option ℕ) (low high : List Node) →
+        CanSplit ranges unit cut → IsSound p vectors cost (low_part ranges unit cut) low →
+        IsSound p vectors cost (high_part ranges unit cut) high →
+        IsSound p vectors cost ranges (node.Split unit cut seen ∷ low ++ high) }
+    ensures shape { (p : ProblemView) (vectors : List (List Price)) (cost : Option ℕ) (ranges : List (ℕ × ℕ))
+        (nodes : List Node) → IsSound p vectors cost ranges nodes → IsTree nodes }
+    ensures leaf { (first : Node) (nodes : List Node) → IsTree (first ∷ nodes) → parts_of [] first ≡ [] → nodes ≡ [] }
+    ensures only { (one two more other : List Node) → IsTree one → IsTree two → one ++ more ≡ two ++ other → one ≡ two }
+{}
+
+/// Trees joined: one after the other on two lists of ranges, and in the place of undone nodes. What was sound, or driven,
+/// stays so.
+pub fn joined_trees()
+    ensures sound { (p : ProblemView) (vectors : List (List Price)) (cost : Option ℕ) (first second : List (List (ℕ × ℕ)))
+        (nodes more : List Node) →
+        AreSound p vectors cost first nodes → AreSound p vectors cost second more →
+        AreSound p vectors cost (first ++ second) (nodes ++ more) }
+    ensures sound_grafted { (p : ProblemView) (vectors : List (List Price)) (cost : Option ℕ)
+        (pending : List (List (ℕ × ℕ))) (nodes : List Node) (trees : List (List Node)) →
+        AreSound p vectors cost pending nodes → AreSoundOn p vectors cost (open_ranges pending nodes) trees →
+        AreSound p vectors cost pending (graft nodes trees) }
+    ensures driven { (p : ProblemView) (vectors : List (List Price)) (root : List Price)
+        (first second : List (List (ℕ × ℕ))) (nodes more : List Node) →
+        AreDriven p vectors root first nodes → AreDriven p vectors root second more →
+        AreDriven p vectors root (first ++ second) (nodes ++ more) }
+    ensures driven_grafted { (p : ProblemView) (vectors : List (List Price)) (root : List Price)
+        (pending : List (List (ℕ × ℕ))) (nodes : List Node) (trees : List (List Node)) →
+        AreDriven p vectors root pending nodes → AreDrivenOn p vectors root (open_ranges pending nodes) trees →
+        AreDriven p vectors root pending (graft nodes trees) }
+{}
+
+/// The greedy choice is feasible, and its cost, or that there is none, is determined by the problem; so is the root vector.
+pub fn search_start()
+    ensures feasible { (p : ProblemView) (x : List ℕ) → IsGreedy p (unit_count p) x → IsFeasible p x }
+    ensures one_cost { (p : ProblemView) (one other : Option ℕ) →
+        IsGreedyCost p one → IsGreedyCost p other → one ≡ other }
+    ensures one_vector { (p : ProblemView) (ranges : List (ℕ × ℕ)) (one other : List Price) →
+        IsNodeVector p ranges one → IsNodeVector p ranges other → one ≡ other }
+{}
+
+/// A tree that is driven for a result is sound for it, and stays driven where vectors are added to the list.
+pub fn driven_tree()
+    ensures sound { (p : ProblemView) (vectors : List (List Price)) (result : Option ℕ) (nodes : List Node) →
+        IsDriven p vectors result nodes → IsSound p vectors result (whole_of p) nodes }
+    ensures more { (p : ProblemView) (vectors more : List (List Price)) (result : Option ℕ) (nodes : List Node) →
+        IsDriven p vectors result nodes → IsDriven p (vectors ++ more) result nodes }
+{}

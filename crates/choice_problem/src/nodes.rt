@@ -1,0 +1,75 @@
+//! Search trees of branch and bound, as the lists of their nodes.
+
+ghost use Rattle.std.specs.Prelude.{◌≡◌, ◌<◌, ◌^◌, length};
+ghost use Rattle.choice_problem.specs.Trees.{node_count};
+
+use std::marker::Model;
+
+/// A node of a search tree. Each has ranges of alternatives, which the splits above it cut out of the whole ones.
+/// `seen` is the cost that was known when the node was made, if any.
+#[derive(Clone, Copy, Debug, PartialEq, Eq)]
+pub enum Node {
+    /// The unit's range is cut in two, and two trees follow: on the alternatives below the cut, and from the cut on.
+    Split {
+        unit: u32,
+        cut: u32,
+        seen: Option<u64>,
+    },
+    /// The bound at a vector of prices and a scale closes the ranges. Vector 0 is the one without prices.
+    Leaf {
+        vector: u32,
+        scale: u64,
+        seen: Option<u64>,
+    },
+    /// Even the least load of a resource in range is above its limit.
+    Over {
+        resource: u32,
+    },
+    /// The ranges were not searched.
+    Undone,
+}
+
+/// A search tree: its nodes in preorder, the low part of a split first.
+#[derive(Drop)]
+pub struct Tree {
+    nodes: Vec<Node>,
+}
+
+impl Model for Tree {
+    ghost use Rattle.std.specs.Prelude.{List};
+    ghost use Rattle.choice_problem.specs.declared.nodes.Node.{Node};
+
+    ghost Value = { List Node };
+
+    ghost view = { λ t. t.nodes.items };
+}
+
+impl Tree {
+    /// The list of these nodes. Whether they are one tree is not asked here.
+    pub fn new(nodes: Vec<Node>) -> Tree
+        ensures { result ≡ nodes.items }
+    {
+        Tree { nodes }
+    }
+
+    /// The nodes in preorder.
+    pub fn items(&self) -> &[Node]
+        ensures { result.now ≡ self.now }
+    {
+        &self.nodes
+    }
+}
+
+/// How many splits and closed leaves a tree has; undone nodes are not counted. One step a node.
+pub fn count_nodes(tree: &Tree) -> u32
+    requires { length tree.now < 2 ^ 32 }
+    ensures { result ≡ node_count tree.now }
+{
+    let mut count = 0;
+    for node in tree.items() {
+        if *node != Node::Undone {
+            count += 1;
+        }
+    }
+    count
+}

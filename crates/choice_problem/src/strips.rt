@@ -1,0 +1,192 @@
+//! The resources that an alternative uses, in strips.
+
+ghost use Rattle.std.specs.Prelude.{◌≡◌, ◌+◌, ◌^◌, ◌<◌, ◌≤◌, length, All};
+ghost use Rattle.choice_problem.specs.Counts.{GrowsBy, HasRoom};
+ghost use Rattle.choice_problem.specs.Loops.{run_uses};
+
+use std::marker::Model;
+
+/// The resources `first + i * gap + j`, for i below `times` and j below `width`: runs of `width` resources, `gap` apart.
+/// A resource that comes several times, as where runs overlap or `gap` is 0, counts as often.
+#[derive(Clone, Copy, Debug, PartialEq, Eq)]
+pub struct Strip {
+    pub first: u32,
+    pub width: u32,
+    pub gap: u32,
+    pub times: u32,
+}
+
+impl Strip {
+    ghost use Rattle.std.specs.Prelude.{◌≡◌, ◌↔◌, ◌+◌, ◌-◌, ◌*◌, ◌<◌, nat_le, IsTrue};
+    ghost use Rattle.choice_problem.specs.Sums.{count_below};
+    ghost use Rattle.choice_problem.specs.Strips.{run_start, strip_uses, IsStripInRange};
+    ghost use Rattle.choice_problem.specs.Allowed.{strip_most};
+    ghost use Rattle.choice_problem.specs.Counts.{GrowsBy, HasRoom};
+
+    // How often the strip uses a resource, by two divisions: the runs that begin at or before it, less those that end
+    // before it.
+    fn uses(&self, resource: u32) -> u32
+        ensures { result ≡ strip_uses self.now resource }
+    {
+        if resource < self.first {
+            return 0;
+        }
+        let distance = resource - self.first;
+        let begun = self.runs_begun(distance);
+        if distance < self.width {
+            begun
+        } else {
+            begun - self.runs_begun(distance - self.width)
+        }
+    }
+
+    // How many runs begin at most this far from the first one's begin.
+    fn runs_begun(&self, distance: u32) -> u32
+        ensures { result ≡ count_below self.now.times (λ i. nat_le (i * self.now.gap) distance) }
+    {
+        if self.gap == 0 {
+            return self.times;
+        }
+        let last = distance / self.gap;
+        if last < self.times {
+            last + 1
+        } else {
+            self.times
+        }
+    }
+
+    // How many runs can hold one resource.
+    fn most_uses(&self) -> u32
+        ensures { result ≡ strip_most self.now }
+    {
+        if self.gap == 0 {
+            return self.times;
+        }
+        let starts = (u64::from(self.width) + u64::from(self.gap - 1)) / u64::from(self.gap);
+        u64::from(self.times).min(starts) as u32
+    }
+
+    // Whether the last run ends within the resources.
+    fn is_within(&self, resources: u32) -> bool
+        ensures { IsTrue result ↔ IsStripInRange resources self.now }
+    {
+        self.times == 0 || self.end() <= u64::from(resources)
+    }
+
+    // Where the last run ends.
+    fn end(&self) -> u64
+        requires { 0 < self.now.times }
+        ensures { result ≡ run_start self.now (self.now.times - 1) + self.now.width }
+    {
+        let last = u64::from(self.times - 1);
+        u64::from(self.first) + last * u64::from(self.gap) + u64::from(self.width)
+    }
+
+    // Counts the strip's uses.
+    fn add_uses(&self, counts: &mut [u32])
+        requires there { IsStripInRange (length counts.old) self.now }
+        requires room { HasRoom counts.old (λ r. strip_uses self.now r) }
+        ensures { GrowsBy counts.old counts.new (λ r. strip_uses self.now r) }
+    {
+        for i in 0..self.times {
+            let start = u64::from(self.first) + u64::from(i) * u64::from(self.gap);
+            let end = start + u64::from(self.width);
+            add_run(counts, start as usize, end as usize);
+        }
+    }
+}
+
+// Adds one to each count from one place to another.
+fn add_run(counts: &mut [u32], start: usize, end: usize)
+    requires ordered { start ≤ end }
+    requires there { end ≤ length counts.old }
+    requires room { HasRoom counts.old (λ r. run_uses start end r) }
+    ensures { GrowsBy counts.old counts.new (λ r. run_uses start end r) }
+{
+    for at in start..end {
+        counts[at] += 1;
+    }
+}
+
+/// A list of strips: the resources of all of them together, each as often as it comes.
+#[derive(Drop)]
+pub struct Part {
+    strips: Vec<Strip>,
+}
+
+impl Model for Part {
+    ghost use Rattle.std.specs.Prelude.{List};
+    ghost use Rattle.choice_problem.specs.declared.strips.Strip.{Strip};
+
+    ghost Value = { List Strip };
+
+    ghost view = { λ p. p.strips.items };
+}
+
+impl Part {
+    ghost use Rattle.std.specs.Prelude.{◌≡◌, ◌↔◌, ◌^◌, ◌<◌, ◌≤◌, length, IsTrue};
+    ghost use Rattle.choice_problem.specs.Strips.{part_uses, IsPartInRange};
+    ghost use Rattle.choice_problem.specs.Allowed.{part_most};
+    ghost use Rattle.choice_problem.specs.Counts.{GrowsBy, HasRoom};
+
+    /// The part of these strips.
+    pub fn new(strips: Vec<Strip>) -> Part
+        ensures { result ≡ strips.items }
+    {
+        Part { strips }
+    }
+
+    /// The strips.
+    pub fn strips(&self) -> &[Strip]
+        ensures { result.now ≡ self.now }
+    {
+        &self.strips
+    }
+
+    // How often the strips together use a resource: two divisions a strip.
+    pub(crate) fn uses(&self, resource: u32) -> u32
+        requires { part_uses self.now resource < 2 ^ 32 }
+        ensures { result ≡ part_uses self.now resource }
+    {
+        let mut uses = 0;
+        for strip in &self.strips {
+            uses += strip.uses(resource);
+        }
+        uses
+    }
+
+    /// Whether the strips stay within the resources, which are numbered from 0: one step a strip.
+    pub fn is_within(&self, resources: u32) -> bool
+        ensures { IsTrue result ↔ IsPartInRange resources self.now }
+    {
+        for strip in &self.strips {
+            if !strip.is_within(resources) {
+                return false;
+            }
+        }
+        true
+    }
+
+    // How often the strips together can use one resource.
+    pub(crate) fn most_uses(&self) -> u128
+        ensures most { result ≡ part_most self.now }
+        ensures small { result ≤ 2 ^ 96 }
+    {
+        let mut most = 0;
+        for strip in &self.strips {
+            most += u128::from(strip.most_uses());
+        }
+        most
+    }
+
+    // Counts the uses of the strips together.
+    pub(crate) fn add_uses(&self, counts: &mut [u32])
+        requires there { IsPartInRange (length counts.old) self.now }
+        requires room { HasRoom counts.old (λ r. part_uses self.now r) }
+        ensures { GrowsBy counts.old counts.new (λ r. part_uses self.now r) }
+    {
+        for strip in &self.strips {
+            strip.add_uses(counts);
+        }
+    }
+}

@@ -1,0 +1,29 @@
+//! Benchmarks of the desk's slow steps. `desk_bench WORD` runs the one that the word names at full size, and prints counts,
+//! times and memory; `desk_bench short` runs all of them at a small size and prints counts alone.
+#![tactic(auto)]
+
+mod board;
+mod bounds;
+mod report;
+mod turn;
+
+use report::Size;
+use std::env;
+
+fn main(rt: HostRuntime) -> anyhow::Result<()> {
+    let word = env::args(&rt)?.nth(1);
+    match word.as_deref() {
+        Some("bounds") => bounds::run(&rt, Size::Full),
+        Some("board") => board::run(&rt, rt.alloc(), Size::Full),
+        Some("turn") => turn::run(&rt, rt.alloc(), Size::Full),
+        Some("short") => {
+            bounds::run(&rt, Size::Short)?;
+            board::run(&rt, rt.alloc(), Size::Short)?;
+            turn::run(&rt, rt.alloc(), Size::Short)
+        }
+        _ => {
+            println!(rt; "desk_bench WORD: bounds, board, turn, short")?;
+            Ok(())
+        }
+    }
+}

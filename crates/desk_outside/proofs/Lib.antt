@@ -1,0 +1,4 @@
+pub mod SlotLemmas
+pub mod CabinetLemmas
+pub mod WriteLemmas
+pub mod FilesLemmas

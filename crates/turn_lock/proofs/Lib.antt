@@ -1,0 +1,15 @@
+pub mod HistoryLemmas
+pub mod Sums
+pub mod Every
+pub mod CallerLists
+pub mod OpenKeeps
+pub mod WinKeeps
+pub mod DecideKeeps
+pub mod GiveKeeps
+pub mod PartKeeps
+pub mod Moves
+pub mod Taking
+pub mod Putting
+pub mod NewSeats
+pub mod Uniting
+pub mod Ends
