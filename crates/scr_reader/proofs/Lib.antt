@@ -1,0 +1,8 @@
+pub mod PartLemmas
+pub mod FieldLemmas
+pub mod CleanLemmas
+pub mod DateLemmas
+pub mod ArrivalLemmas
+pub mod LineLemmas
+pub mod HistoricLemmas
+pub mod PutLemmas

@@ -1,0 +1,5 @@
+pub mod Bytes
+pub mod Parts
+pub mod Printed
+pub mod Historic
+pub mod Fields

@@ -1,0 +1,34 @@
+ghost use Rattle.std.specs.Prelude.{◌≡◌};
+ghost use Rattle.scr_reader.specs.declared.fault.ScrFault.TheVariants.{Memory};
+
+use std::alloc::{AllocError, AllocFailed};
+
+/// Why a text is no message, by the place of its first bad line. Lines and fields count from 1.
+#[derive(Clone, Copy, Debug, PartialEq, Eq)]
+pub enum ScrFault {
+    /// A line below the header, and its first field that has not its form.
+    BadLine { line: u32, field: u32 },
+    /// A line of the header that has not its form; where one is missing, the place after the last line.
+    BadHeader { line: u32 },
+    /// A line to be changed that no line with the change follows, or such a line with none before it.
+    Unpaired { line: u32 },
+    /// A line of more than 200 bytes.
+    TooLong { line: u32 },
+    Memory,
+}
+
+impl From<AllocError> for ScrFault {
+    ghost from_gives = { λ _ e. e ≡ Memory };
+
+    fn from(_error: AllocError) -> ScrFault {
+        ScrFault::Memory
+    }
+}
+
+impl<T: Drop> From<AllocFailed<T>> for ScrFault {
+    ghost from_gives = { λ _ e. e ≡ Memory };
+
+    fn from(_error: AllocFailed<T>) -> ScrFault {
+        ScrFault::Memory
+    }
+}

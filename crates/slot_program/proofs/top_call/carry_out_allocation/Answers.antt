@@ -1,0 +1,16 @@
+use Rattle.std.proofs.Common.{◌≡◌, sym, ◌∙◌, subst, refl}
+use Rattle.slot_program.specs.Reports.{settled}
+use Rattle.slot_program.specs.Desk.{FileNames, AllocationEnds}
+use Rattle.slot_program.proofs.TextLemmas.{stage_lines_are}
+use Rattle.slot_program.proofs.top_call.carry_out_allocation.Goals as goal
+
+pub returns-in_ok-from_str-in-Ok-clause-answer : goal.returns-in_ok-from_str-in-Ok-clause-answer
+returns-in_ok-from_str-in-Ok-clause-answer g c =
+    let files = g.C.Cabinet.files in
+    let count = g.C.Cabinet.fault_count in
+    record {
+      report = settled;
+      status_is = refl;
+      text_is = c.in_ok-from_str-in-Ok.ensures.ok ∙ stage_lines_are;
+      ends = subst (λ (n : FileNames). AllocationEnds (files c.args.cabinet.now) n (count c.args.cabinet.now) (count c.allocate.new.cabinet) settled (files c.allocate.new.cabinet)) c.names_in-names.ensures c.in-Ok.ensures.done;
+    }

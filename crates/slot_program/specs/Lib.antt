@@ -1,0 +1,12 @@
+pub mod Words
+pub mod Capacity
+pub mod Texts
+pub mod Reports
+pub mod Order
+pub mod Writing
+pub mod Desk
+pub mod Messages
+pub mod Stops
+pub mod CapacityFaults
+pub mod Cutting
+pub mod Bits

@@ -1,0 +1,140 @@
+ghost use Rattle.std.specs.Prelude.{◌≡◌, ◌≢◌, ◌⊎◌, ℕ, List, Option, Some, None, IfOk, length};
+ghost use Rattle.std.specs.String.{string_bytes};
+ghost use Rattle.desk_outside.specs.Cause.{Rose};
+ghost use Rattle.desk_outside.specs.Files.{Files, ChangesOnly};
+ghost use Rattle.desk_outside.specs.Bytes.{Puts, PutsPart};
+ghost use Rattle.slot_program.specs.Words.{Word, words_of, job_of};
+ghost use Rattle.slot_program.specs.Reports.{Report, status_of, text_of, settled};
+ghost use Rattle.slot_program.specs.Order.{FirstDue};
+ghost use Rattle.slot_program.specs.Desk.{file_names, allocation_steps, IsAnswer, IsPlan, Allocates, Ends, names_written, IsStatus};
+ghost use Rattle.slot_program.specs.Stops.{names_of};
+ghost use Rattle.slot_program.specs.declared.job.Job.TheVariants.{Allocate};
+
+use crate::allocate::allocate;
+use crate::job::{Job, NameList, WordFault};
+use crate::refusal::{Names, Stop};
+use crate::words::read_words;
+use desk_outside::{Cabinet, Sink};
+use slot_text::Memory;
+use std::alloc::Global;
+
+const STAGE_LINES: &str =
+    "STAGE 1 OPTIMAL 0\nSTAGE 2 OPTIMAL 0\nSTAGE 3 OPTIMAL 0\nSTAGE 4 OPTIMAL 0\n";
+
+/// A status, and the text that goes with it.
+#[derive(Drop)]
+struct Answer {
+    status: u8,
+    text: String,
+}
+
+/// Does what the words of a command line ask, on the files of a cabinet, and says the result to a sink.
+///
+/// The answer is the status of the program: 0 where the work is done; 2 where the words are no command's; 5 where the
+/// cabinet failed, or has no such file or one of more than 4 MiB; 6 where the sink failed; 7 for want of memory; and 12
+/// where a file is not in the form that is served.
+pub fn desk<R, C: Cabinet, S: Sink>(
+    _rt: &R,
+    alloc: Global,
+    words: &[String],
+    cabinet: &mut C,
+    out: &mut S,
+) -> u8
+    // The status and what was said are those of one report, which is due by the words and the files.
+    ensures said { result ≢ 6 → result ≢ 7 → (report : Report) × (result ≡ status_of report)
+        × Ends (job_of (words_of words.now)) (C.files cabinet.old) (C.fault_count cabinet.old) (C.fault_count cabinet.new) report (C.files cabinet.new)
+        × Puts (S.contents out.old) (text_of report) (S.contents out.new) }
+    ensures statuses { IsStatus result }
+
+    // Done: the certificate and then the replies are written, the sink got the four stage lines, and nothing failed.
+    ensures allocated { (names : List Word) → job_of (words_of words.now) ≡ Some (Allocate names) → result ≡ 0 →
+        Allocates (C.files cabinet.old) (file_names names) (C.files cabinet.new) × Puts (S.contents out.old) (text_of settled) (S.contents out.new) }
+    ensures done { result ≡ 0 → (C.fault_count cabinet.new ≡ C.fault_count cabinet.old) × (S.fault_count out.new ≡ S.fault_count out.old) }
+
+    // The words are no command's, exactly then, and no file is changed.
+    ensures words { result ≡ 2 → job_of (words_of words.now) ≡ None }
+    ensures refused { job_of (words_of words.now) ≡ None →
+        (C.files cabinet.new ≡ C.files cabinet.old) × ((result ≡ 2) ⊎ ((result ≡ 6) ⊎ (result ≡ 7))) }
+
+    // What the files give as the first refusal is answered, unless a call of the cabinet failed, the sink failed or memory ran out.
+    ensures due { (names : List Word) (held : Files) (report : Report) → job_of (words_of words.now) ≡ Some (Allocate names) → C.files cabinet.old ≡ Some held →
+        FirstDue held (allocation_steps (file_names names)) report →
+        (result ≡ status_of report) ⊎ (((result ≡ 5) × Rose (C.fault_count cabinet.old) (C.fault_count cabinet.new)) ⊎ ((result ≡ 6) ⊎ (result ≡ 7))) }
+
+    // The sink failed: the files are as at the status whose text was being put, and a front of that text went out.
+    ensures cut { result ≡ 6 → Rose (S.fault_count out.old) (S.fault_count out.new) × ((report : Report)
+        × Ends (job_of (words_of words.now)) (C.files cabinet.old) (C.fault_count cabinet.old) (C.fault_count cabinet.new) report (C.files cabinet.new)
+        × PutsPart (S.contents out.old) (text_of report) (S.contents out.new)) }
+
+    // Whatever the status, only files that the command writes have other bytes than before.
+    ensures others { ChangesOnly (C.files cabinet.old) (names_written (job_of (words_of words.now))) (C.files cabinet.new) }
+
+    // With a command's words, both files in their forms and no rise of a count the work is done, or memory ran out.
+    ensures complete { (names : List Word) (held : Files) (replies : List ℕ) → job_of (words_of words.now) ≡ Some (Allocate names) → C.files cabinet.old ≡ Some held →
+        IsPlan held (file_names names) replies → (Rose (C.fault_count cabinet.old) (C.fault_count cabinet.new) → ⊥) → (Rose (S.fault_count out.old) (S.fault_count out.new) → ⊥) →
+        (result ≡ 0) ⊎ (result ≡ 7) }
+{
+    match carry_out(alloc, words, cabinet) {
+        Ok(answer) => match out.put(answer.text.as_bytes()) {
+            Ok(()) => answer.status,
+            Err(_) => 6,
+        },
+        Err(_) => 7,
+    }
+}
+
+/// Does the work that the words ask for, and gives what is to be said.
+fn carry_out<C: Cabinet>(alloc: Global, words: &[String], cabinet: &mut C) -> Result<Answer, Memory>
+    ensures answer { IfOk result (λ a. IsAnswer (job_of (words_of words.now)) (C.files cabinet.old) (C.fault_count cabinet.old) (C.fault_count cabinet.new) a.status (string_bytes a.text) (C.files cabinet.new)) }
+    ensures others { ChangesOnly (C.files cabinet.old) (names_written (job_of (words_of words.now))) (C.files cabinet.new) }
+    ensures refused { job_of (words_of words.now) ≡ None → C.files cabinet.new ≡ C.files cabinet.old }
+{
+    match read_words(alloc, words) {
+        Ok(Job::Allocate { names }) => carry_out_allocation(alloc, &names, cabinet),
+        Err(WordFault::Words) => Ok(Answer {
+            status: 2,
+            text: String::from_str(alloc, "WORDS\n")?,
+        }),
+        Err(WordFault::Memory) => Err(Memory),
+    }
+}
+
+/// Allocates, and gives what is to be said.
+fn carry_out_allocation<C: Cabinet>(
+    alloc: Global,
+    names: &NameList,
+    cabinet: &mut C,
+) -> Result<Answer, Memory>
+    requires { length names.now ≡ 4 }
+    ensures answer { IfOk result (λ a. IsAnswer (Some (Allocate names.now)) (C.files cabinet.old) (C.fault_count cabinet.old) (C.fault_count cabinet.new) a.status (string_bytes a.text) (C.files cabinet.new)) }
+    ensures others { ChangesOnly (C.files cabinet.old) (names_written (Some (Allocate names.now))) (C.files cabinet.new) }
+{
+    let names = names_in(names);
+    match allocate(alloc, &names, cabinet) {
+        Ok(()) => Ok(Answer {
+            status: 0,
+            text: String::from_str(alloc, STAGE_LINES)?,
+        }),
+        Err(Stop::Refused(refusal)) => Ok(Answer {
+            status: refusal.status(&names),
+            text: refusal.text(alloc, &names)?,
+        }),
+        Err(Stop::Memory) => Err(Memory),
+    }
+}
+
+/// The four names of an allocation.
+fn names_in(names: &NameList) -> Names<'_>
+    requires { length names.now ≡ 4 }
+    ensures { names_of result ≡ file_names names.now }
+{
+    let [capacity, requests, certificate, replies] = names.items() else {
+        unreachable!()
+    };
+    Names {
+        capacity: capacity.text(),
+        requests: requests.text(),
+        certificate: certificate.text(),
+        replies: replies.text(),
+    }
+}
