@@ -1,7 +1,22 @@
 use super::*;
+use std::alloc::Global;
 use std::fmt::Display;
 use std::test::Fail;
 use std::{env, fs, io, process};
+
+/// Whether the cabinet hands these bytes out under the name.
+fn reads<C: Cabinet>(
+    cabinet: &mut C,
+    alloc: Global,
+    name: &str,
+    most: usize,
+    bytes: &[u8],
+) -> bool {
+    match cabinet.read(alloc, name, most) {
+        Ok(found) => found.as_slice() == bytes,
+        Err(_) => false,
+    }
+}
 
 #[test]
 fn a_cabinet_in_memory_fails_where_listed_or_full(rt: HostRuntime) -> Result<(), Fail> {
@@ -20,10 +35,7 @@ fn a_cabinet_in_memory_fails_where_listed_or_full(rt: HostRuntime) -> Result<(),
     );
     assert_eq!(rt; cabinet.write("a", b"one"), Ok(()));
     assert_eq!(rt; cabinet.write("a", b"two"), Err(CabinetFault::Failed));
-    assert_eq!(rt;
-        cabinet.read(alloc, "a", 3).ok().as_deref(),
-        Some(b"one".as_slice())
-    );
+    assert!(rt; reads(&mut cabinet, alloc, "a", 3, b"one"));
     assert_eq!(rt;
         cabinet.read(alloc, "a", 2).err(),
         Some(CabinetFault::Larger)
@@ -48,10 +60,7 @@ fn a_cabinet_in_memory_fails_where_listed_or_full(rt: HostRuntime) -> Result<(),
         cabinet.read(alloc, "a", 4).err(),
         Some(CabinetFault::Failed)
     );
-    assert_eq!(rt;
-        cabinet.read(alloc, "b", 2).ok().as_deref(),
-        Some(b"xy".as_slice())
-    );
+    assert!(rt; reads(&mut cabinet, alloc, "b", 2, b"xy"));
     assert_eq!(rt; cabinet.faults(), 6);
     assert!(rt; cabinet.load("b", b"more"));
     assert!(rt; !cabinet.load("b", b"5more"));
@@ -100,39 +109,38 @@ fn a_sink_in_memory_fails_where_listed_or_full(rt: HostRuntime) -> Result<(), Fa
 }
 
 #[test]
-fn the_system_has_files(rt: HostRuntime) -> Result<(), Fail> {
+fn the_system_keeps_a_file(rt: HostRuntime) -> Result<(), Fail> {
     let alloc = rt.alloc();
-    let folder = env::temp_dir(&rt)?;
-    let name = format!(in alloc; "desk-outside-test-{}", process::id(rt.process()))?;
-    let path = folder.join(alloc, name.as_str())?;
-    let folder = folder.as_path().to_str().ok_or("folder")?;
-    let path = path.as_path().to_str().ok_or("path")?;
+    let file = format!(in alloc; "desk-outside-test-{}", process::id(rt.process()))?;
+    let path = env::temp_dir(&rt)?.join(alloc, file.as_str())?;
+    let name = path.as_path().to_str().ok_or("path")?;
     let mut cabinet = RealCabinet::new(&rt);
+    assert_eq!(rt; cabinet.write(name, b"SCR\nS25\n"), Ok(()));
+    assert!(rt; reads(&mut cabinet, alloc, name, 8, b"SCR\nS25\n"));
     assert_eq!(rt;
-        cabinet.read(alloc, path, 9).err(),
-        Some(CabinetFault::Missing)
-    );
-    assert_eq!(rt; cabinet.write(path, b"SCR\nS25\n"), Ok(()));
-    assert_eq!(rt;
-        cabinet.read(alloc, path, 8).ok().as_deref(),
-        Some(b"SCR\nS25\n".as_slice())
-    );
-    assert_eq!(rt;
-        cabinet.read(alloc, path, 7).err(),
+        cabinet.read(alloc, name, 7).err(),
         Some(CabinetFault::Larger)
     );
-    assert_eq!(rt; cabinet.write(path, b""), Ok(()));
+    fs::remove_file(&rt, name)?;
     assert_eq!(rt;
-        cabinet.read(alloc, path, 0).ok().as_deref(),
-        Some(b"".as_slice())
+        cabinet.read(alloc, name, 8).err(),
+        Some(CabinetFault::Missing)
     );
+    assert_eq!(rt; cabinet.faults(), 2);
+    Ok(())
+}
+
+#[test]
+fn the_system_refuses_a_folder(rt: HostRuntime) -> Result<(), Fail> {
+    let path = env::temp_dir(&rt)?;
+    let name = path.as_path().to_str().ok_or("path")?;
+    let mut cabinet = RealCabinet::new(&rt);
     assert_eq!(rt;
-        cabinet.read(alloc, folder, 9).err(),
+        cabinet.read(rt.alloc(), name, 9).err(),
         Some(CabinetFault::Failed)
     );
-    assert_eq!(rt; cabinet.write(folder, b"x"), Err(CabinetFault::Failed));
-    assert_eq!(rt; cabinet.faults(), 4);
-    fs::remove_file(&rt, path)?;
+    assert_eq!(rt; cabinet.write(name, b"x"), Err(CabinetFault::Failed));
+    assert_eq!(rt; cabinet.faults(), 2);
     Ok(())
 }
 

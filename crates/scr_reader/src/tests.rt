@@ -82,58 +82,6 @@ fn a_message_is_read_and_printed(rt: HostRuntime) -> Result<(), Fail> {
 }
 
 #[test]
-fn lines_are_printed(rt: HostRuntime) -> Result<(), Fail> {
-    let season = Season::read(b"S25").ok_or("season")?;
-    let mut out = Vec::new(rt.alloc());
-    print_line(rt.alloc(), &mut out, &season, Code::K, &daily_arrival())?;
-    out.push(b'\n')?;
-    let turnaround = Line {
-        code: Code::N,
-        arrival: Some(stop(
-            flight([b'U', b'2', 0], 1234, 0),
-            495,
-            b"LTN",
-            Some(Station(*b"BFS")),
-        )),
-        departure: Some(stop(
-            flight([b'U', b'2', 0], 1235, 0),
-            545,
-            b"BFS",
-            Some(Station(*b"LTN")),
-        )),
-        nights: 0,
-        period: Period {
-            first: Day(1),
-            last: Day(208),
-            days: 21,
-        },
-        seats: 186,
-        craft: Craft(*b"320"),
-    };
-    print_line(rt.alloc(), &mut out, &season, Code::K, &turnaround)?;
-    out.push(b'\n')?;
-    let departure = Line {
-        departure: Some(stop(flight(*b"EZY", 12, b'A'), 30, b"LGW", None)),
-        arrival: None,
-        ..daily_arrival()
-    };
-    print_line(rt.alloc(), &mut out, &season, Code::N, &departure)?;
-    out.push(b'\n')?;
-    let overnight = Line {
-        departure: departure.departure,
-        nights: 2,
-        ..daily_arrival()
-    };
-    print_line(rt.alloc(), &mut out, &season, Code::O, &overnight)?;
-    let text: &[u8] = b"KBA001 30MAR25OCT 1234567 180320 JFK0610 J\n\
-KU21234 U21235 31MAR24OCT 1030500 186320 LTNBFS0815 0905BFSLTN JJ\n\
-N EZY012A 30MAR25OCT 1234567 180320 0030LGW J\n\
-OBA001 EZY012A 30MAR25OCT 1234567 180320 JFK0610 00302LGW JJ";
-    assert_eq!(rt; out.as_slice(), text);
-    Ok(())
-}
-
-#[test]
 fn lines_are_read_or_not(rt: HostRuntime) -> Result<(), Fail> {
     let season = Season::read(b"S25").ok_or("season")?;
     let good: [&[u8]; 4] = [

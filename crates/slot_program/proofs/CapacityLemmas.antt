@@ -1,5 +1,5 @@
 -- The capacity file line by line: what is read, and which line is the first that is bad.
-use Rattle.std.proofs.Common.{◌≡◌, ℕ, zero, suc, ◌+◌, ◌-◌, ◌/◌, ◌%◌, ◌^◌, ◌<◌, ◌≤◌, true, eqb, List, [], ◌∷◌, ◌++◌, length, take, drop, codes, Option, None, refl, sym, ap, subst, ◌∙◌, arith, inl, inr}
+use Rattle.std.proofs.Common.{◌≡◌, ℕ, suc, ◌+◌, ◌-◌, ◌/◌, ◌%◌, ◌<◌, ◌≤◌, true, eqb, List, [], ◌∷◌, ◌++◌, length, take, drop, codes, None, refl, sym, ap, subst, ◌∙◌, arith, inl}
 use Rattle.std.specs.Fmt.{decimal}
 use Rattle.std.proofs.lemmas.Fmt.{decimal_injective}
 use Rattle.std.proofs.Math.Nat.{zero-mod}
@@ -16,11 +16,11 @@ use Rattle.season_days.specs.declared.declaration.Declaration.{Declaration}
 use Rattle.season_days.specs.declared.declaration.Rule.{Rule}
 use Rattle.season_days.specs.declared.declaration.Kind.TheVariants.{Arr}
 use Rattle.slot_text.specs.Ended.{ended, ended_lines}
-use Rattle.slot_text.specs.Forms.{BeginsInForm, IsFirstBadLine}
-use Rattle.slot_program.specs.Cutting.{Lacks, IsCut, AreFields}
+use Rattle.slot_text.specs.Forms.{IsFirstBadLine}
+use Rattle.slot_program.specs.Cutting.{Lacks, AreFields}
 use Rattle.slot_program.specs.Capacity.{is_step, IsFlex, IsRule, IsDays, IsDeclaration, placed_days, clock_text, rule_fields, airport_line, season_line, step_line, flex_line, ground_line, refuse_line, rule_line, capacity_lines, IsCapacityText, IsCapacityForm}
 use Rattle.slot_program.proofs.CuttingLemmas.{lacks_append, cut_once, lacks_by}
-use Rattle.slot_program.proofs.HighLemmas.{High, high_lacks, high_decimal, high_clock, high_station, high_season, high_days}
+use Rattle.slot_program.proofs.HighLemmas.{high_lacks, high_decimal, high_clock, high_station, high_season, high_days}
 use Rattle.slot_program.proofs.EndedLemmas.{lines_then, AllLack, begins_with, peel, next_line, no_line}
 
 -- ---- one line

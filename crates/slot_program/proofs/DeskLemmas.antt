@@ -1,6 +1,6 @@
 -- How an allocation ends, from what its steps answered.
-use Rattle.std.proofs.Common.{◌≡◌, ℕ, ◌<◌, ◌≤◌, ◌+◌, true, false, List, [], ◌∷◌, ◌++◌, length, Option, Some, None, refl, sym, ap, subst, ◌∙◌, arith, inl, inr}
-use Rattle.std.specs.Prelude.{Contains, IfSome, IsSomeAnd, MatchOption, ◌⊎◌}
+use Rattle.std.proofs.Common.{◌≡◌, ℕ, ◌<◌, ◌≤◌, List, [], ◌∷◌, length, Option, Some, None, refl, sym, ap, subst, ◌∙◌, arith, inl, inr}
+use Rattle.std.specs.Prelude.{Contains, IfSome, IsSomeAnd, ◌⊎◌}
 use Rattle.std.specs.Str.{bytes_eq}
 use Rattle.std.proofs.lemmas.Bool.{cases_Bool}
 use Rattle.std.proofs.lemmas.Slice.Eq.{bytes_eq-Decides}
@@ -15,18 +15,17 @@ use Rattle.scr_reader.specs.declared.message.Message.{Message}
 use Rattle.slot_program.specs.Words.{Word}
 use Rattle.slot_program.specs.Capacity.{IsCapacityText, IsCapacityForm}
 use Rattle.slot_program.specs.Texts.{certificate_text, settled_stages, confirmation}
-use Rattle.slot_program.specs.Reports.{Report, settled, no_command, missing, large, unread, unwritten, unbuilt, status_of, text_of}
-use Rattle.slot_program.specs.Order.{most_bytes, Passes, Refuses, FirstDue, Reaches, reads, judges_capacity, judges_message}
-use Rattle.slot_program.specs.Writing.{StopsAt, with_writes}
+use Rattle.slot_program.specs.Reports.{Report, settled, no_command, missing, large, unread, unwritten, unbuilt, status_of}
+use Rattle.slot_program.specs.Order.{most_bytes, Refuses, FirstDue, reads}
 use Rattle.slot_program.specs.declared.job.Job.{Job}
 use Rattle.slot_program.specs.declared.job.Job.TheVariants.{Allocate}
 use Rattle.slot_text.specs.declared.station.Station.{Station}
 use Rattle.season_days.specs.Term.{Term}
 use Rattle.slot_program.proofs.CapacityLemmas.{no_bad_line, same_declaration}
-use Rattle.slot_program.specs.Desk.{Ends, file_names, FileNames, allocation_steps, allocation_writes, read_names, written_names, IsPlan, Allocates, AllocationEnds, IsStatus}
-use Rattle.slot_program.specs.Stops.{name_of, report_of, IsStopped, Holds, IsReadStop, IsFormStop}
+use Rattle.slot_program.specs.Desk.{Ends, file_names, FileNames, allocation_steps, written_names, IsPlan, Allocates, AllocationEnds, IsStatus}
+use Rattle.slot_program.specs.Stops.{name_of, IsStopped, Holds, IsFormStop}
 use Rattle.slot_program.specs.declared.refusal.File.{File}
-use Rattle.slot_program.specs.declared.refusal.File.TheVariants.{Capacity, Requests, Certificate, Replies}
+use Rattle.slot_program.specs.declared.refusal.File.TheVariants.{Capacity, Requests}
 use Rattle.slot_program.specs.declared.refusal.Refusal.TheVariants.{Missing, Large, Unread, Unwritten, Unbuilt}
 use Rattle.slot_program.specs.declared.refusal.Stop.{Stop}
 use Rattle.slot_program.specs.declared.refusal.Stop.TheVariants.{Refused, Memory}

@@ -1,5 +1,5 @@
 -- Spelled values hold no blank and no line end.
-use Rattle.std.proofs.Common.{◌≡◌, ◌≢◌, ℕ, zero, suc, ◌+◌, ◌-◌, ◌/◌, ◌%◌, ◌^◌, ◌<◌, ◌≤◌, true, false, List, [], ◌∷◌, ◌++◌, refl, sym, ap, subst, ◌∙◌, arith, inl, inr, ◌⊎◌}
+use Rattle.std.proofs.Common.{ℕ, ◌^◌, ◌<◌, ◌≤◌, List, [], ◌∷◌, ◌++◌, sym, subst, arith, inl, inr}
 use Rattle.std.specs.Fmt.{decimal}
 use Rattle.std.proofs.lemmas.Fmt.{decimal_by_steps}
 use Rattle.std.proofs.lemmas.Bool.{cases_Bool}
@@ -7,7 +7,7 @@ use Rattle.season_days.specs.Term.{Term}
 use Rattle.season_days.specs.Seasons.{half_letter, season_text, has_weekday}
 use Rattle.season_days.specs.declared.season.Half.{Half}
 use Rattle.season_days.specs.declared.season.Half.TheVariants.{Summer, Winter}
-use Rattle.slot_program.specs.Capacity.{two_digits, clock_text, place_of_day, placed_days, rising_digit, rising_days, IsDays}
+use Rattle.slot_program.specs.Capacity.{clock_text, place_of_day, placed_days, rising_digit, rising_days, IsDays}
 use Rattle.slot_text.specs.Stations.{IsStation}
 use Rattle.slot_program.specs.Cutting.{Lacks}
 

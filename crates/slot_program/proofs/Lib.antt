@@ -6,3 +6,4 @@ pub mod EndedLemmas
 pub mod CapacityLemmas
 pub mod DeskLemmas
 pub mod TextLemmas
+pub mod WindowLemmas

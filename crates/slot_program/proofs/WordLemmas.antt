@@ -1,5 +1,5 @@
 -- The names among words, read from left to right.
-use Rattle.std.proofs.Common.{◌≡◌, ℕ, Bool, true, false, List, [], ◌∷◌, ◌++◌, map, drop, length, get_or, Option, Some, None, option_map, codes, refl, sym, ap, ◌∙◌, not, ◌||◌, append_assoc, ◌<◌, ◌≤◌, ◌+◌, drop-cons, add-one, arith}
+use Rattle.std.proofs.Common.{◌≡◌, ℕ, Bool, true, false, List, [], ◌∷◌, ◌++◌, drop, length, get_or, Option, Some, None, option_map, codes, refl, sym, ap, not, ◌||◌, append_assoc, ◌<◌, ◌+◌, drop-cons, add-one}
 use Rattle.std.proofs.lemmas.List.{append-nil}
 use Rattle.std.specs.Prelude.{String}
 use Rattle.std.specs.Global.{Global}

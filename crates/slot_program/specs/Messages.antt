@@ -1,5 +1,5 @@
 -- A message with one line, and the text that confirms it.
-use Rattle.std.specs.Prelude.{◌≡◌, ℕ, List, [], ◌∷◌}
+use Rattle.std.specs.Prelude.{◌≡◌, ℕ, [], ◌∷◌}
 use Rattle.std.specs.Global.{Vec}
 use Rattle.scr_reader.specs.Printed.{LineFits}
 use Rattle.scr_reader.specs.declared.line.Line.{Line}

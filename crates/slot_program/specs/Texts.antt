@@ -32,8 +32,8 @@ stage_lines stage [] = []
 stage_lines stage (choices ∷ stages) = codes "STAGE " ++ (decimal stage ++ (codes " OPTIMAL 0\n" ++ stage_lines (stage + 1) stages))
 
 -- The certificate of one historic arrival. The line keeps its times, which is its only alternative, number 0. Its
--- movements fit: a window is at most a day long and the line has at most one arrival a day, so each window holds at most
--- one of them, and the declared limit is at least 1. The three other stages have no units.
+-- movements fit (the law `one_line_fits`): a window is at most a day long and the line has at most one arrival a day, so
+-- each window holds at most one of them, and the declared limit is at least 1. The three other stages have no units.
 abbrev pub settled_stages : List (List ℕ)
 settled_stages = (0 ∷ []) ∷ [] ∷ [] ∷ [] ∷ []
 

@@ -1,5 +1,5 @@
 -- Several writes in their order.
-use Rattle.std.specs.Prelude.{◌≡◌, ◌⊎◌, ℕ, List, [], ◌∷◌, map, Option, Some}
+use Rattle.std.specs.Prelude.{◌≡◌, ◌⊎◌, ℕ, List, [], ◌∷◌, Option, Some}
 use Rattle.desk_outside.specs.Files.{Files, with_file, WritesPart}
 use Rattle.slot_program.specs.Words.{Word}
 

@@ -6,6 +6,7 @@ mod capacity;
 mod cutting;
 mod days;
 mod job;
+pub mod laws;
 mod refusal;
 mod rule;
 mod top_call;

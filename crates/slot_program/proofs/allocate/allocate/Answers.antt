@@ -1,7 +1,7 @@
-use Rattle.std.proofs.Common.{◌≡◌, List, ℕ, subst, sym, ◌∙◌}
+use Rattle.std.proofs.Common.{List, ℕ, subst, ◌∙◌}
 use Rattle.desk_outside.specs.Files.{Writes, WritesPart}
 use Rattle.slot_program.proofs.TextLemmas.{certificate_is}
-use Rattle.std.proofs.lemmas.Result.{on_ok_weaker, on_err_weaker, err_from_is_err_and}
+use Rattle.std.proofs.lemmas.Result.{err_from_is_err_and}
 use Rattle.slot_program.specs.Desk.{written_names}
 use Rattle.slot_program.specs.Stops.{names_of}
 use Rattle.slot_program.proofs.DeskLemmas.{stop_capacity, stop_message, unchanged_only, write_only, part_only, then_only, planned, stop_first_write, stop_second_write, both_written, first_written, second_written}

@@ -1,4 +1,4 @@
-use Rattle.std.proofs.Common.{◌≡◌, codes, sym}
+use Rattle.std.proofs.Common.{codes, sym}
 use Rattle.std.proofs.lemmas.Option.{none-some}
 use Rattle.slot_program.proofs.CapacityLemmas.{same_value, station_lacks}
 use Rattle.slot_program.proofs.capacity.airport_of.Goals as goal

@@ -1,10 +1,7 @@
-use Rattle.std.proofs.Common.{◌≡◌, ◌≤◌, ◌%◌, ℕ, codes, sym, ap, ◌∙◌, arith}
+use Rattle.std.proofs.Common.{codes, arith}
 use Rattle.std.specs.Fmt.{decimal}
-use Rattle.std.proofs.lemmas.Option.{none-some, same_Some}
-use Rattle.std.proofs.lemmas.Bool.{both_ways}
-use Rattle.season_days.specs.Seasons.{season_text}
-use Rattle.slot_program.specs.Capacity.{is_step, rule_fields}
-use Rattle.slot_program.proofs.CapacityLemmas.{same_value, station_lacks, season_lacks, number_lacks, step_bound, rule_lacks}
+use Rattle.std.proofs.lemmas.Option.{none-some}
+use Rattle.slot_program.proofs.CapacityLemmas.{same_value, number_lacks}
 use Rattle.slot_program.proofs.capacity.ground_of.Goals as goal
 
 pub returns-in_err-value : goal.returns-in_err-value

@@ -1,4 +1,4 @@
-use Rattle.std.proofs.Common.{◌≡◌, ◌∙◌, ap, eqb, length, List, ℕ, refl, inl, sym, true}
+use Rattle.std.proofs.Common.{◌∙◌, ap, eqb, length, List, ℕ, refl, inl, sym}
 use Rattle.std.proofs.lemmas.Bool.{both_ways}
 use Rattle.slot_program.proofs.CapacityLemmas.{bad_1, bad_2, bad_3, bad_4, bad_5, bad_6, bad_7, bad_8, whole_text, empty_list}
 use Rattle.slot_program.proofs.capacity.read_capacity.Goals as goal

@@ -1,7 +1,7 @@
-use Rattle.std.proofs.Common.{◌≡◌, ◌-◌, ◌+◌, List, ℕ, length, take, drop, sym, ap, ◌∙◌, subst, arith, length-drop}
+use Rattle.std.proofs.Common.{◌≡◌, ◌-◌, ◌+◌, List, ℕ, length, take, drop, sym, ap, ◌∙◌, subst, length-drop}
 use Rattle.std.proofs.Math.Seq.{take-length}
 use Rattle.std.proofs.lemmas.List.{take_all}
-use Rattle.slot_program.specs.Cutting.{Lacks, IsCut}
+use Rattle.slot_program.specs.Cutting.{Lacks}
 use Rattle.slot_program.proofs.CuttingLemmas.{lacks_more, cut_here, uncut}
 use Rattle.slot_program.proofs.cutting.cut_at.Goals as goal
 

@@ -1,4 +1,4 @@
-use Rattle.std.proofs.Common.{◌≡◌, ◌∷◌, ◌++◌, sym, ◌∙◌}
+use Rattle.std.proofs.Common.{sym, ◌∙◌}
 use Rattle.slot_program.proofs.CuttingLemmas.{cut_once}
 use Rattle.slot_program.proofs.rule.cut_fields.Goals as goal
 

@@ -1,4 +1,4 @@
-use Rattle.std.proofs.Common.{◌≡◌, sym, ◌∙◌, subst, refl, Option, inl, inr, None}
+use Rattle.std.proofs.Common.{◌≡◌, sym, subst, refl, Option, None}
 use Rattle.slot_program.specs.Words.{words_of, job_of}
 use Rattle.slot_program.specs.Reports.{no_command}
 use Rattle.slot_program.specs.Desk.{Ends}

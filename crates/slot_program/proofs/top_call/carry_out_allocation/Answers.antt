@@ -1,4 +1,4 @@
-use Rattle.std.proofs.Common.{◌≡◌, sym, ◌∙◌, subst, refl}
+use Rattle.std.proofs.Common.{◌∙◌, subst, refl}
 use Rattle.slot_program.specs.Reports.{settled}
 use Rattle.slot_program.specs.Desk.{FileNames, AllocationEnds}
 use Rattle.slot_program.proofs.TextLemmas.{stage_lines_are}

@@ -1,4 +1,4 @@
-use Rattle.std.proofs.Common.{◌≡◌, sym, ◌∙◌, subst, inl, inr, Option, Some, ℕ}
+use Rattle.std.proofs.Common.{sym, ◌∙◌, subst, inl, inr, Option, Some, ℕ}
 use Rattle.desk_outside.specs.Files.{Files}
 use Rattle.slot_program.specs.Words.{words_of, job_of}
 use Rattle.slot_program.specs.Desk.{AllocationEnds, file_names, IsStatus}

@@ -1,0 +1,13 @@
+-- How many arrivals of a line a window holds.
+use Rattle.std.specs.Prelude.{ℕ, ◌+◌, ◌*◌, Bool, ◌&&◌, nat_le, nat_lt, if◌then◌else◌, List, [], ◌∷◌}
+
+-- the arrival on a date at a minute of the day stands in the window of so many minutes that begins so many minutes after
+-- the season's first midnight
+abbrev pub stands_in : ℕ → ℕ → ℕ → ℕ → Bool
+stands_in begin length minute date = nat_le begin (1440 * date + minute) && nat_lt (1440 * date + minute) (begin + length)
+
+-- how many of the arrivals on these dates stand in the window
+abbrev pub window_load : ℕ → ℕ → ℕ → List ℕ → ℕ
+window_load begin length minute [] = 0
+window_load begin length minute (date ∷ dates) =
+    if stands_in begin length minute date then window_load begin length minute dates + 1 else window_load begin length minute dates
