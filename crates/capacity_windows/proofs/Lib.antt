@@ -1,0 +1,9 @@
+pub mod CountLemmas
+pub mod BandLemmas
+pub mod LoadLemmas
+pub mod RuleLemmas
+pub mod RestLemmas
+pub mod NumberLemmas
+pub mod UsesLemmas
+pub mod RangeLemmas
+pub mod FewLemmas

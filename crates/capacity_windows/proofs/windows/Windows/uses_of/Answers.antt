@@ -1,0 +1,25 @@
+use Rattle.std.proofs.Common.{arith, sym, ◌∙◌}
+use Rattle.std.proofs.lemmas.Bool.{ltb-true}
+use Rattle.std.proofs.lemmas.Grind.{common_steps}
+use Rattle.season_days.specs.Seasons.{date_count}
+use Rattle.capacity_windows.specs.Windows.{resource_count}
+use Rattle.capacity_windows.proofs.UsesLemmas.{uses_none, early_rows, late_rows}
+use Rattle.capacity_windows.proofs.windows.Windows.uses_of.Goals as goal
+
+pub returns-then-not-is_listed : goal.returns-then-not-is_listed
+returns-then-not-is_listed c = record { value = c.new-uses.ensures.items ∙ sym (uses_none c.args.self.now c.args.movement (resource_count c.args.self.now) (sym c.is_listed.ensures.value ∙ c.if-not-is_listed.true)) }
+
+pub push_uses-requires-clause-before : goal.push_uses-requires-clause-before
+push_uses-requires-clause-before c =
+    let listed = ltb-true c.args.movement.day (date_count c.args.self.now.season) (sym c.is_listed.ensures.value ∙ c.if-not-is_listed.false) in
+    c.loop-rule.invariant.uses
+    ∙ sym (early_rows c.args.self.now c.args.movement c.rules-rule-items.result.now c.loop-rule.rule-index _ c.loop-rule.first c.starts_of-starts.result c.saturating_sub.result c.rules-rule-items.ensures.limits c.requires.minute listed c.rules-rule-items.ensures.items c.loop-rule-test.true c.loop-rule.invariant.number c.starts_of-starts.ensures.value c.saturating_sub.ensures)
+
+pub loop-rule-preserved : goal.loop-rule-preserved
+loop-rule-preserved c =
+    let listed = ltb-true c.args.movement.day (date_count c.args.self.now.season) (sym c.is_listed.ensures.value ∙ c.if-not-is_listed.false) in
+    record {
+      number = grind (arith, common_steps);
+      uses = c.in_ok-push_uses.ensures
+          ∙ sym (late_rows c.args.self.now c.args.movement c.rules-rule-items.result.now c.loop-rule.rule-index _ c.loop-rule.first c.starts_of-starts.result c.windows_of-first.result c.rules-rule-items.ensures.limits c.requires.minute listed c.rules-rule-items.ensures.items c.loop-rule-test.true c.loop-rule.invariant.number c.starts_of-starts.ensures.value c.windows_of-first.ensures);
+    }

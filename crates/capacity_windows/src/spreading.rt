@@ -1,0 +1,268 @@
+//! The windows that a series of movements uses, in strips. A window may reach into the next day, so each capacity line
+//! has two bands of windows that may hold a movement: those of the movement's day and those of the day before. A band
+//! takes one strip where line and series are daily, and else at most one for each weekday.
+
+ghost use Rattle.std.specs.Prelude.{◌≡◌, ◌+◌, ◌*◌, ◌<◌, ◌≤◌, ℕ, IfOk, OnOk, All, [], length};
+ghost use Rattle.choice_problem.specs.Strips.{part_uses, IsPartInRange};
+ghost use Rattle.season_days.specs.Seasons.{date_count};
+ghost use Rattle.season_days.specs.declared.declaration.Kind.{Kind};
+ghost use Rattle.season_days.specs.declared.declaration.TheConstants.{MINUTES_OF_DAY};
+ghost use Rattle.capacity_windows.specs.Windows.{IsRule, windows_of, window_load, stop_movements, resource_count, band_strips, rule_strips, most_strips};
+ghost use Rattle.capacity_windows.specs.Bands.{Adds, IsBand, IsSeries, series_of, starts_until, band_of, band_uses, weekday_uses, rule_load, rest_load, listed_dates, option_uses, first_date, end_date, IsWide, IsOptionWide};
+
+use crate::band::Band;
+use crate::counting::{is_at_night, is_of_kind};
+use crate::series::Series;
+use crate::windows::Windows;
+use choice_problem::{Part, Strip};
+use season_days::{Day, Kind, Period, Rule};
+use slot_text::Memory;
+use std::alloc::Global;
+
+// The set of all weekdays.
+const EVERY_DAY: u8 = 0x7f;
+
+impl Windows {
+    /// The resources that hold the movements of one stop, each as often as it holds one: the movements are of this kind, on
+    /// this minute of the day (below 1,440), `later` days after each date of the period, whose first and last day are days
+    /// of the season. Movements after the season's last date are held by none; a period whose first day is after its last
+    /// has no dates.
+    ///
+    /// The part uses one resource at most 217 times, so an alternative of two such parts at most 434 times. A capacity line
+    /// that holds the kind takes one strip for its windows of the movement's day and one for those of the day before where
+    /// all weekdays are in its set and in the period's, and else up to seven for each; any other line takes none, and the
+    /// night quota one. So a daily stop under 16 daily lines takes at most 33 strips, however many dates it has, and any
+    /// part at most 897. The time is one step a strip, and for the quota one step a date. The one fault is want of memory.
+    pub fn strips_of(
+        &self,
+        alloc: Global,
+        kind: Kind,
+        minute: u32,
+        later: u32,
+        period: Period,
+    ) -> Result<Part, Memory>
+        requires minute { minute < MINUTES_OF_DAY }
+        requires first { period.first.0 < date_count self.now.season }
+        requires last { period.last.0 < date_count self.now.season }
+        ensures uses { IfOk result (λ part. (r : ℕ) → part_uses part r ≡ window_load self.now (stop_movements self.now kind minute later period) r) }
+        ensures range { IfOk result (λ part. IsPartInRange (resource_count self.now) part) }
+        ensures few_uses { IfOk result (λ part. (r : ℕ) → part_uses part r ≤ 217) }
+        ensures few { IfOk result (λ part. length part ≤ most_strips self.now kind period) }
+        ensures few_ever { IfOk result (λ part. length part ≤ 14 * length self.now.rules + 1) }
+    {
+        let series = Series {
+            kind,
+            minute,
+            later,
+            period,
+        };
+        let mut strips = Vec::new(alloc);
+        let mut first = 0;
+        for rule in self.rules() {
+            self.add_rule(&mut strips, rule, first, &series)?;
+            first += self.windows_of(rule);
+        }
+        self.add_night(&mut strips, first, &series)?;
+        Ok(Part::new(strips))
+    }
+
+    // Adds the strips of a capacity line's windows, the first of which has a number.
+    fn add_rule(
+        &self,
+        strips: &mut Vec<Strip>,
+        rule: &Rule,
+        first: u32,
+        series: &Series,
+    ) -> Result<(), Memory>
+        requires wide { All IsWide strips.old.items }
+        requires step { 0 < self.now.step }
+        requires rule { IsRule rule.now }
+        requires room { first + windows_of self.now rule.now ≤ 1000000 }
+        requires series { IsSeries self.now.season series.now }
+        ensures uses { OnOk result (Adds strips.old.items strips.new.items (λ r. rule_load self.now rule.now first (series_of self.now series.now) r)) }
+        ensures wide { OnOk result (All IsWide strips.new.items) }
+        ensures few { OnOk result (length strips.new.items ≤ length strips.old.items + rule_strips series.now.kind series.now.period rule.now) }
+    {
+        if !is_of_kind(rule.kind, series.kind) {
+            return Ok(());
+        }
+        let same_day = self.band_of(rule, first, series.minute, 0);
+        self.add_band(strips, &same_day, series)?;
+        let day_before = self.band_of(rule, first, series.minute, 1);
+        self.add_band(strips, &day_before, series)?;
+        Ok(())
+    }
+
+    // A capacity line's windows, on the day some days before a movement's, that hold its minute.
+    fn band_of(&self, rule: &Rule, first: u32, minute: u32, ago: u32) -> Band
+        requires step { 0 < self.now.step }
+        requires rule { IsRule rule.now }
+        requires minute { minute < 1440 }
+        requires ago { ago < 2 }
+        ensures { result ≡ band_of self.now.step rule.now first minute ago }
+    {
+        let starts = self.starts_of(rule);
+        let minute = minute + 1440 * ago;
+        Band {
+            days: rule.days,
+            first,
+            starts,
+            low: starts.min(starts_until(rule.from + rule.length, self.step(), minute)),
+            high: starts.min(starts_until(rule.from, self.step(), minute)),
+            ago,
+        }
+    }
+
+    // Adds the strips of a band: one for all days, or one for each weekday.
+    fn add_band(&self, strips: &mut Vec<Strip>, band: &Band, series: &Series) -> Result<(), Memory>
+        requires wide { All IsWide strips.old.items }
+        requires band { IsBand self.now.season band.now }
+        requires series { IsSeries self.now.season series.now }
+        ensures uses { OnOk result (Adds strips.old.items strips.new.items (λ r. band_uses self.now.season series.now.period series.now.later band.now r)) }
+        ensures wide { OnOk result (All IsWide strips.new.items) }
+        ensures few { OnOk result (length strips.new.items ≤ length strips.old.items + band_strips band.now.days series.now.period.days) }
+    {
+        if band.low >= band.high {
+            return Ok(());
+        }
+        if band.days == EVERY_DAY && series.period.days == EVERY_DAY {
+            if let Some(strip) = self.daily_strip(band, series) {
+                strips.push(strip)?;
+            }
+            return Ok(());
+        }
+        for weekday in 0..7 {
+            if let Some(strip) = self.weekday_strip(band, series, weekday) {
+                strips.push(strip)?;
+            }
+        }
+        Ok(())
+    }
+
+    // The first date on which a movement can be in a band.
+    fn first_date(band: &Band, series: &Series) -> u32
+        ensures { result ≡ first_date series.now.period series.now.later band.now }
+    {
+        series
+            .period
+            .first
+            .0
+            .max(band.ago.saturating_sub(series.later))
+    }
+
+    // The end of the dates on which a movement is listed.
+    fn end_date(&self, series: &Series) -> u32
+        requires { series.now.period.last.0 < date_count self.now.season }
+        ensures exact { result ≡ end_date self.now.season series.now.period series.now.later }
+        ensures few { date_count self.now.season ≤ 217 }
+    {
+        let days = self.days();
+        (series.period.last.0 + 1).min(days.saturating_sub(series.later))
+    }
+
+    // The strip of a band and a series of every day.
+    fn daily_strip(&self, band: &Band, series: &Series) -> Option<Strip>
+        requires dates { series.now.period.days ≡ 127 }
+        requires days { band.now.days ≡ 127 }
+        requires band { IsBand self.now.season band.now }
+        requires series { IsSeries self.now.season series.now }
+        requires some { band.now.low < band.now.high }
+        ensures uses { (r : ℕ) → band_uses self.now.season series.now.period series.now.later band.now r ≡ option_uses result r }
+        ensures wide { IsOptionWide result }
+    {
+        let first = Windows::first_date(band, series);
+        let end = self.end_date(series);
+        if first >= end {
+            return None;
+        }
+        let day = first + series.later - band.ago;
+        Some(Strip {
+            first: band.first + day * band.starts + band.low,
+            width: band.high - band.low,
+            gap: band.starts,
+            times: end - first,
+        })
+    }
+
+    // The strip of the dates of one weekday, where 0 is the weekday of the season's first date.
+    fn weekday_strip(&self, band: &Band, series: &Series, weekday: u32) -> Option<Strip>
+        requires weekday { weekday < 7 }
+        requires band { IsBand self.now.season band.now }
+        requires series { IsSeries self.now.season series.now }
+        requires some { band.now.low < band.now.high }
+        ensures uses { (r : ℕ) → weekday_uses self.now.season series.now.period series.now.later band.now (weekday + 1) r ≡ weekday_uses self.now.season series.now.period series.now.later band.now weekday r + option_uses result r }
+        ensures wide { IsOptionWide result }
+    {
+        let low = Windows::first_date(band, series);
+        let end = self.end_date(series);
+        let first = low + (weekday + 7 - low % 7) % 7;
+        if first >= end {
+            return None;
+        }
+        if !self.is_on(series.period.days, Day(first)) {
+            return None;
+        }
+        let day = first + series.later - band.ago;
+        if !self.is_on(band.days, Day(day)) {
+            return None;
+        }
+        Some(Strip {
+            first: band.first + day * band.starts + band.low,
+            width: band.high - band.low,
+            gap: 7 * band.starts,
+            times: (end + 6 - first) / 7,
+        })
+    }
+
+    // Adds the strip of the night quota, which has a number.
+    fn add_night(&self, strips: &mut Vec<Strip>, first: u32, series: &Series) -> Result<(), Memory>
+        requires wide { All IsWide strips.old.items }
+        requires series { IsSeries self.now.season series.now }
+        ensures uses { OnOk result (Adds strips.old.items strips.new.items (λ r. rest_load self.now [] first (series_of self.now series.now) r)) }
+        ensures wide { OnOk result (All IsWide strips.new.items) }
+        ensures few { OnOk result (length strips.new.items ≤ length strips.old.items + 1) }
+    {
+        let Some(night) = self.quota() else {
+            return Ok(());
+        };
+        if !is_at_night(&night, series.minute) {
+            return Ok(());
+        }
+        strips.push(Strip {
+            first,
+            width: 1,
+            gap: 0,
+            times: self.listed_dates(series.period, series.later),
+        })?;
+        Ok(())
+    }
+
+    // On how many dates of a period a movement some days later is listed.
+    fn listed_dates(&self, period: Period, later: u32) -> u32
+        requires { period.last.0 < date_count self.now.season }
+        ensures { result ≡ listed_dates self.now.season period later }
+    {
+        let days = self.days();
+        let end = (period.last.0 + 1).min(days.saturating_sub(later));
+        let mut count = 0;
+        for day in period.first.0..end {
+            if self.is_on(period.days, Day(day)) {
+                count += 1;
+            }
+        }
+        count
+    }
+}
+
+// How many starts there are up to a minute.
+fn starts_until(first: u32, step: u32, minute: u32) -> u32
+    requires step { 0 < step }
+    requires minute { minute < 2880 }
+    ensures value { result ≡ starts_until first step minute }
+    ensures bound { result ≤ 2880 }
+{
+    if minute < first {
+        return 0;
+    }
+    (minute - first) / step + 1
+}
