@@ -1,0 +1,10 @@
+pub mod LineLemmas
+pub mod WordLemmas
+pub mod LoopLemmas
+pub mod RowLemmas
+pub mod BlockLemmas
+pub mod TextLemmas
+pub mod CertLemmas
+pub mod WriteLemmas
+pub mod ExtraLemmas
+pub mod PrintLemmas

@@ -1,0 +1,329 @@
+//! The parts of a certificate, line after line.
+
+ghost use Rattle.std.specs.Prelude.{◌≡◌, ◌^◌, ◌+◌, ◌<◌, ◌≤◌, ◌∷◌, ◌++◌, List, OnOk, IfErr, codes, option_to_list};
+ghost use Rattle.cert_format.specs.Words.{most_small, most_large};
+ghost use Rattle.cert_format.specs.Rows.{count_row, choices_row, node_row, mark_row, version_row, end_row, extra_row, tried_row};
+ghost use Rattle.cert_format.specs.Spelling.{has_bound};
+ghost use Rattle.cert_format.specs.Spots.{spot_of, line_by, Gives};
+ghost use Rattle.cert_format.specs.Reading.{many, alternative_at, alternatives_at, choice_at, price_at, one_vector, vector_at, vectors_at, not_tried, optional_at, nodes_at, tree_at, proof_at, stage_at};
+
+use crate::cert::{Floor, FloorList, Mark, StageCert};
+use crate::fault::CertFault;
+use crate::lines::Place;
+use crate::rows::{
+    alternative_of, choices_of, count_of, end_of, extra_of, mark_of, node_of, price_of,
+    small_count_of, tried_of, version_of,
+};
+use choice_problem::{Choice, Node, Price, Tree, Vector, VectorList};
+use std::alloc::Global;
+
+fn count_at<'a>(tag: &[u8], most: u64, place: Place<'a>) -> Result<(u64, Place<'a>), CertFault>
+    ensures { Gives (λ x. (x.0, spot_of x.1)) result (line_by (count_row tag.now most) (spot_of place.entry)) }
+{
+    let bad_line = CertFault::BadLine { line: place.line };
+    let (words, after) = place.next_line().ok_or(bad_line)?;
+    let count = count_of(tag, most, words).ok_or(bad_line)?;
+    Ok((count, after))
+}
+
+fn small_count_at<'a>(tag: &[u8], place: Place<'a>) -> Result<(u32, Place<'a>), CertFault>
+    ensures { Gives (λ x. (x.0, spot_of x.1)) result (line_by (count_row tag.now most_small) (spot_of place.entry)) }
+{
+    let bad_line = CertFault::BadLine { line: place.line };
+    let (words, after) = place.next_line().ok_or(bad_line)?;
+    let count = small_count_of(tag, words).ok_or(bad_line)?;
+    Ok((count, after))
+}
+
+fn alternative_at(unit: u32, place: Place<'_>) -> Result<(u32, Place<'_>), CertFault>
+    ensures { Gives (λ x. (x.0, spot_of x.1)) result (alternative_at unit (spot_of place.entry)) }
+{
+    let bad_line = CertFault::BadLine { line: place.line };
+    let (words, after) = place.next_line().ok_or(bad_line)?;
+    let alt = alternative_of(unit, words).ok_or(bad_line)?;
+    Ok((alt, after))
+}
+
+fn choices_at(place: Place<'_>) -> Result<(Option<u32>, Place<'_>), CertFault>
+    ensures { Gives (λ x. (x.0, spot_of x.1)) result (line_by choices_row (spot_of place.entry)) }
+{
+    let bad_line = CertFault::BadLine { line: place.line };
+    let (words, after) = place.next_line().ok_or(bad_line)?;
+    let count = choices_of(words).ok_or(bad_line)?;
+    Ok((count, after))
+}
+
+fn price_at(place: Place<'_>) -> Result<(Price, Place<'_>), CertFault>
+    ensures { Gives (λ x. (x.0, spot_of x.1)) result (price_at 0 (spot_of place.entry)) }
+{
+    let bad_line = CertFault::BadLine { line: place.line };
+    let (words, after) = place.next_line().ok_or(bad_line)?;
+    let price = price_of(words).ok_or(bad_line)?;
+    Ok((price, after))
+}
+
+fn node_at(version: u32, place: Place<'_>) -> Result<((Node, Option<Floor>), Place<'_>), CertFault>
+    ensures { Gives (λ x. (x.0, spot_of x.1)) result (line_by (node_row version) (spot_of place.entry)) }
+{
+    let bad_line = CertFault::BadLine { line: place.line };
+    let (words, after) = place.next_line().ok_or(bad_line)?;
+    let node = node_of(version, words).ok_or(bad_line)?;
+    Ok((node, after))
+}
+
+fn mark_at(stage: u32, place: Place<'_>) -> Result<(Mark, Place<'_>), CertFault>
+    ensures { Gives (λ x. (x.0, spot_of x.1)) result (line_by (mark_row stage) (spot_of place.entry)) }
+{
+    let bad_line = CertFault::BadLine { line: place.line };
+    let (words, after) = place.next_line().ok_or(bad_line)?;
+    let mark = mark_of(stage, words).ok_or(bad_line)?;
+    Ok((mark, after))
+}
+
+pub fn version_at(place: Place<'_>) -> Result<(u32, Place<'_>), CertFault>
+    ensures { Gives (λ x. (x.0, spot_of x.1)) result (line_by version_row (spot_of place.entry)) }
+{
+    let bad_line = CertFault::BadLine { line: place.line };
+    let (words, after) = place.next_line().ok_or(bad_line)?;
+    let version = version_of(words).ok_or(bad_line)?;
+    Ok((version, after))
+}
+
+pub fn end_at(place: Place<'_>) -> Result<(u64, Place<'_>), CertFault>
+    ensures { Gives (λ x. (x.0, spot_of x.1)) result (line_by end_row (spot_of place.entry)) }
+{
+    let bad_line = CertFault::BadLine { line: place.line };
+    let (words, after) = place.next_line().ok_or(bad_line)?;
+    let end = end_of(words).ok_or(bad_line)?;
+    Ok((end, after))
+}
+
+// The alternatives of the units below the count.
+fn some_alternatives(
+    alloc: Global,
+    count: u32,
+    place: Place<'_>,
+) -> Result<(Vec<u32>, Place<'_>), CertFault>
+    ensures { Gives (λ x. (x.0.items, spot_of x.1)) result (many alternative_at 0 count (spot_of place.entry)) }
+{
+    let mut alts = Vec::new(alloc);
+    let mut next = place;
+    for unit in 0..count {
+        let (alt, after) = alternative_at(unit, next)?;
+        alts.push(alt)?;
+        next = after;
+    }
+    Ok((alts, next))
+}
+
+#[tactic(auto, unfolding(crate::specs::Reading::choice_at, crate::specs::Reading::alternatives_at))]
+fn choice_at(alloc: Global, place: Place<'_>) -> Result<(Option<Choice>, Place<'_>), CertFault>
+    ensures { Gives (λ x. (x.0, spot_of x.1)) result (choice_at (spot_of place.entry)) }
+{
+    let (count, place) = choices_at(place)?;
+    match count {
+        None => Ok((None, place)),
+        Some(count) => {
+            let (alts, place) = some_alternatives(alloc, count, place)?;
+            Ok((Some(Choice::new(alts)), place))
+        }
+    }
+}
+
+// As many prices as the count says.
+fn some_prices(
+    alloc: Global,
+    count: u32,
+    place: Place<'_>,
+) -> Result<(Vec<Price>, Place<'_>), CertFault>
+    ensures { Gives (λ x. (x.0.items, spot_of x.1)) result (many price_at 0 count (spot_of place.entry)) }
+{
+    let mut prices = Vec::new(alloc);
+    let mut next = place;
+    for _ in 0..count {
+        let (price, after) = price_at(next)?;
+        prices.push(price)?;
+        next = after;
+    }
+    Ok((prices, next))
+}
+
+#[tactic(auto, unfolding(crate::specs::Reading::one_vector))]
+fn vector_at(alloc: Global, place: Place<'_>) -> Result<(Vector, Place<'_>), CertFault>
+    ensures { Gives (λ x. (x.0, spot_of x.1)) result (one_vector (spot_of place.entry)) }
+{
+    let (count, place) = small_count_at(b"VECTOR", place)?;
+    let (prices, place) = some_prices(alloc, count, place)?;
+    Ok((Vector::new(prices), place))
+}
+
+// As many vectors as the count says.
+fn some_vectors(
+    alloc: Global,
+    count: u64,
+    place: Place<'_>,
+) -> Result<(Vec<Vector>, Place<'_>), CertFault>
+    ensures { Gives (λ x. (x.0.items, spot_of x.1)) result (many vector_at 0 count (spot_of place.entry)) }
+{
+    let mut vectors = Vec::new(alloc);
+    let mut next = place;
+    for _ in 0..count {
+        let (vector, after) = vector_at(alloc, next)?;
+        vectors.push(vector)?;
+        next = after;
+    }
+    Ok((vectors, next))
+}
+
+#[tactic(auto, unfolding(crate::specs::Reading::vectors_at))]
+fn vectors_at(alloc: Global, place: Place<'_>) -> Result<(VectorList, Place<'_>), CertFault>
+    ensures { Gives (λ x. (x.0, spot_of x.1)) result (vectors_at (spot_of place.entry)) }
+{
+    let (count, place) = count_at(b"VECTORS", 64, place)?;
+    let (vectors, place) = some_vectors(alloc, count, place)?;
+    Ok((VectorList::new(vectors), place))
+}
+
+// A line with a number, where it is wanted.
+#[tactic(auto, unfolding(crate::specs::Reading::optional_at))]
+fn optional_at<'a>(
+    tag: &[u8],
+    wanted: bool,
+    place: Place<'a>,
+) -> Result<(Option<u64>, Place<'a>), CertFault>
+    ensures { Gives (λ x. (x.0, spot_of x.1)) result (optional_at tag.now wanted (spot_of place.entry)) }
+{
+    if !wanted {
+        return Ok((None, place));
+    }
+    let (number, place) = count_at(tag, u64::MAX, place)?;
+    Ok((Some(number), place))
+}
+
+// As many nodes as the count says, and the floors among them.
+fn some_nodes(
+    alloc: Global,
+    version: u32,
+    count: u32,
+    place: Place<'_>,
+) -> Result<(Vec<Node>, Vec<Floor>, Place<'_>), CertFault>
+    ensures { Gives (λ x. ((x.0.items, x.1.items), spot_of x.2)) result (nodes_at version count (spot_of place.entry)) }
+{
+    let mut nodes = Vec::new(alloc);
+    let mut floors = Vec::new(alloc);
+    let mut next = place;
+    for _ in 0..count {
+        let ((node, floor), after) = node_at(version, next)?;
+        nodes.push(node)?;
+        push_some(&mut floors, floor)?;
+        next = after;
+    }
+    Ok((nodes, floors, next))
+}
+
+fn push_some(floors: &mut Vec<Floor>, floor: Option<Floor>) -> Result<(), CertFault>
+    ensures ok { OnOk result (floors.new.items ≡ floors.old.items ++ option_to_list floor) }
+    ensures err { IfErr result (λ e. e ≡ CertFault.Memory) }
+{
+    if let Some(floor) = floor {
+        floors.push(floor)?;
+    }
+    Ok(())
+}
+
+#[tactic(auto, unfolding(crate::specs::Reading::tree_at))]
+fn tree_at(
+    alloc: Global,
+    version: u32,
+    place: Place<'_>,
+) -> Result<(Tree, FloorList, Place<'_>), CertFault>
+    ensures { Gives (λ x. ((x.0, x.1), spot_of x.2)) result (tree_at version (spot_of place.entry)) }
+{
+    let (count, place) = small_count_at(b"TREE", place)?;
+    let (nodes, floors, place) = some_nodes(alloc, version, count, place)?;
+    Ok((Tree::new(nodes), FloorList::new(floors), place))
+}
+
+fn has_bound(version: u32, mark: Mark) -> bool
+    ensures { result ≡ has_bound version mark }
+{
+    match mark {
+        Mark::Unsettled => version == 2,
+        Mark::Optimal | Mark::Infeasible | Mark::NotTried => false,
+    }
+}
+
+#[tactic(auto, unfolding(crate::specs::Reading::proof_at))]
+pub fn proof_at(
+    alloc: Global,
+    version: u32,
+    mark: Mark,
+    place: Place<'_>,
+) -> Result<(StageCert, Place<'_>), CertFault>
+    ensures { Gives (λ x. (x.0, spot_of x.1)) result (proof_at version mark (spot_of place.entry)) }
+{
+    let (choice, place) = choice_at(alloc, place)?;
+    let (cost, place) = optional_at(b"COST", choice.is_some(), place)?;
+    let (bound, place) = optional_at(b"BOUND", has_bound(version, mark), place)?;
+    let (vectors, place) = vectors_at(alloc, place)?;
+    let (tree, floors, place) = tree_at(alloc, version, place)?;
+    let stage = StageCert {
+        mark,
+        choice,
+        cost,
+        bound,
+        vectors,
+        tree,
+        floors,
+    };
+    Ok((stage, place))
+}
+
+fn not_tried(alloc: Global) -> StageCert
+    ensures { result ≡ not_tried Mark.NotTried }
+{
+    StageCert {
+        mark: Mark::NotTried,
+        choice: None,
+        cost: None,
+        bound: None,
+        vectors: VectorList::new(Vec::new(alloc)),
+        tree: Tree::new(Vec::new(alloc)),
+        floors: FloorList::new(Vec::new(alloc)),
+    }
+}
+
+/// A stage, by its number.
+#[tactic(auto, unfolding(crate::specs::Reading::stage_at))]
+pub fn stage_at(
+    alloc: Global,
+    version: u32,
+    stage: u32,
+    place: Place<'_>,
+) -> Result<(StageCert, Place<'_>), CertFault>
+    ensures { Gives (λ x. (x.0, spot_of x.1)) result (stage_at version stage (spot_of place.entry)) }
+{
+    let (mark, place) = mark_at(stage, place)?;
+    match mark {
+        Mark::NotTried => Ok((not_tried(alloc), place)),
+        Mark::Optimal | Mark::Infeasible | Mark::Unsettled => proof_at(alloc, version, mark, place),
+    }
+}
+
+pub fn extra_line_at(place: Place<'_>) -> Result<(u64, Place<'_>), CertFault>
+    ensures { Gives (λ x. (x.0, spot_of x.1)) result (line_by extra_row (spot_of place.entry)) }
+{
+    let bad_line = CertFault::BadLine { line: place.line };
+    let (words, after) = place.next_line().ok_or(bad_line)?;
+    let head = extra_of(words).ok_or(bad_line)?;
+    Ok((head, after))
+}
+
+pub fn tried_at(place: Place<'_>) -> Result<(Mark, Place<'_>), CertFault>
+    ensures { Gives (λ x. (x.0, spot_of x.1)) result (line_by tried_row (spot_of place.entry)) }
+{
+    let bad_line = CertFault::BadLine { line: place.line };
+    let (words, after) = place.next_line().ok_or(bad_line)?;
+    let mark = tried_of(words).ok_or(bad_line)?;
+    Ok((mark, after))
+}

@@ -1,0 +1,109 @@
+//! Certificates as values.
+
+ghost use Rattle.std.specs.Prelude.{◌≡◌};
+
+use choice_problem::{Choice, Tree, VectorList};
+use std::marker::Model;
+
+/// What a stage claims of its allotment.
+#[derive(Clone, Copy, Debug, PartialEq, Eq)]
+pub enum Mark {
+    /// The choice is feasible, and none costs less.
+    Optimal,
+    /// No choice is feasible.
+    Infeasible,
+    /// The search did not end. Printed as OPEN.
+    Unsettled,
+    /// An earlier stage has no allotment.
+    NotTried,
+}
+
+/// The vector and the scale whose Lagrangian bound is the floor of an undone node. Vector 0 has no prices.
+#[derive(Clone, Copy, Debug, PartialEq, Eq)]
+pub struct Floor {
+    pub vector: u32,
+    pub scale: u64,
+}
+
+/// One floor for each undone node, in preorder.
+#[derive(Drop)]
+pub struct FloorList {
+    floors: Vec<Floor>,
+}
+
+impl Model for FloorList {
+    ghost use Rattle.std.specs.Prelude.{List};
+    ghost use Rattle.cert_format.specs.declared.cert.Floor.{Floor};
+
+    ghost Value = { List Floor };
+
+    ghost view = { λ f. f.floors.items };
+}
+
+impl FloorList {
+    /// The list of these floors.
+    pub fn new(floors: Vec<Floor>) -> FloorList
+        ensures { result ≡ floors.items }
+    {
+        FloorList { floors }
+    }
+
+    /// The floors, that of the first undone node first.
+    pub fn items(&self) -> &[Floor]
+        ensures { result.now ≡ self.now }
+    {
+        &self.floors
+    }
+}
+
+/// A stage with its proof: its allotment, if any, with the displacement in minutes; under OPEN in version 2 a cost below
+/// which no feasible allotment lies; the vectors that its tree names, number 1 first; the search tree; and in version 2
+/// one floor for each undone node, in preorder.
+#[derive(Drop)]
+pub struct StageCert {
+    pub mark: Mark,
+    pub choice: Option<Choice>,
+    pub cost: Option<u64>,
+    pub bound: Option<u64>,
+    pub vectors: VectorList,
+    pub tree: Tree,
+    pub floors: FloorList,
+}
+
+/// The stages of a season, in order.
+#[derive(Drop)]
+pub struct StageList {
+    stages: Vec<StageCert>,
+}
+
+impl Model for StageList {
+    ghost use Rattle.std.specs.Prelude.{List};
+    ghost use Rattle.cert_format.specs.declared.cert.StageCert.{StageCert};
+
+    ghost Value = { List StageCert };
+
+    ghost view = { λ s. s.stages.items };
+}
+
+impl StageList {
+    /// The list of these stages.
+    pub fn new(stages: Vec<StageCert>) -> StageList
+        ensures { result ≡ stages.items }
+    {
+        StageList { stages }
+    }
+
+    /// The stages, stage 1 first.
+    pub fn items(&self) -> &[StageCert]
+        ensures { result.now ≡ self.now }
+    {
+        &self.stages
+    }
+}
+
+/// The four stages of a season with their proofs, and the version of the text, 1 or 2.
+#[derive(Drop)]
+pub struct Certificate {
+    pub version: u32,
+    pub stages: StageList,
+}

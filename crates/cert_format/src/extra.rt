@@ -1,0 +1,68 @@
+//! One more stage by itself.
+
+ghost use Rattle.std.specs.Prelude.{◌≡◌, ◌<◌, ◌^◌, IfOk, Ok, length};
+ghost use Rattle.cert_format.specs.declared.cert.StageCert.{StageCert};
+ghost use Rattle.cert_format.specs.Spelling.{IsExtra, extra_spelling};
+ghost use Rattle.cert_format.specs.Printable.{IsPrintableExtra};
+ghost use Rattle.cert_format.specs.Spots.{spot_of, Gives};
+ghost use Rattle.cert_format.specs.Reading.{extra_at, extra_of};
+
+use crate::blocks::{end_at, extra_line_at, proof_at, tried_at};
+use crate::cert::StageCert;
+use crate::fault::CertFault;
+use crate::lines::Place;
+use crate::writing::{put_end, put_extra, put_mark, put_proof};
+use slot_text::Memory;
+use std::alloc::Global;
+
+#[tactic(auto, unfolding(crate::specs::Reading::extra_at))]
+fn extra_at(alloc: Global, place: Place<'_>) -> Result<StageCert, CertFault>
+    ensures { Gives (λ s. s) result (extra_at (spot_of place.entry)) }
+{
+    let (_, place) = extra_line_at(place)?;
+    let (mark, place) = tried_at(place)?;
+    let (stage, place) = proof_at(alloc, 2, mark, place)?;
+    let (_, place) = end_at(place)?;
+    match place.next_line() {
+        None => Ok(stage),
+        Some(_) => Err(CertFault::BadLine { line: place.line }),
+    }
+}
+
+fn whole_extra(alloc: Global, bytes: &[u8]) -> Result<StageCert, CertFault>
+    requires { length bytes.now < 2 ^ 31 }
+    ensures { Gives (λ s. s) result (extra_of bytes.now) }
+{
+    extra_at(alloc, Place::start(bytes))
+}
+
+/// The one more stage that the bytes spell, all of the bytes: `EXTRA 1`, stage 5 as in version 2, and `END`.
+///
+/// `BadLine` as `read_cert` says; memory and time as there.
+pub fn read_extra(alloc: Global, bytes: &[u8]) -> Result<StageCert, CertFault>
+    requires { length bytes.now < 2 ^ 31 }
+    // What is read is spelled so.
+    ensures found { IfOk result (λ s. IsExtra s × (bytes.now ≡ extra_spelling s)) }
+    // What is read can be printed.
+    ensures printable { IfOk result (λ s. IsPrintableExtra s) }
+    // What is spelled so is read, unless memory runs out.
+    ensures only { (s : StageCert) → IsExtra s → bytes.now ≡ extra_spelling s → Gives (λ x. x) result (Ok s) }
+    // Which line is bad: the first that isn't in the form at its place.
+    ensures exact { Gives (λ s. s) result (extra_of bytes.now) }
+{
+    whole_extra(alloc, bytes)
+}
+
+/// The one spelling of one more stage, as `read_extra` reads it. A caller owes what `print_cert` asks of a stage of
+/// version 2, and that the stage was tried.
+pub fn print_extra(alloc: Global, cert: &StageCert) -> Result<Vec<u8>, Memory>
+    requires { IsPrintableExtra cert.now }
+    ensures { IfOk result (λ v. v.items ≡ extra_spelling cert.now) }
+{
+    let mut out = Vec::new(alloc);
+    put_extra(&mut out)?;
+    put_mark(alloc, &mut out, 5, cert.mark)?;
+    put_proof(alloc, &mut out, cert)?;
+    put_end(&mut out)?;
+    Ok(out)
+}

@@ -1,0 +1,73 @@
+//! Reading a certificate.
+
+ghost use Rattle.std.specs.Prelude.{◌≡◌, ◌<◌, ◌^◌, List, IfOk, Ok, length};
+ghost use Rattle.cert_format.specs.declared.cert.Certificate.{Certificate};
+ghost use Rattle.cert_format.specs.Spelling.{IsCert, spelling};
+ghost use Rattle.cert_format.specs.Printable.{IsPrintable};
+ghost use Rattle.cert_format.specs.Spots.{spot_of, Gives};
+ghost use Rattle.cert_format.specs.Reading.{many, stage_at, cert_at, cert_of};
+
+use crate::blocks::{end_at, stage_at, version_at};
+use crate::cert::{Certificate, StageCert, StageList};
+use crate::fault::CertFault;
+use crate::lines::Place;
+use std::alloc::Global;
+
+fn four_stages(
+    alloc: Global,
+    version: u32,
+    place: Place<'_>,
+) -> Result<(Vec<StageCert>, Place<'_>), CertFault>
+    ensures { Gives (λ x. (x.0.items, spot_of x.1)) result (many (stage_at version) 1 4 (spot_of place.entry)) }
+{
+    let mut stages = Vec::new(alloc);
+    let mut next = place;
+    for number in 1..5 {
+        let (stage, after) = stage_at(alloc, version, number, next)?;
+        stages.push(stage)?;
+        next = after;
+    }
+    Ok((stages, next))
+}
+
+#[tactic(auto, unfolding(crate::specs::Reading::cert_at))]
+fn cert_at(alloc: Global, place: Place<'_>) -> Result<Certificate, CertFault>
+    ensures { Gives (λ c. c) result (cert_at (spot_of place.entry)) }
+{
+    let (version, place) = version_at(place)?;
+    let (stages, place) = four_stages(alloc, version, place)?;
+    let (_, place) = end_at(place)?;
+    match place.next_line() {
+        None => Ok(Certificate {
+            version,
+            stages: StageList::new(stages),
+        }),
+        Some(_) => Err(CertFault::BadLine { line: place.line }),
+    }
+}
+
+fn whole_cert(alloc: Global, bytes: &[u8]) -> Result<Certificate, CertFault>
+    requires { length bytes.now < 2 ^ 31 }
+    ensures { Gives (λ c. c) result (cert_of bytes.now) }
+{
+    cert_at(alloc, Place::start(bytes))
+}
+
+/// The certificate that the bytes spell, all of the bytes.
+///
+/// `BadLine` names the first line that is not in the form at its place, from 1; where the bytes end early or go on after
+/// `END`, it is the line after the last good one. One pass over the bytes; memory is taken for lines that were read, and
+/// never for a count that is only stated.
+pub fn read_cert(alloc: Global, bytes: &[u8]) -> Result<Certificate, CertFault>
+    requires { length bytes.now < 2 ^ 31 }
+    // What is read is spelled so.
+    ensures found { IfOk result (λ c. IsCert c × (bytes.now ≡ spelling c)) }
+    // What is read can be printed.
+    ensures printable { IfOk result (λ c. IsPrintable c) }
+    // What is spelled so is read, unless memory runs out.
+    ensures only { (c : Certificate) → IsCert c → bytes.now ≡ spelling c → Gives (λ x. x) result (Ok c) }
+    // Which line is bad: the first that isn't in the form at its place.
+    ensures exact { Gives (λ c. c) result (cert_of bytes.now) }
+{
+    whole_cert(alloc, bytes)
+}
