@@ -1,4 +1,5 @@
 pub mod Words
+pub mod Faults
 pub mod Capacity
 pub mod Texts
 pub mod Reports

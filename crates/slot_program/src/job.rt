@@ -1,5 +1,6 @@
-ghost use Rattle.std.specs.Prelude.{◌≡◌};
+ghost use Rattle.std.specs.Prelude.{◌≡◌, Some};
 ghost use Rattle.std.specs.String.{string_bytes};
+ghost use Rattle.slot_program.specs.Faults.{word_fault_text};
 
 use std::alloc::{AllocError, AllocFailed};
 use std::error::Error;
@@ -85,6 +86,8 @@ pub enum WordFault {
 }
 
 impl fmt::Display for WordFault {
+    ghost output = { λ fault. Some (word_fault_text fault) };
+
     fn fmt<W: fmt::Write>(&self, f: &mut fmt::Formatter<W>) -> fmt::Result {
         match self {
             WordFault::Words => f.write_str("no command has these words"),
