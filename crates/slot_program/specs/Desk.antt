@@ -4,7 +4,7 @@ use Rattle.desk_outside.specs.Cause.{Rose}
 use Rattle.desk_outside.specs.Files.{Files}
 use Rattle.season_days.specs.declared.declaration.Declaration.{Declaration}
 use Rattle.scr_reader.specs.Printed.{message_text}
-use Rattle.scr_reader.specs.Historic.{IsHistoricMessage}
+use Rattle.historic_reader.specs.Historic.{IsHistoricMessage}
 use Rattle.scr_reader.specs.declared.message.Message.{Message}
 use Rattle.slot_program.specs.Words.{Word}
 use Rattle.slot_program.specs.Capacity.{IsCapacityText}
