@@ -5,7 +5,8 @@ use Rattle.std.proofs.lemmas.Bool.{cases_Bool, eqb-true, eqb-false, ne_eqb, both
 use Rattle.std.proofs.lemmas.Bool.Decides.{nat_tests}
 use Rattle.std.proofs.lemmas.List.{append-nil}
 use Rattle.scr_reader.specs.Bytes.{is_letter, digit}
-use Rattle.scr_reader.specs.Parts.{AirlineFits, airline_text, SuffixFits, suffix_text, place_of_day, bit_of_place}
+use Rattle.scr_reader.specs.Parts.{AirlineFits, airline_text, SuffixFits, suffix_text, place_of_day}
+use Rattle.scr_reader.specs.FieldForms.{bit_of_place}
 use Rattle.scr_reader.specs.Printed.{number_text}
 
 -- ---- days

@@ -1,5 +1,6 @@
 ghost use Rattle.std.specs.Prelude.{◌≡◌, ◌<◌, ◌≤◌, ℕ, IfSome, Some};
-ghost use Rattle.scr_reader.specs.Parts.{days_text, place_of_day, bit_of_place};
+ghost use Rattle.scr_reader.specs.Parts.{days_text, place_of_day};
+ghost use Rattle.scr_reader.specs.FieldForms.{bit_of_place};
 
 /// The weekdays that seven places name: bit 0 is Monday.
 pub(crate) fn read_places(text: &[u8]) -> Option<u8>

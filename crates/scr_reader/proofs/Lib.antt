@@ -22,3 +22,5 @@ pub mod RowLemmas
 pub mod SameLemmas
 pub mod ShapeLemmas
 pub mod AtLemmas
+pub mod PlaceLemmas
+pub mod PieceLemmas

@@ -7,7 +7,8 @@ use Rattle.std.proofs.lemmas.Bool.Decides.{nat_tests}
 use Rattle.slot_text.specs.Stations.{IsStation}
 use Rattle.slot_text.specs.declared.station.Station.{Station}
 use Rattle.scr_reader.specs.Bytes.{is_letter, is_digit, digit}
-use Rattle.scr_reader.specs.Parts.{IsNights, leading_nights, after_nights, StationsFit, stations_text, rising_text, digit_bits}
+use Rattle.scr_reader.specs.Parts.{IsNights, StationsFit, stations_text, rising_text}
+use Rattle.scr_reader.specs.FieldForms.{leading_nights, after_nights, digit_bits}
 
 -- ---- nights
 

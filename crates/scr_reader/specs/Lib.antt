@@ -2,6 +2,7 @@ pub mod Bytes
 pub mod Texts
 pub mod Parts
 pub mod Shapes
+pub mod FieldForms
 pub mod Rows
 pub mod Messages
 pub mod Places

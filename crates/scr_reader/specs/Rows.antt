@@ -6,9 +6,6 @@ use Rattle.scr_reader.specs.Parts.{IsFlight}
 use Rattle.scr_reader.specs.Shapes.{IsLine, IsFaultyField}
 use Rattle.scr_reader.specs.declared.line.Line.{Line}
 use Rattle.scr_reader.specs.declared.line.Flight.{Flight}
-use Rattle.scr_reader.specs.declared.lines.Movements.{Movements}
-use Rattle.scr_reader.specs.declared.lines.Movements.TheVariants.{Arrival, Departure, Both}
-use Rattle.scr_reader.specs.Shapes.{Shape, arrival, departure, turnaround}
 
 -- no byte but blanks
 unfoldable pub is_empty_line : List ℕ → Bool
@@ -92,9 +89,3 @@ abbrev pub IsBadField : Term → List ℕ → ℕ → Type 0
 IsBadField season line field =
     (HasFields line false × IsFaultyField season (line_fields line) field)
     ⊎ (HasFields line true × IsFaultyQuestion (line_fields line) field)
-
--- a shape, from what its reader answers
-abbrev pub shape_named : Movements → Shape
-shape_named Arrival = arrival
-shape_named Departure = departure
-shape_named Both = turnaround

@@ -1,5 +1,6 @@
 ghost use Rattle.std.specs.Prelude.{◌≡◌, ◌<◌, ◌≤◌, ◌↔◌, ◌++◌, [], ℕ, List, IfSome, IsSomeAnd, IsTrue, Some, length, slice_index_or};
-ghost use Rattle.scr_reader.specs.Parts.{IsDays, days_text, place_of_day, bit_of_place, rising_text, rising_digit, digit_bit, digit_bits};
+ghost use Rattle.scr_reader.specs.Parts.{IsDays, days_text, place_of_day, rising_text, rising_digit};
+ghost use Rattle.scr_reader.specs.FieldForms.{bit_of_place, digit_bit, digit_bits};
 
 /// The weekdays that a field names: bit 0 is Monday.
 pub fn read_weekdays(text: &[u8]) -> Option<u8>

@@ -3,9 +3,11 @@
 
 mod at;
 mod bytes;
+mod cut;
 mod days;
 mod fault;
 mod fields;
+mod fits;
 mod flight;
 mod groups;
 mod header;
@@ -22,6 +24,7 @@ mod rows;
 mod shapes;
 mod texts;
 
+pub use cut::cut_messages;
 pub use days::read_weekdays;
 pub use fault::ScrFault;
 pub use flight::read_flight;
@@ -31,5 +34,9 @@ pub use period::read_period;
 pub use print::{print_header, print_line};
 pub use texts::{read_all, read_message};
 
+#[cfg(test)]
+mod fault_tests;
+#[cfg(test)]
+mod spelling_tests;
 #[cfg(test)]
 mod tests;

@@ -1,5 +1,6 @@
 use Rattle.std.proofs.Common.{◌≡◌, ℕ, List, Some, get_or, ap, ◌∙◌}
-use Rattle.scr_reader.specs.Parts.{bit_of_place, place_of_day}
+use Rattle.scr_reader.specs.Parts.{place_of_day}
+use Rattle.scr_reader.specs.FieldForms.{bit_of_place}
 use Rattle.historic_reader.proofs.PartLemmas.{bits_again}
 use Rattle.historic_reader.proofs.days.read_places.Goals as goal
 
