@@ -22,6 +22,8 @@ use Rattle.slot_program.specs.declared.job.Job.TheVariants.{Allocate}
 use Rattle.slot_text.specs.declared.station.Station.{Station}
 use Rattle.season_days.specs.Term.{Term}
 use Rattle.slot_program.proofs.CapacityLemmas.{no_bad_line, same_declaration}
+use Rattle.slot_program.proofs.LengthLemmas.{capacity_short, message_short}
+use Rattle.slot_program.proofs.WindowLemmas.{arrival_fits}
 use Rattle.slot_program.specs.Desk.{Ends, file_names, FileNames, allocation_steps, written_names, IsPlan, Allocates, AllocationEnds, IsStatus}
 use Rattle.slot_program.specs.Stops.{name_of, IsStopped, Holds, IsFormStop}
 use Rattle.slot_program.specs.declared.refusal.File.{File}
@@ -132,11 +134,11 @@ then_only (Some files) (Some between) (Some after) names one two = λ name lacks
 abbrev pub IsPlanned : Option Files → FileNames → List ℕ → Type 0
 IsPlanned files names replies = IfSome files (λ held. IsPlan held names replies)
 
-pub planned : (files : Option Files) (names : FileNames) (bytes asked replies : List ℕ) (d : Declaration) (message : Message) (historic : IsHistoricMessage d.season d.airport message) → Holds files names.capacity bytes → length bytes ≤ most_bytes → IsCapacityText bytes d
-    → Holds files names.requests asked → length asked ≤ most_bytes → asked ≡ message_text message → replies ≡ confirmation message historic.asked → IsPlanned files names replies
-planned None names bytes asked replies d message historic held short declared there small spelled answered = tt
-planned (Some files) names bytes asked replies d message historic held short declared there small spelled answered =
-    record { capacity_bytes = bytes; declaration = d; requests_bytes = asked; message = message; held_capacity = held; small_capacity = short; declared = declared; held_requests = there; small_requests = small; historic = historic; spelled = spelled; answered = answered }
+pub planned : (files : Option Files) (names : FileNames) (bytes asked replies : List ℕ) (d : Declaration) (message : Message) (historic : IsHistoricMessage d.season d.airport message) → Holds files names.capacity bytes → IsCapacityText bytes d
+    → Holds files names.requests asked → asked ≡ message_text message → replies ≡ confirmation message historic.asked → IsPlanned files names replies
+planned None names bytes asked replies d message historic held declared there spelled answered = tt
+planned (Some files) names bytes asked replies d message historic held declared there spelled answered =
+    record { capacity_bytes = bytes; declaration = d; requests_bytes = asked; message = message; held_capacity = held; declared = declared; held_requests = there; historic = historic; spelled = spelled; answered = answered }
 
 rose_from : (before mid now : ℕ) → mid ≡ before → Rose mid now → Rose before now
 rose_from before mid now e rose = subst (λ (n : ℕ). Rose n now) e rose
@@ -165,7 +167,9 @@ pub both_written : (files between written after : Option Files) (names : FileNam
 both_written None between written after names before now replies same count plan first second = (count, tt)
 both_written (Some files) between written after names before now replies same count plan first second =
     let stands : written ≡ Some (with_file files names.certificate (certificate_text settled_stages)) = subst (λ (o : Option Files). Writes o names.certificate (certificate_text settled_stages) written) same first in
-    (count, (replies, plan, subst (λ (o : Option Files). Writes o names.replies replies after) stands second))
+    let one = plan.declared in
+    let fits = arrival_fits plan.declaration.rules one.rule plan.declaration.season plan.historic.asked.period plan.historic.asked.arrival one.fits.rules one.fits.is_rule plan.historic.historic.arrival in
+    (count, (replies, plan, fits, subst (λ (o : Option Files). Writes o names.replies replies after) stands second))
 
 pub first_written : (names : FileNames) → Contains (written_names names) names.certificate
 first_written names = first_of_two names.certificate names.replies
@@ -197,11 +201,14 @@ read_refuses files name bytes report held short (inr long) =
 
 -- where both files are in their forms nothing is due
 pub plan_not_due : (files : Files) (names : FileNames) (replies : List ℕ) (report : Report) → IsPlan files names replies → FirstDue files (allocation_steps names) report → ⊥
-plan_not_due files names replies report plan (inl refused) = read_refuses files names.capacity plan.capacity_bytes report plan.held_capacity plan.small_capacity refused
+plan_not_due files names replies report plan (inl refused) = read_refuses files names.capacity plan.capacity_bytes report plan.held_capacity (capacity_short plan.capacity_bytes plan.declaration plan.declared) refused
 plan_not_due files names replies report plan (inr (one, inl refused)) =
     let bad = at_some (λ (b : List ℕ). (line : ℕ) × IsFirstBadLine IsCapacityForm b line × (report ≡ unbuilt names.capacity line)) (files names.capacity) plan.capacity_bytes plan.held_capacity refused in
     no_bad_line plan.capacity_bytes plan.declaration bad.0 plan.declared bad.1
-plan_not_due files names replies report plan (inr (one, inr (two, inl refused))) = read_refuses files names.requests plan.requests_bytes report plan.held_requests plan.small_requests refused
+plan_not_due files names replies report plan (inr (one, inr (two, inl refused))) =
+    let short : length plan.requests_bytes ≤ most_bytes =
+    subst (λ (b : List ℕ). length b ≤ most_bytes) (sym plan.spelled) (message_short plan.declaration.season plan.declaration.airport plan.message plan.declared.fits.airport plan.historic) in
+    read_refuses files names.requests plan.requests_bytes report plan.held_requests short refused
 plan_not_due files names replies report plan (inr (one, inr (two, inr (three, inl (d, declared, refused))))) =
     let here : IsCapacityText plan.capacity_bytes d = at_some (λ (b : List ℕ). IsCapacityText b d) (files names.capacity) plan.capacity_bytes plan.held_capacity declared in
     let bad = at_some (λ (b : List ℕ). (line : ℕ) × IsFirstBadLine (IsHistoricText d.season d.airport) b line × (report ≡ unbuilt names.requests line)) (files names.requests) plan.requests_bytes plan.held_requests refused in

@@ -4,6 +4,7 @@ pub mod DayLemmas
 pub mod HighLemmas
 pub mod EndedLemmas
 pub mod CapacityLemmas
+pub mod LengthLemmas
 pub mod DeskLemmas
 pub mod TextLemmas
 pub mod WindowLemmas

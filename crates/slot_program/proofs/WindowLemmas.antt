@@ -1,9 +1,14 @@
 -- A window of at most a day holds at most one arrival of a line.
-use Rattle.std.proofs.Common.{◌≡◌, ℕ, zero, suc, ◌+◌, ◌*◌, ◌<◌, ◌≤◌, Bool, true, leb, ltb, refl, arith, inl, inr}
-use Rattle.std.specs.Prelude.{filter}
+use Rattle.std.proofs.Common.{◌≡◌, ℕ, zero, suc, ◌+◌, ◌-◌, ◌*◌, ◌<◌, ◌≤◌, Bool, true, false, leb, ltb, List, [], ◌∷◌, Option, Some, None, refl, sym, subst, arith, inl, inr}
+use Rattle.std.specs.Prelude.{filter, Contains, IsSome, IsSomeAnd}
 use Rattle.std.proofs.lemmas.Bool.{cases_Bool, and_parts, leb-true, ltb-true}
-use Rattle.season_days.specs.Seasons.{days_from}
-use Rattle.slot_program.specs.Windows.{stands_in, window_load}
+use Rattle.season_days.specs.Term.{Term}
+use Rattle.season_days.specs.Seasons.{days_from, dates_of, is_on}
+use Rattle.season_days.specs.declared.day.Period.{Period}
+use Rattle.season_days.specs.declared.declaration.Rule.{Rule}
+use Rattle.scr_reader.specs.declared.line.Stop.{Stop}
+use Rattle.slot_program.specs.Capacity.{IsRule}
+use Rattle.slot_program.specs.Windows.{stands_in, window_load, FitsRule}
 
 -- no two dates' arrivals stand in one window
 apart : (begin length minute date later : ℕ) → length ≤ 1440 → date < later → stands_in begin length minute date ≡ true → stands_in begin length minute later ≡ true → ⊥
@@ -41,3 +46,19 @@ at_most_one p begin length minute from (suc n) short =
           ]
       | inr left ↦ rw left (at_most_one p begin length minute (suc from) n short)
     ]
+
+pub line_fits : (rule : Rule) (season : Term) (period : Period) (minute : ℕ) → IsRule rule → FitsRule rule minute (dates_of season period)
+line_fits rule season period minute is = λ day start.
+    let one = at_most_one (is_on season period.days) (1440 * day + start) rule.length minute period.first.0 (period.last.0 + 1 - period.first.0) is.at_most_a_day in
+    omega (arith, one, is.some_arrival)
+
+only_one : (one other : Rule) → Contains (one ∷ []) other → one ≡ other
+only_one one other (zero, lt, e) = e
+only_one one other (suc at, lt, e) = absurd (omega arith)
+
+pub arrival_fits : (rules : List Rule) (one : Rule) (season : Term) (period : Period) (arrival : Option Stop) → rules ≡ one ∷ [] → IsRule one → IsSome arrival
+    → IsSomeAnd arrival (λ stop. (rule : Rule) → Contains rules rule → FitsRule rule stop.minute (dates_of season period))
+arrival_fits rules one season period None alone is some = absurd (let e : false ≡ true = some in cc)
+arrival_fits rules one season period (Some stop) alone is some = λ rule among.
+    let same = only_one one rule (subst (λ (l : List Rule). Contains l rule) alone among) in
+    line_fits rule season period stop.minute (subst (λ (r : Rule). IsRule r) same is)

@@ -1,17 +1,21 @@
 -- How a command ends: what it reports, why, and which files it leaves.
-use Rattle.std.specs.Prelude.{◌≡◌, ◌≤◌, ℕ, List, [], ◌∷◌, length, Option, Some, None, IfSome, MatchOption, Contains}
+use Rattle.std.specs.Prelude.{◌≡◌, ℕ, List, [], ◌∷◌, Option, Some, None, IfSome, IsSomeAnd, MatchOption, Contains}
 use Rattle.desk_outside.specs.Cause.{Rose}
 use Rattle.desk_outside.specs.Files.{Files}
+use Rattle.season_days.specs.Seasons.{dates_of}
 use Rattle.season_days.specs.declared.declaration.Declaration.{Declaration}
+use Rattle.season_days.specs.declared.declaration.Rule.{Rule}
 use Rattle.scr_reader.specs.Printed.{message_text}
 use Rattle.historic_reader.specs.Historic.{IsHistoricMessage}
+use Rattle.scr_reader.specs.declared.line.Line.{Line}
 use Rattle.scr_reader.specs.declared.message.Message.{Message}
 use Rattle.slot_program.specs.Words.{Word}
 use Rattle.slot_program.specs.Capacity.{IsCapacityText}
 use Rattle.slot_program.specs.Texts.{certificate_text, settled_stages, confirmation}
 use Rattle.slot_program.specs.Reports.{Report, settled, no_command, missing, large, unread, unwritten, unbuilt, status_of, text_of}
-use Rattle.slot_program.specs.Order.{most_bytes, Step, reads, judges_capacity, judges_message, FirstDue, Reaches}
+use Rattle.slot_program.specs.Order.{Step, reads, judges_capacity, judges_message, FirstDue, Reaches}
 use Rattle.slot_program.specs.Writing.{Write, with_writes, StopsAt}
+use Rattle.slot_program.specs.Windows.{FitsRule}
 use Rattle.slot_program.specs.declared.job.Job.{Job}
 use Rattle.slot_program.specs.declared.job.Job.TheVariants.{Allocate}
 
@@ -44,24 +48,29 @@ read_names names = names.capacity ∷ names.requests ∷ []
 abbrev pub written_names : FileNames → List Word
 written_names names = names.certificate ∷ names.replies ∷ []
 
--- both files are there in their forms, within the size that is read, and these are the replies
+-- both files are there in their forms, and these are the replies
 pub record IsPlan (files : Files) (names : FileNames) (replies : List ℕ) : Type 0 where
   pub capacity_bytes : List ℕ
   pub declaration : Declaration
   pub requests_bytes : List ℕ
   pub message : Message
   pub held_capacity : files names.capacity ≡ Some capacity_bytes
-  pub small_capacity : length capacity_bytes ≤ most_bytes
   pub declared : IsCapacityText capacity_bytes declaration
   pub held_requests : files names.requests ≡ Some requests_bytes
-  pub small_requests : length requests_bytes ≤ most_bytes
   pub historic : IsHistoricMessage declaration.season declaration.airport message
   pub spelled : requests_bytes ≡ message_text message
   pub answered : replies ≡ confirmation message historic.asked
 
--- the certificate and then the replies stand
+-- The choice that is certified is feasible: the arrivals of the line, at the time that it asks for, fit under every capacity
+-- line. It costs nothing, so no other choice costs less.
+abbrev pub IsFeasible : Declaration → Line → Type 0
+IsFeasible declaration asked =
+    IsSomeAnd asked.arrival (λ stop. (rule : Rule) → Contains declaration.rules rule → FitsRule rule stop.minute (dates_of declaration.season asked.period))
+
+-- the certificate and then the replies stand, and what the certificate says is so
 abbrev pub Allocates : Option Files → FileNames → Option Files → Type 0
-Allocates files names after = IfSome files (λ held. (replies : List ℕ) × IsPlan held names replies × (after ≡ Some (with_writes held (allocation_writes names replies))))
+Allocates files names after =
+    IfSome files (λ held. (replies : List ℕ) × (plan : IsPlan held names replies) × IsFeasible plan.declaration plan.historic.asked × (after ≡ Some (with_writes held (allocation_writes names replies))))
 
 -- the report is the first that is due, where the files are told
 abbrev pub IsDue : Option Files → FileNames → Report → Type 0

@@ -1,5 +1,6 @@
 -- How many arrivals of a line a window holds.
-use Rattle.std.specs.Prelude.{ℕ, ◌+◌, ◌*◌, Bool, ◌&&◌, nat_le, nat_lt, if◌then◌else◌, List, [], ◌∷◌}
+use Rattle.std.specs.Prelude.{ℕ, ◌+◌, ◌*◌, ◌≤◌, Bool, ◌&&◌, nat_le, nat_lt, if◌then◌else◌, List, [], ◌∷◌}
+use Rattle.season_days.specs.declared.declaration.Rule.{Rule}
 
 -- the arrival on a date at a minute of the day stands in the window of so many minutes that begins so many minutes after
 -- the season's first midnight
@@ -11,3 +12,8 @@ abbrev pub window_load : ℕ → ℕ → ℕ → List ℕ → ℕ
 window_load begin length minute [] = 0
 window_load begin length minute (date ∷ dates) =
     if stands_in begin length minute date then window_load begin length minute dates + 1 else window_load begin length minute dates
+
+-- In no window of the capacity line, on whatever day and from whatever minute of it, stand more of the arrivals on these
+-- dates than the line's limit.
+abbrev pub FitsRule : Rule → ℕ → List ℕ → Type 0
+FitsRule rule minute dates = (day start : ℕ) → window_load (1440 * day + start) rule.length minute dates ≤ rule.limit

@@ -32,11 +32,11 @@ returns-clause-others g c = let files = g.C.Cabinet.files in let count = g.C.Cab
 
 pub returns-in_err-write_file-clause-stop : goal.returns-in_err-write_file-clause-stop
 returns-in_err-write_file-clause-stop g c = let files = g.C.Cabinet.files in let count = g.C.Cabinet.fault_count in let names = names_of c.args.names.now in let old = files c.args.cabinet.now in let p = err_from_is_err_and c.from_residual-in_err-write_file.result c.from_residual-in_err-write_file.ensures.1 in rw (p.1, p.2) (rw c.in_err-write_file.ensures.stop
-    (stop_first_write old (files c.read_file-2.new.cabinet) (files c.write_file.new.cabinet) names (count c.args.cabinet.now) (count c.read_file-2.new.cabinet) (count c.write_file.new.cabinet) c.in_ok-replies.replies.items (c.read_file-2.ensures.unchanged ∙ c.read_file.ensures.unchanged) (c.in_ok-requests.ensures.kept ∙ c.in_ok-capacity.ensures.kept) (planned old names c.deref.result.now c.deref-2.result.now c.in_ok-replies.replies.items c.in_ok-declaration.declaration c.in_ok-message.message c.in_ok-message.ensures.historic.0 (rw c.deref.ensures.value c.in_ok-capacity.ensures.held.0) (rw c.deref.ensures.value c.in_ok-capacity.ensures.held.1) c.in_ok-declaration.ensures.declared (rw (c.deref-2.ensures.value, ← c.read_file.ensures.unchanged) c.in_ok-requests.ensures.held.0) (rw c.deref-2.ensures.value c.in_ok-requests.ensures.held.1) c.in_ok-message.ensures.historic.1 (c.in_ok-replies.ensures c.in_ok-message.ensures.historic.0.asked c.in_ok-message.ensures.historic.0.items)) (subst (λ (b : List ℕ). WritesPart (files c.read_file-2.new.cabinet) names.certificate b (files c.write_file.new.cabinet)) certificate_is c.in_err-write_file.ensures.part) c.in_err-write_file.ensures.rose))
+    (stop_first_write old (files c.read_file-2.new.cabinet) (files c.write_file.new.cabinet) names (count c.args.cabinet.now) (count c.read_file-2.new.cabinet) (count c.write_file.new.cabinet) c.in_ok-replies.replies.items (c.read_file-2.ensures.unchanged ∙ c.read_file.ensures.unchanged) (c.in_ok-requests.ensures.kept ∙ c.in_ok-capacity.ensures.kept) (planned old names c.deref.result.now c.deref-2.result.now c.in_ok-replies.replies.items c.in_ok-declaration.declaration c.in_ok-message.message c.in_ok-message.ensures.historic.0 (rw c.deref.ensures.value c.in_ok-capacity.ensures.held.0) c.in_ok-declaration.ensures.declared (rw (c.deref-2.ensures.value, ← c.read_file.ensures.unchanged) c.in_ok-requests.ensures.held.0) c.in_ok-message.ensures.historic.1 (c.in_ok-replies.ensures c.in_ok-message.ensures.historic.0.asked c.in_ok-message.ensures.historic.0.items)) (subst (λ (b : List ℕ). WritesPart (files c.read_file-2.new.cabinet) names.certificate b (files c.write_file.new.cabinet)) certificate_is c.in_err-write_file.ensures.part) c.in_err-write_file.ensures.rose))
 
 pub returns-in_err-write_file-2-clause-stop : goal.returns-in_err-write_file-2-clause-stop
 returns-in_err-write_file-2-clause-stop g c = let files = g.C.Cabinet.files in let count = g.C.Cabinet.fault_count in let names = names_of c.args.names.now in let old = files c.args.cabinet.now in let p = err_from_is_err_and c.from_residual-in_err-write_file-2.result c.from_residual-in_err-write_file-2.ensures.1 in rw (p.1, p.2) (rw c.in_err-write_file-2.ensures.stop
-    (stop_second_write old (files c.read_file-2.new.cabinet) (files c.write_file.new.cabinet) (files c.write_file-2.new.cabinet) names (count c.args.cabinet.now) (count c.write_file.new.cabinet) (count c.write_file-2.new.cabinet) c.deref-3.result.now (c.read_file-2.ensures.unchanged ∙ c.read_file.ensures.unchanged) (c.in_ok-write_file.ensures.kept ∙ c.in_ok-requests.ensures.kept ∙ c.in_ok-capacity.ensures.kept) (planned old names c.deref.result.now c.deref-2.result.now c.deref-3.result.now c.in_ok-declaration.declaration c.in_ok-message.message c.in_ok-message.ensures.historic.0 (rw c.deref.ensures.value c.in_ok-capacity.ensures.held.0) (rw c.deref.ensures.value c.in_ok-capacity.ensures.held.1) c.in_ok-declaration.ensures.declared (rw (c.deref-2.ensures.value, ← c.read_file.ensures.unchanged) c.in_ok-requests.ensures.held.0) (rw c.deref-2.ensures.value c.in_ok-requests.ensures.held.1) c.in_ok-message.ensures.historic.1 (c.deref-3.ensures.value ∙ c.in_ok-replies.ensures c.in_ok-message.ensures.historic.0.asked c.in_ok-message.ensures.historic.0.items)) (subst (λ (b : List ℕ). Writes (files c.read_file-2.new.cabinet) names.certificate b (files c.write_file.new.cabinet)) certificate_is c.in_ok-write_file.ensures.ok) c.in_err-write_file-2.ensures.part c.in_err-write_file-2.ensures.rose))
+    (stop_second_write old (files c.read_file-2.new.cabinet) (files c.write_file.new.cabinet) (files c.write_file-2.new.cabinet) names (count c.args.cabinet.now) (count c.write_file.new.cabinet) (count c.write_file-2.new.cabinet) c.deref-3.result.now (c.read_file-2.ensures.unchanged ∙ c.read_file.ensures.unchanged) (c.in_ok-write_file.ensures.kept ∙ c.in_ok-requests.ensures.kept ∙ c.in_ok-capacity.ensures.kept) (planned old names c.deref.result.now c.deref-2.result.now c.deref-3.result.now c.in_ok-declaration.declaration c.in_ok-message.message c.in_ok-message.ensures.historic.0 (rw c.deref.ensures.value c.in_ok-capacity.ensures.held.0) c.in_ok-declaration.ensures.declared (rw (c.deref-2.ensures.value, ← c.read_file.ensures.unchanged) c.in_ok-requests.ensures.held.0) c.in_ok-message.ensures.historic.1 (c.deref-3.ensures.value ∙ c.in_ok-replies.ensures c.in_ok-message.ensures.historic.0.asked c.in_ok-message.ensures.historic.0.items)) (subst (λ (b : List ℕ). Writes (files c.read_file-2.new.cabinet) names.certificate b (files c.write_file.new.cabinet)) certificate_is c.in_ok-write_file.ensures.ok) c.in_err-write_file-2.ensures.part c.in_err-write_file-2.ensures.rose))
 
 pub returns-clause-done : goal.returns-clause-done
-returns-clause-done g c = let files = g.C.Cabinet.files in let count = g.C.Cabinet.fault_count in let names = names_of c.args.names.now in let old = files c.args.cabinet.now in both_written old (files c.read_file-2.new.cabinet) (files c.write_file.new.cabinet) (files c.write_file-2.new.cabinet) names (count c.args.cabinet.now) (count c.write_file-2.new.cabinet) c.deref-3.result.now (c.read_file-2.ensures.unchanged ∙ c.read_file.ensures.unchanged) (c.in_ok-write_file-2.ensures.kept ∙ c.in_ok-write_file.ensures.kept ∙ c.in_ok-requests.ensures.kept ∙ c.in_ok-capacity.ensures.kept) (planned old names c.deref.result.now c.deref-2.result.now c.deref-3.result.now c.in_ok-declaration.declaration c.in_ok-message.message c.in_ok-message.ensures.historic.0 (rw c.deref.ensures.value c.in_ok-capacity.ensures.held.0) (rw c.deref.ensures.value c.in_ok-capacity.ensures.held.1) c.in_ok-declaration.ensures.declared (rw (c.deref-2.ensures.value, ← c.read_file.ensures.unchanged) c.in_ok-requests.ensures.held.0) (rw c.deref-2.ensures.value c.in_ok-requests.ensures.held.1) c.in_ok-message.ensures.historic.1 (c.deref-3.ensures.value ∙ c.in_ok-replies.ensures c.in_ok-message.ensures.historic.0.asked c.in_ok-message.ensures.historic.0.items)) (subst (λ (b : List ℕ). Writes (files c.read_file-2.new.cabinet) names.certificate b (files c.write_file.new.cabinet)) certificate_is c.in_ok-write_file.ensures.ok) c.in_ok-write_file-2.ensures.ok
+returns-clause-done g c = let files = g.C.Cabinet.files in let count = g.C.Cabinet.fault_count in let names = names_of c.args.names.now in let old = files c.args.cabinet.now in both_written old (files c.read_file-2.new.cabinet) (files c.write_file.new.cabinet) (files c.write_file-2.new.cabinet) names (count c.args.cabinet.now) (count c.write_file-2.new.cabinet) c.deref-3.result.now (c.read_file-2.ensures.unchanged ∙ c.read_file.ensures.unchanged) (c.in_ok-write_file-2.ensures.kept ∙ c.in_ok-write_file.ensures.kept ∙ c.in_ok-requests.ensures.kept ∙ c.in_ok-capacity.ensures.kept) (planned old names c.deref.result.now c.deref-2.result.now c.deref-3.result.now c.in_ok-declaration.declaration c.in_ok-message.message c.in_ok-message.ensures.historic.0 (rw c.deref.ensures.value c.in_ok-capacity.ensures.held.0) c.in_ok-declaration.ensures.declared (rw (c.deref-2.ensures.value, ← c.read_file.ensures.unchanged) c.in_ok-requests.ensures.held.0) c.in_ok-message.ensures.historic.1 (c.deref-3.ensures.value ∙ c.in_ok-replies.ensures c.in_ok-message.ensures.historic.0.asked c.in_ok-message.ensures.historic.0.items)) (subst (λ (b : List ℕ). Writes (files c.read_file-2.new.cabinet) names.certificate b (files c.write_file.new.cabinet)) certificate_is c.in_ok-write_file.ensures.ok) c.in_ok-write_file-2.ensures.ok
