@@ -24,3 +24,4 @@ pub mod ShapeLemmas
 pub mod AtLemmas
 pub mod PlaceLemmas
 pub mod PieceLemmas
+pub mod LineLemmas

@@ -174,7 +174,7 @@ code_no_blank U = refl
 code_no_blank W = refl
 code_no_blank X = refl
 
-code_above : (code : Code) → 33 ≤ code_letter code
+pub code_above : (code : Code) → 33 ≤ code_letter code
 code_above N = omega arith
 code_above B = omega arith
 code_above F = omega arith
@@ -291,7 +291,7 @@ nights_clean : (n : ℕ) → Clean (nights_text n)
 nights_clean zero = tt
 nights_clean (suc n) = (omega arith, tt)
 
-going_clean : (stop : Stop) (n : ℕ) → StopFits stop → Clean (departure_group_text stop n)
+pub going_clean : (stop : Stop) (n : ℕ) → StopFits stop → Clean (departure_group_text stop n)
 going_clean stop n fits =
     clean_append (time_text stop.minute) (nights_text n ++ stations_text stop.near stop.far) (clean_append (two_digits (stop.minute / 60)) (two_digits (stop.minute % 60)) (clean_two (stop.minute / 60)) (clean_two (stop.minute % 60)))
     (clean_append (nights_text n) (stations_text stop.near stop.far) (nights_clean n) (clean_stations stop.near stop.far fits.stations))
@@ -347,7 +347,7 @@ some_going stop n = omega (arith, length-append (time_text stop.minute) (nights_
 some_coming : (stop : Stop) → 1 ≤ length (arrival_group_text stop)
 some_coming stop = omega (arith, length-append (stations_text stop.near stop.far) (time_text stop.minute))
 
-code_clean : (code : Code) (flight : Flight) → FlightFits flight → Clean (code_letter code ∷ flight_text flight)
+pub code_clean : (code : Code) (flight : Flight) → FlightFits flight → Clean (code_letter code ∷ flight_text flight)
 code_clean code flight fits = (code_above code, clean_flight flight fits)
 
 arrival_back : (season : Term) (code : Code) (stop : Stop) (period : Period) (seats : ℕ) (craft : Craft) → NamedDays season → IsAsked code → StopFits stop → MiddleFits season period seats craft

@@ -2,7 +2,8 @@ ghost use Rattle.std.specs.Prelude.{◌≡◌, ◌<◌, ◌≤◌, ◌↔◌, �
 ghost use Rattle.scr_reader.specs.Parts.{IsDays, days_text, place_of_day, rising_text, rising_digit};
 ghost use Rattle.scr_reader.specs.FieldForms.{bit_of_place, digit_bit, digit_bits};
 
-/// The weekdays that a field names: bit 0 is Monday.
+/// The weekdays that a field names, bit 0 for Monday: seven places, each with the digit of its weekday or 0, or one to six
+/// rising digits. None for every other text.
 pub fn read_weekdays(text: &[u8]) -> Option<u8>
     ensures found { IfSome result (λ days. IsDays text.now days) }
     ensures only { (days : ℕ) → IsDays text.now days → result ≡ Some days }

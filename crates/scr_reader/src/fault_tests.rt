@@ -171,12 +171,13 @@ fn pairs_and_their_faults(rt: HostRuntime) -> Result<(), Fail> {
 
 #[test]
 fn faults_of_headers_and_later_messages(rt: HostRuntime) -> Result<(), Fail> {
-    let cases: [(&[u8], Option<ScrFault>); 20] = [
+    let cases: [(&[u8], Option<ScrFault>); 21] = [
         (b"", None),
         (b"\n \t\r\n", None),
         (b"SCR", header(2)),
         (b"SCR\r\r\nS25\n20NOV\nABC", header(1)),
         (b"SCR\nS25\n20NOV\n", header(4)),
+        (b"SCR\nS25\n\nSCR\nS25\n20NOV\nABC", header(3)),
         (b"SCR\n/x\nS25\n20NOV\nAB", header(5)),
         (b"SCR\n/x\n/y\nS25\n20NOV\nABC", header(3)),
         (b" SCR\nS25\n20NOV\nABC", header(1)),

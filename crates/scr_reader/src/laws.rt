@@ -1,10 +1,11 @@
 //! Laws of what is read and printed. Each function does nothing; its contract is the law.
 
-ghost use Rattle.std.specs.Prelude.{◌<◌, ℕ, List};
+ghost use Rattle.std.specs.Prelude.{◌≡◌, ◌++◌, ◌∷◌, ◌<◌, ℕ, List, false};
 ghost use Rattle.season_days.specs.Term.{Term};
-ghost use Rattle.scr_reader.specs.Rows.{entry, IsRow};
+ghost use Rattle.slot_text.specs.Lines.{lines_of};
+ghost use Rattle.scr_reader.specs.Rows.{entry, IsRow, is_empty_line};
 ghost use Rattle.scr_reader.specs.Messages.{ReadsMessage, ReadsAll};
-ghost use Rattle.scr_reader.specs.Printed.{LineFits, ItemsFit, MessagesFit, PrintsBack};
+ghost use Rattle.scr_reader.specs.Printed.{line_text, LineFits, ItemsFit, MessagesFit, PrintsBack};
 ghost use Rattle.scr_reader.specs.declared.line.Code.{Code as CodeValue};
 ghost use Rattle.scr_reader.specs.declared.line.Line.{Line as LineValue};
 ghost use Rattle.scr_reader.specs.declared.message.Message.{Message as MessageValue};
@@ -24,3 +25,9 @@ pub fn printed_lines_are_read()
 {
     named_days();
 }
+
+/// A printed line, whatever its code, is one line of a text, and not an empty one.
+pub fn printed_lines_are_lines()
+    ensures one { (season : Term) (code : CodeValue) (line : LineValue) (rest : List ℕ) → LineFits season line → lines_of (line_text season code line ++ (10 ∷ rest)) ≡ line_text season code line ∷ lines_of rest }
+    ensures full { (season : Term) (code : CodeValue) (line : LineValue) → LineFits season line → is_empty_line (line_text season code line) ≡ false }
+{}

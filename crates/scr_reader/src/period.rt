@@ -102,7 +102,9 @@ pub(crate) fn read_weekdays_of(
     }
 }
 
-/// The period that two fields name.
+/// The period that two fields of a data line name: one date or two, and its days of operation. None where a date does not
+/// exist or lies outside the season, where the period is reversed or has no date on these weekdays, and where a field has
+/// another form. It takes no memory.
 pub fn read_period(season: &Season, period: &[u8], days: &[u8]) -> Result<Option<Period>, Memory>
     ensures found { IfOk result (λ read. IfSome read (λ p. NamesPeriod season.now period.now days.now p)) }
     ensures only { (p : PeriodValue) → NamesPeriod season.now period.now days.now p → (result ≡ Ok (Some p)) ⊎ IsErr result }

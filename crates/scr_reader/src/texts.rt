@@ -64,8 +64,8 @@ fn read_next(
     Ok(count)
 }
 
-/// The first message of a text, or its first bad line; a text without a line that is not empty lacks its header after
-/// its last line.
+/// The first message of a text, or the fault of its lowest bad line; a text without a line that is not empty lacks its
+/// header after its last line. One pass over the bytes.
 pub fn read_message(alloc: Global, bytes: &[u8]) -> Result<Message, ScrFault>
     requires { length bytes.now + 6 < 2 ^ 32 }
     ensures found { IfOk result (ReadsMessage bytes.now) }
