@@ -55,7 +55,9 @@ fn rate(
 ) -> anyhow::Result<()> {
     if size == Size::Full {
         let nanos = start.elapsed(rt)?.as_nanos();
-        let rate = (lines as u128 * 1_000_000_000).checked_div(nanos).unwrap_or(0);
+        let rate = (lines as u128 * 1_000_000_000)
+            .checked_div(nanos)
+            .unwrap_or(0);
         println!(rt; "{name}: {rate} lines a second")?;
     }
     step(rt, size, name, start)

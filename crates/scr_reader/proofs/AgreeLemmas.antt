@@ -1,10 +1,10 @@
 -- The parts of a line, one after the other, and the first that has not its form.
-use Rattle.std.proofs.Common.{◌≡◌, ℕ, zero, suc, ◌+◌, ◌-◌, ◌<◌, ◌≤◌, List, [], ◌∷◌, length, take, Some, None, refl, sym, ap, subst, ◌∙◌, arith}
-use Rattle.std.specs.Prelude.{Option, slice_get, IsSomeAnd, IsSome}
+use Rattle.std.proofs.Common.{◌≡◌, ℕ, zero, suc, ◌-◌, ◌<◌, List, [], ◌∷◌, length, take, Some, None, refl, ap, subst, arith}
+use Rattle.std.specs.Prelude.{slice_get, IsSomeAnd, IsSome}
 use Rattle.std.proofs.lemmas.Option.{same_Some}
 use Rattle.season_days.specs.Term.{Term}
 use Rattle.scr_reader.specs.declared.line.Line.{Line}
-use Rattle.scr_reader.specs.Shapes.{Shape, Part, parts_of, shape_of, Says, Agree, AgreesUpTo, HasShape, IsLine, IsFaultyField, part_count}
+use Rattle.scr_reader.specs.Shapes.{Shape, Part, parts_of, shape_of, Says, Agree, HasShape, IsLine, IsFaultyField}
 
 -- what a field says, of a line that agrees with it
 pub said_in : (season : Term) (line : Line) (part : Part) (k m : ℕ) (parts : List Part) (fields : List (List ℕ)) → k < m → slice_get parts k ≡ Some part → Agree season (take m parts) fields line

@@ -1,11 +1,11 @@
 -- From the readings of lines to the rows below a header, and back.
-use Rattle.std.proofs.Common.{◌≡◌, ◌≢◌, ◌⊎◌, ℕ, zero, suc, ◌+◌, ◌<◌, ◌≤◌, Bool, true, false, List, [], ◌∷◌, length, map, Some, None, refl, sym, ap, subst, ◌∙◌, arith, inl, inr}
-use Rattle.std.specs.Prelude.{Option, IsSomeAnd}
+use Rattle.std.proofs.Common.{◌≡◌, ℕ, ◌+◌, ◌<◌, List, [], ◌∷◌, length, Some, None, refl, sym, ap, ◌∙◌, arith, inl, inr}
+use Rattle.std.specs.Prelude.{Option}
 use Rattle.std.proofs.lemmas.Bool.{both_ways}
 use Rattle.season_days.specs.Term.{Term}
 use Rattle.scr_reader.specs.Rows.{Row, remark, entry, question, most_bytes, is_remark, is_question, line_fields, IsRow, IsRowOrNone, AreRows, IsBadField}
-use Rattle.scr_reader.specs.Readings.{row_read, IsReading, AreReadings, HasOwn}
-use Rattle.scr_reader.specs.Messages.{IsShort, IsPaired, LineIsPaired, IsGoodRow, AreGood, IsLineFault, IsBodyFault}
+use Rattle.scr_reader.specs.Readings.{row_read, IsReading, AreReadings}
+use Rattle.scr_reader.specs.Messages.{IsShort, LineIsPaired, IsGoodRow, AreGood, IsLineFault, IsBodyFault}
 use Rattle.scr_reader.specs.Pairing.{rows_read, IsGoodReading, HasFaultAt, AreGoodReadings, IsFirstAt}
 use Rattle.scr_reader.specs.declared.line.Line.{Line}
 use Rattle.scr_reader.specs.declared.rows.Reading.{Reading}

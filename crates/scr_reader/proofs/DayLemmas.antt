@@ -1,6 +1,6 @@
 -- A day of the season, from the date that names it and back.
 use Rattle.std.proofs.Common.{◌≡◌, ℕ, ◌<◌, ◌≤◌, ◌-◌, ◌⊎◌, zero, suc, Bool, true, eqb, List, [], ◌∷◌, ◌++◌, length, length-append, get_or, subst, take, drop, Result, Ok, Err, refl, sym, ap, ◌∙◌, arith, inl, inr, pos}
-use Rattle.std.specs.Prelude.{IfOk, IfErr, IfSome, IsErrOf, IsSomeAnd, Option, Some, None, ◌≢◌}
+use Rattle.std.specs.Prelude.{IfOk, IfSome, IsSomeAnd, Option, Some, None, ◌≢◌}
 use Rattle.std.specs.Result.{result_ok}
 use Rattle.std.proofs.lemmas.List.{take_at, drop_at, take-append-drop}
 use Rattle.std.proofs.Math.Bool.{◌&&◌}
@@ -8,10 +8,9 @@ use Rattle.std.proofs.lemmas.Bool.{and_parts, eqb-true}
 use Rattle.jiff_core.proofs.SignedLemmas.{signed_arith}
 use Rattle.jiff_core.proofs.CalendarLemmas.{days_in_month_bounds}
 use Rattle.season_days.specs.Term.{Term}
-use Rattle.season_days.specs.Seasons.{NamesDate, number_named, IsDayNamed, IsOutside, IsDayOfFault, year_of_month, first_year, dates_of}
+use Rattle.season_days.specs.Seasons.{NamesDate, IsDayNamed, year_of_month, first_year, dates_of}
 use Rattle.season_days.specs.declared.day.Day.{Day}
 use Rattle.season_days.specs.declared.day.DayFault.{DayFault}
-use Rattle.season_days.specs.declared.day.DayFault.TheVariants.{NoSuchDate, OutsideSeason, Reversed, NoDates, Memory}
 use Rattle.scr_reader.specs.Bytes.{two_digits}
 use Rattle.scr_reader.specs.Parts.{month_names, month_text, SpellsDay, IsTwoDays, IsPeriod, IsDays}
 use Rattle.scr_reader.specs.Shapes.{NamesPeriod}

@@ -1,18 +1,18 @@
 -- What is read has a printed spelling.
-use Rattle.std.proofs.Common.{◌≡◌, ◌≢◌, ◌⊎◌, ℕ, zero, suc, ◌+◌, ◌-◌, ◌*◌, ◌<◌, ◌≤◌, Bool, true, false, List, [], ◌∷◌, length, take, Some, None, refl, sym, ap, subst, ◌∙◌, arith, inl, inr}
-use Rattle.std.specs.Prelude.{Option, IsSome, IsSomeAnd, slice_get}
+use Rattle.std.proofs.Common.{◌≡◌, ℕ, ◌+◌, ◌-◌, ◌*◌, ◌<◌, ◌≤◌, true, List, [], ◌∷◌, length, Some, None, refl, arith, inl, inr}
+use Rattle.std.specs.Prelude.{Option, IsSomeAnd, slice_get}
 use Rattle.std.proofs.lemmas.Bool.{and_parts}
 use Rattle.std.proofs.lemmas.Bool.Decides.{nat_tests}
 use Rattle.std.proofs.Math.Bool.{◌&&◌}
 use Rattle.season_days.specs.Term.{Term}
-use Rattle.season_days.specs.Seasons.{date_count, dates_of}
+use Rattle.season_days.specs.Seasons.{date_count}
 use Rattle.scr_reader.specs.declared.line.Line.{Line}
 use Rattle.scr_reader.specs.declared.line.Stop.{Stop}
 use Rattle.scr_reader.specs.declared.line.Code.{Code}
 use Rattle.scr_reader.specs.declared.line.Flight.{Flight}
-use Rattle.scr_reader.specs.Bytes.{is_letter, is_digit}
-use Rattle.scr_reader.specs.Parts.{are_digits, number_named, NamesNumber, IsFlight, IsPeriod, IsTwoDays, SpellsDay, IsDays, IsSeats, StationsFit, IsArrivalGroup, IsDepartureGroup, IsNights}
-use Rattle.scr_reader.specs.Shapes.{Shape, arrival, departure, turnaround, parts_of, shape_of, code_and_flight, code_alone, departing_flight, dates, weekdays, seats_and_craft, arrival_group, departure_group, departure_group_with_nights, arrival_service, departure_service, both_services, Says, Agree, HasShape, IsLine, IsCodeAndFlight, IsService, IsBothServices, IsLaterGroup}
+use Rattle.scr_reader.specs.Bytes.{is_digit}
+use Rattle.scr_reader.specs.Parts.{are_digits, number_named, IsFlight, IsPeriod, IsArrivalGroup, IsDepartureGroup, IsNights}
+use Rattle.scr_reader.specs.Shapes.{Shape, arrival, departure, turnaround, parts_of, shape_of, code_and_flight, departing_flight, dates, weekdays, seats_and_craft, arrival_group, departure_group, departure_group_with_nights, arrival_service, departure_service, both_services, IsLine, IsCodeAndFlight, IsService, IsBothServices, IsLaterGroup}
 use Rattle.scr_reader.specs.Rows.{entry, line_fields, IsRow}
 use Rattle.scr_reader.specs.Printed.{FlightFits, StopFits, StopsFit, LineFits}
 use Rattle.scr_reader.proofs.AgreeLemmas.{said_in, shape_said}

@@ -1,5 +1,5 @@
 -- The lines of a header, one after the other.
-use Rattle.std.proofs.Common.{◌≡◌, ◌≢◌, ◌⊎◌, ℕ, zero, suc, ◌+◌, ◌<◌, ◌≤◌, List, [], ◌∷◌, length, Some, None, refl, sym, ap, subst, ◌∙◌, arith, inl, inr}
+use Rattle.std.proofs.Common.{◌≡◌, ℕ, ◌+◌, ◌<◌, List, [], ◌∷◌, Some, None, refl, sym, ap, subst, ◌∙◌, arith, inl, inr}
 use Rattle.std.specs.Prelude.{Option, IsSomeAnd, slice_get, codes, Result, IfErr, Ok, Err, true, false}
 use Rattle.season_days.specs.Term.{Term}
 use Rattle.season_days.specs.declared.season.Half.TheVariants.{Summer}
@@ -7,11 +7,11 @@ use Rattle.season_days.specs.Seasons.{season_text}
 use Rattle.slot_text.specs.Stations.{IsStation}
 use Rattle.slot_text.specs.declared.station.Station.{Station}
 use Rattle.scr_reader.specs.Parts.{date_text, IsDayOfMonth}
-use Rattle.scr_reader.specs.Rows.{trimmed, most_bytes}
-use Rattle.scr_reader.specs.Messages.{HeaderPart, title, address, season_name, date_name, airport_name, parts_from_season, header_parts, has_address, IsShort, HeaderSays, PartSays, HeaderAgrees, IsMissingOrLong, IsPartFault, IsHeaderFault}
+use Rattle.scr_reader.specs.Rows.{trimmed}
+use Rattle.scr_reader.specs.Messages.{HeaderPart, title, address, season_name, date_name, airport_name, parts_from_season, header_parts, has_address, IsShort, PartSays, HeaderAgrees, IsPartFault, IsHeaderFault}
 use Rattle.scr_reader.specs.declared.header.Header.{Header}
 use Rattle.scr_reader.specs.declared.fault.ScrFault.{ScrFault}
-use Rattle.scr_reader.specs.declared.fault.ScrFault.TheVariants.{BadHeader, TooLong}
+use Rattle.scr_reader.specs.declared.fault.ScrFault.TheVariants.{BadHeader}
 
 says_no_fault : (part : HeaderPart) (number : ℕ) (line : Option (List ℕ)) (header : Header) (f : ScrFault) → PartSays part line header → IsPartFault part number line f → ⊥
 says_no_fault part number None header f says fault = says

@@ -1,16 +1,15 @@
 -- The items of messages that are read have a printed spelling.
-use Rattle.std.proofs.Common.{◌≡◌, ℕ, ◌+◌, List, [], ◌∷◌, Some, None, refl}
+use Rattle.std.proofs.Common.{ℕ, ◌+◌, List, [], ◌∷◌, Some, None}
 use Rattle.std.specs.Prelude.{Option}
 use Rattle.season_days.specs.Term.{Term}
 use Rattle.scr_reader.specs.declared.line.Line.{Line}
 use Rattle.scr_reader.specs.declared.line.Flight.{Flight}
 use Rattle.scr_reader.specs.declared.line.Item.{Item}
-use Rattle.scr_reader.specs.declared.line.Item.TheVariants.{One, Pair, Query}
 use Rattle.scr_reader.specs.declared.line.Code.{Code}
 use Rattle.scr_reader.specs.declared.line.Code.TheVariants.{N, B, F, C, R, L, D, A, Z, K, H, O, U, W, X}
 use Rattle.scr_reader.specs.declared.message.Message.{Message}
 use Rattle.scr_reader.specs.declared.message.Placed.{Placed}
-use Rattle.scr_reader.specs.Rows.{Row, remark, entry, question, line_fields, IsRow, IsRowOrNone, AreRows, IsQuestion, IsAskedFlight}
+use Rattle.scr_reader.specs.Rows.{Row, remark, entry, question, line_fields, IsRowOrNone, AreRows, IsQuestion, IsAskedFlight}
 use Rattle.scr_reader.specs.Messages.{Run, next_row, pair_item, line_item, row_item, place, items_of, IsMessage, body_of, AreMessages, FirstIs, runs_in, ReadsMessage, ReadsAll}
 use Rattle.scr_reader.specs.Printed.{LineFits, FlightFits, ItemFits, ItemsFit, MessagesFit}
 use Rattle.scr_reader.proofs.FitsLemmas.{read_fits, flight_fits}

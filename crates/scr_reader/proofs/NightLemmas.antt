@@ -1,12 +1,12 @@
 -- Nights and rising digits, from their spelling back to their value.
-use Rattle.std.proofs.Common.{◌≡◌, ℕ, zero, suc, ◌+◌, ◌-◌, ◌*◌, ◌/◌, ◌%◌, ◌<◌, ◌≤◌, true, false, eqb, List, [], ◌∷◌, ◌++◌, refl, sym, ap, ◌∙◌, arith, inl, inr, Some, None}
-use Rattle.std.specs.Prelude.{Bool, length, nat_eq, nat_lt, Option, ◌==◌}
+use Rattle.std.proofs.Common.{◌≡◌, ℕ, zero, suc, ◌-◌, ◌<◌, ◌≤◌, true, false, eqb, List, [], ◌∷◌, ◌++◌, refl, sym, ap, ◌∙◌, arith, inl, inr, Some, None}
+use Rattle.std.specs.Prelude.{Bool, length, nat_lt, Option, ◌==◌}
 use Rattle.std.proofs.Math.Bool.{◌&&◌, ◌||◌}
 use Rattle.std.proofs.lemmas.Bool.{cases_Bool, eqb-true, eqb-false, both_ways}
 use Rattle.std.proofs.lemmas.Bool.Decides.{nat_tests}
 use Rattle.slot_text.specs.Stations.{IsStation}
 use Rattle.slot_text.specs.declared.station.Station.{Station}
-use Rattle.scr_reader.specs.Bytes.{is_letter, is_digit, digit}
+use Rattle.scr_reader.specs.Bytes.{is_digit, digit}
 use Rattle.scr_reader.specs.Parts.{IsNights, StationsFit, stations_text, rising_text}
 use Rattle.scr_reader.specs.FieldForms.{leading_nights, after_nights, digit_bits}
 

@@ -1,11 +1,10 @@
 -- The first nine fields decide, a line that agrees has no faulty field, and there is one first faulty field.
-use Rattle.std.proofs.Common.{◌≡◌, ◌≢◌, ◌⊎◌, ℕ, zero, suc, ◌+◌, ◌-◌, ◌<◌, ◌≤◌, min, Bool, true, false, List, [], ◌∷◌, length, take, Some, None, refl, sym, ap, subst, ◌∙◌, arith, inl, inr}
-use Rattle.std.specs.Prelude.{Option, slice_get, IsSome, IsSomeAnd}
-use Rattle.std.proofs.lemmas.List.{length-take, take_all}
+use Rattle.std.proofs.Common.{◌≡◌, ℕ, zero, suc, ◌-◌, ◌<◌, ◌≤◌, List, [], ◌∷◌, length, take, refl, sym, ap, subst, ◌∙◌, arith, inl, inr}
+use Rattle.std.proofs.lemmas.List.{length-take}
 use Rattle.season_days.specs.Term.{Term}
 use Rattle.scr_reader.specs.declared.line.Line.{Line}
 use Rattle.scr_reader.specs.declared.line.Flight.{Flight}
-use Rattle.scr_reader.specs.Shapes.{Shape, Part, arrival, departure, turnaround, parts_of, shape_of, Says, Agree, AgreesUpTo, HasShape, IsLine, IsFaultyField, part_count}
+use Rattle.scr_reader.specs.Shapes.{Shape, Part, arrival, departure, turnaround, parts_of, shape_of, Agree, AgreesUpTo, HasShape, IsLine, IsFaultyField, part_count}
 use Rattle.scr_reader.specs.Rows.{is_question, IsQuestion, IsFaultyQuestion}
 
 -- ---- how many parts agree

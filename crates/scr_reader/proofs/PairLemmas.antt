@@ -1,16 +1,16 @@
 -- Lines in pairs, one after the other.
-use Rattle.std.proofs.Common.{◌≡◌, ◌≢◌, ◌⊎◌, ℕ, zero, suc, ◌+◌, ◌-◌, ◌<◌, ◌≤◌, Bool, true, false, List, [], ◌∷◌, ◌++◌, length, map, drop, get_or, Some, None, refl, sym, ap, subst, ◌∙◌, arith, inl, inr, add-one, drop-cons, append_assoc}
-use Rattle.std.specs.Prelude.{Option, IsTrue, IsSomeAnd, IfSome, MatchOption}
+use Rattle.std.proofs.Common.{◌≡◌, ◌≢◌, ℕ, zero, suc, ◌+◌, ◌<◌, ◌≤◌, Bool, false, List, [], ◌∷◌, ◌++◌, length, drop, get_or, Some, None, refl, sym, ap, subst, ◌∙◌, arith, inl, inr, add-one, drop-cons, append_assoc}
+use Rattle.std.specs.Prelude.{Option, IsSomeAnd, MatchOption}
 use Rattle.std.proofs.lemmas.List.{append-nil}
 use Rattle.scr_reader.specs.Rows.{Row, remark, entry, question}
 use Rattle.scr_reader.specs.Readings.{row_read}
-use Rattle.scr_reader.specs.Messages.{next_row, LineIsPaired, RowIsChange, RowAsksChange, AsksChange, line_item, pair_item, row_item, place, items_of}
+use Rattle.scr_reader.specs.Messages.{next_row, LineIsPaired, RowAsksChange, AsksChange, line_item, pair_item, row_item, place, items_of}
 use Rattle.scr_reader.specs.Pairing.{rows_read, entry_of, Follows, IsGoodReading, HasFaultAt, AreGoodReadings, IsFirstAt}
 use Rattle.scr_reader.specs.declared.line.Line.{Line}
 use Rattle.scr_reader.specs.declared.line.Item.{Item}
 use Rattle.scr_reader.specs.declared.line.Code.{Code}
 use Rattle.scr_reader.specs.declared.line.Code.TheVariants.{N, B, F, C, R, L, D, A, Z, K, H, O, U, W, X}
-use Rattle.scr_reader.specs.declared.line.Item.TheVariants.{One, Pair, Query}
+use Rattle.scr_reader.specs.declared.line.Item.TheVariants.{One, Pair}
 use Rattle.scr_reader.specs.declared.message.Placed.{Placed}
 use Rattle.scr_reader.specs.declared.rows.Reading.{Reading}
 use Rattle.scr_reader.specs.declared.fault.ScrFault.{ScrFault}

@@ -1,10 +1,10 @@
 -- What is printed is read again.
-use Rattle.std.proofs.Common.{◌≡◌, ◌≢◌, ◌⊎◌, ◌↔◌, ℕ, zero, suc, ◌+◌, ◌-◌, ◌*◌, ◌/◌, ◌%◌, ◌<◌, ◌≤◌, Bool, true, false, ltb, leb, List, [], ◌∷◌, ◌++◌, length, length-append, take, get_or, Some, None, refl, sym, ap, subst, ◌∙◌, arith, inl, inr, append_assoc}
-use Rattle.std.specs.Prelude.{Option, IsSome, IsSomeAnd, slice_get, ◌==◌}
+use Rattle.std.proofs.Common.{◌≡◌, ◌≢◌, ◌↔◌, ℕ, zero, suc, ◌+◌, ◌-◌, ◌*◌, ◌/◌, ◌%◌, ◌<◌, ◌≤◌, Bool, true, false, ltb, leb, List, [], ◌∷◌, ◌++◌, length, length-append, get_or, Some, None, refl, sym, ap, subst, ◌∙◌, arith, inl, inr}
+use Rattle.std.specs.Prelude.{Option, ◌==◌}
 use Rattle.std.proofs.Math.Bool.{◌&&◌, ◌||◌}
 use Rattle.std.proofs.lemmas.Bool.{cases_Bool, ne_eqb, and_parts, ltb-true, leb-true}
 use Rattle.std.proofs.lemmas.Bool.Decides.{nat_tests}
-use Rattle.slot_text.specs.Fields.{is_blank, begins_in_field, fields_of}
+use Rattle.slot_text.specs.Fields.{is_blank, fields_of}
 use Rattle.slot_text.specs.Lines.{onto_first}
 use Rattle.slot_text.specs.declared.station.Station.{Station}
 use Rattle.season_days.specs.Term.{Term}
@@ -16,11 +16,11 @@ use Rattle.scr_reader.specs.declared.line.Craft.{Craft}
 use Rattle.scr_reader.specs.declared.line.Flight.{Flight}
 use Rattle.scr_reader.specs.declared.line.Code.{Code}
 use Rattle.scr_reader.specs.declared.line.Code.TheVariants.{N, B, F, C, R, L, D, A, Z, K, H, O, U, W, X}
-use Rattle.scr_reader.specs.Bytes.{is_letter, is_digit, is_letter_or_digit, digit, two_digits, three_digits, four_digits}
-use Rattle.scr_reader.specs.Parts.{AirlineFits, airline_text, are_digits, number_named, NamesNumber, SuffixFits, suffix_text, IsFlight, begins_with_flight, month_names, month_text, date_text, SpellsDay, IsPeriod, IsDays, days_text, IsSeats, ThreeLettersOrDigits, time_text, StationsFit, stations_text, IsArrivalGroup, IsDepartureGroup, IsNights}
-use Rattle.scr_reader.specs.Shapes.{Shape, arrival, departure, turnaround, shape_of, code_and_flight, arrival_service, departure_service, both_services, IsCodeAndFlight, IsCodeAlone, IsLaterGroup, IsLine}
+use Rattle.scr_reader.specs.Bytes.{is_letter, is_digit, digit, two_digits, three_digits, four_digits}
+use Rattle.scr_reader.specs.Parts.{AirlineFits, airline_text, NamesNumber, suffix_text, IsFlight, begins_with_flight, month_names, month_text, SpellsDay, IsPeriod, days_text, ThreeLettersOrDigits, time_text, StationsFit, stations_text, IsNights}
+use Rattle.scr_reader.specs.Shapes.{arrival, departure, turnaround, shape_of, arrival_service, departure_service, both_services, IsLine}
 use Rattle.scr_reader.specs.Rows.{is_remark, is_question, line_fields, most_bytes, entry, IsRow}
-use Rattle.scr_reader.specs.Printed.{code_letter, number_text, flight_text, nights_text, arrival_group_text, departure_group_text, day_text, dates_text, fields_by, joined, line_text, FlightFits, StopFits, StopsFit, LineFits, IsAsked, PrintsBack}
+use Rattle.scr_reader.specs.Printed.{code_letter, number_text, flight_text, nights_text, arrival_group_text, departure_group_text, day_text, dates_text, joined, line_text, FlightFits, StopFits, LineFits, IsAsked, PrintsBack}
 use Rattle.scr_reader.proofs.AgreeLemmas.{whole_line}
 use Rattle.scr_reader.proofs.ShapeLemmas.{arriving, leaving, turning, arrival_6, departure_7, turnaround_8}
 use Rattle.scr_reader.proofs.TrimLemmas.{not_blank}

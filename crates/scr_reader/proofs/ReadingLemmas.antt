@@ -1,14 +1,12 @@
 -- What a line is by itself, from what its fields are.
-use Rattle.std.proofs.Common.{◌≡◌, ◌≢◌, ◌⊎◌, ℕ, ◌<◌, ◌≤◌, Bool, true, false, List, take, Some, None, refl, sym, ap, ◌∙◌, inl, inr, length, arith}
-use Rattle.std.specs.Prelude.{Option}
+use Rattle.std.proofs.Common.{◌≡◌, ℕ, ◌<◌, ◌≤◌, true, false, List, take, Some, refl, sym, ap, ◌∙◌, inl, inr, length, arith}
 use Rattle.std.proofs.lemmas.Bool.{both_ways}
 use Rattle.season_days.specs.Term.{Term}
 use Rattle.scr_reader.specs.declared.line.Line.{Line}
 use Rattle.scr_reader.specs.declared.line.Flight.{Flight}
 use Rattle.scr_reader.specs.Shapes.{IsLine, IsFaultyField}
-use Rattle.scr_reader.specs.Rows.{Row, remark, entry, question, is_remark, is_question, line_fields, most_bytes, IsRow, IsRowOrNone, IsQuestion, IsFaultyQuestion, HasFields}
+use Rattle.scr_reader.specs.Rows.{Row, remark, entry, question, is_remark, is_question, line_fields, most_bytes, IsRow, IsQuestion, IsFaultyQuestion}
 use Rattle.scr_reader.specs.Readings.{IsReading, row_read}
-use Rattle.scr_reader.specs.declared.rows.Reading.{Reading}
 use Rattle.scr_reader.specs.declared.rows.Reading.TheVariants.{Remark, LongRemark, TooLong, Bad, Entry, Question}
 use Rattle.scr_reader.proofs.NineLemmas.{line_whole, line_cut, faulty_whole, same_asks, question_whole, question_cut, faulty_question_whole, faulty_no_line, faulty_no_question}
 

@@ -1,6 +1,6 @@
 -- Questions about flights.
-use Rattle.std.proofs.Common.{Bor, Result, Ok, Err, ◌≡◌, ◌≢◌, ◌⊎◌, ℕ, zero, suc, ◌+◌, ◌-◌, ◌<◌, ◌≤◌, Bool, true, false, List, [], ◌∷◌, length, take, drop, get_or, Some, None, refl, sym, ap, subst, ◌∙◌, arith, inl, inr, eqb}
-use Rattle.std.specs.Prelude.{Option, slice_get, IsSome, IsSomeAnd, IfSome}
+use Rattle.std.proofs.Common.{Bor, Ok, Err, ◌≡◌, ℕ, ◌-◌, true, false, List, [], ◌∷◌, length, take, drop, get_or, Some, None, refl, sym, ap, subst, ◌∙◌, arith, inl, inr}
+use Rattle.std.specs.Prelude.{Option, slice_get, IsSome, IfSome}
 use Rattle.std.proofs.lemmas.Bool.{both_ways}
 use Rattle.std.proofs.Math.Seq.{take-length}
 use Rattle.scr_reader.specs.declared.line.Flight.{Flight}

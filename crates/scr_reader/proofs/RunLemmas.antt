@@ -1,13 +1,13 @@
 -- Runs of lines that are not empty.
-use Rattle.std.proofs.Common.{◌≡◌, ◌≢◌, ◌⊎◌, ℕ, zero, suc, ◌+◌, ◌-◌, ◌<◌, ◌≤◌, Bool, true, false, List, [], ◌∷◌, ◌++◌, length, map, take, drop, get_or, Some, None, Bor, refl, sym, ap, subst, ◌∙◌, arith, inl, inr, add-one, drop-cons}
-use Rattle.std.proofs.lemmas.Bool.{cases_Bool, both_ways}
+use Rattle.std.proofs.Common.{◌≡◌, ℕ, zero, suc, ◌+◌, ◌<◌, ◌≤◌, true, false, List, [], ◌∷◌, ◌++◌, length, take, drop, get_or, Bor, refl, sym, ap, subst, ◌∙◌, arith, inl, inr, drop-cons}
+use Rattle.std.proofs.lemmas.Bool.{cases_Bool}
 use Rattle.std.proofs.lemmas.List.{take_more, map-append, append-nil}
 use Rattle.slot_text.specs.Lines.{lines_of}
 use Rattle.season_days.specs.Term.{Term}
 use Rattle.scr_reader.specs.Texts.{text_in, texts_in}
 use Rattle.scr_reader.specs.Rows.{is_empty_line}
 use Rattle.scr_reader.specs.Readings.{IsReading, AreReadings}
-use Rattle.scr_reader.specs.Messages.{Run, run_from, begins_in_run, onto_run, runs_of, front_length}
+use Rattle.scr_reader.specs.Messages.{run_from, begins_in_run, onto_run, runs_of, front_length}
 use Rattle.scr_reader.specs.declared.rows.Reading.{Reading}
 
 -- ---- how many lines stand before the first empty one

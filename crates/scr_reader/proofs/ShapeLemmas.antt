@@ -1,5 +1,5 @@
 -- What good fields say about a line, and dummy values for what isn't read yet.
-use Rattle.std.proofs.Common.{◌≡◌, ℕ, List, [], ◌∷◌, take, Some, None, refl}
+use Rattle.std.proofs.Common.{◌≡◌, ℕ, List, [], take, Some, None, refl}
 use Rattle.std.specs.Prelude.{Option, IsSomeAnd, slice_get}
 use Rattle.season_days.specs.Term.{Term}
 use Rattle.season_days.specs.declared.day.Day.{Day}
@@ -11,7 +11,7 @@ use Rattle.scr_reader.specs.declared.line.Stop.{Stop}
 use Rattle.scr_reader.specs.declared.line.Code.{Code}
 use Rattle.scr_reader.specs.declared.line.Craft.{Craft}
 use Rattle.scr_reader.specs.declared.line.Flight.{Flight}
-use Rattle.scr_reader.specs.Shapes.{Shape, Part, arrival, departure, turnaround, parts_of, code_and_flight, code_alone, departing_flight, dates, weekdays, seats_and_craft, arrival_group, departure_group, departure_group_with_nights, arrival_service, departure_service, both_services, Says, Agree}
+use Rattle.scr_reader.specs.Shapes.{arrival, departure, turnaround, parts_of, code_and_flight, code_alone, departing_flight, dates, weekdays, seats_and_craft, arrival_group, departure_group, departure_group_with_nights, arrival_service, departure_service, both_services, Says, Agree}
 use Rattle.scr_reader.proofs.AgreeLemmas.{agree_more}
 
 abbrev pub arriving : Code → Stop → Period → ℕ → Craft → Line

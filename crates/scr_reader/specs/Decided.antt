@@ -1,5 +1,5 @@
 -- A reader that decides: its answer is the only one.
-use Rattle.std.specs.Prelude.{◌≡◌, ◌⊎◌, ℕ, ◌+◌, ◌≤◌, Result, Ok, Err, List, [], ◌∷◌, ◌++◌, length, drop, true, false}
+use Rattle.std.specs.Prelude.{◌≡◌, ◌⊎◌, ℕ, ◌+◌, ◌≤◌, Result, Ok, Err, List, [], ◌∷◌, ◌++◌, length, drop, false}
 use Rattle.scr_reader.specs.Rows.{is_empty_line}
 use Rattle.scr_reader.specs.Messages.{Run, runs_of, IsMessage, IsMessageFault}
 use Rattle.scr_reader.specs.declared.message.Message.{Message}

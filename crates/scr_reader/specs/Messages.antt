@@ -1,5 +1,5 @@
 -- Messages: the header, the rows with their pairs, the first fault, and several messages in one text.
-use Rattle.std.specs.Prelude.{◌≡◌, ◌⊎◌, ℕ, zero, suc, ◌+◌, ◌-◌, ◌<◌, ◌≤◌, Bool, true, false, ◌==◌, if◌then◌else◌, List, [], ◌∷◌, length, drop, slice_get, Option, Some, None, is_some, IsSomeAnd, codes}
+use Rattle.std.specs.Prelude.{◌≡◌, ◌⊎◌, ℕ, suc, ◌+◌, ◌<◌, ◌≤◌, Bool, true, false, ◌==◌, if◌then◌else◌, List, [], ◌∷◌, length, drop, slice_get, Option, Some, None, is_some, IsSomeAnd, codes}
 use Rattle.slot_text.specs.Lines.{lines_of}
 use Rattle.slot_text.specs.Stations.{IsStation}
 use Rattle.season_days.specs.Term.{Term}
@@ -8,7 +8,7 @@ use Rattle.scr_reader.specs.Parts.{date_text, IsDayOfMonth}
 use Rattle.scr_reader.specs.Rows.{is_empty_line, trimmed, Row, remark, entry, question, most_bytes, AreRows, IsBadField}
 use Rattle.scr_reader.specs.declared.line.Line.{Line}
 use Rattle.scr_reader.specs.declared.line.Code.{Code}
-use Rattle.scr_reader.specs.declared.line.Code.TheVariants.{N, B, F, C, R, L, D, A, Z, K, H, O, U, W, X}
+use Rattle.scr_reader.specs.declared.line.Code.TheVariants.{C, R, L}
 use Rattle.scr_reader.specs.declared.line.Item.{Item}
 use Rattle.scr_reader.specs.declared.line.Item.TheVariants.{One, Pair, Query}
 use Rattle.scr_reader.specs.declared.message.Placed.{Placed}

@@ -1,5 +1,5 @@
 -- What a line of a message is by itself, below the header.
-use Rattle.std.specs.Prelude.{◌≡◌, ◌≢◌, ◌⊎◌, ℕ, ◌<◌, ◌≤◌, Bool, true, false, not, ◌&&◌, ◌||◌, ◌==◌, if◌then◌else◌, List, [], ◌∷◌, length, Option, Some, None}
+use Rattle.std.specs.Prelude.{◌≡◌, ◌≢◌, ◌⊎◌, ℕ, ◌≤◌, Bool, true, false, not, ◌&&◌, ◌||◌, ◌==◌, if◌then◌else◌, List, [], ◌∷◌, length, Option, Some, None}
 use Rattle.slot_text.specs.Fields.{is_blank, begins_in_field, fields_of}
 use Rattle.season_days.specs.Term.{Term}
 use Rattle.scr_reader.specs.Parts.{IsFlight}

@@ -1,5 +1,5 @@
 -- The three shapes of a data line, what each field says about the line, and the first field that says nothing.
-use Rattle.std.specs.Prelude.{◌≡◌, ◌≢◌, ℕ, ◌+◌, ◌-◌, ◌*◌, ◌<◌, ◌≤◌, Bool, true, false, ◌==◌, if◌then◌else◌, List, [], ◌∷◌, length, take, Option, Some, None, IsSomeAnd, IsSome}
+use Rattle.std.specs.Prelude.{◌≡◌, ◌≢◌, ℕ, ◌+◌, ◌-◌, ◌*◌, ◌<◌, ◌≤◌, Bool, true, ◌==◌, if◌then◌else◌, List, [], ◌∷◌, length, take, Option, Some, None, IsSomeAnd, IsSome}
 use Rattle.slot_text.specs.Fields.{field_at}
 use Rattle.slot_text.specs.declared.station.Station.{Station}
 use Rattle.scr_reader.specs.declared.line.Flight.{Flight}

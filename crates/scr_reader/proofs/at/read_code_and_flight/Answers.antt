@@ -1,4 +1,4 @@
-use Rattle.std.proofs.Common.{◌≡◌, ℕ, List, Some, sym, ap, ◌∙◌, refl}
+use Rattle.std.proofs.Common.{◌≡◌, ◌∙◌, refl}
 use Rattle.std.proofs.lemmas.Option.{none-some, same_Some}
 use Rattle.scr_reader.proofs.AtLemmas.{code_and_rest}
 use Rattle.scr_reader.proofs.at.read_code_and_flight.Goals as goal

@@ -1,4 +1,4 @@
-use Rattle.std.proofs.Common.{◌≡◌, ◌+◌, ◌<◌, ℕ, List, length, sym, ap, subst, ◌∙◌, arith, length-drop}
+use Rattle.std.proofs.Common.{◌+◌, ◌<◌, ℕ, List, length, sym, ap, subst, ◌∙◌, arith, length-drop}
 use Rattle.scr_reader.specs.declared.message.Piece.{Piece}
 use Rattle.scr_reader.proofs.PieceLemmas.{IsCut, cut_start, cut_run_more, cut_line_more, cut_end}
 use Rattle.scr_reader.proofs.cut.cut_messages.Goals as goal

@@ -1,4 +1,4 @@
-use Rattle.std.proofs.Common.{◌≡◌, ◌+◌, ◌-◌, ℕ, List, length, refl, sym, subst, ◌∙◌}
+use Rattle.std.proofs.Common.{◌+◌, ◌-◌, ℕ, List, length, refl, sym, subst, ◌∙◌}
 use Rattle.scr_reader.proofs.PieceLemmas.{InFront, front_start, front_line, front_done, front_ends}
 use Rattle.scr_reader.proofs.cut.measure_run.Goals as goal
 

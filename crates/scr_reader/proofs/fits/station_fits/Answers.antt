@@ -1,4 +1,4 @@
-use Rattle.std.proofs.Common.{◌≡◌, ◌↔◌, List, ℕ, Some, None, refl, subst}
+use Rattle.std.proofs.Common.{◌≡◌, ◌↔◌, Some, None, refl, subst}
 use Rattle.std.specs.Prelude.{Option, IfSome, IsTrue, is_some}
 use Rattle.std.proofs.lemmas.Option.{none-some}
 use Rattle.slot_text.specs.Stations.{IsStation}

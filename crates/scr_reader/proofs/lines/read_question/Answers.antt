@@ -1,4 +1,3 @@
-use Rattle.std.proofs.Common.{◌≡◌, List, ℕ}
 use Rattle.scr_reader.specs.Rows.{IsAskedFlight}
 use Rattle.scr_reader.proofs.RowLemmas.{asks, asked_first, no_first_asked, got_first, got_flight, same_flight}
 use Rattle.scr_reader.proofs.lines.read_question.Goals as goal

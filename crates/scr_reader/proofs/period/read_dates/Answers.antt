@@ -1,4 +1,4 @@
-use Rattle.std.proofs.Common.{◌≡◌, ℕ, List, length, take, drop, sym, subst, ap, ◌∙◌, arith, inl, inr, refl}
+use Rattle.std.proofs.Common.{ℕ, List, sym, subst, ◌∙◌, arith, inl, inr, refl}
 use Rattle.std.proofs.lemmas.List.{take-append-drop}
 use Rattle.scr_reader.specs.Parts.{SpellsDay}
 use Rattle.scr_reader.proofs.DayLemmas.{by_five, by_ten, five_or_ten, halves}

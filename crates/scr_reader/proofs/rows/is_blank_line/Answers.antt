@@ -1,6 +1,4 @@
-use Rattle.std.proofs.Common.{◌≡◌, refl, sym, ◌∙◌, arith, ap}
-use Rattle.std.proofs.lemmas.List.{drop_all}
-use Rattle.scr_reader.specs.Rows.{is_empty_line}
+use Rattle.std.proofs.Common.{refl, sym, ◌∙◌}
 use Rattle.scr_reader.proofs.TrimLemmas.{empty_step, empty_stop, empty_end}
 use Rattle.scr_reader.proofs.rows.is_blank_line.Goals as goal
 

@@ -1,5 +1,4 @@
-use Rattle.std.proofs.Common.{◌≡◌, ◌+◌, ◌∙◌, sym, refl, arith, take, ap}
-use Rattle.scr_reader.specs.Rows.{trimmed}
+use Rattle.std.proofs.Common.{◌∙◌, sym, refl, arith, take, ap}
 use Rattle.scr_reader.proofs.TrimLemmas.{trim_on_blank, trim_on_byte, trim_nothing}
 use Rattle.scr_reader.proofs.rows.trim.Goals as goal
 use Rattle.scr_reader.proofs.rows.trim.Goals.{then-not-is_blank_byte, else-not-is_blank_byte}

@@ -1,18 +1,10 @@
-use Rattle.std.proofs.Common.{◌≡◌, ℕ, List, Some, None, Ok, Err, refl, sym, ap, subst, ◌∙◌, arith, rules, zero}
-use Rattle.std.specs.Prelude.{Option, IsSomeAnd, slice_get}
-use Rattle.season_days.specs.declared.day.Day.{Day}
-use Rattle.season_days.specs.declared.day.Period.{Period}
-use Rattle.slot_text.specs.declared.station.Station.{Station}
-use Rattle.scr_reader.specs.declared.line.Code.{Code}
+use Rattle.std.proofs.Common.{None, refl, rules}
 use Rattle.scr_reader.specs.declared.line.Code.TheVariants.{N}
-use Rattle.scr_reader.specs.declared.line.Flight.{Flight}
-use Rattle.scr_reader.specs.declared.line.Line.{Line}
-use Rattle.scr_reader.specs.Parts.{IsPeriod}
-use Rattle.scr_reader.specs.Shapes.{IsFaultyField, IsLine, arrival, departure, turnaround, code_and_flight, arrival_service, departure_service, both_services}
+use Rattle.scr_reader.specs.Shapes.{IsFaultyField, departure, departure_service}
 use Rattle.scr_reader.proofs.AgreeLemmas.{too_many, whole_line}
-use Rattle.scr_reader.proofs.FaultLemmas.{no_code_and_flight, no_code, no_flight, no_dates, no_weekdays, no_seats, no_arrival_group, no_departure_group, no_later_group, no_arrival_service, no_departure_service, no_services}
-use Rattle.scr_reader.proofs.ShapeLemmas.{arriving, leaving, turning, stop_of, no_station, no_craft, no_period, no_flight_yet, dates_moved, departure_1, departure_2, departure_3, departure_4, departure_5, departure_6, departure_7}
-use Rattle.scr_reader.proofs.SameLemmas.{departure_same, pair_same, triple_same, four_same, ok_same}
+use Rattle.scr_reader.proofs.FaultLemmas.{no_code, no_flight, no_dates, no_weekdays, no_seats, no_departure_group, no_departure_service}
+use Rattle.scr_reader.proofs.ShapeLemmas.{leaving, stop_of, no_station, no_craft, no_period, no_flight_yet, dates_moved, departure_1, departure_2, departure_3, departure_4, departure_5, departure_6, departure_7}
+use Rattle.scr_reader.proofs.SameLemmas.{departure_same}
 use Rattle.scr_reader.proofs.shapes.read_departure.Goals as goal
 
 pub returns-in_err-code-clause-fault : goal.returns-in_err-code-clause-fault

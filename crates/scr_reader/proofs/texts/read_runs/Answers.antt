@@ -1,4 +1,4 @@
-use Rattle.std.proofs.Common.{◌≡◌, ◌⊎◌, List, subst, sym, ◌∙◌, rules}
+use Rattle.std.proofs.Common.{◌≡◌, List, subst, sym, rules}
 use Rattle.std.specs.Prelude.{IsErrAnd}
 use Rattle.scr_reader.specs.Texts.{texts_in}
 use Rattle.scr_reader.specs.Messages.{runs_of, AreMessages, IsFirstFault}

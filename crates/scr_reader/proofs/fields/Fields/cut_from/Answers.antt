@@ -1,5 +1,5 @@
 use Rattle.std.proofs.Common.{arith}
-use Rattle.scr_reader.proofs.CutLemmas.{cut_more, cut_all, cut_nine, cut_none}
+use Rattle.scr_reader.proofs.CutLemmas.{cut_all}
 use Rattle.scr_reader.proofs.fields.Fields.cut_from.Goals as goal
 
 pub returns-in_default : goal.returns-in_default

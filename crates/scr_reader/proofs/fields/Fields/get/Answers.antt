@@ -1,7 +1,7 @@
 use Rattle.std.proofs.Common.{arith, ◌∙◌, ap}
 use Rattle.slot_text.specs.Fields.{field_at}
 use Rattle.std.proofs.Common.{List, ℕ}
-use Rattle.scr_reader.proofs.CutLemmas.{get_field, no_field}
+use Rattle.scr_reader.proofs.CutLemmas.{get_field}
 use Rattle.scr_reader.proofs.fields.Fields.get.Goals as goal
 
 pub returns : goal.returns
