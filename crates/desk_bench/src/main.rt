@@ -4,6 +4,7 @@
 
 mod board;
 mod bounds;
+mod messages;
 mod report;
 mod turn;
 
@@ -16,13 +17,15 @@ fn main(rt: HostRuntime) -> anyhow::Result<()> {
         Some("bounds") => bounds::run(&rt, Size::Full),
         Some("board") => board::run(&rt, rt.alloc(), Size::Full),
         Some("turn") => turn::run(&rt, rt.alloc(), Size::Full),
+        Some("messages") => messages::run(&rt, rt.alloc(), Size::Full),
         Some("short") => {
             bounds::run(&rt, Size::Short)?;
             board::run(&rt, rt.alloc(), Size::Short)?;
-            turn::run(&rt, rt.alloc(), Size::Short)
+            turn::run(&rt, rt.alloc(), Size::Short)?;
+            messages::run(&rt, rt.alloc(), Size::Short)
         }
         _ => {
-            println!(rt; "desk_bench WORD: bounds, board, turn, short")?;
+            println!(rt; "desk_bench WORD: bounds, board, turn, messages, short")?;
             Ok(())
         }
     }

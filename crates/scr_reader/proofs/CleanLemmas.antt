@@ -1,11 +1,11 @@
 -- No field that is spelled has a blank in it, and no line an LF; how long fields are.
-use Rattle.std.proofs.Common.{take, drop, ◌≡◌, ℕ, zero, suc, ◌-◌, ◌/◌, ◌%◌, ◌<◌, ◌≤◌, length-append, Bool, true, eqb, ltb, leb, List, [], ◌∷◌, ◌++◌, length, get_or, Option, Some, None, refl, sym, ap, ◌∙◌, arith, inl, inr}
+use Rattle.std.proofs.Common.{take, drop, ◌≡◌, ℕ, zero, suc, ◌-◌, ◌/◌, ◌%◌, ◌<◌, ◌≤◌, ◌⊎◌, length-append, Bool, true, eqb, ltb, leb, List, [], ◌∷◌, ◌++◌, length, get_or, Option, Some, None, refl, sym, ap, ◌∙◌, arith, inl, inr}
 use Rattle.std.specs.Prelude.{Contains}
 use Rattle.std.proofs.Math.Bool.{◌&&◌}
 use Rattle.std.proofs.lemmas.Bool.{cases_Bool, and_parts, or_cases, leb-true, eqb-true}
-use Rattle.std.proofs.lemmas.List.{take_at, drop_at}
 use Rattle.season_days.specs.Term.{Term}
 use Rattle.scr_reader.specs.declared.line.Flight.{Flight}
+use Rattle.std.proofs.lemmas.List.{take_at, drop_at}
 use Rattle.slot_text.specs.Stations.{IsStation}
 use Rattle.slot_text.specs.declared.station.Station.{Station}
 use Rattle.scr_reader.specs.Bytes.{is_letter, is_digit, is_letter_or_digit, two_digits, three_digits}
@@ -88,7 +88,7 @@ clean_at [] k all = tt
 clean_at (text ∷ texts) zero all = clean_from text (and_parts (is_clean text) (clean_all texts) all).0
 clean_at (text ∷ texts) (suc k) all = clean_at texts k (and_parts (is_clean text) (clean_all texts) all).1
 
-clean_two : (n : ℕ) → Clean (two_digits n)
+pub clean_two : (n : ℕ) → Clean (two_digits n)
 clean_two n = (omega arith, (omega arith, tt))
 
 pub clean_date : (month of_month : ℕ) → Clean (date_text month of_month)
@@ -123,7 +123,7 @@ clean_station (a ∷ b ∷ c ∷ d ∷ station) fits = absurd fits
 pub clean_seats : (seats : ℕ) (craft : List ℕ) → ThreeLettersOrDigits craft → Clean (three_digits seats ++ craft)
 clean_seats seats craft fits = (omega arith, (omega arith, (omega arith, clean_craft craft fits)))
 
-clean_stations : (near : Station) (far : Option Station) → StationsFit near far → Clean (stations_text near far)
+pub clean_stations : (near : Station) (far : Option Station) → StationsFit near far → Clean (stations_text near far)
 clean_stations near None fits = clean_station near.0 fits
 clean_stations near (Some far) fits = clean_append near.0 far.0 (clean_station near.0 fits.0) (clean_station far.0 fits.1)
 
@@ -140,6 +140,13 @@ three_letters_long (a ∷ b ∷ []) fits = absurd fits
 three_letters_long (a ∷ b ∷ c ∷ []) fits = refl
 three_letters_long (a ∷ b ∷ c ∷ d ∷ text) fits = absurd fits
 
+pub craft_long : (text : List ℕ) → ThreeLettersOrDigits text → length text ≡ 3
+craft_long [] fits = absurd fits
+craft_long (a ∷ []) fits = absurd fits
+craft_long (a ∷ b ∷ []) fits = absurd fits
+craft_long (a ∷ b ∷ c ∷ []) fits = refl
+craft_long (a ∷ b ∷ c ∷ d ∷ text) fits = absurd fits
+
 abbrev three_each : List (List ℕ) → Bool
 three_each [] = true
 three_each (text ∷ texts) = eqb (length text) 3 && three_each texts
@@ -153,6 +160,10 @@ pub date_long : (month of_month : ℕ) → 1 ≤ month → month ≤ 12 → leng
 date_long month of_month low high =
     let name : length (month_text month) ≡ 3 = three_at month_names (month - 1) refl (omega (arith, low, high)) in
     omega (arith, length-append (two_digits of_month) (month_text month), name)
+
+pub stations_long : (near : Station) (far : Option Station) → StationsFit near far → (length (stations_text near far) ≡ 3) × (far ≡ None) ⊎ (length (stations_text near far) ≡ 6) × (length near.0 ≡ 3)
+stations_long near None fits = inl (three_letters_long near.0 fits, refl)
+stations_long near (Some far) fits = inr (omega (arith, length-append near.0 far.0, three_letters_long near.0 fits.0, three_letters_long far.0 fits.1), three_letters_long near.0 fits.0)
 
 -- of three letters there is one station, and of any other number there are two
 pub one_station : (text : List ℕ) (near : Station) (far : Option Station) → StationsFit near far → text ≡ stations_text near far → length text ≡ 3 → IsStation near.0 × (near.0 ≡ text)

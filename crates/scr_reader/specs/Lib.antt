@@ -1,5 +1,12 @@
 pub mod Bytes
+pub mod Texts
 pub mod Parts
+pub mod Shapes
+pub mod FieldForms
+pub mod Rows
+pub mod Messages
+pub mod Places
+pub mod Readings
+pub mod Pairing
+pub mod Decided
 pub mod Printed
-pub mod Historic
-pub mod Fields

@@ -1,11 +1,12 @@
 -- The one printed spelling of a line and of a message, and which values have one.
 use Rattle.std.specs.Prelude.{◌≡◌, ◌≢◌, ℕ, zero, suc, ◌+◌, ◌*◌, ◌<◌, ◌≤◌, true, nat_lt, if◌then◌else◌, List, [], ◌∷◌, ◌++◌, Option, Some, None, codes}
 use Rattle.slot_text.specs.Ended.{ended}
+use Rattle.scr_reader.specs.Rows.{entry, IsRow}
 use Rattle.season_days.specs.Term.{Term}
 use Rattle.season_days.specs.Seasons.{season_text, date_at, date_count, dates_of}
 use Rattle.season_days.specs.declared.day.Period.{Period}
 use Rattle.scr_reader.specs.Bytes.{is_letter, digit, three_digits, four_digits}
-use Rattle.scr_reader.specs.Parts.{AirlineFits, airline_text, SuffixFits, suffix_text, date_text, days_text, time_text, StationsFit, stations_text, ThreeLettersOrDigits}
+use Rattle.scr_reader.specs.Parts.{code_of, AirlineFits, airline_text, SuffixFits, suffix_text, date_text, days_text, time_text, StationsFit, stations_text, ThreeLettersOrDigits}
 use Rattle.scr_reader.specs.declared.line.Line.{Line}
 use Rattle.scr_reader.specs.declared.line.Stop.{Stop}
 use Rattle.scr_reader.specs.declared.line.Flight.{Flight}
@@ -138,3 +139,26 @@ pub record LineFits (season : Term) (line : Line) : Type 0 where
   pub dated : dates_of season line.period ≢ []
   pub seats : line.seats < 1000
   pub craft : ThreeLettersOrDigits line.craft.0
+
+-- the codes that a line of an airline has
+abbrev pub IsAsked : Code → Type 0
+IsAsked code = code_of (code_letter code) ≡ Some code
+
+-- a line that is printed with an airline's code is read again as the same line
+abbrev pub PrintsBack : Term → Code → Line → Type 0
+PrintsBack season code line = IsAsked code → LineFits season line → IsRow season (line_text season code line) (entry (record line { code = code }))
+
+-- ---- what a message has that has a spelling
+
+abbrev pub ItemFits : Term → Item → Type 0
+ItemFits season (One line) = LineFits season line
+ItemFits season (Pair changed asked) = LineFits season changed × LineFits season asked
+ItemFits season (Query flight) = FlightFits flight
+
+abbrev pub ItemsFit : Term → List Placed → Type 0
+ItemsFit season [] = Unit {0}
+ItemsFit season (placed ∷ items) = ItemFits season placed.item × ItemsFit season items
+
+abbrev pub MessagesFit : List Message → Type 0
+MessagesFit [] = Unit {0}
+MessagesFit (message ∷ messages) = ItemsFit message.season message.items × MessagesFit messages

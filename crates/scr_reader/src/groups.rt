@@ -1,6 +1,7 @@
-ghost use Rattle.std.specs.Prelude.{◌≡◌, ◌<◌, ◌++◌, ◌∷◌, [], ℕ, List, IfSome, Some, IsSomeAnd, Option, true};
+ghost use Rattle.std.specs.Prelude.{◌≡◌, ◌<◌, ◌≤◌, ◌++◌, ◌∷◌, [], ℕ, List, IfSome, Some, IsSomeAnd, Option, true};
 ghost use Rattle.scr_reader.specs.Bytes.{is_letter, three_digits};
-ghost use Rattle.scr_reader.specs.Parts.{ThreeLettersOrDigits, StationsFit, stations_text, time_text};
+ghost use Rattle.scr_reader.specs.Parts.{ThreeLettersOrDigits, StationsFit, stations_text, time_text, IsSeats, IsArrivalGroup, IsDepartureGroup, IsNights};
+ghost use Rattle.scr_reader.specs.FieldForms.{leading_nights, after_nights};
 ghost use Rattle.slot_text.specs.declared.station.Station.{Station as StationValue};
 
 use crate::bytes::{is_letter_byte, is_letter_or_digit_byte, read_three_digits, read_two_digits};
@@ -11,8 +12,8 @@ const HOURS_OF_DAY: u8 = 24;
 
 /// Seats, and the type of aircraft.
 pub(crate) fn read_seats(text: &[u8]) -> Option<(u16, Craft)>
-    ensures found { IfSome result (λ x. (x.0 < 1000) × ThreeLettersOrDigits x.1.0 × (text.now ≡ three_digits x.0 ++ x.1.0)) }
-    ensures only { (n : ℕ) (craft : List ℕ) → n < 1000 → ThreeLettersOrDigits craft → text.now ≡ three_digits n ++ craft → IsSomeAnd result (λ x. (x.0 ≡ n) × (x.1.0 ≡ craft)) }
+    ensures found { IfSome result (λ x. IsSeats text.now x.0 x.1.0) }
+    ensures only { (n : ℕ) (craft : List ℕ) → IsSeats text.now n craft → IsSomeAnd result (λ x. (x.0 ≡ n) × (x.1.0 ≡ craft)) }
 {
     if text.len() != 6 {
         return None;
@@ -58,8 +59,8 @@ fn read_time(text: &[u8]) -> Option<u16>
 
 /// Stations, then a time.
 pub(crate) fn read_arrival_group(text: &[u8]) -> Option<(Station, Option<Station>, u16)>
-    ensures found { IfSome result (λ x. StationsFit x.0 x.1 × (x.2 < 1440) × (text.now ≡ stations_text x.0 x.1 ++ time_text x.2)) }
-    ensures only { (near : StationValue) (far : Option StationValue) (minute : ℕ) → StationsFit near far → minute < 1440 → text.now ≡ stations_text near far ++ time_text minute → result ≡ Some (near, far, minute) }
+    ensures found { IfSome result (λ x. IsArrivalGroup text.now x.0 x.1 x.2) }
+    ensures only { (near : StationValue) (far : Option StationValue) (minute : ℕ) → IsArrivalGroup text.now near far minute → result ≡ Some (near, far, minute) }
 {
     if text.len() < 4 {
         return None;
@@ -68,6 +69,46 @@ pub(crate) fn read_arrival_group(text: &[u8]) -> Option<(Station, Option<Station
     let (near, far) = read_stations(stations)?;
     let minute = read_time(time)?;
     Some((near, far, minute))
+}
+
+/// A time, then stations.
+pub(crate) fn read_departure_group(text: &[u8]) -> Option<(Station, Option<Station>, u16)>
+    ensures found { IfSome result (λ x. IsDepartureGroup text.now [] x.0 x.1 x.2) }
+    ensures only { (near : StationValue) (far : Option StationValue) (minute : ℕ) → IsDepartureGroup text.now [] near far minute → result ≡ Some (near, far, minute) }
+{
+    if text.len() < 4 {
+        return None;
+    }
+    let (time, stations) = text.split_at(4);
+    let minute = read_time(time)?;
+    let (near, far) = read_stations(stations)?;
+    Some((near, far, minute))
+}
+
+/// A time, perhaps a digit of nights, then stations.
+pub(crate) fn read_group_with_nights(text: &[u8]) -> Option<(Station, Option<Station>, u16, u8)>
+    ensures found { IfSome result (λ x. (nights : List ℕ) × IsDepartureGroup text.now nights x.0 x.1 x.2 × IsNights nights x.3) }
+    ensures only { (near : StationValue) (far : Option StationValue) (minute n : ℕ) (nights : List ℕ) → IsDepartureGroup text.now nights near far minute → IsNights nights n → result ≡ Some (near, far, minute, n) }
+{
+    if text.len() < 4 {
+        return None;
+    }
+    let (time, rest) = text.split_at(4);
+    let minute = read_time(time)?;
+    let (nights, stations) = split_nights(rest);
+    let (near, far) = read_stations(stations)?;
+    Some((near, far, minute, nights))
+}
+
+/// The digit of nights in front, or 0, and what follows it.
+fn split_nights(text: &[u8]) -> (u8, &[u8])
+    ensures nights { result.0 ≡ leading_nights text.now }
+    ensures rest { result.1.now ≡ after_nights text.now }
+{
+    match text {
+        [b @ b'0'..=b'9', rest @ ..] => (b - b'0', rest),
+        _ => (0, text),
+    }
 }
 
 /// One station, or two.
@@ -94,6 +135,17 @@ pub(crate) fn read_service(text: &[u8]) -> Option<u8>
 {
     match text {
         [service] if is_letter_byte(*service) => Some(*service),
+        _ => None,
+    }
+}
+
+/// Letters for the services of an arrival and of a departure.
+pub(crate) fn read_services(text: &[u8]) -> Option<(u8, u8)>
+    ensures found { IfSome result (λ x. (is_letter x.0 ≡ true) × (is_letter x.1 ≡ true) × (text.now ≡ x.0 ∷ x.1 ∷ [])) }
+    ensures only { (a d : ℕ) → is_letter a ≡ true → is_letter d ≡ true → text.now ≡ a ∷ d ∷ [] → result ≡ Some (a, d) }
+{
+    match text {
+        [a, d] if is_letter_byte(*a) && is_letter_byte(*d) => Some((*a, *d)),
         _ => None,
     }
 }

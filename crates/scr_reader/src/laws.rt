@@ -1,28 +1,33 @@
-//! Laws of the printed spelling. Each function does nothing; its contract is the law.
+//! Laws of what is read and printed. Each function does nothing; its contract is the law.
 
-ghost use Rattle.std.specs.Prelude.{◌≡◌, ◌∷◌, [], ℕ, List, None, IsSome, codes};
-ghost use Rattle.slot_text.specs.Ended.{ended};
-ghost use Rattle.slot_text.specs.Forms.{IsFirstBadLine};
-ghost use Rattle.slot_text.specs.declared.station.Station.{Station};
+ghost use Rattle.std.specs.Prelude.{◌≡◌, ◌++◌, ◌∷◌, ◌<◌, ℕ, List, false};
 ghost use Rattle.season_days.specs.Term.{Term};
-ghost use Rattle.season_days.specs.Seasons.{season_text};
-ghost use Rattle.scr_reader.specs.Parts.{IsDayOfMonth, date_text};
-ghost use Rattle.scr_reader.specs.Printed.{LineFits, line_text, message_text};
-ghost use Rattle.scr_reader.specs.Historic.{IsHistoricMessage, IsHistoricText};
-ghost use Rattle.scr_reader.specs.declared.line.Line.{Line};
-ghost use Rattle.scr_reader.specs.declared.line.Item.TheVariants.{One};
-ghost use Rattle.scr_reader.specs.declared.line.Code.TheVariants.{F};
-ghost use Rattle.scr_reader.specs.declared.message.Message.{Message};
+ghost use Rattle.slot_text.specs.Lines.{lines_of};
+ghost use Rattle.scr_reader.specs.Rows.{entry, IsRow, is_empty_line};
+ghost use Rattle.scr_reader.specs.Messages.{ReadsMessage, ReadsAll};
+ghost use Rattle.scr_reader.specs.Printed.{line_text, LineFits, ItemsFit, MessagesFit, PrintsBack};
+ghost use Rattle.scr_reader.specs.declared.line.Code.{Code as CodeValue};
+ghost use Rattle.scr_reader.specs.declared.line.Line.{Line as LineValue};
+ghost use Rattle.scr_reader.specs.declared.message.Message.{Message as MessageValue};
 
-/// An arrival that is printed with the code F behind a header is a message in the form, whose line is the same but for
-/// its code. So it is read again.
-pub fn printed_again()
-    ensures { (season : Term) (airport : Station) (month day : ℕ) (line : Line) → IsDayOfMonth month day → LineFits season line → IsSome line.arrival → line.departure ≡ None →
-        (message : Message) × IsHistoricMessage season airport message × (message.items ≡ record { line = 5; item = One (record line { code = F }) } ∷ [])
-        × (message_text message ≡ ended (codes "SCR" ∷ season_text season ∷ date_text month day ∷ airport.0 ∷ line_text season F line ∷ [])) }
+use season_days::laws::named_days;
+
+/// What is read has a printed spelling: each line, and each item of a message.
+pub fn read_lines_fit()
+    ensures line { (season : Term) (text : List ℕ) (line : LineValue) → IsRow season text (entry line) → LineFits season line }
+    ensures message { (bytes : List ℕ) (message : MessageValue) → ReadsMessage bytes message → ItemsFit message.season message.items }
+    ensures all { (bytes : List ℕ) (messages : List MessageValue) → ReadsAll bytes messages → MessagesFit messages }
 {}
 
-/// A text has at most one first line that is not in the form.
-pub fn first_bad_line()
-    ensures { (season : Term) (airport : Station) (text : List ℕ) (a b : ℕ) → IsFirstBadLine (IsHistoricText season airport) text a → IsFirstBadLine (IsHistoricText season airport) text b → a ≡ b }
+/// A line that is printed with the code of an airline's line is read again as the same line, with that code.
+pub fn printed_lines_are_read()
+    ensures { (season : Term) (code : CodeValue) (line : LineValue) → season.year < 100 → PrintsBack season code line }
+{
+    named_days();
+}
+
+/// A printed line, whatever its code, is one line of a text, and not an empty one.
+pub fn printed_lines_are_lines()
+    ensures one { (season : Term) (code : CodeValue) (line : LineValue) (rest : List ℕ) → LineFits season line → lines_of (line_text season code line ++ (10 ∷ rest)) ≡ line_text season code line ∷ lines_of rest }
+    ensures full { (season : Term) (code : CodeValue) (line : LineValue) → LineFits season line → is_empty_line (line_text season code line) ≡ false }
 {}

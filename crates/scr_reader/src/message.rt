@@ -87,3 +87,11 @@ impl MessageList {
         self.items.as_slice()
     }
 }
+
+/// Where a message stands: the number of its first line, and its bytes.
+#[derive(Clone, Copy, Debug, PartialEq, Eq)]
+pub struct Piece {
+    pub line: u32,
+    pub from: usize,
+    pub to: usize,
+}

@@ -1,13 +1,14 @@
-ghost use Rattle.std.specs.Prelude.{◌≡◌, ◌≢◌, ◌<◌, ◌≤◌, ◌↔◌, ◌++◌, [], ℕ, IfSome, Some, IsSomeAnd, IsTrue};
-ghost use Rattle.season_days.specs.Seasons.{date_count, dates_of};
+ghost use Rattle.std.specs.Prelude.{◌≡◌, ◌≢◌, ◌<◌, ◌≤◌, ℕ, IfSome, Some, IsSomeAnd, IsTrue, IfOk, IsErr, ◌⊎◌, [], ◌↔◌, ◌++◌, Ok};
+ghost use Rattle.season_days.specs.Seasons.{dates_of};
 ghost use Rattle.season_days.specs.declared.day.Period.{Period as PeriodValue};
-ghost use Rattle.scr_reader.specs.Parts.{month_text, days_text};
-ghost use Rattle.scr_reader.specs.Printed.{day_text};
-ghost use Rattle.scr_reader.specs.Fields.{PrintsPeriod};
+ghost use Rattle.scr_reader.specs.Parts.{month_text, date_text, SpellsDay, IsPeriod, IsDays};
+ghost use Rattle.scr_reader.specs.Shapes.{NamesPeriod};
 
 use crate::bytes::read_two_digits;
-use crate::days::read_places;
-use season_days::{Day, Period, Season, laws};
+use crate::days::read_weekdays;
+use season_days::laws::period_dates;
+use season_days::{Day, Period, Season};
+use slot_text::Memory;
 
 /// The month of a name.
 pub(crate) fn read_month(text: &[u8]) -> Option<u8>
@@ -32,12 +33,10 @@ pub(crate) fn read_month(text: &[u8]) -> Option<u8>
 }
 
 /// The day of the season that a date names.
-fn read_day(season: &Season, text: &[u8]) -> Option<Day>
-    requires { season.now.year < 100 }
-    ensures found { IfSome result (λ day. (day.0 < date_count season.now) × (text.now ≡ day_text season.now day.0)) }
-    ensures only { (day : ℕ) → day < date_count season.now → text.now ≡ day_text season.now day → IsSomeAnd result (λ found. found.0 ≡ day) }
+pub(crate) fn read_day(season: &Season, text: &[u8]) -> Option<Day>
+    ensures found { IfSome result (λ day. SpellsDay season.now text.now day.0) }
+    ensures only { (day : ℕ) → SpellsDay season.now text.now day → IsSomeAnd result (λ found. found.0 ≡ day) }
 {
-    laws::named_days();
     if text.len() != 5 {
         return None;
     }
@@ -47,14 +46,15 @@ fn read_day(season: &Season, text: &[u8]) -> Option<Day>
     season.day_of(month, day).ok()
 }
 
-/// The first and the last day of a period, of which the last isn't before the first.
-fn read_dates(season: &Season, text: &[u8]) -> Option<(Day, Day)>
-    requires { season.now.year < 100 }
-    ensures found { IfSome result (λ x. (x.0.0 < date_count season.now) × (x.1.0 < date_count season.now) × (x.0.0 ≤ x.1.0) × (text.now ≡ day_text season.now x.0.0 ++ day_text season.now x.1.0)) }
-    ensures only { (first last : ℕ) → first < date_count season.now → last < date_count season.now → first ≤ last → text.now ≡ day_text season.now first ++ day_text season.now last
-        → IsSomeAnd result (λ x. (x.0.0 ≡ first) × (x.1.0 ≡ last)) }
+/// The first and the last day of a period.
+pub(crate) fn read_dates(season: &Season, text: &[u8]) -> Option<(Day, Day)>
+    ensures found { IfSome result (λ x. IsPeriod season.now text.now x.0.0 x.1.0) }
+    ensures only { (first last : ℕ) → IsPeriod season.now text.now first last → IsSomeAnd result (λ x. (x.0.0 ≡ first) × (x.1.0 ≡ last)) }
 {
-    laws::named_days();
+    if text.len() == 5 {
+        let day = read_day(season, text)?;
+        return Some((day, day));
+    }
     if text.len() != 10 {
         return None;
     }
@@ -68,34 +68,54 @@ fn read_dates(season: &Season, text: &[u8]) -> Option<(Day, Day)>
 }
 
 /// Whether a period has a date.
-fn has_date(season: &Season, period: Period) -> bool
-    requires first { period.first.0 < date_count season.now }
-    requires last { period.last.0 < date_count season.now }
+pub(crate) fn has_date(season: &Season, period: Period) -> bool
     ensures { IsTrue result ↔ (dates_of season.now period ≢ []) }
 {
-    laws::lengths();
-    laws::period_dates();
-    let end = period.last.0 + 1;
-    for day in period.first.0..end {
+    period_dates();
+    if period.last.0 < period.first.0 {
+        return false;
+    }
+    for day in period.first.0..period.last.0 {
         if season.is_on(period.days, Day(day)) {
             return true;
         }
     }
-    false
+    season.is_on(period.days, period.last)
 }
 
-/// The period that two fields spell, if it has a date on its weekdays.
-pub(crate) fn read_period(season: &Season, dates: &[u8], days: &[u8]) -> Option<Period>
-    requires { season.now.year < 100 }
-    ensures found { IfSome result (λ period. PrintsPeriod season.now period dates.now days.now) }
-    ensures only { (period : PeriodValue) → PrintsPeriod season.now period dates.now days.now → result ≡ Some period }
+/// The weekdays of a period that a field names, if the period has a date on them.
+pub(crate) fn read_weekdays_of(
+    season: &Season,
+    first: Day,
+    last: Day,
+    text: &[u8],
+) -> Option<Period>
+    ensures found { IfSome result (λ period. (period.first ≡ first) × (period.last ≡ last) × IsDays text.now period.days × (dates_of season.now period ≢ [])) }
+    ensures only { (period : PeriodValue) → period.first ≡ first → period.last ≡ last → IsDays text.now period.days → dates_of season.now period ≢ [] → result ≡ Some period }
 {
-    let (first, last) = read_dates(season, dates)?;
-    let days = read_places(days)?;
+    let days = read_weekdays(text)?;
     let period = Period { first, last, days };
     if has_date(season, period) {
         Some(period)
     } else {
         None
     }
+}
+
+/// The period that two fields of a data line name: one date or two, and its days of operation. None where a date does not
+/// exist or lies outside the season, where the period is reversed or has no date on these weekdays, and where a field has
+/// another form. It takes no memory.
+pub fn read_period(season: &Season, period: &[u8], days: &[u8]) -> Result<Option<Period>, Memory>
+    ensures found { IfOk result (λ read. IfSome read (λ p. NamesPeriod season.now period.now days.now p)) }
+    ensures only { (p : PeriodValue) → NamesPeriod season.now period.now days.now p → (result ≡ Ok (Some p)) ⊎ IsErr result }
+{
+    Ok(read_period_fields(season, period, days))
+}
+
+fn read_period_fields(season: &Season, period: &[u8], days: &[u8]) -> Option<Period>
+    ensures found { IfSome result (λ p. NamesPeriod season.now period.now days.now p) }
+    ensures only { (p : PeriodValue) → NamesPeriod season.now period.now days.now p → result ≡ Some p }
+{
+    let (first, last) = read_dates(season, period)?;
+    read_weekdays_of(season, first, last, days)
 }

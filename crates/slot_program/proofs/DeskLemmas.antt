@@ -10,7 +10,7 @@ use Rattle.desk_outside.specs.Cause.{Rose}
 use Rattle.desk_outside.specs.Files.{Files, with_file, Writes, WritesPart, ChangesOnly}
 use Rattle.season_days.specs.declared.declaration.Declaration.{Declaration}
 use Rattle.scr_reader.specs.Printed.{message_text}
-use Rattle.scr_reader.specs.Historic.{IsHistoricMessage, IsHistoricText}
+use Rattle.historic_reader.specs.Historic.{IsHistoricMessage, IsHistoricText}
 use Rattle.scr_reader.specs.declared.message.Message.{Message}
 use Rattle.slot_program.specs.Words.{Word}
 use Rattle.slot_program.specs.Capacity.{IsCapacityText, IsCapacityForm}

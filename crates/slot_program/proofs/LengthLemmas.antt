@@ -16,7 +16,7 @@ use Rattle.season_days.specs.declared.declaration.Rule.{Rule}
 use Rattle.scr_reader.specs.Bytes.{two_digits, three_digits}
 use Rattle.scr_reader.specs.Parts.{AirlineFits, airline_text, SuffixFits, suffix_text, month_names, month_text, date_text, days_text, ThreeLettersOrDigits, StationsFit, stations_text, time_text}
 use Rattle.scr_reader.specs.Printed.{number_text, FlightFits, flight_text, arrival_group_text, dates_text, fields_by, joined, line_text, code_letter, header_lines, items_lines, message_lines, message_text, StopsFit, LineFits}
-use Rattle.scr_reader.specs.Historic.{IsHistoricMessage}
+use Rattle.historic_reader.specs.Historic.{IsHistoricMessage}
 use Rattle.scr_reader.specs.declared.line.Flight.{Flight}
 use Rattle.scr_reader.specs.declared.line.Line.{Line}
 use Rattle.scr_reader.specs.declared.line.Stop.{Stop}

@@ -6,7 +6,7 @@ use Rattle.season_days.specs.Seasons.{dates_of}
 use Rattle.season_days.specs.declared.declaration.Declaration.{Declaration}
 use Rattle.season_days.specs.declared.declaration.Rule.{Rule}
 use Rattle.scr_reader.specs.Printed.{message_text}
-use Rattle.scr_reader.specs.Historic.{IsHistoricMessage}
+use Rattle.historic_reader.specs.Historic.{IsHistoricMessage}
 use Rattle.scr_reader.specs.declared.line.Line.{Line}
 use Rattle.scr_reader.specs.declared.message.Message.{Message}
 use Rattle.slot_program.specs.Words.{Word}

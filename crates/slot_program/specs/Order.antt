@@ -3,7 +3,7 @@ use Rattle.std.specs.Prelude.{◌≡◌, ◌⊎◌, ℕ, ◌<◌, ◌≤◌, Lis
 use Rattle.slot_text.specs.Forms.{IsFirstBadLine}
 use Rattle.desk_outside.specs.Files.{Files}
 use Rattle.season_days.specs.declared.declaration.Declaration.{Declaration}
-use Rattle.scr_reader.specs.Historic.{IsHistoricText}
+use Rattle.historic_reader.specs.Historic.{IsHistoricText}
 use Rattle.slot_program.specs.Words.{Word}
 use Rattle.slot_program.specs.Capacity.{IsCapacityText, IsCapacityForm}
 use Rattle.slot_program.specs.Reports.{Report, missing, large, unbuilt}

@@ -4,7 +4,7 @@ ghost use Rattle.slot_text.specs.Stations.{IsStation};
 ghost use Rattle.desk_outside.specs.Files.{Files, Writes, WritesPart, ChangesOnly};
 ghost use Rattle.desk_outside.specs.Cause.{Rose};
 ghost use Rattle.scr_reader.specs.Printed.{LineFits, message_text, line_text};
-ghost use Rattle.scr_reader.specs.Historic.{IsHistoricMessage, IsHistoricText};
+ghost use Rattle.historic_reader.specs.Historic.{IsHistoricMessage, IsHistoricText};
 ghost use Rattle.scr_reader.specs.declared.line.Item.TheVariants.{One};
 ghost use Rattle.slot_program.specs.Capacity.{IsCapacityText, IsCapacityForm};
 ghost use Rattle.slot_program.specs.Texts.{certificate_text, settled_stages, confirmation};
@@ -17,9 +17,8 @@ ghost use Rattle.slot_program.specs.Messages.{HasOneLine, Confirms};
 use crate::capacity::{CapacityFault, read_capacity};
 use crate::refusal::{File, Names, Refusal, Stop};
 use desk_outside::{Cabinet, CabinetFault};
-use scr_reader::{
-    Code, HistoricFault, Item, Line, Message, print_header, print_line, read_historic_message,
-};
+use historic_reader::{HistoricFault, read_historic_message};
+use scr_reader::{Code, Item, Line, Message, print_header, print_line};
 use season_days::Declaration;
 use slot_text::Memory;
 use std::alloc::Global;

@@ -4,7 +4,7 @@ ghost use Rattle.std.specs.Prelude.{◌≡◌, ◌≤◌, ◌+◌, ◌*◌, ◌�
 ghost use Rattle.season_days.specs.Seasons.{dates_of};
 ghost use Rattle.season_days.specs.declared.declaration.Declaration.{Declaration};
 ghost use Rattle.season_days.specs.declared.declaration.Rule.{Rule};
-ghost use Rattle.scr_reader.specs.Historic.{IsHistoricMessage};
+ghost use Rattle.historic_reader.specs.Historic.{IsHistoricMessage};
 ghost use Rattle.scr_reader.specs.declared.message.Message.{Message};
 ghost use Rattle.slot_program.specs.Capacity.{IsCapacityText};
 ghost use Rattle.slot_program.specs.Windows.{window_load};

@@ -1,29 +1,34 @@
-use Rattle.std.proofs.Common.{◌≡◌, ℕ, ◌≤◌, List, [], ◌∷◌, true, refl, sym, arith}
+use Rattle.std.proofs.Common.{◌≡◌, ℕ, List, [], ◌∷◌, length, refl, sym, ap, ◌∙◌, arith, inl, inr, eqb}
 use Rattle.std.specs.Prelude.{Contains}
-use Rattle.std.proofs.lemmas.Bool.{false≢true, both_ways}
+use Rattle.std.proofs.lemmas.Bool.{false≢true, cases_Bool, eqb-true, eqb-false, both_ways}
 use Rattle.season_days.specs.Seasons.{is_on, dates_of}
 use Rattle.scr_reader.proofs.period.has_date.Goals as goal
 
--- a list that contains nothing is empty
-none_in : (l : List ℕ) → ((k : ℕ) → Contains l k → ⊥) → l ≡ []
-none_in [] none = refl
-none_in (a ∷ l) none = absurd (none a (0, omega arith, refl))
+nothing_in : (xs : List ℕ) → ((x : ℕ) → Contains xs x → ⊥) → xs ≡ []
+nothing_in [] none = refl
+nothing_in (x ∷ xs) none = absurd (none x (0, omega arith, refl))
 
-has_some : (l : List ℕ) (k : ℕ) → Contains l k → l ≡ [] → ⊥
-has_some [] k (i, lt, e) none = omega arith
-has_some (a ∷ l) k is none = cc
+something_in : (xs : List ℕ) (x : ℕ) → Contains xs x → xs ≡ [] → ⊥
+something_in xs x has none = omega (arith, has.1, ap length none)
 
-pub returns-then-is_on : goal.returns-then-is_on
-returns-then-is_on c =
-    let on : is_on c.args.season.now c.args.period.days c.loop-day.day ≡ true = sym c.if-is_on.ensures in
-    let day_in : c.args.period.first.0 ≤ c.loop-day.day = c.loop-day.auto.day in
-    let in_dates : Contains (dates_of c.args.season.now c.args.period) c.loop-day.day =
-    (c.period_dates.ensures.members c.args.season.now c.args.period c.loop-day.day).1 (day_in, omega arith, on) in
-    ((λ _ none. has_some (dates_of c.args.season.now c.args.period) c.loop-day.day in_dates none), λ _. refl)
+pub returns-then-period : goal.returns-then-period
+returns-then-period c =
+    let none : dates_of c.args.season.now c.args.period ≡ [] = nothing_in _ (λ x has. let m = (c.period_dates.ensures.members c.args.season.now c.args.period x).0 has in omega (arith, m.0, m.1)) in
+    ((λ never. absurd (false≢true never)), λ some. absurd (some none))
 
 pub returns : goal.returns
 returns c =
-    let none : dates_of c.args.season.now c.args.period ≡ [] = none_in (dates_of c.args.season.now c.args.period) (λ k in_list.
-    let is = (c.period_dates.ensures.members c.args.season.now c.args.period k).0 in_list in
-    both_ways (is_on c.args.season.now c.args.period.days k) (c.loop-day.invariant k is.0 (omega arith)) is.2) in
-    ((λ never. absurd (false≢true never)), λ some. absurd (some none))
+    let season = c.args.season.now in
+    let period = c.args.period in
+    let members = c.period_dates.ensures.members season period in (
+      (λ is none. something_in (dates_of season period) period.last.0 ((members period.last.0).1 (omega arith, omega arith, sym c.is_on-2.ensures ∙ is)) none),
+      λ some. elim (cases_Bool c.is_on-2.result) [
+        | inl is ↦ is
+        | inr not_last ↦ absurd (some (nothing_in _ (λ x has.
+            let m = (members x).0 has in
+            elim (cases_Bool (eqb x period.last.0)) [
+              | inl same ↦ both_ways (is_on season period.days x) (ap (is_on season period.days) (eqb-true _ _ same) ∙ sym c.is_on-2.ensures ∙ not_last) m.2
+              | inr other ↦ both_ways (is_on season period.days x) (c.loop-day.invariant x m.0 (omega (arith, m.1, eqb-false _ _ other))) m.2
+            ])))
+      ],
+    )

@@ -1,0 +1,31 @@
+-- A date, from its spelling back to its month and day, and the days of a season by their dates.
+use Rattle.std.proofs.Common.{◌≡◌, ℕ, ◌<◌, ◌≤◌, ◌↔◌, List, length, take, drop, ap, refl, ◌∙◌, arith, pos}
+use Rattle.std.proofs.lemmas.List.{take_at, drop_at}
+use Rattle.jiff_core.proofs.SignedLemmas.{signed_arith}
+use Rattle.jiff_core.proofs.CalendarLemmas.{days_in_month_bounds}
+use Rattle.season_days.specs.Term.{Term}
+use Rattle.season_days.specs.Seasons.{date_count, date_at, first_year, year_of_month, NamesDate, IsDayNamed}
+use Rattle.scr_reader.specs.Bytes.{two_digits}
+use Rattle.scr_reader.specs.Parts.{month_text, date_text}
+use Rattle.scr_reader.specs.Printed.{day_text}
+use Rattle.historic_reader.proofs.CleanLemmas.{date_long}
+
+pub front_is : (text : List ℕ) (month of_month : ℕ) → text ≡ date_text month of_month → (take 2 text ≡ two_digits of_month) × (drop 2 text ≡ month_text month)
+front_is text month of_month e = (ap (take 2) e ∙ take_at (two_digits of_month) (month_text month) 2 refl, ap (drop 2) e ∙ drop_at (two_digits of_month) (month_text month) 2 refl)
+
+-- the law of the days that a month and a day of the month name
+abbrev pub NamedDays : Term → Type 0
+NamedDays season = (month of_month day : ℕ) → IsDayNamed season month of_month day ↔ ((day < date_count season) × ((date_at season day).month ≡ month) × ((date_at season day).of_month ≡ of_month))
+
+pub named : (season : Term) (day : ℕ) → NamedDays season → day < date_count season → IsDayNamed season (date_at season day).month (date_at season day).of_month day
+named season day law lt = (law _ _ day).1 (lt, refl, refl)
+
+pub in_range : (season : Term) (month day : ℕ) → NamesDate season month day → (1 ≤ month) × (month ≤ 12) × (day < 100)
+in_range season month day is =
+    let most = days_in_month_bounds (pos (year_of_month season.half (first_year season) month)) month in
+    (omega (arith, signed_arith, is.1.0), omega (arith, signed_arith, is.1.1), omega (arith, signed_arith, is.2.1, most.0))
+
+pub day_long : (season : Term) (day : ℕ) → NamedDays season → day < date_count season → length (day_text season day) ≡ 5
+day_long season day law lt =
+    let range = in_range season _ _ (named season day law lt).0 in
+    date_long (date_at season day).month (date_at season day).of_month range.0 range.1

@@ -1,0 +1,2 @@
+pub mod Historic
+pub mod Fields

@@ -1,0 +1,84 @@
+-- Nights and rising digits, from their spelling back to their value.
+use Rattle.std.proofs.Common.{◌≡◌, ℕ, zero, suc, ◌-◌, ◌<◌, ◌≤◌, true, false, eqb, List, [], ◌∷◌, ◌++◌, refl, sym, ap, ◌∙◌, arith, inl, inr, Some, None}
+use Rattle.std.specs.Prelude.{Bool, length, nat_lt, Option, ◌==◌}
+use Rattle.std.proofs.Math.Bool.{◌&&◌, ◌||◌}
+use Rattle.std.proofs.lemmas.Bool.{cases_Bool, eqb-true, eqb-false, both_ways}
+use Rattle.std.proofs.lemmas.Bool.Decides.{nat_tests}
+use Rattle.slot_text.specs.Stations.{IsStation}
+use Rattle.slot_text.specs.declared.station.Station.{Station}
+use Rattle.scr_reader.specs.Bytes.{is_digit, digit}
+use Rattle.scr_reader.specs.Parts.{IsNights, StationsFit, stations_text, rising_text}
+use Rattle.scr_reader.specs.FieldForms.{leading_nights, after_nights, digit_bits}
+
+-- ---- nights
+
+pub nights_split : (text : List ℕ) → (nights : List ℕ) × IsNights nights (leading_nights text) × (text ≡ nights ++ after_nights text)
+nights_split [] = ([], inl (refl, refl), refl)
+nights_split (b ∷ text) =
+    elim (cases_Bool (is_digit b)) [
+      | inl is ↦
+          let same : b ≡ digit (b - 48) = grind (arith, nat_tests, is) in
+          let few : b - 48 < 10 = grind (arith, nat_tests, is) in
+          (digit (b - 48) ∷ [], rw is (inr (few, refl)), rw is (ap (λ (x : ℕ). x ∷ text) same))
+      | inr not_digit ↦ ([], rw not_digit (inl (refl, refl)), rw not_digit refl)
+    ]
+
+-- letters begin with no digit
+letters_ahead : (near : List ℕ) → IsStation near → (b : ℕ) × (rest : List ℕ) × (near ≡ b ∷ rest) × (is_digit b ≡ false)
+letters_ahead [] fits = absurd fits
+letters_ahead (a ∷ []) fits = absurd fits
+letters_ahead (a ∷ b ∷ []) fits = absurd fits
+letters_ahead (a ∷ b ∷ c ∷ []) fits = (a, b ∷ c ∷ [], refl, grind (arith, nat_tests, fits))
+letters_ahead (a ∷ b ∷ c ∷ d ∷ near) fits = absurd fits
+
+stations_ahead : (near : Station) (far : Option Station) → StationsFit near far → (b : ℕ) × (rest : List ℕ) × (stations_text near far ≡ b ∷ rest) × (is_digit b ≡ false)
+stations_ahead near None fits = letters_ahead near.0 fits
+stations_ahead near (Some far) fits =
+    let first = letters_ahead near.0 fits.0 in
+    (first.0, first.1 ++ far.0, ap (λ (l : List ℕ). l ++ far.0) first.2, first.3)
+
+digit_is : (n : ℕ) → n < 10 → (is_digit (digit n) ≡ true) × (digit n - 48 ≡ n)
+digit_is n lt = (grind (arith, nat_tests), omega arith)
+
+pub nights_again : (nights text : List ℕ) (n : ℕ) (near : Station) (far : Option Station) → IsNights nights n → StationsFit near far → text ≡ nights ++ stations_text near far
+    → (leading_nights text ≡ n) × (after_nights text ≡ stations_text near far)
+nights_again nights text n near far (inl none) fits e =
+    let ahead = stations_ahead near far fits in
+    let whole : text ≡ ahead.0 ∷ ahead.1 = e ∙ ap (λ (l : List ℕ). l ++ stations_text near far) none.0 ∙ ahead.2 in
+    (rw (whole, ahead.3) (sym none.1), rw (whole, ahead.3) (sym ahead.2))
+nights_again nights text n near far (inr one) fits e =
+    let is = digit_is n one.0 in
+    let whole : text ≡ digit n ∷ stations_text near far = e ∙ ap (λ (l : List ℕ). l ++ stations_text near far) one.1 in
+    (rw (whole, is.0) is.1, rw (whole, is.0) refl)
+
+-- ---- rising digits
+
+all_below : (ℕ → Bool) → ℕ → Bool
+all_below p zero = true
+all_below p (suc n) = p n && all_below p n
+
+and_both : (a b : Bool) → (a && b) ≡ true → (a ≡ true) × (b ≡ true)
+and_both true b e = (refl, e)
+and_both false b e = absurd (both_ways false refl e)
+
+all_holds : (p : ℕ → Bool) (n k : ℕ) → all_below p n ≡ true → k < n → p k ≡ true
+unfolding all_below
+all_holds p zero k all lt = absurd (omega (arith, lt))
+all_holds p (suc n) k all lt =
+    let both = and_both (p n) (all_below p n) all in
+    elim (cases_Bool (eqb k n)) [
+      | inl same ↦ rw (eqb-true k n same) both.0
+      | inr other ↦ all_holds p n k both.1 (omega (arith, lt, eqb-false k n other))
+    ]
+
+bits_or_long : ℕ → Bool
+bits_or_long days = (digit_bits (rising_text days) == days) || nat_lt 6 (length (rising_text days))
+
+pub rising_again : (days : ℕ) → days < 128 → length (rising_text days) ≤ 6 → digit_bits (rising_text days) ≡ days
+unfolding all_below bits_or_long
+rising_again days lt short =
+    let holds : bits_or_long days ≡ true = all_holds bits_or_long 128 days refl lt in
+    elim (cases_Bool (eqb (digit_bits (rising_text days)) days)) [
+      | inl same ↦ eqb-true _ _ same
+      | inr other ↦ absurd (grind (arith, nat_tests, holds, other, short))
+    ]
