@@ -1,1 +1,9 @@
 pub mod DayLemmas
+pub mod SameLemmas
+pub mod LinesLemmas
+pub mod EntryLemmas
+pub mod StepLemmas
+pub mod DeclareLemmas
+pub mod FaultLemmas
+pub mod FinishLemmas
+pub mod LoopLemmas

@@ -28,7 +28,7 @@ pub record Declares (lines : List (List ℕ)) (d : Declaration) : Type 0 where
   pub season : IsStated lines (Season d.season)
   pub step : IsStated lines (Step d.step)
   pub flex : IsStated lines (Flex d.flex)
-  pub ground : IsStated lines (Ground d.ground)
+  pub ground_time : IsStated lines (Ground d.ground)
   pub share : IsStated lines (Share d.share) ⊎ (LacksWord lines share_word × (d.share ≡ USUAL_SHARE))
   pub refuse : IsStated lines (Refuse d.refuse)
   pub night : MatchOption d.night (LacksWord lines night_word) (λ night. IsStated lines (Night night))
@@ -62,7 +62,7 @@ pub record HasAllowedValues (d : Declaration) : Type 0 where
   pub step : is_step d.step ≡ true
   pub even : d.flex % d.step ≡ 0
   pub flex : d.flex ≤ MOST_FLEX
-  pub ground : d.ground ≤ MINUTES_OF_DAY
+  pub ground_time : d.ground ≤ MINUTES_OF_DAY
   pub share : d.share ≤ 100
   pub refuse : ForSome d.refuse IsPrice
   pub night : ForSome d.night IsNight

@@ -8,3 +8,4 @@ pub mod Declares
 pub mod Faults
 pub mod Readings
 pub mod Singles
+pub mod Needed

@@ -1,5 +1,5 @@
 -- What the parts of the reader answer.
-use Rattle.std.specs.Prelude.{◌≡◌, ◌≢◌, ℕ, ◌+◌, ◌≤◌, List, take, Option, Some, None}
+use Rattle.std.specs.Prelude.{◌≡◌, ◌≢◌, ℕ, suc, ◌≤◌, List, ◌++◌, drop, Option, Some, None}
 use Rattle.season_days.specs.declared.declaration.Rule.{Rule}
 use Rattle.capacity_file.specs.Words.{word_text}
 use Rattle.capacity_file.specs.Entries.{word_of, IsAllowed, AreValues, IsEmpty, States}
@@ -49,13 +49,13 @@ KnownFlex lines count None = Unstated lines count flex_word
 KnownFlex lines count (Some flex) = (flex.line ≤ count) × LineStates lines flex.line (Flex flex.minutes)
 
 pub record Collected (lines : List (List ℕ)) (count : ℕ) (singles : Singles) (rules : List Rule) : Type 0 where
-  pub clean : IsCleanBefore lines (count + 1)
+  pub clean : IsCleanBefore lines (suc count)
   pub airport : Known lines count airport_word Airport singles.airport
   pub season : Known lines count season_word Season singles.season
   pub step : Known lines count step_word Step singles.step
   pub flex : KnownFlex lines count singles.flex
-  pub ground : Known lines count ground_word Ground singles.ground
+  pub ground_time : Known lines count ground_word Ground singles.ground_time
   pub share : Known lines count share_word Share singles.share
   pub refuse : Known lines count refuse_word Refuse singles.refuse
   pub night : Known lines count night_word Night singles.night
-  pub rules : AreRules (take count lines) rules
+  pub caps : (rest : List Rule) → AreRules (drop count lines) rest → AreRules lines (rules ++ rest)

@@ -1,10 +1,10 @@
-ghost use Rattle.std.specs.Prelude.{◌≡◌, ℕ, ◌+◌, ◌<◌, ◌^◌, ◌↔◌, List, [], IsTrue, MatchResult, Some, slice_get, ◌⊎◌};
+ghost use Rattle.std.specs.Prelude.{◌≡◌, ℕ, ◌+◌, ◌<◌, ◌^◌, ◌↔◌, suc, List, ◌∷◌, drop, IsTrue, MatchResult, ◌⊎◌};
 ghost use Rattle.capacity_file.specs.Readings.{Collected};
-ghost use Rattle.capacity_file.specs.Singles.{HasSingle, Sets};
+ghost use Rattle.capacity_file.specs.Singles.{HasSingle, Sets, AddsEntry};
 ghost use Rattle.capacity_file.specs.Faults.{LinesHaveFault};
-ghost use Rattle.capacity_file.specs.declared.fault.CapFault.TheVariants.{Memory as NoMemory};
+ghost use Rattle.capacity_file.specs.declared.fault.CapFault.TheVariants.{Twice, Memory as NoMemory};
 
-use crate::entry::{Entry, Word};
+use crate::entry::Entry;
 use crate::fault::CapFault;
 use crate::line::{Reading, read_line};
 use season_days::{Night, Rule, Season};
@@ -25,7 +25,7 @@ pub(crate) struct Singles {
     pub season: Option<Season>,
     pub step: Option<u32>,
     pub flex: Option<FlexLine>,
-    pub ground: Option<u32>,
+    pub ground_time: Option<u32>,
     pub share: Option<u32>,
     pub refuse: Option<Option<u32>>,
     pub night: Option<Night>,
@@ -49,7 +49,7 @@ impl Draft {
                 season: None,
                 step: None,
                 flex: None,
-                ground: None,
+                ground_time: None,
                 share: None,
                 refuse: None,
                 night: None,
@@ -61,21 +61,31 @@ impl Draft {
     /// Takes in the line after the first `count` ones.
     pub(crate) fn add_line(&mut self, count: u32, line: &[u8]) -> Result<(), CapFault>
         requires { count + 1 < 2 ^ 32 }
-        ensures { (lines : List (List ℕ)) → slice_get lines count ≡ Some line.now → Collected lines count self.old.singles self.old.rules.items → MatchResult result (λ _. Collected lines (count + 1) self.new.singles self.new.rules.items) (λ e. LinesHaveFault lines e ⊎ (e ≡ NoMemory)) }
+        ensures { (lines : List (List ℕ)) → drop count lines ≡ line.now ∷ drop (suc count) lines → Collected lines count self.old.singles self.old.rules.items →
+            MatchResult result (λ _. Collected lines (suc count) self.new.singles self.new.rules.items) (λ e. LinesHaveFault lines e ⊎ (e ≡ NoMemory)) }
     {
         let number = count + 1;
         match read_line(line) {
             Reading::Empty => Ok(()),
             Reading::Bad => Err(CapFault::BadLine { line: number }),
-            Reading::Stated(Entry::Cap(rule)) => {
+            Reading::Stated(entry) => self.add_entry(number, entry),
+        }
+    }
+
+    /// Takes in what the line of a number states.
+    fn add_entry(&mut self, number: u32, entry: Entry) -> Result<(), CapFault>
+        ensures { MatchResult result (λ _. AddsEntry number entry self.old.singles self.old.rules.items self.new.singles self.new.rules.items) (λ e. (HasSingle self.old.singles entry × (e ≡ Twice number)) ⊎ (e ≡ NoMemory)) }
+    {
+        match entry {
+            Entry::Cap(rule) => {
                 self.rules.push(rule)?;
                 Ok(())
             }
-            Reading::Stated(entry) => {
-                if self.singles.has(&entry) {
+            single => {
+                if self.singles.has(&single) {
                     return Err(CapFault::Twice { line: number });
                 }
-                self.singles.set(number, &entry);
+                self.singles.set(number, &single);
                 Ok(())
             }
         }
@@ -92,7 +102,7 @@ impl Singles {
             Entry::Season(_) => self.season.is_some(),
             Entry::Step(_) => self.step.is_some(),
             Entry::Flex(_) => self.flex.is_some(),
-            Entry::Ground(_) => self.ground.is_some(),
+            Entry::Ground(_) => self.ground_time.is_some(),
             Entry::Share(_) => self.share.is_some(),
             Entry::Refuse(_) => self.refuse.is_some(),
             Entry::Night(_) => self.night.is_some(),
@@ -114,7 +124,7 @@ impl Singles {
                     minutes,
                 })
             }
-            Entry::Ground(minutes) => self.ground = Some(minutes),
+            Entry::Ground(minutes) => self.ground_time = Some(minutes),
             Entry::Share(share) => self.share = Some(share),
             Entry::Refuse(price) => self.refuse = Some(price),
             Entry::Night(night) => self.night = Some(night),

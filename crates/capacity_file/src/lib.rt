@@ -7,6 +7,7 @@ mod entries;
 mod entry;
 mod fault;
 mod fields;
+mod finish;
 mod limits;
 mod line;
 mod reading;
