@@ -1,6 +1,6 @@
 -- The lines of a text, one after the other, and what the reader answers of them.
 use Rattle.std.proofs.Common.{◌≡◌, ℕ, suc, ◌+◌, ◌<◌, ◌≤◌, List, [], ◌∷◌, length, drop, refl, sym, ap, ◌∙◌, subst, arith, inl, inr, add-one, length-drop}
-use Rattle.std.specs.Prelude.{◌⊎◌, Result, Ok, Err, IfOk, IfErr, MatchResult}
+use Rattle.std.specs.Prelude.{◌⊎◌, Result, Ok, Err, IfOk, IfErr, IsErrAnd, MatchResult}
 use Rattle.slot_text.specs.Lines.{lines_of}
 use Rattle.slot_text.specs.Reads.{GivesOr, AnswersBy}
 use Rattle.season_days.specs.Capacity.{capacity_of, IsCapacity}
@@ -78,3 +78,13 @@ answer_capacity lines (Err e) a = tt
 pub answer_allowed : (lines : List (List ℕ)) (r : Result Declaration CapFault) → AnswersBy Memory (LinesDeclare lines) (LinesHaveFault lines) r → IfOk r (λ d. HasAllowedValues d)
 answer_allowed lines (Ok d) a = values_allowed lines d a
 answer_allowed lines (Err e) a = tt
+
+-- ---- an early end
+
+pub err_outcome : {X : Type 0} (P : X → Type 0) (Q : CapFault → Type 0) (e : CapFault) (r : Result X CapFault) → IsErrAnd r (λ f. f ≡ e) → Q e → MatchResult r P Q
+err_outcome {X} P Q e (Ok x) err q = absurd (err)
+err_outcome {X} P Q e (Err f) err q = subst Q (sym err) q
+
+pub answer_err : (lines : List (List ℕ)) (e : CapFault) (r : Result Declaration CapFault) → IsErrAnd r (λ f. f ≡ e) → LinesHaveFault lines e ⊎ (e ≡ Memory) → AnswersBy Memory (LinesDeclare lines) (LinesHaveFault lines) r
+answer_err lines e (Ok d) err has = absurd (err)
+answer_err lines e (Err f) err has = subst (λ (x : CapFault). LinesHaveFault lines x ⊎ (x ≡ Memory)) (sym err) has

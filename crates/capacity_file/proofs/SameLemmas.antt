@@ -139,7 +139,7 @@ step_small n is = grind (arith, nat_tests, is)
 -- ---- entries
 
 -- the first, the second and so on of some fields
-field_of : ℕ → List (List ℕ) → List ℕ
+abbrev field_of : ℕ → List (List ℕ) → List ℕ
 field_of k fields = get_or fields k []
 
 abbrev night_of : ℕ → ℕ → ℕ → Night
