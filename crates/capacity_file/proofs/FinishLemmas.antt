@@ -102,8 +102,7 @@ missing lines s rules season_name k none =
     (all_clean lines s rules k, record { before = more_words lines airport_word [] airport (no_words lines); lacks = unstated lines season_word (λ x. Season x) s.season none.1 k.season })
 missing lines s rules step_name k none =
     let airport = has_word lines airport_word (λ x. Airport x) (λ x. refl) s.airport none.0 k.airport in
-    let season = has_word lines season_word (λ x. Season x) (λ x. refl) s.season none.1 k.season in
-    (
+    let season = has_word lines season_word (λ x. Season x) (λ x. refl) s.season none.1 k.season in (
       all_clean lines s rules k,
       record {
         before = more_words lines airport_word (season_word ∷ []) airport (more_words lines season_word [] season (no_words lines));
@@ -113,8 +112,7 @@ missing lines s rules step_name k none =
 missing lines s rules flex_name k none =
     let airport = has_word lines airport_word (λ x. Airport x) (λ x. refl) s.airport none.0 k.airport in
     let season = has_word lines season_word (λ x. Season x) (λ x. refl) s.season none.1 k.season in
-    let step = has_word lines step_word (λ x. Step x) (λ x. refl) s.step none.2 k.step in
-    (
+    let step = has_word lines step_word (λ x. Step x) (λ x. refl) s.step none.2 k.step in (
       all_clean lines s rules k,
       record {
         before = more_words lines airport_word (season_word ∷ step_word ∷ []) airport (more_words lines season_word (step_word ∷ []) season (more_words lines step_word [] step (no_words lines)));
@@ -125,12 +123,11 @@ missing lines s rules ground_name k none =
     let airport = has_word lines airport_word (λ x. Airport x) (λ x. refl) s.airport none.0 k.airport in
     let season = has_word lines season_word (λ x. Season x) (λ x. refl) s.season none.1 k.season in
     let step = has_word lines step_word (λ x. Step x) (λ x. refl) s.step none.2 k.step in
-    let flex = has_flex lines s.flex none.3 k.flex in
-    (
+    let flex = has_flex lines s.flex none.3 k.flex in (
       all_clean lines s rules k,
       record {
         before = more_words lines airport_word (season_word ∷ step_word ∷ flex_word ∷ []) airport
-        (more_words lines season_word (step_word ∷ flex_word ∷ []) season (more_words lines step_word (flex_word ∷ []) step (more_words lines flex_word [] flex (no_words lines))));
+            (more_words lines season_word (step_word ∷ flex_word ∷ []) season (more_words lines step_word (flex_word ∷ []) step (more_words lines flex_word [] flex (no_words lines))));
         lacks = unstated lines ground_word (λ x. Ground x) s.ground_time none.4 k.ground_time;
       },
     )
@@ -139,13 +136,12 @@ missing lines s rules refuse_name k none =
     let season = has_word lines season_word (λ x. Season x) (λ x. refl) s.season none.1 k.season in
     let step = has_word lines step_word (λ x. Step x) (λ x. refl) s.step none.2 k.step in
     let flex = has_flex lines s.flex none.3 k.flex in
-    let minutes = has_word lines ground_word (λ x. Ground x) (λ x. refl) s.ground_time none.4 k.ground_time in
-    (
+    let minutes = has_word lines ground_word (λ x. Ground x) (λ x. refl) s.ground_time none.4 k.ground_time in (
       all_clean lines s rules k,
       record {
         before = more_words lines airport_word (season_word ∷ step_word ∷ flex_word ∷ ground_word ∷ []) airport
-        (more_words lines season_word (step_word ∷ flex_word ∷ ground_word ∷ []) season
-        (more_words lines step_word (flex_word ∷ ground_word ∷ []) step (more_words lines flex_word (ground_word ∷ []) flex (more_words lines ground_word [] minutes (no_words lines)))));
+            (more_words lines season_word (step_word ∷ flex_word ∷ ground_word ∷ []) season
+            (more_words lines step_word (flex_word ∷ ground_word ∷ []) step (more_words lines flex_word (ground_word ∷ []) flex (more_words lines ground_word [] minutes (no_words lines)))));
         lacks = unstated lines refuse_word (λ x. Refuse x) s.refuse none.5 k.refuse;
       },
     )

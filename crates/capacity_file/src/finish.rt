@@ -73,11 +73,7 @@ fn needed_of(singles: &Singles) -> Result<Needed, CapWord>
 }
 
 /// The first limit that is passed, and by which number.
-fn passed_limit(
-    needed: &Needed,
-    night: &Option<Night>,
-    rules: &[Rule],
-) -> Option<(CapLimit, u64)>
+fn passed_limit(needed: &Needed, night: &Option<Night>, rules: &[Rule]) -> Option<(CapLimit, u64)>
     requires step { 0 < needed.now.step }
     requires rules { All IsCapacityLine rules.now }
     ensures { (share : ℕ) → MatchOption result (IsWithinLimits (declared needed.now night.now share rules.now)) (λ x. IsOver x.0 x.1 (declared needed.now night.now share rules.now)) }

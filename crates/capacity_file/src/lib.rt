@@ -19,3 +19,5 @@ pub use fault::{CapFault, CapLimit, CapWord};
 pub use limits::{MOST_BYTES, MOST_FLEX, USUAL_SHARE};
 pub use reading::read_capacity;
 
+#[cfg(test)]
+mod tests;
