@@ -3,6 +3,7 @@ pub mod SameLemmas
 pub mod LinesLemmas
 pub mod EntryLemmas
 pub mod StepLemmas
+pub mod SingleLemmas
 pub mod DeclareLemmas
 pub mod FaultLemmas
 pub mod FinishLemmas

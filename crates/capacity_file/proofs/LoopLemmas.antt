@@ -16,7 +16,7 @@ use Rattle.capacity_file.specs.declared.entry.Entry.{Entry}
 use Rattle.capacity_file.specs.declared.fault.CapFault.{CapFault}
 use Rattle.capacity_file.specs.declared.fault.CapFault.TheVariants.{Twice, Memory}
 use Rattle.capacity_file.proofs.LinesLemmas.{rest_at}
-use Rattle.capacity_file.proofs.StepLemmas.{after_entry, twice_line}
+use Rattle.capacity_file.proofs.SingleLemmas.{after_entry, twice_line}
 use Rattle.capacity_file.proofs.DeclareLemmas.{declares_same, values_allowed, is_capacity}
 use Rattle.capacity_file.proofs.FaultLemmas.{fault_same, no_fault}
 

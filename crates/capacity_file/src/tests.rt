@@ -16,6 +16,22 @@ const BASE: [&str; 7] = [
     "CAP ARR 60 0600 0600 1234567 1",
 ];
 
+fn bad(line: u32) -> CapFault {
+    CapFault::BadLine { line }
+}
+
+fn twice(line: u32) -> CapFault {
+    CapFault::Twice { line }
+}
+
+fn missing(name: CapWord) -> CapFault {
+    CapFault::Missing { name }
+}
+
+fn over(name: CapLimit, number: u64) -> CapFault {
+    CapFault::OverLimit { name, number }
+}
+
 fn read(rt: &impl Abort, alloc: Global, text: &[u8]) -> Result<Declaration, CapFault> {
     assert!(rt; text.len() < 100_000_000);
     read_capacity(alloc, text)
@@ -58,11 +74,7 @@ fn bytes_are_refused(
             }
             let text = with_line(alloc, number as usize, &spoiled)?;
             let fault = fault_of(rt, alloc, &text);
-            assert_eq!(rt;
-                fault,
-                Some(CapFault::BadLine { line: number }),
-                "at {number}, {place}, {byte}"
-            );
+            assert_eq!(rt; fault, Some(bad(number)), "at {number}, {place}, {byte}");
         }
     }
     Ok(())
@@ -161,9 +173,7 @@ fn a_line_has_its_form(rt: HostRuntime) -> Result<(), Fail> {
         (8, "SHARE NONE"),
     ] {
         let text = with_line(rt.alloc(), number, line.as_bytes())?;
-        let want = CapFault::BadLine {
-            line: number as u32,
-        };
+        let want = bad(number as u32);
         assert_eq!(rt; fault_of(&rt, rt.alloc(), &text), Some(want), "at {line}");
     }
     Ok(())
@@ -196,7 +206,7 @@ fn capacity_lines_and_nights_have_their_form(rt: HostRuntime) -> Result<(), Fail
         "NIGHT 2300 0500 1000000",
     ] {
         let text = with_line(rt.alloc(), 8, line.as_bytes())?;
-        let want = CapFault::BadLine { line: 8 };
+        let want = bad(8);
         assert_eq!(rt; fault_of(&rt, rt.alloc(), &text), Some(want), "at {line}");
     }
     Ok(())
@@ -225,80 +235,42 @@ fn other_bytes_are_refused_at_each_place(rt: HostRuntime) -> Result<(), Fail> {
 #[test]
 fn the_lowest_line_counts_and_then_the_order_of_causes(rt: HostRuntime) {
     for (text, want) in [
-        (
-            "",
-            CapFault::Missing {
-                name: CapWord::Airport,
-            },
-        ),
-        (
-            "\n \t\r\n",
-            CapFault::Missing {
-                name: CapWord::Airport,
-            },
-        ),
-        ("STEP 5\nSTEP 10\nSTEP 7\n", CapFault::Twice { line: 2 }),
-        ("STEP 5\nSTEP 7\nSTEP 10\n", CapFault::BadLine { line: 2 }),
-        (
-            "NIGHT 2300 0500 1\nNIGHT 2300 0500 1\n",
-            CapFault::Twice { line: 2 },
-        ),
-        ("SHARE 1\n\nSHARE 1\n", CapFault::Twice { line: 3 }),
-        (
-            "AIRPORT ABC\n",
-            CapFault::Missing {
-                name: CapWord::Season,
-            },
-        ),
-        (
-            "SEASON S25\nAIRPORT ABC\n",
-            CapFault::Missing {
-                name: CapWord::Step,
-            },
-        ),
-        (
-            "AIRPORT ABC\nSEASON S25\nSTEP 5\n",
-            CapFault::Missing {
-                name: CapWord::Flex,
-            },
-        ),
+        ("", missing(CapWord::Airport)),
+        ("\n \t\r\n", missing(CapWord::Airport)),
+        ("STEP 5\nSTEP 10\nSTEP 7\n", twice(2)),
+        ("STEP 5\nSTEP 7\nSTEP 10\n", bad(2)),
+        ("NIGHT 2300 0500 1\nNIGHT 2300 0500 1\n", twice(2)),
+        ("SHARE 1\n\nSHARE 1\n", twice(3)),
+        ("AIRPORT ABC\n", missing(CapWord::Season)),
+        ("SEASON S25\nAIRPORT ABC\n", missing(CapWord::Step)),
+        ("AIRPORT ABC\nSEASON S25\nSTEP 5\n", missing(CapWord::Flex)),
         (
             "FLEX 7\nAIRPORT ABC\nSEASON S25\nSTEP 5\n",
-            CapFault::Missing {
-                name: CapWord::Ground,
-            },
+            missing(CapWord::Ground),
         ),
         (
             "FLEX 7\nAIRPORT ABC\nSEASON S25\nSTEP 5\nGROUND 0\n",
-            CapFault::Missing {
-                name: CapWord::Refuse,
-            },
+            missing(CapWord::Refuse),
         ),
         (
             "FLEX 7\nAIRPORT ABC\nSEASON S25\nSTEP 5\nGROUND 0\nREFUSE 1",
-            CapFault::BadLine { line: 1 },
+            bad(1),
         ),
         (
             "FLEX 125\nAIRPORT ABC\nSEASON S25\nSTEP 10\nGROUND 0\nREFUSE 1",
-            CapFault::BadLine { line: 1 },
+            bad(1),
         ),
         (
             "\nFLEX 125\nAIRPORT ABC\nSEASON S25\nSTEP 5\nGROUND 0\nREFUSE 1",
-            CapFault::OverLimit {
-                name: CapLimit::Flex,
-                number: 125,
-            },
+            over(CapLimit::Flex, 125),
         ),
         (
             "FLEX 18446744073709551615\nAIRPORT ABC\nSEASON S25\nSTEP 5\nGROUND 0\nREFUSE 1",
-            CapFault::OverLimit {
-                name: CapLimit::Flex,
-                number: u64::MAX,
-            },
+            over(CapLimit::Flex, u64::MAX),
         ),
         (
             "FLEX 125\nAIRPORT ABC\nSEASON S25\nSTEP 5\nGROUND 0\nREFUSE 1\nFLEX 60",
-            CapFault::Twice { line: 7 },
+            twice(7),
         ),
     ] {
         let fault = fault_of(&rt, rt.alloc(), text.as_bytes());
@@ -317,32 +289,20 @@ fn with_caps(alloc: Global, count: usize, line: &[u8]) -> Result<Vec<u8>, AllocE
 
 #[test]
 fn limits_are_those_of_the_whole(rt: HostRuntime) -> Result<(), Fail> {
-    for (count, line, want) in [
-        (64, "CAP ARR 60 0600 0600 1 1\n", None),
-        (
-            65,
-            "CAP ARR 60 0600 0600 1 1\n",
-            Some(CapFault::OverLimit {
-                name: CapLimit::Caps,
-                number: 65,
-            }),
-        ),
-        (
-            65,
-            "CAP ARR 60 0000 2355 1 1\n",
-            Some(CapFault::OverLimit {
-                name: CapLimit::Caps,
-                number: 65,
-            }),
-        ),
-        (16, "CAP ARR 60 0000 2355 1 1\n", None),
+    let caps = Some(over(CapLimit::Caps, 65));
+    // 17 lines with 288 starts on 210 days, and the night.
+    let windows = over(CapLimit::Windows, 1_028_160);
+    let one_more = over(CapLimit::Windows, 1_028_161);
+    for (count, line, want, by_night) in [
+        (64, "CAP ARR 60 0600 0600 1 1\n", None, None),
+        (65, "CAP ARR 60 0600 0600 1 1\n", caps, caps),
+        (65, "CAP ARR 60 0000 2355 1 1\n", caps, caps),
+        (16, "CAP ARR 60 0000 2355 1 1\n", None, None),
         (
             17,
             "CAP ARR 60 0000 2355 1234567 1\n",
-            Some(CapFault::OverLimit {
-                name: CapLimit::Windows,
-                number: 1_028_160,
-            }),
+            Some(windows),
+            Some(one_more),
         ),
     ] {
         let mut text = with_caps(rt.alloc(), count, line.as_bytes())?;
@@ -352,21 +312,9 @@ fn limits_are_those_of_the_whole(rt: HostRuntime) -> Result<(), Fail> {
             "at {count}, {line}"
         );
         text.extend_from_slice(b"NIGHT 0000 0600 1\n")?;
-        let want = match want {
-            Some(
-                CapFault::OverLimit {
-                    name: CapLimit::Windows,
-                    ..
-                },
-            ) => Some(CapFault::OverLimit {
-                name: CapLimit::Windows,
-                number: 1_028_161,
-            }),
-            other => other,
-        };
         assert_eq!(rt;
             fault_of(&rt, rt.alloc(), &text),
-            want,
+            by_night,
             "at {count}, {line}, by night"
         );
     }
@@ -376,7 +324,7 @@ fn limits_are_those_of_the_whole(rt: HostRuntime) -> Result<(), Fail> {
 #[test]
 fn long_lines(rt: HostRuntime) -> Result<(), Fail> {
     let alloc = rt.alloc();
-    for (blanks, want) in [(192, None), (193, Some(CapFault::BadLine { line: 8 }))] {
+    for (blanks, want) in [(192, None), (193, Some(bad(8)))] {
         let mut line = Vec::new(alloc);
         line.extend_from_slice(b"SHARE")?;
         for _ in 0..blanks {
@@ -387,16 +335,11 @@ fn long_lines(rt: HostRuntime) -> Result<(), Fail> {
         assert_eq!(rt; fault_of(&rt, alloc, &text), want, "at {blanks}");
     }
     let whole = vec![in alloc; b'A'; 1_000_000]?;
-    assert_eq!(rt;
-        fault_of(&rt, alloc, &whole),
-        Some(CapFault::BadLine { line: 1 })
-    );
+    assert_eq!(rt; fault_of(&rt, alloc, &whole), Some(bad(1)));
     let empty = vec![in alloc; b' '; 1_000_000]?;
     assert_eq!(rt;
         fault_of(&rt, alloc, &empty),
-        Some(CapFault::Missing {
-            name: CapWord::Airport
-        })
+        Some(missing(CapWord::Airport))
     );
     Ok(())
 }

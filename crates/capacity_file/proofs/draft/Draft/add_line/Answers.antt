@@ -1,5 +1,6 @@
 use Rattle.std.proofs.Common.{◌+◌, add-one, inl}
-use Rattle.capacity_file.proofs.StepLemmas.{after_empty, bad_line}
+use Rattle.capacity_file.proofs.StepLemmas.{after_empty}
+use Rattle.capacity_file.proofs.SingleLemmas.{bad_line}
 use Rattle.capacity_file.proofs.LoopLemmas.{entry_outcome}
 use Rattle.capacity_file.proofs.draft.Draft.add_line.Goals as goal
 
