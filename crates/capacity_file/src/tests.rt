@@ -42,10 +42,10 @@ fn fault_of(rt: &impl Abort, alloc: Global, text: &[u8]) -> Option<CapFault> {
 }
 
 /// The file with one of its lines, from 1, replaced. Line 8 is one more.
-fn with_line(alloc: Global, number: usize, line: &[u8]) -> Result<Vec<u8>, AllocError> {
+fn with_line(alloc: Global, number: u32, line: &[u8]) -> Result<Vec<u8>, AllocError> {
     let mut text = Vec::new(alloc);
     for (i, base) in BASE.iter().enumerate() {
-        let now = if i + 1 == number {
+        let now = if i + 1 == number as usize {
             line
         } else {
             base.as_bytes()
@@ -72,7 +72,7 @@ fn bytes_are_refused(
             for (i, b) in line.iter().enumerate() {
                 spoiled.push(if i == place { byte } else { *b })?;
             }
-            let text = with_line(alloc, number as usize, &spoiled)?;
+            let text = with_line(alloc, number, &spoiled)?;
             let fault = fault_of(rt, alloc, &text);
             assert_eq!(rt; fault, Some(bad(number)), "at {number}, {place}, {byte}");
         }
@@ -173,7 +173,7 @@ fn a_line_has_its_form(rt: HostRuntime) -> Result<(), Fail> {
         (8, "SHARE NONE"),
     ] {
         let text = with_line(rt.alloc(), number, line.as_bytes())?;
-        let want = bad(number as u32);
+        let want = bad(number);
         assert_eq!(rt; fault_of(&rt, rt.alloc(), &text), Some(want), "at {line}");
     }
     Ok(())
