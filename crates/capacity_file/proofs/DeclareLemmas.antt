@@ -1,5 +1,5 @@
 -- A clean text makes one declaration, whose values are allowed.
-use Rattle.std.proofs.Common.{◌≡◌, ◌≢◌, ◌⊎◌, ℕ, zero, suc, ◌+◌, ◌%◌, ◌^◌, ◌<◌, ◌≤◌, true, List, [], ◌∷◌, ◌++◌, length, get_or, Option, Some, None, refl, sym, ap, ◌∙◌, arith, inl, inr}
+use Rattle.std.proofs.Common.{◌≡◌, ◌⊎◌, ℕ, zero, suc, ◌<◌, ◌≤◌, true, List, [], ◌∷◌, Option, Some, None, refl, sym, ap, ◌∙◌, arith, inl, inr}
 use Rattle.std.specs.Prelude.{All, MatchOption}
 use Rattle.std.specs.Option.{ForSome}
 use Rattle.std.proofs.lemmas.Bool.Decides.{nat_tests}
@@ -11,8 +11,8 @@ use Rattle.season_days.specs.declared.declaration.Declaration.{Declaration}
 use Rattle.season_days.specs.declared.declaration.Night.{Night}
 use Rattle.season_days.specs.declared.declaration.Rule.{Rule}
 use Rattle.capacity_file.specs.Values.{is_step, IsNight, IsCapacityLine}
-use Rattle.capacity_file.specs.Entries.{word_of, IsAllowed, States}
-use Rattle.capacity_file.specs.Lines.{IsStated, HasWord, LacksWord, IsClean}
+use Rattle.capacity_file.specs.Entries.{IsAllowed}
+use Rattle.capacity_file.specs.Lines.{IsStated, LacksWord, IsClean}
 use Rattle.capacity_file.specs.Declares.{AreRules, Declares, LinesDeclare, HasAllowedValues}
 use Rattle.capacity_file.specs.declared.entry.Entry.{Entry}
 use Rattle.capacity_file.specs.declared.entry.Entry.TheVariants.{Airport, Season, Step, Flex, Ground, Share, Refuse, Night as night_entry, Cap}

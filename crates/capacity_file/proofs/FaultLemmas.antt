@@ -1,15 +1,12 @@
 -- A text has one fault at most, and none where it makes a declaration.
-use Rattle.std.proofs.Common.{◌≡◌, ◌≢◌, ◌⊎◌, ℕ, zero, suc, ◌+◌, ◌%◌, ◌<◌, ◌≤◌, List, [], ◌∷◌, length, cond, eqb, refl, sym, ap, ◌∙◌, arith, inl, inr}
+use Rattle.std.proofs.Common.{◌≡◌, ◌⊎◌, ℕ, ◌<◌, List, cond, eqb, refl, sym, ap, ◌∙◌, arith, inl, inr}
 use Rattle.std.specs.Prelude.{All}
 use Rattle.std.proofs.lemmas.Bool.{cases_lt}
 use Rattle.season_days.specs.declared.declaration.Declaration.{Declaration}
-use Rattle.season_days.specs.Capacity.{capacity_of, resource_count}
-use Rattle.capacity_file.specs.Entries.{word_of}
-use Rattle.capacity_file.specs.Lines.{LineStates, HasWord, LacksWord, IsBad, IsRepeat, IsSpoiled, IsCleanBefore, IsClean}
+use Rattle.capacity_file.specs.Lines.{HasWord, IsBad, IsRepeat, IsSpoiled, IsCleanBefore}
 use Rattle.capacity_file.specs.Declares.{Declares, IsEven, IsWithinLimits, LinesDeclare}
 use Rattle.capacity_file.specs.Faults.{needed_word, words_before, IsMissing, IsOver, IsUneven, IsOverLimit, LinesHaveFault}
 use Rattle.capacity_file.specs.declared.entry.Entry.TheVariants.{Airport as airport_entry, Season as season_entry, Step as step_entry, Flex as flex_entry, Ground as ground_entry, Refuse as refuse_entry}
-use Rattle.capacity_file.specs.declared.entry.Word.{Word}
 use Rattle.capacity_file.specs.declared.entry.Word.TheVariants.{Airport as airport_word}
 use Rattle.capacity_file.specs.declared.fault.CapWord.{CapWord}
 use Rattle.capacity_file.specs.declared.fault.CapWord.TheVariants.{Airport, Season, Step, Flex, Ground, Refuse}

@@ -1,15 +1,14 @@
 -- The declaration, or the fault, that follows from what all lines state.
-use Rattle.std.proofs.Common.{◌≡◌, ◌≢◌, ◌⊎◌, ℕ, zero, suc, ◌+◌, ◌%◌, ◌<◌, ◌≤◌, true, List, [], ◌∷◌, ◌++◌, length, drop, Option, Some, None, refl, sym, ap, ◌∙◌, subst, arith, inl, inr}
+use Rattle.std.proofs.Common.{◌≡◌, ◌⊎◌, ℕ, zero, suc, ◌%◌, ◌<◌, ◌≤◌, true, List, [], ◌∷◌, ◌++◌, length, drop, Option, Some, None, refl, ap, subst, arith, inl, inr}
 use Rattle.std.specs.Prelude.{All, MatchOption, is_some, unwrap_or}
 use Rattle.std.specs.Option.{ForSome}
-use Rattle.season_days.specs.declared.declaration.Declaration.{Declaration}
 use Rattle.season_days.specs.declared.declaration.Night.{Night}
 use Rattle.season_days.specs.declared.declaration.Rule.{Rule}
 use Rattle.capacity_file.specs.Values.{IsCapacityLine}
 use Rattle.capacity_file.specs.Entries.{word_of}
-use Rattle.capacity_file.specs.Lines.{line_at, LineStates, IsStated, HasWord, LacksWord, IsSpoiled, IsClean}
-use Rattle.capacity_file.specs.Declares.{AreRules, Declares, IsEven, IsWithinLimits, LinesDeclare}
-use Rattle.capacity_file.specs.Faults.{IsMissing, IsOver, LinesHaveFault}
+use Rattle.capacity_file.specs.Lines.{LineStates, IsStated, HasWord, LacksWord, IsSpoiled, IsClean}
+use Rattle.capacity_file.specs.Declares.{AreRules, Declares, IsWithinLimits, LinesDeclare}
+use Rattle.capacity_file.specs.Faults.{IsOver, LinesHaveFault}
 use Rattle.capacity_file.specs.Readings.{Unstated, Known, KnownFlex, Collected}
 use Rattle.capacity_file.specs.Needed.{AreNeeded, IsFirstMissing, declared}
 use Rattle.capacity_file.specs.declared.draft.FlexLine.{FlexLine}

@@ -1,12 +1,11 @@
 -- Lines by their numbers.
-use Rattle.std.proofs.Common.{◌≡◌, ◌≢◌, ℕ, zero, suc, ◌+◌, ◌<◌, ◌≤◌, List, [], ◌∷◌, ◌++◌, length, drop, Option, Some, None, refl, sym, ap, ◌∙◌, arith, inl, inr}
+use Rattle.std.proofs.Common.{◌≡◌, ◌≢◌, ℕ, zero, suc, ◌<◌, ◌≤◌, List, [], ◌∷◌, length, drop, Option, Some, sym, ap, ◌∙◌, arith, inl, inr}
 use Rattle.std.specs.Prelude.{slice_get}
 use Rattle.std.proofs.lemmas.Bool.{cases_lt}
 use Rattle.std.proofs.lemmas.Option.{same_Some, slice_get_within}
-use Rattle.capacity_file.specs.Entries.{word_of, IsEmpty, States}
-use Rattle.capacity_file.specs.Lines.{line_at, LineStates, IsStated, HasWord, LacksWord, IsBad, IsRepeat, IsSpoiled, IsCleanBefore, IsClean}
+use Rattle.capacity_file.specs.Entries.{word_of}
+use Rattle.capacity_file.specs.Lines.{line_at, LineStates, IsStated, IsBad, IsSpoiled, IsClean}
 use Rattle.capacity_file.specs.declared.entry.Entry.{Entry}
-use Rattle.capacity_file.specs.declared.entry.Word.{Word}
 use Rattle.capacity_file.specs.declared.entry.Word.TheVariants.{Cap as cap_word}
 use Rattle.capacity_file.proofs.SameLemmas.{states_same}
 

@@ -1,5 +1,5 @@
 -- The lines of a text, one after the other, and what the reader answers of them.
-use Rattle.std.proofs.Common.{◌≡◌, ℕ, suc, ◌+◌, ◌<◌, ◌≤◌, List, [], ◌∷◌, length, drop, refl, sym, ap, ◌∙◌, subst, arith, inl, inr, add-one, length-drop}
+use Rattle.std.proofs.Common.{◌≡◌, ℕ, suc, ◌+◌, ◌≤◌, List, [], ◌∷◌, length, drop, sym, ap, ◌∙◌, subst, arith, inl, inr, add-one, length-drop}
 use Rattle.std.specs.Prelude.{◌⊎◌, Result, Ok, Err, IfOk, IfErr, IsErrAnd, MatchResult}
 use Rattle.slot_text.specs.Lines.{lines_of}
 use Rattle.slot_text.specs.Reads.{GivesOr, AnswersBy}

@@ -1,11 +1,8 @@
 -- A text spells one value, and a line states one entry.
-use Rattle.std.proofs.Common.{◌≡◌, ℕ, ◌+◌, ◌-◌, ◌*◌, ◌/◌, ◌%◌, ◌^◌, ◌<◌, ◌≤◌, Bool, eqb, cond, true, List, [], ◌∷◌, ◌++◌, length, get_or, codes, Option, Some, None, refl, sym, ap, ◌∙◌, arith, inl, inr}
-use Rattle.std.specs.Prelude.{◌==◌}
+use Rattle.std.proofs.Common.{◌≡◌, ℕ, ◌+◌, ◌*◌, ◌/◌, ◌%◌, ◌^◌, ◌<◌, ◌≤◌, eqb, cond, true, List, [], ◌∷◌, ◌++◌, length, get_or, codes, Option, Some, None, refl, sym, ap, ◌∙◌, arith, inl, inr}
 use Rattle.std.specs.Fmt.{decimal}
 use Rattle.std.proofs.lemmas.Fmt.{decimal_injective, decimal_by_steps}
 use Rattle.std.proofs.lemmas.Bool.Decides.{nat_tests}
-use Rattle.slot_text.specs.Fields.{fields_of}
-use Rattle.slot_text.specs.declared.station.Station.{Station}
 use Rattle.season_days.specs.Term.{Term}
 use Rattle.season_days.specs.Seasons.{season_text, half_letter}
 use Rattle.season_days.specs.declared.season.Half.{Half}
@@ -14,7 +11,7 @@ use Rattle.season_days.specs.declared.declaration.Kind.{Kind}
 use Rattle.season_days.specs.declared.declaration.Kind.TheVariants.{Arr, Dep, Tot}
 use Rattle.season_days.specs.declared.declaration.Rule.{Rule}
 use Rattle.season_days.specs.declared.declaration.Night.{Night}
-use Rattle.capacity_file.specs.Days.{placed_days, rising_days, IsDays}
+use Rattle.capacity_file.specs.Days.{placed_days, IsDays}
 use Rattle.capacity_file.specs.Bits.{bit_of_place, digit_bits}
 use Rattle.capacity_file.specs.Values.{is_step, IsPrice, clock_text, kind_text, price_text}
 use Rattle.capacity_file.specs.Words.{word_text}

@@ -1,11 +1,9 @@
 -- A line with a word that may stand once, and the lines that are refused.
-use Rattle.std.proofs.Common.{◌≡◌, ◌≢◌, ℕ, suc, ◌<◌, ◌≤◌, true, List, [], ◌∷◌, ◌++◌, drop, Option, Some, None, refl, sym, ap, ◌∙◌, subst, arith, inl, inr, append_assoc}
-use Rattle.std.specs.Prelude.{is_some, slice_get}
-use Rattle.std.proofs.lemmas.Bool.{cases_lt}
-use Rattle.std.proofs.lemmas.Option.{same_Some}
+use Rattle.std.proofs.Common.{◌≡◌, ◌≢◌, ℕ, suc, ◌≤◌, true, List, ◌++◌, drop, Option, Some, None, refl, ap, ◌∙◌, subst, arith, inl, inr}
+use Rattle.std.specs.Prelude.{is_some}
 use Rattle.season_days.specs.declared.declaration.Rule.{Rule}
 use Rattle.capacity_file.specs.Entries.{word_of, IsEmpty, States}
-use Rattle.capacity_file.specs.Lines.{LineStates, IsBad, IsRepeat, IsSpoiled, IsCleanBefore}
+use Rattle.capacity_file.specs.Lines.{LineStates, IsRepeat, IsSpoiled}
 use Rattle.capacity_file.specs.Declares.{AreRules}
 use Rattle.capacity_file.specs.Faults.{LinesHaveFault}
 use Rattle.capacity_file.specs.Readings.{Unstated, Known, KnownFlex, Collected}
@@ -17,7 +15,7 @@ use Rattle.capacity_file.specs.declared.entry.Entry.{Entry}
 use Rattle.capacity_file.specs.declared.entry.Entry.TheVariants.{Airport, Season, Step, Flex, Ground, Share, Refuse, Night, Cap}
 use Rattle.capacity_file.specs.declared.entry.Word.{Word}
 use Rattle.capacity_file.specs.declared.entry.Word.TheVariants.{Airport as airport_word, Season as season_word, Step as step_word, Flex as flex_word, Ground as ground_word, Share as share_word, Refuse as refuse_word, Night as night_word, Cap as cap_word}
-use Rattle.capacity_file.proofs.SameLemmas.{states_same, empty_states_nothing}
+use Rattle.capacity_file.proofs.SameLemmas.{states_same}
 use Rattle.capacity_file.proofs.LinesLemmas.{next_at, stated_same, bad_states_nothing}
 use Rattle.capacity_file.proofs.StepLemmas.{IsNext, stated_next, known_next, flex_next, clean_next, caps_skip, after_cap}
 

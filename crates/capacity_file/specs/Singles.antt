@@ -1,7 +1,6 @@
 -- What the lines whose words may stand once have stated.
-use Rattle.std.specs.Prelude.{◌≡◌, ℕ, List, [], ◌∷◌, ◌++◌, Option, Some, IsSome}
+use Rattle.std.specs.Prelude.{◌≡◌, ℕ, List, [], ◌∷◌, ◌++◌, Some, IsSome}
 use Rattle.season_days.specs.declared.declaration.Rule.{Rule}
-use Rattle.capacity_file.specs.declared.draft.FlexLine.{FlexLine}
 use Rattle.capacity_file.specs.declared.draft.Singles.{Singles}
 use Rattle.capacity_file.specs.declared.entry.Entry.{Entry}
 use Rattle.capacity_file.specs.declared.entry.Entry.TheVariants.{Airport, Season, Step, Flex, Ground, Share, Refuse, Night, Cap}
