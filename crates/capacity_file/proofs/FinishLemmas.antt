@@ -2,6 +2,7 @@
 use Rattle.std.proofs.Common.{◌≡◌, ◌⊎◌, ℕ, zero, suc, ◌%◌, ◌<◌, ◌≤◌, true, List, [], ◌∷◌, ◌++◌, length, drop, Option, Some, None, refl, ap, subst, arith, inl, inr}
 use Rattle.std.specs.Prelude.{All, MatchOption, is_some, unwrap_or}
 use Rattle.std.specs.Option.{ForSome}
+use Rattle.season_days.specs.declared.declaration.Declaration.{Declaration}
 use Rattle.season_days.specs.declared.declaration.Night.{Night}
 use Rattle.season_days.specs.declared.declaration.Rule.{Rule}
 use Rattle.capacity_file.specs.Values.{IsCapacityLine}
@@ -10,7 +11,7 @@ use Rattle.capacity_file.specs.Lines.{LineStates, IsStated, HasWord, LacksWord, 
 use Rattle.capacity_file.specs.Declares.{AreRules, Declares, IsWithinLimits, LinesDeclare}
 use Rattle.capacity_file.specs.Faults.{IsOver, LinesHaveFault}
 use Rattle.capacity_file.specs.Readings.{Unstated, Known, KnownFlex, Collected}
-use Rattle.capacity_file.specs.Needed.{AreNeeded, IsFirstMissing, declared}
+use Rattle.capacity_file.specs.Needed.{AreNeeded, IsFirstMissing}
 use Rattle.capacity_file.specs.declared.draft.FlexLine.{FlexLine}
 use Rattle.capacity_file.specs.declared.draft.Singles.{Singles}
 use Rattle.capacity_file.specs.declared.finish.Needed.{Needed}
@@ -146,6 +147,11 @@ missing lines s rules refuse_name k none =
     )
 
 -- ---- the declaration
+
+-- the declaration that is made of the values
+abbrev pub declared : Needed → Option Night → ℕ → List Rule → Declaration
+declared n night share rules =
+    record { airport = n.airport; season = n.season; step = n.step; flex = n.flex.minutes; ground = n.ground_time; share = share; refuse = n.refuse; night = night; rules = rules }
 
 share_of : (lines : List (List ℕ)) (o : Option ℕ) → Known lines (length lines) share_word (λ x. Share x) o → (IsStated lines (Share (unwrap_or o 50))) ⊎ (LacksWord lines share_word × (unwrap_or o 50 ≡ 50))
 share_of lines None known = inr (lacks lines share_word known, refl)

@@ -38,11 +38,14 @@ pub record Declares (lines : List (List ℕ)) (d : Declaration) : Type 0 where
 abbrev pub IsEven : Declaration → Type 0
 IsEven d = d.flex % d.step ≡ 0
 
--- the limits of a declaration as a whole
-pub record IsWithinLimits (d : Declaration) : Type 0 where
-  pub flex : d.flex ≤ MOST_FLEX
-  pub caps : length d.rules ≤ MOST_RULES
-  pub windows : resource_count (capacity_of d) ≤ MOST_WINDOWS
+-- the limits of a declaration as a whole: minutes of flexibility, capacity lines, and windows
+pub record AreWithinLimits (minutes lines resources : ℕ) : Type 0 where
+  pub flex : minutes ≤ MOST_FLEX
+  pub caps : lines ≤ MOST_RULES
+  pub windows : resources ≤ MOST_WINDOWS
+
+abbrev pub IsWithinLimits : Declaration → Type 0
+IsWithinLimits d = AreWithinLimits d.flex (length d.rules) (resource_count (capacity_of d))
 
 -- the lines make this declaration
 pub record LinesDeclare (lines : List (List ℕ)) (d : Declaration) : Type 0 where

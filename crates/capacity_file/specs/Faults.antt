@@ -43,12 +43,14 @@ pub record IsMissing (lines : List (List ℕ)) (name : CapWord) : Type 0 where
 
 -- ---- limits of the declaration
 
--- the first limit that the declaration passes, and by which number
+-- the first limit that these minutes, capacity lines or windows pass, and by which number
+abbrev pub PassesLimit : CapLimit → ℕ → ℕ → ℕ → ℕ → Type 0
+PassesLimit flex_limit number minutes lines resources = (MOST_FLEX < minutes) × (number ≡ minutes)
+PassesLimit Caps number minutes lines resources = (minutes ≤ MOST_FLEX) × (MOST_RULES < lines) × (number ≡ lines)
+PassesLimit Windows number minutes lines resources = (minutes ≤ MOST_FLEX) × (lines ≤ MOST_RULES) × (MOST_WINDOWS < resources) × (number ≡ resources)
+
 abbrev pub IsOver : CapLimit → ℕ → Declaration → Type 0
-IsOver flex_limit number d = (MOST_FLEX < d.flex) × (number ≡ d.flex)
-IsOver Caps number d = (d.flex ≤ MOST_FLEX) × (MOST_RULES < length d.rules) × (number ≡ length d.rules)
-IsOver Windows number d =
-    (d.flex ≤ MOST_FLEX) × (length d.rules ≤ MOST_RULES) × (MOST_WINDOWS < resource_count (capacity_of d)) × (number ≡ resource_count (capacity_of d))
+IsOver name number d = PassesLimit name number d.flex (length d.rules) (resource_count (capacity_of d))
 
 -- ---- the causes, in order: the lowest line that is bad or a repetition; a word that is missing; a flexibility that is no
 -- whole number of steps, which is a fault of its line; a limit

@@ -1,8 +1,5 @@
--- The values that no declaration lacks, and the declaration that is made of them.
-use Rattle.std.specs.Prelude.{◌≡◌, ℕ, List, Option, Some, None, IsSome}
-use Rattle.season_days.specs.declared.declaration.Declaration.{Declaration}
-use Rattle.season_days.specs.declared.declaration.Night.{Night}
-use Rattle.season_days.specs.declared.declaration.Rule.{Rule}
+-- The values that no declaration lacks.
+use Rattle.std.specs.Prelude.{◌≡◌, Some, None, IsSome}
 use Rattle.capacity_file.specs.declared.draft.Singles.{Singles}
 use Rattle.capacity_file.specs.declared.finish.Needed.{Needed}
 use Rattle.capacity_file.specs.declared.fault.CapWord.{CapWord}
@@ -24,7 +21,3 @@ IsFirstMissing s Step = IsSome s.airport × IsSome s.season × (s.step ≡ None)
 IsFirstMissing s Flex = IsSome s.airport × IsSome s.season × IsSome s.step × (s.flex ≡ None)
 IsFirstMissing s Ground = IsSome s.airport × IsSome s.season × IsSome s.step × IsSome s.flex × (s.ground_time ≡ None)
 IsFirstMissing s Refuse = IsSome s.airport × IsSome s.season × IsSome s.step × IsSome s.flex × IsSome s.ground_time × (s.refuse ≡ None)
-
-abbrev pub declared : Needed → Option Night → ℕ → List Rule → Declaration
-declared n night share rules =
-    record { airport = n.airport; season = n.season; step = n.step; flex = n.flex.minutes; ground = n.ground_time; share = share; refuse = n.refuse; night = night; rules = rules }
