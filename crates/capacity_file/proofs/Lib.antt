@@ -1,0 +1,10 @@
+pub mod DayLemmas
+pub mod SameLemmas
+pub mod LinesLemmas
+pub mod EntryLemmas
+pub mod StepLemmas
+pub mod SingleLemmas
+pub mod DeclareLemmas
+pub mod FaultLemmas
+pub mod FinishLemmas
+pub mod LoopLemmas

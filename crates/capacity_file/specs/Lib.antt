@@ -1,0 +1,11 @@
+pub mod Days
+pub mod Bits
+pub mod Values
+pub mod Words
+pub mod Entries
+pub mod Lines
+pub mod Declares
+pub mod Faults
+pub mod Readings
+pub mod Singles
+pub mod Needed

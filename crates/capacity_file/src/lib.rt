@@ -1,0 +1,23 @@
+//! The capacity file: its lines in any order, and the declaration that they make.
+#![tactic(auto)]
+
+mod days;
+mod draft;
+mod entries;
+mod entry;
+mod fault;
+mod fields;
+mod finish;
+mod limits;
+mod line;
+mod reading;
+mod values;
+mod windows;
+mod words;
+
+pub use fault::{CapFault, CapLimit, CapWord};
+pub use limits::{MOST_BYTES, MOST_FLEX, USUAL_SHARE};
+pub use reading::read_capacity;
+
+#[cfg(test)]
+mod tests;

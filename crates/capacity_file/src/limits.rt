@@ -1,0 +1,8 @@
+/// The most bytes of a line that is not empty, without its end.
+pub const MOST_BYTES: usize = 200;
+
+/// The most minutes by which a time may be moved to either side.
+pub const MOST_FLEX: u64 = 120;
+
+/// The share of new entrants, in per cent, where no line states it.
+pub const USUAL_SHARE: u32 = 50;

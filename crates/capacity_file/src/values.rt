@@ -1,0 +1,69 @@
+ghost use Rattle.std.specs.Prelude.{◌≡◌, ◌<◌, ◌≤◌, ℕ, List, IfSome, Some, MatchOption};
+ghost use Rattle.std.specs.Fmt.{decimal};
+ghost use Rattle.season_days.specs.declared.declaration.Kind.{Kind as KindValue};
+ghost use Rattle.capacity_file.specs.Values.{is_step, two_digits, clock_text, kind_text};
+
+use season_days::Kind;
+use slot_text::read_u64;
+
+/// The number that the text spells, if it is at most `most`.
+pub(crate) fn read_number(text: &[u8], most: u32) -> Option<u32>
+    ensures found { IfSome result (λ n. (n ≤ most) × (text.now ≡ decimal n)) }
+    ensures only { (n : ℕ) → n ≤ most → text.now ≡ decimal n → result ≡ Some n }
+{
+    let value = read_u64(text).ok()?;
+    if value > u64::from(most) {
+        return None;
+    }
+    Some(value as u32)
+}
+
+/// The minute of the day that hours and minutes spell.
+pub(crate) fn read_clock(text: &[u8]) -> Option<u32>
+    ensures found { IfSome result (λ minute. (minute < 1440) × (text.now ≡ clock_text minute)) }
+    ensures only { (minute : ℕ) → minute < 1440 → text.now ≡ clock_text minute → result ≡ Some minute }
+{
+    if text.len() != 4 {
+        return None;
+    }
+    let (front, back) = text.split_at(2);
+    let hour = read_two_digits(front)?;
+    let minute = read_two_digits(back)?;
+    if hour >= 24 {
+        return None;
+    }
+    if minute >= 60 {
+        return None;
+    }
+    Some(60 * u32::from(hour) + u32::from(minute))
+}
+
+/// The number of two digits.
+fn read_two_digits(text: &[u8]) -> Option<u8>
+    ensures found { IfSome result (λ n. (n < 100) × (text.now ≡ two_digits n)) }
+    ensures only { (n : ℕ) → n < 100 → text.now ≡ two_digits n → result ≡ Some n }
+{
+    match text {
+        [tens @ b'0'..=b'9', ones @ b'0'..=b'9'] => Some(10 * (tens - b'0') + (ones - b'0')),
+        _ => None,
+    }
+}
+
+/// Whether times that are offered may be so many minutes apart.
+pub(crate) fn is_allowed_step(n: u32) -> bool
+    ensures { result ≡ is_step n }
+{
+    n == 5 || n == 10 || n == 15 || n == 20 || n == 30 || n == 60
+}
+
+/// The movements that a word names.
+pub(crate) fn read_kind(text: &[u8]) -> Option<Kind>
+    ensures { MatchOption result ((kind : KindValue) → text.now ≡ kind_text kind → ⊥) (λ kind. text.now ≡ kind_text kind) }
+{
+    match text {
+        b"ARR" => Some(Kind::Arr),
+        b"DEP" => Some(Kind::Dep),
+        b"TOT" => Some(Kind::Tot),
+        _ => None,
+    }
+}
