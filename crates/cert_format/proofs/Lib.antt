@@ -8,3 +8,4 @@ pub mod CertLemmas
 pub mod WriteLemmas
 pub mod ExtraLemmas
 pub mod PrintLemmas
+pub mod RangeLemmas

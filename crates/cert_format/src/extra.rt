@@ -53,11 +53,14 @@ pub fn read_extra(alloc: Global, bytes: &[u8]) -> Result<StageCert, CertFault>
     whole_extra(alloc, bytes)
 }
 
+#[tactic(auto, using(crate::proofs::RangeLemmas::extra_is))]
 /// The one spelling of one more stage, as `read_extra` reads it. A caller owes what `print_cert` asks of a stage of
 /// version 2, and that the stage was tried.
 pub fn print_extra(alloc: Global, cert: &StageCert) -> Result<Vec<u8>, Memory>
     requires { IsPrintableExtra cert.now }
-    ensures { IfOk result (λ v. v.items ≡ extra_spelling cert.now) }
+    ensures text { IfOk result (λ v. v.items ≡ extra_spelling cert.now) }
+    // What was printed is in the form, so it is read again as the same.
+    ensures again { IfOk result (λ v. IsExtra cert.now) }
 {
     let mut out = Vec::new(alloc);
     put_extra(&mut out)?;

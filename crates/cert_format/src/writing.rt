@@ -1,11 +1,12 @@
 //! Printing a certificate.
 
-ghost use Rattle.std.specs.Prelude.{◌≡◌, ◌++◌, ◌∷◌, ◌<◌, ◌^◌, [], List, ℕ, None, OnOk, IfOk, codes, length};
+ghost use Rattle.std.specs.Prelude.{◌≡◌, ◌++◌, ◌∷◌, ◌<◌, ◌≤◌, ◌^◌, [], List, ℕ, None, true, OnOk, IfOk, IfSome, codes, length};
+ghost use Rattle.std.specs.List.{AllByRecursion};
 ghost use Rattle.choice_problem.specs.declared.nodes.Node.{Node};
 ghost use Rattle.std.specs.Fmt.{decimal, signed_decimal};
 ghost use Rattle.cert_format.specs.Lines.{line_text, text_of};
-ghost use Rattle.cert_format.specs.Spelling.{numbered, count_words, choices_words, alternative_words, alternative_lines, price_words, price_lines, vector_lines, seen_word, undone_words, node_words, node_lines, optional_lines, choice_lines, mark_name, stage_words, proof_lines, stage_lines, cert_lines, spelling};
-ghost use Rattle.cert_format.specs.Printable.{IsPrintable};
+ghost use Rattle.cert_format.specs.Spelling.{numbered, count_words, choices_words, alternative_words, alternative_lines, price_words, price_lines, vector_lines, seen_word, undone_words, node_words, node_lines, optional_lines, choice_lines, mark_name, stage_words, proof_lines, stage_lines, cert_lines, spelling, is_undone, is_tried, undone_count, SeenFits, IsLong, PriceFits, NodeFits, FloorFits, IsCert};
+ghost use Rattle.cert_format.specs.Printable.{HasRanges, RangesAs, IsPrintable};
 
 use crate::cert::{Certificate, Floor, FloorList, Mark, StageCert};
 use choice_problem::{Choice, Node, Price, Tree, Vector, VectorList};
@@ -31,7 +32,8 @@ fn put_last(out: &mut Vec<u8>, word: &[u8]) -> Result<(), Memory>
 }
 
 fn put_number_word(alloc: Global, out: &mut Vec<u8>, number: u64) -> Result<(), Memory>
-    ensures { OnOk result (out.new.items ≡ out.old.items ++ (decimal number ++ 32 ∷ [])) }
+    ensures text { OnOk result (out.new.items ≡ out.old.items ++ (decimal number ++ 32 ∷ [])) }
+    ensures range { number < 2 ^ 64 }
 {
     put_number(alloc, out, number)?;
     out.push(b' ')?;
@@ -39,16 +41,41 @@ fn put_number_word(alloc: Global, out: &mut Vec<u8>, number: u64) -> Result<(), 
 }
 
 fn put_last_number(alloc: Global, out: &mut Vec<u8>, number: u64) -> Result<(), Memory>
-    ensures { OnOk result (out.new.items ≡ out.old.items ++ (decimal number ++ 10 ∷ [])) }
+    ensures text { OnOk result (out.new.items ≡ out.old.items ++ (decimal number ++ 10 ∷ [])) }
+    ensures range { number < 2 ^ 64 }
 {
     put_number(alloc, out, number)?;
     out.push(b'\n')?;
     Ok(())
 }
 
+fn put_small_word(alloc: Global, out: &mut Vec<u8>, number: u32) -> Result<(), Memory>
+    ensures text { OnOk result (out.new.items ≡ out.old.items ++ (decimal number ++ 32 ∷ [])) }
+    ensures range { number < 2 ^ 32 }
+{
+    put_number_word(alloc, out, u64::from(number))
+}
+
+fn put_last_small(alloc: Global, out: &mut Vec<u8>, number: u32) -> Result<(), Memory>
+    ensures text { OnOk result (out.new.items ≡ out.old.items ++ (decimal number ++ 10 ∷ [])) }
+    ensures range { number < 2 ^ 32 }
+{
+    put_last_number(alloc, out, u64::from(number))
+}
+
+#[tactic(auto, using(crate::proofs::RangeLemmas::long_of))]
+fn put_last_signed(alloc: Global, out: &mut Vec<u8>, number: i64) -> Result<(), Memory>
+    ensures text { OnOk result (out.new.items ≡ out.old.items ++ (signed_decimal number ++ 10 ∷ [])) }
+    ensures range { IsLong number }
+{
+    let text = number.to_string(alloc)?;
+    put_last(out, text.as_bytes())
+}
+
 #[tactic(auto, unfolding(crate::specs::Lines::line_text))]
 fn put_count(alloc: Global, out: &mut Vec<u8>, tag: &[u8], number: u64) -> Result<(), Memory>
-    ensures { OnOk result (out.new.items ≡ out.old.items ++ line_text (count_words tag.now number)) }
+    ensures text { OnOk result (out.new.items ≡ out.old.items ++ line_text (count_words tag.now number)) }
+    ensures range { OnOk result (number < 2 ^ 64) }
 {
     put_word(out, tag)?;
     put_last_number(alloc, out, number)
@@ -56,25 +83,27 @@ fn put_count(alloc: Global, out: &mut Vec<u8>, tag: &[u8], number: u64) -> Resul
 
 #[tactic(auto, unfolding(crate::specs::Lines::line_text))]
 fn put_alternative(alloc: Global, out: &mut Vec<u8>, unit: u64, alt: u32) -> Result<(), Memory>
-    ensures { OnOk result (out.new.items ≡ out.old.items ++ line_text (alternative_words unit alt)) }
+    ensures text { OnOk result (out.new.items ≡ out.old.items ++ line_text (alternative_words unit alt)) }
+    ensures range { OnOk result (alt < 2 ^ 32) }
 {
     put_word(out, b"C")?;
     put_number_word(alloc, out, unit)?;
-    put_last_number(alloc, out, u64::from(alt))
+    put_last_small(alloc, out, alt)
 }
 
 #[tactic(auto, unfolding(crate::specs::Lines::line_text))]
 fn put_price(alloc: Global, out: &mut Vec<u8>, price: Price) -> Result<(), Memory>
-    ensures { OnOk result (out.new.items ≡ out.old.items ++ line_text (price_words price)) }
+    ensures text { OnOk result (out.new.items ≡ out.old.items ++ line_text (price_words price)) }
+    ensures range { OnOk result (PriceFits price) }
 {
     put_word(out, b"P")?;
-    put_number_word(alloc, out, u64::from(price.resource))?;
-    let text = price.price.to_string(alloc)?;
-    put_last(out, text.as_bytes())
+    put_small_word(alloc, out, price.resource)?;
+    put_last_signed(alloc, out, price.price)
 }
 
 fn put_seen(alloc: Global, out: &mut Vec<u8>, seen: Option<u64>) -> Result<(), Memory>
-    ensures { OnOk result (out.new.items ≡ out.old.items ++ (seen_word seen ++ 10 ∷ [])) }
+    ensures text { OnOk result (out.new.items ≡ out.old.items ++ (seen_word seen ++ 10 ∷ [])) }
+    ensures range { SeenFits seen }
 {
     match seen {
         None => put_last(out, b"-"),
@@ -89,13 +118,15 @@ fn put_node(
     node: Node,
     floor: Option<Floor>,
 ) -> Result<(), Memory>
-    ensures { OnOk result (out.new.items ≡ out.old.items ++ line_text (node_words node floor)) }
+    ensures text { OnOk result (out.new.items ≡ out.old.items ++ line_text (node_words node floor)) }
+    ensures range { OnOk result (NodeFits node) }
+    ensures floor { OnOk result (is_undone node ≡ true → IfSome floor FloorFits) }
 {
     match node {
         Node::Split { unit, cut, seen } => {
             put_word(out, b"S")?;
-            put_number_word(alloc, out, u64::from(unit))?;
-            put_number_word(alloc, out, u64::from(cut))?;
+            put_small_word(alloc, out, unit)?;
+            put_small_word(alloc, out, cut)?;
             put_seen(alloc, out, seen)
         }
         Node::Leaf {
@@ -104,24 +135,28 @@ fn put_node(
             seen,
         } => {
             put_word(out, b"L")?;
-            put_number_word(alloc, out, u64::from(vector))?;
+            put_small_word(alloc, out, vector)?;
             put_number_word(alloc, out, scale)?;
             put_seen(alloc, out, seen)
         }
-        Node::Over { resource } => put_count(alloc, out, b"O", u64::from(resource)),
+        Node::Over { resource } => {
+            put_word(out, b"O")?;
+            put_last_small(alloc, out, resource)
+        }
         Node::Undone => put_undone(alloc, out, floor),
     }
 }
 
 #[tactic(auto, unfolding(crate::specs::Lines::line_text))]
 fn put_undone(alloc: Global, out: &mut Vec<u8>, floor: Option<Floor>) -> Result<(), Memory>
-    ensures { OnOk result (out.new.items ≡ out.old.items ++ line_text (undone_words floor)) }
+    ensures text { OnOk result (out.new.items ≡ out.old.items ++ line_text (undone_words floor)) }
+    ensures range { OnOk result (IfSome floor FloorFits) }
 {
     match floor {
         None => put_last(out, b"U"),
         Some(floor) => {
             put_word(out, b"U")?;
-            put_number_word(alloc, out, u64::from(floor.vector))?;
+            put_small_word(alloc, out, floor.vector)?;
             put_last_number(alloc, out, floor.scale)
         }
     }
@@ -129,7 +164,9 @@ fn put_undone(alloc: Global, out: &mut Vec<u8>, floor: Option<Floor>) -> Result<
 
 // The floor of a node, if it has one, and the floors after it.
 fn split_floor(node: Node, floors: &[Floor]) -> (Option<Floor>, &[Floor])
-    ensures { (nodes : List Node) → node_lines (node ∷ nodes) floors.now ≡ node_words node result.0 ∷ node_lines nodes result.1.now }
+    ensures lines { (nodes : List Node) → node_lines (node ∷ nodes) floors.now ≡ node_words node result.0 ∷ node_lines nodes result.1.now }
+    ensures range { (is_undone node ≡ true → IfSome result.0 FloorFits) → AllByRecursion FloorFits result.1.now → AllByRecursion FloorFits floors.now }
+    ensures count { (nodes : List Node) → length floors.now ≤ undone_count (node ∷ nodes) → length result.1.now ≤ undone_count nodes }
 {
     if node != Node::Undone {
         return (None, floors);
@@ -158,7 +195,8 @@ pub fn put_mark(alloc: Global, out: &mut Vec<u8>, stage: u64, mark: Mark) -> Res
 }
 
 fn put_alternatives(alloc: Global, out: &mut Vec<u8>, alts: &[u32]) -> Result<(), Memory>
-    ensures { OnOk result (out.new.items ≡ out.old.items ++ text_of (numbered alternative_lines 0 alts.now)) }
+    ensures text { OnOk result (out.new.items ≡ out.old.items ++ text_of (numbered alternative_lines 0 alts.now)) }
+    ensures range { OnOk result (AllByRecursion (λ alt. alt < 2 ^ 32) alts.now) }
 {
     for (unit, alt) in alts.iter().enumerate() {
         put_alternative(alloc, out, unit as u64, *alt)?;
@@ -167,7 +205,8 @@ fn put_alternatives(alloc: Global, out: &mut Vec<u8>, alts: &[u32]) -> Result<()
 }
 
 fn put_choice(alloc: Global, out: &mut Vec<u8>, choice: &Option<Choice>) -> Result<(), Memory>
-    ensures { OnOk result (out.new.items ≡ out.old.items ++ text_of (choice_lines choice.now)) }
+    ensures text { OnOk result (out.new.items ≡ out.old.items ++ text_of (choice_lines choice.now)) }
+    ensures range { OnOk result (IfSome choice.now (λ alts. AllByRecursion (λ alt. alt < 2 ^ 32) alts)) }
 {
     match choice {
         None => put_none(out),
@@ -193,7 +232,8 @@ fn put_optional(
     tag: &[u8],
     number: Option<u64>,
 ) -> Result<(), Memory>
-    ensures { OnOk result (out.new.items ≡ out.old.items ++ text_of (optional_lines tag.now number)) }
+    ensures text { OnOk result (out.new.items ≡ out.old.items ++ text_of (optional_lines tag.now number)) }
+    ensures range { OnOk result (SeenFits number) }
 {
     match number {
         None => Ok(()),
@@ -202,7 +242,8 @@ fn put_optional(
 }
 
 fn put_prices(alloc: Global, out: &mut Vec<u8>, prices: &[Price]) -> Result<(), Memory>
-    ensures { OnOk result (out.new.items ≡ out.old.items ++ text_of (numbered price_lines 0 prices.now)) }
+    ensures text { OnOk result (out.new.items ≡ out.old.items ++ text_of (numbered price_lines 0 prices.now)) }
+    ensures range { OnOk result (AllByRecursion PriceFits prices.now) }
 {
     for price in prices {
         put_price(alloc, out, *price)?;
@@ -211,7 +252,8 @@ fn put_prices(alloc: Global, out: &mut Vec<u8>, prices: &[Price]) -> Result<(), 
 }
 
 fn put_vector(alloc: Global, out: &mut Vec<u8>, vector: &Vector) -> Result<(), Memory>
-    ensures { OnOk result ((number : ℕ) → out.new.items ≡ out.old.items ++ text_of (vector_lines number vector.now)) }
+    ensures text { OnOk result ((number : ℕ) → out.new.items ≡ out.old.items ++ text_of (vector_lines number vector.now)) }
+    ensures range { OnOk result (AllByRecursion PriceFits vector.now) }
 {
     let prices = vector.items();
     put_count(alloc, out, b"VECTOR", prices.len() as u64)?;
@@ -219,7 +261,8 @@ fn put_vector(alloc: Global, out: &mut Vec<u8>, vector: &Vector) -> Result<(), M
 }
 
 fn put_vectors(alloc: Global, out: &mut Vec<u8>, vectors: &[Vector]) -> Result<(), Memory>
-    ensures { OnOk result (out.new.items ≡ out.old.items ++ text_of (numbered vector_lines 0 vectors.now)) }
+    ensures text { OnOk result (out.new.items ≡ out.old.items ++ text_of (numbered vector_lines 0 vectors.now)) }
+    ensures range { OnOk result (AllByRecursion (AllByRecursion PriceFits) vectors.now) }
 {
     for vector in vectors {
         put_vector(alloc, out, vector)?;
@@ -233,7 +276,9 @@ fn put_nodes(
     nodes: &[Node],
     floors: &[Floor],
 ) -> Result<(), Memory>
-    ensures { OnOk result (out.new.items ≡ out.old.items ++ text_of (node_lines nodes.now floors.now)) }
+    ensures text { OnOk result (out.new.items ≡ out.old.items ++ text_of (node_lines nodes.now floors.now)) }
+    ensures nodes { OnOk result (AllByRecursion NodeFits nodes.now) }
+    ensures floors { OnOk result (length floors.now ≤ undone_count nodes.now → AllByRecursion FloorFits floors.now) }
 {
     let mut rest = floors;
     for node in nodes {
@@ -245,7 +290,8 @@ fn put_nodes(
 }
 
 fn put_vector_list(alloc: Global, out: &mut Vec<u8>, vectors: &VectorList) -> Result<(), Memory>
-    ensures { OnOk result (out.new.items ≡ out.old.items ++ text_of (count_words (codes "VECTORS") (length vectors.now) ∷ numbered vector_lines 0 vectors.now)) }
+    ensures text { OnOk result (out.new.items ≡ out.old.items ++ text_of (count_words (codes "VECTORS") (length vectors.now) ∷ numbered vector_lines 0 vectors.now)) }
+    ensures range { OnOk result (AllByRecursion (AllByRecursion PriceFits) vectors.now) }
 {
     let vectors = vectors.items();
     put_count(alloc, out, b"VECTORS", vectors.len() as u64)?;
@@ -253,7 +299,8 @@ fn put_vector_list(alloc: Global, out: &mut Vec<u8>, vectors: &VectorList) -> Re
 }
 
 fn put_tree(alloc: Global, out: &mut Vec<u8>, tree: &Tree, floors: &FloorList) -> Result<(), Memory>
-    ensures { OnOk result (out.new.items ≡ out.old.items ++ text_of (count_words (codes "TREE") (length tree.now) ∷ node_lines tree.now floors.now)) }
+    ensures text { OnOk result (out.new.items ≡ out.old.items ++ text_of (count_words (codes "TREE") (length tree.now) ∷ node_lines tree.now floors.now)) }
+    ensures range { OnOk result (AllByRecursion NodeFits tree.now × (length floors.now ≤ undone_count tree.now → AllByRecursion FloorFits floors.now)) }
 {
     let nodes = tree.items();
     put_count(alloc, out, b"TREE", nodes.len() as u64)?;
@@ -261,7 +308,8 @@ fn put_tree(alloc: Global, out: &mut Vec<u8>, tree: &Tree, floors: &FloorList) -
 }
 
 pub fn put_proof(alloc: Global, out: &mut Vec<u8>, stage: &StageCert) -> Result<(), Memory>
-    ensures { OnOk result (out.new.items ≡ out.old.items ++ text_of (proof_lines stage.now)) }
+    ensures text { OnOk result (out.new.items ≡ out.old.items ++ text_of (proof_lines stage.now)) }
+    ensures range { OnOk result (HasRanges stage.now) }
 {
     put_choice(alloc, out, &stage.choice)?;
     put_optional(alloc, out, b"COST", stage.cost)?;
@@ -271,7 +319,8 @@ pub fn put_proof(alloc: Global, out: &mut Vec<u8>, stage: &StageCert) -> Result<
 }
 
 fn put_stage(alloc: Global, out: &mut Vec<u8>, number: u64, stage: &StageCert) -> Result<(), Memory>
-    ensures { OnOk result (out.new.items ≡ out.old.items ++ text_of (stage_lines number stage.now)) }
+    ensures text { OnOk result (out.new.items ≡ out.old.items ++ text_of (stage_lines number stage.now)) }
+    ensures range { OnOk result (RangesAs stage.now (is_tried stage.now.mark)) }
 {
     put_mark(alloc, out, number, stage.mark)?;
     match stage.mark {
@@ -281,7 +330,8 @@ fn put_stage(alloc: Global, out: &mut Vec<u8>, number: u64, stage: &StageCert) -
 }
 
 fn put_stages(alloc: Global, out: &mut Vec<u8>, stages: &[StageCert]) -> Result<(), Memory>
-    ensures { OnOk result (out.new.items ≡ out.old.items ++ text_of (numbered stage_lines 1 stages.now)) }
+    ensures text { OnOk result (out.new.items ≡ out.old.items ++ text_of (numbered stage_lines 1 stages.now)) }
+    ensures range { OnOk result (AllByRecursion (λ stage. RangesAs stage (is_tried stage.mark)) stages.now) }
 {
     for (i, stage) in stages.iter().enumerate() {
         put_stage(alloc, out, i as u64 + 1, stage)?;
@@ -304,13 +354,16 @@ pub fn put_extra(out: &mut Vec<u8>) -> Result<(), Memory>
     put_last(out, b"1")
 }
 
+#[tactic(auto, using(crate::proofs::RangeLemmas::cert_is))]
 /// The one spelling of a certificate, as `read_cert` reads it: one pass, and no further memory than the text.
 ///
 /// A caller owes what `IsPrintable` asks: choice and cost both or neither, a stage that was not tried without parts, at
 /// most 64 vectors, four stages, version 1 or 2 with bounds and floors as the version has them, and fewer than 2^32 lines.
 pub fn print_cert(alloc: Global, cert: &Certificate) -> Result<Vec<u8>, Memory>
     requires { IsPrintable cert.now }
-    ensures { IfOk result (λ v. v.items ≡ spelling cert.now) }
+    ensures text { IfOk result (λ v. v.items ≡ spelling cert.now) }
+    // What was printed is in the form, so it is read again as the same.
+    ensures again { IfOk result (λ v. IsCert cert.now) }
 {
     let mut out = Vec::new(alloc);
     put_count(alloc, &mut out, b"CERT", u64::from(cert.version))?;
