@@ -9,3 +9,6 @@ pub mod WriteLemmas
 pub mod ExtraLemmas
 pub mod PrintLemmas
 pub mod RangeLemmas
+pub mod StopLemmas
+pub mod SteadyLemmas
+pub mod FirstBadLemmas

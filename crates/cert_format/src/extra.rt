@@ -4,6 +4,8 @@ ghost use Rattle.std.specs.Prelude.{◌≡◌, ◌<◌, ◌^◌, IfOk, Ok, lengt
 ghost use Rattle.cert_format.specs.declared.cert.StageCert.{StageCert};
 ghost use Rattle.cert_format.specs.Spelling.{IsExtra, extra_spelling};
 ghost use Rattle.cert_format.specs.Printable.{IsPrintableExtra};
+ghost use Rattle.cert_format.specs.Forms.{IsExtraText, IfBadLine};
+ghost use Rattle.slot_text.specs.Forms.{IsFirstBadLine};
 ghost use Rattle.cert_format.specs.Spots.{spot_of, Gives};
 ghost use Rattle.cert_format.specs.Reading.{extra_at, extra_of};
 
@@ -47,7 +49,9 @@ pub fn read_extra(alloc: Global, bytes: &[u8]) -> Result<StageCert, CertFault>
     ensures printable { IfOk result (λ s. IsPrintableExtra s) }
     // What is spelled so is read, unless memory runs out.
     ensures only { (s : StageCert) → IsExtra s → bytes.now ≡ extra_spelling s → Gives (λ x. x) result (Ok s) }
-    // Which line is bad: the first that isn't in the form at its place.
+    // The line of a refusal: no text of a stage begins with the lines up to it, while one begins with those before it.
+    ensures first { IfBadLine result (IsFirstBadLine IsExtraText bytes.now) }
+    // The same line by line.
     ensures exact { Gives (λ s. s) result (extra_of bytes.now) }
 {
     whole_extra(alloc, bytes)

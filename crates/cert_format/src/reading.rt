@@ -4,6 +4,8 @@ ghost use Rattle.std.specs.Prelude.{◌≡◌, ◌<◌, ◌^◌, List, IfOk, Ok,
 ghost use Rattle.cert_format.specs.declared.cert.Certificate.{Certificate};
 ghost use Rattle.cert_format.specs.Spelling.{IsCert, spelling};
 ghost use Rattle.cert_format.specs.Printable.{IsPrintable};
+ghost use Rattle.cert_format.specs.Forms.{IsCertText, IfBadLine};
+ghost use Rattle.slot_text.specs.Forms.{IsFirstBadLine};
 ghost use Rattle.cert_format.specs.Spots.{spot_of, Gives};
 ghost use Rattle.cert_format.specs.Reading.{many, stage_at, cert_at, cert_of};
 
@@ -66,7 +68,9 @@ pub fn read_cert(alloc: Global, bytes: &[u8]) -> Result<Certificate, CertFault>
     ensures printable { IfOk result (λ c. IsPrintable c) }
     // What is spelled so is read, unless memory runs out.
     ensures only { (c : Certificate) → IsCert c → bytes.now ≡ spelling c → Gives (λ x. x) result (Ok c) }
-    // Which line is bad: the first that isn't in the form at its place.
+    // The line of a refusal: no certificate begins with the lines up to it, while one begins with those before it.
+    ensures first { IfBadLine result (IsFirstBadLine IsCertText bytes.now) }
+    // The same line by line.
     ensures exact { Gives (λ c. c) result (cert_of bytes.now) }
 {
     whole_cert(alloc, bytes)
