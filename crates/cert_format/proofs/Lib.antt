@@ -12,3 +12,4 @@ pub mod RangeLemmas
 pub mod StopLemmas
 pub mod SteadyLemmas
 pub mod FirstBadLemmas
+pub mod OneBadLineLemmas

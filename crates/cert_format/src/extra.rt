@@ -1,6 +1,6 @@
 //! One more stage by itself.
 
-ghost use Rattle.std.specs.Prelude.{◌≡◌, ◌<◌, ◌^◌, IfOk, Ok, length};
+ghost use Rattle.std.specs.Prelude.{◌≡◌, ◌<◌, ◌^◌, ℕ, IfOk, Ok, Err, length};
 ghost use Rattle.cert_format.specs.declared.cert.StageCert.{StageCert};
 ghost use Rattle.cert_format.specs.Spelling.{IsExtra, extra_spelling};
 ghost use Rattle.cert_format.specs.Printable.{IsPrintableExtra};
@@ -51,6 +51,8 @@ pub fn read_extra(alloc: Global, bytes: &[u8]) -> Result<StageCert, CertFault>
     ensures only { (s : StageCert) → IsExtra s → bytes.now ≡ extra_spelling s → Gives (λ x. x) result (Ok s) }
     // The line of a refusal: no text of a stage begins with the lines up to it, while one begins with those before it.
     ensures first { IfBadLine result (IsFirstBadLine IsExtraText bytes.now) }
+    // Where some line is the first bad one, the text is refused with it, unless memory runs out.
+    ensures bad { (line : ℕ) → IsFirstBadLine IsExtraText bytes.now line → Gives (λ x. x) result (Err line) }
     // The same line by line.
     ensures exact { Gives (λ s. s) result (extra_of bytes.now) }
 {

@@ -1,6 +1,6 @@
 //! Reading a certificate.
 
-ghost use Rattle.std.specs.Prelude.{◌≡◌, ◌<◌, ◌^◌, List, IfOk, Ok, length};
+ghost use Rattle.std.specs.Prelude.{◌≡◌, ◌<◌, ◌^◌, ℕ, List, IfOk, Ok, Err, length};
 ghost use Rattle.cert_format.specs.declared.cert.Certificate.{Certificate};
 ghost use Rattle.cert_format.specs.Spelling.{IsCert, spelling};
 ghost use Rattle.cert_format.specs.Printable.{IsPrintable};
@@ -70,6 +70,8 @@ pub fn read_cert(alloc: Global, bytes: &[u8]) -> Result<Certificate, CertFault>
     ensures only { (c : Certificate) → IsCert c → bytes.now ≡ spelling c → Gives (λ x. x) result (Ok c) }
     // The line of a refusal: no certificate begins with the lines up to it, while one begins with those before it.
     ensures first { IfBadLine result (IsFirstBadLine IsCertText bytes.now) }
+    // Where some line is the first bad one, the text is refused with it, unless memory runs out.
+    ensures bad { (line : ℕ) → IsFirstBadLine IsCertText bytes.now line → Gives (λ x. x) result (Err line) }
     // The same line by line.
     ensures exact { Gives (λ c. c) result (cert_of bytes.now) }
 {
