@@ -9,14 +9,17 @@ ghost use Rattle.slot_text.specs.Forms.{IsFirstBadLine};
 ghost use Rattle.cert_format.specs.Spots.{spot_of, Gives};
 ghost use Rattle.cert_format.specs.Reading.{extra_at, extra_of};
 
-use crate::blocks::{end_at, extra_line_at, proof_at, tried_at};
+use crate::blocks::proof_at;
 use crate::cert::StageCert;
 use crate::fault::CertFault;
+use crate::line_writing::{put_end, put_extra, put_mark};
 use crate::lines::Place;
-use crate::writing::{put_end, put_extra, put_mark, put_proof};
+use crate::places::{end_at, extra_line_at, tried_at};
+use crate::writing::put_proof;
 use slot_text::Memory;
 use std::alloc::Global;
 
+// One more stage, and nothing after it.
 #[tactic(auto, unfolding(crate::specs::Reading::extra_at))]
 fn extra_at(alloc: Global, place: Place<'_>) -> Result<StageCert, CertFault>
     ensures { Gives (λ s. s) result (extra_at (spot_of place.entry)) }
@@ -31,6 +34,7 @@ fn extra_at(alloc: Global, place: Place<'_>) -> Result<StageCert, CertFault>
     }
 }
 
+// The one more stage that the bytes spell.
 fn whole_extra(alloc: Global, bytes: &[u8]) -> Result<StageCert, CertFault>
     requires { length bytes.now < 2 ^ 31 }
     ensures { Gives (λ s. s) result (extra_of bytes.now) }
@@ -59,9 +63,9 @@ pub fn read_extra(alloc: Global, bytes: &[u8]) -> Result<StageCert, CertFault>
     whole_extra(alloc, bytes)
 }
 
-#[tactic(auto, using(crate::proofs::RangeLemmas::extra_is))]
 /// The one spelling of one more stage, as `read_extra` reads it. A caller owes what `print_cert` asks of a stage of
 /// version 2, and that the stage was tried.
+#[tactic(auto, using(crate::proofs::RangeLemmas::extra_is))]
 pub fn print_extra(alloc: Global, cert: &StageCert) -> Result<Vec<u8>, Memory>
     requires { IsPrintableExtra cert.now }
     ensures text { IfOk result (λ v. v.items ≡ extra_spelling cert.now) }

@@ -9,12 +9,14 @@ ghost use Rattle.slot_text.specs.Forms.{IsFirstBadLine};
 ghost use Rattle.cert_format.specs.Spots.{spot_of, Gives};
 ghost use Rattle.cert_format.specs.Reading.{many, stage_at, cert_at, cert_of};
 
-use crate::blocks::{end_at, stage_at, version_at};
+use crate::blocks::stage_at;
 use crate::cert::{Certificate, StageCert, StageList};
 use crate::fault::CertFault;
 use crate::lines::Place;
+use crate::places::{end_at, version_at};
 use std::alloc::Global;
 
+// The stages 1 to 4, in order.
 fn four_stages(
     alloc: Global,
     version: u32,
@@ -32,6 +34,7 @@ fn four_stages(
     Ok((stages, next))
 }
 
+// A certificate, and nothing after it.
 #[tactic(auto, unfolding(crate::specs::Reading::cert_at))]
 fn cert_at(alloc: Global, place: Place<'_>) -> Result<Certificate, CertFault>
     ensures { Gives (λ c. c) result (cert_at (spot_of place.entry)) }
@@ -48,6 +51,7 @@ fn cert_at(alloc: Global, place: Place<'_>) -> Result<Certificate, CertFault>
     }
 }
 
+// The certificate that the bytes spell.
 fn whole_cert(alloc: Global, bytes: &[u8]) -> Result<Certificate, CertFault>
     requires { length bytes.now < 2 ^ 31 }
     ensures { Gives (λ c. c) result (cert_of bytes.now) }
