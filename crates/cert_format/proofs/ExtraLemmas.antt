@@ -14,7 +14,8 @@ use Rattle.cert_format.specs.Reading.{proof_at, ended, extra_at, extra_of}
 use Rattle.cert_format.specs.Spelling.{is_tried, stage_words, proof_lines, extra_lines, extra_spelling, IsExtra}
 use Rattle.cert_format.proofs.WordLemmas.{bind_some, tag_takes, tag_again, end_takes}
 use Rattle.cert_format.proofs.RowLemmas.{mark_takes, mark_again, end_line_takes, end_line_again}
-use Rattle.cert_format.proofs.BlockLemmas.{Line, bind_ok, line_takes, line_again, proof_takes, proof_again, ended_takes}
+use Rattle.cert_format.proofs.BlockLemmas.{Line, bind_ok, line_takes, line_again}
+use Rattle.cert_format.proofs.StageLemmas.{proof_takes, proof_again, ended_takes}
 use Rattle.cert_format.proofs.TextLemmas.{IsLine, HasWord, lines_again, text_again, with_words, lines_join, tag_line, literal, mark_is_line, proof_is_lines}
 
 extra_takes : (ws : Line) (n : ℕ) → extra_row ws ≡ Some n → ws ≡ codes "EXTRA" ∷ codes "1" ∷ []

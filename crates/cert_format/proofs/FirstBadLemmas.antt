@@ -15,10 +15,12 @@ use Rattle.cert_format.specs.Spots.{Spot, Gives}
 use Rattle.cert_format.specs.Reading.{cert_at, cert_of, extra_at, extra_of}
 use Rattle.cert_format.specs.Spelling.{cert_lines, spelling, IsCert, extra_lines, extra_spelling, IsExtra}
 use Rattle.cert_format.specs.Forms.{IsCertText, IsExtraText, IfBadFault, IfBadLine}
-use Rattle.cert_format.proofs.BlockLemmas.{Line, cert_takes, cert_again}
+use Rattle.cert_format.proofs.BlockLemmas.{Line}
+use Rattle.cert_format.proofs.StageLemmas.{cert_takes, cert_again}
 use Rattle.cert_format.proofs.ExtraLemmas.{stage_takes, stage_again, extra_is_lines}
 use Rattle.cert_format.proofs.TextLemmas.{IsLine, HasWord, lines_again, with_words, cert_is_lines}
-use Rattle.cert_format.proofs.StopLemmas.{spot, SameHead, Stopped, Whole}
+use Rattle.cert_format.proofs.StopLemmas.{spot, SameHead}
+use Rattle.cert_format.proofs.WholeLemmas.{Stopped, Whole}
 use Rattle.cert_format.proofs.SteadyLemmas.{whole_cert, whole_extra}
 
 -- ---- the bytes of a line and its words

@@ -2,7 +2,10 @@ pub mod LineLemmas
 pub mod WordLemmas
 pub mod LoopLemmas
 pub mod RowLemmas
+pub mod NodeRowLemmas
 pub mod BlockLemmas
+pub mod TreeLemmas
+pub mod StageLemmas
 pub mod TextLemmas
 pub mod CertLemmas
 pub mod WriteLemmas
@@ -10,6 +13,7 @@ pub mod ExtraLemmas
 pub mod PrintLemmas
 pub mod RangeLemmas
 pub mod StopLemmas
+pub mod WholeLemmas
 pub mod SteadyLemmas
 pub mod FirstBadLemmas
 pub mod OneBadLineLemmas

@@ -14,10 +14,12 @@ use Rattle.cert_format.specs.Spots.{Spot, Read, ◌>>=◌, line_by}
 use Rattle.cert_format.specs.Rows.{count_row, choices_row, alternative_row, price_row, node_row, mark_row, version_row, end_row, extra_row, tried_row}
 use Rattle.cert_format.specs.Reading.{many, alternative_at, alternatives_at, choice_at, price_at, one_vector, vector_at, vectors_at, optional_at, nodes_at, tree_at, not_tried, proof_at, stage_at, ended, cert_at, extra_at}
 use Rattle.cert_format.specs.Spelling.{count_words, choices_words, alternative_words, price_words, node_words, stage_words, is_tried, has_bound}
-use Rattle.cert_format.proofs.RowLemmas.{count_again, choices_take, choices_again, alternative_again, price_row_again, node_again, mark_again, version_again, end_line_again}
+use Rattle.cert_format.proofs.RowLemmas.{count_again, choices_take, choices_again, alternative_again, price_row_again, mark_again, version_again, end_line_again}
+use Rattle.cert_format.proofs.NodeRowLemmas.{node_again}
 use Rattle.cert_format.proofs.BlockLemmas.{LineTakes, line_takes}
 use Rattle.cert_format.proofs.ExtraLemmas.{extra_again, tried_row_again}
-use Rattle.cert_format.proofs.StopLemmas.{Steady, steady_done, steady_line, Post, steady_then_by, steady_then, steady_cond, steady_many, Whole, whole_ended, whole_then}
+use Rattle.cert_format.proofs.StopLemmas.{Steady, steady_done, steady_line, Post, steady_then_by, steady_then, steady_cond, steady_many}
+use Rattle.cert_format.proofs.WholeLemmas.{Whole, whole_ended, whole_then}
 
 steady_count : (tag : List ℕ) (most : ℕ) → Steady (line_by (count_row tag most))
 steady_count tag most = steady_line (count_row tag most) (count_words tag 0) 0 (count_again tag most 0 (omega arith) (omega arith))

@@ -116,7 +116,10 @@ pub fn price_at(place: Place<'_>) -> Result<(Price, Place<'_>), CertFault>
 }
 
 /// One node, and its floor if it has one.
-pub fn node_at(version: u32, place: Place<'_>) -> Result<((Node, Option<Floor>), Place<'_>), CertFault>
+pub fn node_at(
+    version: u32,
+    place: Place<'_>,
+) -> Result<((Node, Option<Floor>), Place<'_>), CertFault>
     ensures { Gives (λ x. (x.0, spot_of x.1)) result (line_by (node_row version) (spot_of place.entry)) }
 {
     let bad_line = CertFault::BadLine { line: place.line };

@@ -12,12 +12,15 @@ use std::alloc::Global;
 use std::test::Fail;
 
 // One stage 1 series at 06:10; one new request at 06:30, which 07:00 serves at a displacement of 30 minutes.
-const TEXT: &[u8] = b"CERT 1\nSTAGE 1 OPTIMAL\nCHOICES 1\nC 0 0\nCOST 0\nVECTORS 0\nTREE 1\nL 0 1 0\nSTAGE 2 OPTIMAL\nCHOICES 0\nCOST 0\nVECTORS 0\nTREE 1\nL 0 1 0\nSTAGE 3 OPTIMAL\nCHOICES 0\nCOST 0\nVECTORS 0\nTREE 1\nL 0 1 0\nSTAGE 4 OPTIMAL\nCHOICES 1\nC 0 18\nCOST 30\nVECTORS 1\nVECTOR 1\nP 0 32768\nTREE 1\nL 1 1024 30\nEND\n";
+const TEXT: &[u8] =
+    b"CERT 1\nSTAGE 1 OPTIMAL\nCHOICES 1\nC 0 0\nCOST 0\nVECTORS 0\nTREE 1\nL 0 1 0\nSTAGE 2 OPTIMAL\nCHOICES 0\nCOST 0\nVECTORS 0\nTREE 1\nL 0 1 0\nSTAGE 3 OPTIMAL\nCHOICES 0\nCOST 0\nVECTORS 0\nTREE 1\nL 0 1 0\nSTAGE 4 OPTIMAL\nCHOICES 1\nC 0 18\nCOST 30\nVECTORS 1\nVECTOR 1\nP 0 32768\nTREE 1\nL 1 1024 30\nEND\n";
 
 // Every kind of line: an infeasible stage, stages that were not tried, and an open one with its bound and floors.
-const OPEN: &[u8] = b"CERT 2\nSTAGE 1 OPEN\nCHOICES 3\nC 0 4\nC 1 0\nC 2 24\nCOST 40\nBOUND 30\nVECTORS 2\nVECTOR 3\nP 0 10240\nP 210 10240\nP 420 10240\nVECTOR 1\nP 7 -5\nTREE 5\nS 0 13 -\nU 1 1024\nS 1 2 40\nU 0 1\nL 2 1 40\nSTAGE 2 INFEASIBLE\nCHOICES NONE\nVECTORS 0\nTREE 1\nO 6\nSTAGE 3 NOT TRIED\nSTAGE 4 NOT TRIED\nEND\n";
+const OPEN: &[u8] =
+    b"CERT 2\nSTAGE 1 OPEN\nCHOICES 3\nC 0 4\nC 1 0\nC 2 24\nCOST 40\nBOUND 30\nVECTORS 2\nVECTOR 3\nP 0 10240\nP 210 10240\nP 420 10240\nVECTOR 1\nP 7 -5\nTREE 5\nS 0 13 -\nU 1 1024\nS 1 2 40\nU 0 1\nL 2 1 40\nSTAGE 2 INFEASIBLE\nCHOICES NONE\nVECTORS 0\nTREE 1\nO 6\nSTAGE 3 NOT TRIED\nSTAGE 4 NOT TRIED\nEND\n";
 
-const EXTRA: &[u8] = b"EXTRA 1\nSTAGE 5 OPEN\nCHOICES NONE\nBOUND 0\nVECTORS 0\nTREE 1\nU 0 1\nEND\n";
+const EXTRA: &[u8] =
+    b"EXTRA 1\nSTAGE 5 OPEN\nCHOICES NONE\nBOUND 0\nVECTORS 0\nTREE 1\nU 0 1\nEND\n";
 
 #[test]
 fn certificates_are_printed_as_they_were_read(rt: HostRuntime) -> Result<(), Fail> {

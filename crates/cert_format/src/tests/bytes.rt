@@ -14,7 +14,11 @@ fn every_byte_replaced_is_bad_or_another_certificate(rt: HostRuntime) -> Result<
             if byte != *old {
                 let text = replaced(rt.alloc(), at, byte)?;
                 let wanted = wanted(line, column, byte);
-                assert_eq!(rt; bad_line(rt.alloc(), &text), wanted, "{line} {column} {byte}");
+                assert_eq!(rt;
+                    bad_line(rt.alloc(), &text),
+                    wanted,
+                    "{line} {column} {byte}"
+                );
                 assert!(rt; wanted.is_some() || is_printed(rt.alloc(), &text)?);
             }
         }
