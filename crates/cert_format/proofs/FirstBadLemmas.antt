@@ -1,5 +1,5 @@
 -- The line of a refusal is the first that is not in the form.
-use Rattle.std.proofs.Common.{◌≡◌, ℕ, zero, suc, ◌+◌, ◌-◌, ◌<◌, ◌≤◌, ◌⊎◌, Bool, true, false, cond, eqb, List, [], ◌∷◌, ◌++◌, length, take, map, refl, sym, ap, subst, ◌∙◌, Result, Ok, Err, arith, inl, inr}
+use Rattle.std.proofs.Common.{◌≡◌, ℕ, zero, suc, ◌-◌, false, cond, eqb, List, [], ◌∷◌, ◌++◌, length, take, map, refl, sym, ap, subst, ◌∙◌, Result, Ok, Err, arith, inl, inr}
 use Rattle.std.specs.List.{AllByRecursion}
 use Rattle.std.proofs.lemmas.Bool.{cases_Bool, eqb-true}
 use Rattle.std.proofs.lemmas.List.{take_at, take-map}
@@ -13,8 +13,8 @@ use Rattle.cert_format.specs.declared.fault.CertFault.TheVariants.{BadLine, Memo
 use Rattle.cert_format.specs.Lines.{Word, onto_line, onto_lines, cert_lines_of, line_text, text_of}
 use Rattle.cert_format.specs.Spots.{Spot, Gives}
 use Rattle.cert_format.specs.Reading.{cert_at, cert_of, extra_at, extra_of}
-use Rattle.cert_format.specs.Spelling.{cert_lines, spelling, IsCert, extra_lines, extra_spelling, IsExtra}
-use Rattle.cert_format.specs.Forms.{IsCertText, IsExtraText, IfBadFault, IfBadLine}
+use Rattle.cert_format.specs.Spelling.{cert_lines, IsCert, extra_lines, IsExtra}
+use Rattle.cert_format.specs.Forms.{IsCertText, IsExtraText, IfBadLine}
 use Rattle.cert_format.proofs.BlockLemmas.{Line}
 use Rattle.cert_format.proofs.StageLemmas.{cert_takes, cert_again}
 use Rattle.cert_format.proofs.ExtraLemmas.{stage_takes, stage_again, extra_is_lines}

@@ -1,5 +1,5 @@
 -- What is printed is in the form: the ranges of its numbers, and how many lines it has.
-use Rattle.std.proofs.Common.{◌≡◌, ℕ, zero, suc, ◌+◌, ◌^◌, ◌<◌, ◌≤◌, Bool, true, false, cond, eqb, List, [], ◌∷◌, ◌++◌, length, take, drop, get_or, Option, Some, None, refl, sym, ap, subst, ◌∙◌, arith, codes, length-append, length-drop, ℤ, pos, negsuc, SFits, w64, inl, inr}
+use Rattle.std.proofs.Common.{◌≡◌, ℕ, suc, ◌+◌, ◌^◌, ◌<◌, ◌≤◌, Bool, true, false, cond, eqb, List, [], ◌∷◌, ◌++◌, length, take, drop, get_or, Option, Some, None, refl, sym, ap, subst, ◌∙◌, arith, codes, length-append, length-drop, ℤ, pos, negsuc, SFits, w64, inl, inr}
 use Rattle.std.specs.Prelude.{IfSome}
 use Rattle.std.specs.List.{AllByRecursion}
 use Rattle.std.proofs.lemmas.Bool.{cases_Bool}
@@ -10,7 +10,7 @@ use Rattle.cert_format.specs.declared.cert.Floor.{Floor}
 use Rattle.cert_format.specs.declared.cert.StageCert.{StageCert}
 use Rattle.cert_format.specs.declared.cert.Certificate.{Certificate}
 use Rattle.cert_format.specs.Lines.{Word}
-use Rattle.cert_format.specs.Spelling.{numbered, count_words, alternative_lines, price_lines, vector_lines, is_undone, node_lines, optional_lines, choice_lines, is_tried, proof_lines, stage_lines, cert_lines, extra_lines, IsLong, PriceFits, VectorFits, FloorFits, undone_count, ProofFits, StageFitsAs, StageFits, IsCert, IsExtra}
+use Rattle.cert_format.specs.Spelling.{numbered, count_words, alternative_lines, price_lines, vector_lines, is_undone, node_lines, optional_lines, choice_lines, is_tried, proof_lines, stage_lines, IsLong, PriceFits, VectorFits, FloorFits, undone_count, ProofFits, StageFitsAs, StageFits, IsCert, IsExtra}
 use Rattle.cert_format.specs.Printable.{IsPrintableProof, IsPrintableAs, IsPrintableStage, IsPrintable, IsPrintableExtra, HasRanges, RangesAs}
 
 abbrev Line : Type 0

@@ -1,22 +1,19 @@
 -- A line that is read is the line that spells the value, and what was spelled is read again.
-use Rattle.std.proofs.Common.{◌≡◌, ℕ, zero, suc, ◌+◌, ◌-◌, ◌^◌, ◌<◌, ◌≤◌, ◌⊎◌, Bool, true, false, cond, eqb, List, [], ◌∷◌, Option, Some, None, refl, sym, ap, subst, ◌∙◌, Result, Ok, Err, arith, inl, inr, codes}
+use Rattle.std.proofs.Common.{◌≡◌, ℕ, ◌^◌, ◌<◌, ◌≤◌, ◌⊎◌, Bool, true, false, cond, eqb, List, [], ◌∷◌, Option, Some, None, refl, ap, subst, ◌∙◌, arith, inl, inr, codes}
 use Rattle.std.specs.Prelude.{IfSome, ◌&&◌, ◌||◌}
 use Rattle.std.specs.Fmt.{decimal, signed_decimal}
 use Rattle.std.specs.Str.{bytes_eq}
 use Rattle.std.proofs.lemmas.Slice.Eq.{bytes_eq-Decides}
-use Rattle.std.proofs.lemmas.Bool.{cases_Bool, both_ways, and_parts, and_from, eqb-true, eqb-false, eq-eqb, ne_eqb}
-use Rattle.std.proofs.lemmas.Option.{cond_some, some_pair_parts}
+use Rattle.std.proofs.lemmas.Bool.{cases_Bool, and_parts, eqb-true, eqb-false, eq-eqb}
+use Rattle.std.proofs.lemmas.Option.{cond_some}
 use Rattle.choice_problem.specs.declared.vectors.Price.{Price}
-use Rattle.choice_problem.specs.declared.nodes.Node.{Node}
-use Rattle.choice_problem.specs.declared.nodes.Node.TheVariants.{Split, Leaf, Over, Undone}
-use Rattle.cert_format.specs.declared.cert.Floor.{Floor}
 use Rattle.cert_format.specs.declared.cert.Mark.{Mark}
 use Rattle.cert_format.specs.declared.cert.Mark.TheVariants.{Optimal, Infeasible, Unsettled, NotTried}
 use Rattle.cert_format.specs.Lines.{Word}
-use Rattle.cert_format.specs.Words.{◌>>=◌, most_small, most_large, number_of, seen_of, price_of, choices_word, after_tag, next_by, is_end}
-use Rattle.cert_format.specs.Rows.{count_row, choices_row, alternative_row, price_row, split_row, leaf_row, over_row, floor_row, with_no_floor, undone_row, node_row, mark_word, mark_words, mark_row, version_row, end_row}
-use Rattle.cert_format.specs.Spelling.{count_words, choices_words, alternative_words, price_words, seen_word, node_words, undone_words, is_undone, mark_name, stage_words, SeenFits, NodeFits, FloorFits, PriceFits, IsLong, IsVersion}
-use Rattle.cert_format.proofs.WordLemmas.{bytes_same, number_takes, number_again, tag_takes, tag_again, next_takes, next_again, end_takes, bind_some, some_is, seen_takes, seen_again, optional_small, choices_again_some, choices_again_none, price_takes, price_again}
+use Rattle.cert_format.specs.Words.{◌>>=◌, most_small, number_of, price_of, choices_word, after_tag, next_by, is_end}
+use Rattle.cert_format.specs.Rows.{count_row, choices_row, alternative_row, price_row, mark_word, mark_words, mark_row, version_row, end_row}
+use Rattle.cert_format.specs.Spelling.{count_words, choices_words, alternative_words, price_words, mark_name, stage_words, PriceFits, IsVersion}
+use Rattle.cert_format.proofs.WordLemmas.{number_takes, number_again, tag_takes, tag_again, next_takes, next_again, end_takes, bind_some, some_is, optional_small, choices_again_some, choices_again_none, price_takes, price_again}
 
 pub is_end_nil : (ws : List Word) → is_end ws ≡ true → ws ≡ []
 is_end_nil [] e = refl

@@ -1,22 +1,18 @@
 -- The parts of a certificate are read line by line: each reader stops where its line is not in the form.
-use Rattle.std.proofs.Common.{◌≡◌, ℕ, zero, suc, ◌+◌, ◌^◌, ◌<◌, ◌≤◌, Bool, true, false, cond, List, [], ◌∷◌, ◌++◌, length, Option, Some, None, refl, subst, Result, Ok, Err, arith, codes, pos}
+use Rattle.std.proofs.Common.{ℕ, zero, suc, ◌^◌, ◌<◌, Bool, cond, List, [], ◌∷◌, ◌++◌, Option, Some, None, refl, Ok, arith, codes, pos}
 use Rattle.std.specs.Prelude.{IfSome, is_some, option_to_list}
 use Rattle.choice_problem.specs.declared.vectors.Price.{Price}
-use Rattle.choice_problem.specs.declared.nodes.Node.{Node}
-use Rattle.choice_problem.specs.declared.nodes.Node.TheVariants.{Split, Leaf, Over, Undone}
-use Rattle.cert_format.specs.declared.cert.Floor.{Floor}
+use Rattle.choice_problem.specs.declared.nodes.Node.TheVariants.{Over}
 use Rattle.cert_format.specs.declared.cert.Mark.{Mark}
-use Rattle.cert_format.specs.declared.cert.Mark.TheVariants.{Optimal, Infeasible, Unsettled, NotTried}
-use Rattle.cert_format.specs.declared.cert.StageCert.{StageCert}
-use Rattle.cert_format.specs.declared.cert.Certificate.{Certificate}
+use Rattle.cert_format.specs.declared.cert.Mark.TheVariants.{Optimal, NotTried}
 use Rattle.cert_format.specs.Words.{most_small, most_large}
-use Rattle.cert_format.specs.Spots.{Spot, Read, ◌>>=◌, line_by}
+use Rattle.cert_format.specs.Spots.{◌>>=◌, line_by}
 use Rattle.cert_format.specs.Rows.{count_row, choices_row, alternative_row, price_row, node_row, mark_row, version_row, end_row, extra_row, tried_row}
 use Rattle.cert_format.specs.Reading.{many, alternative_at, alternatives_at, choice_at, price_at, one_vector, vector_at, vectors_at, optional_at, nodes_at, tree_at, not_tried, proof_at, stage_at, ended, cert_at, extra_at}
 use Rattle.cert_format.specs.Spelling.{count_words, choices_words, alternative_words, price_words, node_words, stage_words, is_tried, has_bound}
 use Rattle.cert_format.proofs.RowLemmas.{count_again, choices_take, choices_again, alternative_again, price_row_again, mark_again, version_again, end_line_again}
 use Rattle.cert_format.proofs.NodeRowLemmas.{node_again}
-use Rattle.cert_format.proofs.BlockLemmas.{LineTakes, line_takes}
+use Rattle.cert_format.proofs.BlockLemmas.{line_takes}
 use Rattle.cert_format.proofs.ExtraLemmas.{extra_again, tried_row_again}
 use Rattle.cert_format.proofs.StopLemmas.{Steady, steady_done, steady_line, Post, steady_then_by, steady_then, steady_cond, steady_many}
 use Rattle.cert_format.proofs.WholeLemmas.{Whole, whole_ended, whole_then}

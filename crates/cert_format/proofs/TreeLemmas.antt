@@ -1,26 +1,20 @@
 -- A tree is read as it is spelled, each node with its floor.
-use Rattle.std.proofs.Common.{◌≡◌, ℕ, zero, suc, ◌+◌, ◌-◌, ◌^◌, ◌<◌, ◌≤◌, ◌⊎◌, Bool, true, false, cond, eqb, List, [], ◌∷◌, ◌++◌, length, Option, Some, None, refl, sym, ap, subst, ◌∙◌, append_assoc, Result, Ok, Err, arith, inl, inr, codes}
-use Rattle.std.specs.Prelude.{IfSome, is_some, ◌&&◌, option_to_list}
+use Rattle.std.proofs.Common.{◌≡◌, ℕ, zero, suc, ◌^◌, ◌<◌, Bool, true, false, cond, eqb, List, [], ◌∷◌, ◌++◌, length, Option, Some, None, refl, sym, ap, subst, ◌∙◌, Ok, arith, inl, inr, codes}
+use Rattle.std.specs.Prelude.{option_to_list}
 use Rattle.std.specs.List.{AllByRecursion}
 use Rattle.std.proofs.lemmas.Bool.{cases_Bool, both_ways}
 use Rattle.std.proofs.lemmas.List.{nil_from_length}
-use Rattle.choice_problem.specs.declared.vectors.Price.{Price}
 use Rattle.choice_problem.specs.declared.nodes.Node.{Node}
 use Rattle.choice_problem.specs.declared.nodes.Node.TheVariants.{Split, Leaf, Over, Undone}
 use Rattle.cert_format.specs.declared.cert.Floor.{Floor}
-use Rattle.cert_format.specs.declared.cert.Mark.{Mark}
-use Rattle.cert_format.specs.declared.cert.Mark.TheVariants.{Optimal, Infeasible, Unsettled, NotTried}
-use Rattle.cert_format.specs.declared.cert.StageCert.{StageCert}
-use Rattle.cert_format.specs.declared.cert.Certificate.{Certificate}
-use Rattle.cert_format.specs.Lines.{Word}
-use Rattle.cert_format.specs.Words.{most_small, most_large}
-use Rattle.cert_format.specs.Spots.{Spot, Read, ◌>>=◌, judged, line_by_lines, line_by}
-use Rattle.cert_format.specs.Rows.{count_row, choices_row, alternative_row, price_row, node_row, mark_row, version_row, end_row}
-use Rattle.cert_format.specs.Reading.{many, alternative_at, alternatives_at, choice_at, price_at, one_vector, vector_at, vectors_at, optional_at, nodes_at, tree_at, not_tried, proof_at, stage_at, ended_by, ended, cert_at}
-use Rattle.cert_format.specs.Spelling.{numbered, count_words, choices_words, alternative_lines, alternative_words, price_lines, price_words, vector_lines, node_words, is_undone, node_lines, optional_lines, choice_lines, stage_words, is_tried, proof_lines, stage_lines, cert_lines, SeenFits, NodeFits, FloorFits, PriceFits, VectorFits, undone_count, floor_count, has_bound, ProofFits, HoldsNothing, StageFitsAs, StageFits, IsVersion, IsCert}
-use Rattle.cert_format.proofs.RowLemmas.{count_takes, count_again, choices_take, choices_again, alternative_takes, alternative_again, price_row_takes, price_row_again, mark_takes, mark_again, version_takes, version_again, end_line_takes, end_line_again}
-use Rattle.cert_format.proofs.NodeRowLemmas.{FloorIs, NodeTakes, node_takes, node_again}
-use Rattle.cert_format.proofs.BlockLemmas.{Line, bind_ok, done, ok_is, LineTakes, line_takes, Again, line_again, OneTakes, many_take, OneAgain, many_again, ChoiceFits, choice_takes, choice_again, optional_takes, optional_again, vectors_lines, vectors_take, vectors_again}
+use Rattle.cert_format.specs.Words.{most_small}
+use Rattle.cert_format.specs.Spots.{Spot, ◌>>=◌, line_by}
+use Rattle.cert_format.specs.Rows.{count_row, node_row}
+use Rattle.cert_format.specs.Reading.{nodes_at, tree_at}
+use Rattle.cert_format.specs.Spelling.{count_words, node_words, is_undone, node_lines, NodeFits, FloorFits, undone_count, floor_count}
+use Rattle.cert_format.proofs.RowLemmas.{count_takes, count_again}
+use Rattle.cert_format.proofs.NodeRowLemmas.{FloorIs, node_takes, node_again}
+use Rattle.cert_format.proofs.BlockLemmas.{Line, bind_ok, done, ok_is, line_takes, Again, line_again}
 
 not_undone_lines : (node : Node) (nodes : List Node) (floors : List Floor) → is_undone node ≡ false → node_lines (node ∷ nodes) floors ≡ node_words node None ∷ node_lines nodes floors
 not_undone_lines node nodes [] no_floor = refl

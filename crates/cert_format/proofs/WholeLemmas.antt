@@ -1,10 +1,10 @@
 -- Where the reading of a whole text stops.
-use Rattle.std.proofs.Common.{◌≡◌, ℕ, zero, suc, ◌+◌, ◌≤◌, ◌<◌, ◌⊎◌, Bool, true, false, cond, List, [], ◌∷◌, ◌++◌, length, Option, Some, None, refl, sym, ap, subst, ◌∙◌, append_assoc, length-append, Result, Ok, Err, arith, inl, inr}
+use Rattle.std.proofs.Common.{◌≡◌, ℕ, ◌+◌, List, [], ◌∷◌, ◌++◌, length, refl, sym, ap, ◌∙◌, append_assoc, length-append, Result, Ok, Err, arith, inl, inr}
 use Rattle.std.proofs.lemmas.List.{append-nil}
-use Rattle.cert_format.specs.Spots.{Spot, Read, ◌>>=◌, judged, line_by_lines, line_by}
-use Rattle.cert_format.specs.Reading.{many, ended_by, ended}
-use Rattle.cert_format.proofs.BlockLemmas.{Line, bind_ok, ok_is, Again, LineTakes, line_takes, line_again}
-use Rattle.cert_format.proofs.StopLemmas.{spot, SameHead, Taken, Stuck, Fills, Steady, bind_err, bind_is}
+use Rattle.cert_format.specs.Spots.{Spot, Read, ◌>>=◌}
+use Rattle.cert_format.specs.Reading.{ended_by, ended}
+use Rattle.cert_format.proofs.BlockLemmas.{Line, Again}
+use Rattle.cert_format.proofs.StopLemmas.{spot, SameHead, Steady, bind_err, bind_is}
 
 -- the reading of a whole text stops after the good lines at whatever begins like the rest, and the good lines can be completed
 pub record Stopped {B : Type 0} (W : Spot → Result B ℕ) (s : Spot) (n : ℕ) : Type 0 where

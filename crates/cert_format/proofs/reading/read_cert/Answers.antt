@@ -1,4 +1,4 @@
-use Rattle.std.proofs.Common.{sym, subst, Result, ℕ}
+use Rattle.std.proofs.Common.{subst, Result, ℕ}
 use Rattle.cert_format.specs.declared.cert.Certificate.{Certificate}
 use Rattle.cert_format.specs.Spots.{Gives}
 use Rattle.cert_format.proofs.CertLemmas.{is_found, is_read}

@@ -1,4 +1,4 @@
-use Rattle.std.proofs.Common.{◌≡◌, ℕ, ◌+◌, ◌≤◌, List, ◌∷◌, length, drop, get_or, None, refl, subst}
+use Rattle.std.proofs.Common.{◌≡◌, ◌+◌, ◌≤◌, List, ◌∷◌, length, drop, get_or, None, refl, subst}
 use Rattle.std.proofs.lemmas.List.{drop_more}
 use Rattle.choice_problem.specs.declared.nodes.Node.{Node}
 use Rattle.choice_problem.specs.declared.nodes.Node.TheVariants.{Split}
