@@ -1,10 +1,10 @@
 //! How fast a certificate is read and printed.
 
-ghost use Rattle.std.specs.Prelude.{IfSome};
+ghost use Rattle.std.specs.Prelude.{IfOk};
 ghost use Rattle.cert_format.specs.Printable.{IsPrintable};
 
 use crate::report::{Size, step};
-use cert_format::{Certificate, print_cert, read_cert};
+use cert_format::{CertFault, Certificate, print_cert, read_cert};
 use slot_text::{Memory, put_number};
 use std::alloc::Global;
 use std::time::Instant;
@@ -18,7 +18,7 @@ pub fn run(rt: &HostRuntime, size: Size) -> anyhow::Result<()> {
     };
     let text = text_of(rt.alloc(), count)?;
     let start = Instant::now(rt)?;
-    let Some(cert) = read(rt.alloc(), &text) else {
+    let Ok(cert) = read(rt.alloc(), &text) else {
         println!(rt; "certificates: not read")?;
         return Ok(());
     };
@@ -44,13 +44,14 @@ fn speed(rt: &HostRuntime, size: Size, bytes: usize, start: Instant) -> anyhow::
     Ok(())
 }
 
-fn read(alloc: Global, text: &[u8]) -> Option<Certificate>
-    ensures { IfSome result (λ cert. IsPrintable cert) }
+// What was read can be printed.
+fn read(alloc: Global, text: &[u8]) -> Result<Certificate, CertFault>
+    ensures { IfOk result (λ cert. IsPrintable cert) }
 {
     if text.len() >= 1 << 31 {
-        return None;
+        return Err(CertFault::Memory);
     }
-    read_cert(alloc, text).ok()
+    read_cert(alloc, text)
 }
 
 // A certificate whose first stage has a vector of so many prices and a tree of so many nodes.
