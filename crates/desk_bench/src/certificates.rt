@@ -30,7 +30,9 @@ pub fn run(rt: &HostRuntime, size: Size) -> anyhow::Result<()> {
     step(rt, size, "printing", start)?;
     let bytes = text.len();
     let same = printed.as_slice() == text.as_slice();
-    println!(rt; "certificates: {count} nodes, {count} prices, {bytes} bytes, printed the same: {same}")?;
+    println!(rt;
+        "certificates: {count} nodes, {count} prices, {bytes} bytes, printed the same: {same}"
+    )?;
     Ok(())
 }
 
