@@ -1,5 +1,5 @@
 -- A text is read as the certificate that it spells, and as no other.
-use Rattle.std.proofs.Common.{◌≡◌, ℕ, List, Result, Ok, Err, refl, sym, ap, subst, ◌∙◌}
+use Rattle.std.proofs.Common.{◌≡◌, ℕ, List, Result, Ok, Err, sym, ap, subst, ◌∙◌}
 use Rattle.std.specs.Prelude.{IfOk}
 use Rattle.std.specs.List.{AllByRecursion}
 use Rattle.cert_format.specs.declared.cert.Certificate.{Certificate}
@@ -8,7 +8,7 @@ use Rattle.cert_format.specs.Lines.{Word, cert_lines_of, text_of}
 use Rattle.cert_format.specs.Spots.{Spot, Gives}
 use Rattle.cert_format.specs.Reading.{cert_at, cert_of}
 use Rattle.cert_format.specs.Spelling.{cert_lines, spelling, IsCert}
-use Rattle.cert_format.proofs.BlockLemmas.{cert_takes, cert_again}
+use Rattle.cert_format.proofs.StageLemmas.{cert_takes, cert_again}
 use Rattle.cert_format.proofs.TextLemmas.{HasWord, lines_again, text_again, cert_is_lines, with_words}
 
 pub spells : (bytes : List ℕ) (c : Certificate) → cert_of bytes ≡ Ok c → IsCert c × (bytes ≡ spelling c)

@@ -1,5 +1,5 @@
 -- One more stage is read as it is spelled.
-use Rattle.std.proofs.Common.{◌≡◌, ℕ, ◌^◌, ◌<◌, true, false, cond, List, [], ◌∷◌, ◌++◌, Option, Some, None, Result, Ok, Err, refl, sym, ap, subst, ◌∙◌, codes, arith}
+use Rattle.std.proofs.Common.{◌≡◌, ℕ, ◌^◌, ◌<◌, true, cond, List, [], ◌∷◌, ◌++◌, Some, None, Result, Ok, Err, refl, sym, ap, subst, ◌∙◌, codes, arith}
 use Rattle.std.specs.Prelude.{IfOk}
 use Rattle.std.specs.List.{AllByRecursion}
 use Rattle.cert_format.specs.declared.cert.Mark.{Mark}
@@ -14,7 +14,8 @@ use Rattle.cert_format.specs.Reading.{proof_at, ended, extra_at, extra_of}
 use Rattle.cert_format.specs.Spelling.{is_tried, stage_words, proof_lines, extra_lines, extra_spelling, IsExtra}
 use Rattle.cert_format.proofs.WordLemmas.{bind_some, tag_takes, tag_again, end_takes}
 use Rattle.cert_format.proofs.RowLemmas.{mark_takes, mark_again, end_line_takes, end_line_again}
-use Rattle.cert_format.proofs.BlockLemmas.{Line, bind_ok, line_takes, line_again, proof_takes, proof_again, ended_takes}
+use Rattle.cert_format.proofs.BlockLemmas.{Line, bind_ok, line_takes, line_again}
+use Rattle.cert_format.proofs.StageLemmas.{proof_takes, proof_again, ended_takes}
 use Rattle.cert_format.proofs.TextLemmas.{IsLine, HasWord, lines_again, text_again, with_words, lines_join, tag_line, literal, mark_is_line, proof_is_lines}
 
 extra_takes : (ws : Line) (n : ℕ) → extra_row ws ≡ Some n → ws ≡ codes "EXTRA" ∷ codes "1" ∷ []
@@ -25,7 +26,7 @@ extra_takes ws n e =
     let g = end_takes b.0 1 n b.2 in
     tag_takes (codes "EXTRA") ws a.0 a.1 ∙ ap (λ (vs : Line). codes "EXTRA" ∷ vs) (tag_takes (codes "1") a.0 b.0 b.1 ∙ ap (λ (vs : Line). codes "1" ∷ vs) g.0)
 
-extra_again : extra_row (codes "EXTRA" ∷ codes "1" ∷ []) ≡ Some 1
+pub extra_again : extra_row (codes "EXTRA" ∷ codes "1" ∷ []) ≡ Some 1
 unfolding extra_row
 extra_again = rw (tag_again (codes "EXTRA") (codes "1" ∷ []), tag_again (codes "1") []) refl
 
@@ -48,11 +49,11 @@ tried_takes ws m e =
     let t = tried_is a.0 m a.2 in
     (mark_takes 5 ws a.0 a.1 ∙ ap (stage_words 5) t.0, t.1)
 
-tried_row_again : (m : Mark) → is_tried m ≡ true → tried_row (stage_words 5 m) ≡ Some m
+pub tried_row_again : (m : Mark) → is_tried m ≡ true → tried_row (stage_words 5 m) ≡ Some m
 unfolding tried_row
 tried_row_again m e = rw (mark_again 5 m (let small : 5 < 2 ^ 32 = omega arith in small)) (tried_again m e)
 
-stage_takes : (s : Spot) (x : StageCert) → extra_at s ≡ Ok x → (s.lines ≡ extra_lines x) × IsExtra x
+pub stage_takes : (s : Spot) (x : StageCert) → extra_at s ≡ Ok x → (s.lines ≡ extra_lines x) × IsExtra x
 unfolding extra_at
 stage_takes s x e =
     let a = bind_ok (line_by extra_row s) (λ head. line_by tried_row head.1 >>= λ mark. proof_at 2 mark.0 mark.1 >>= λ stage. line_by end_row stage.1 >>= λ last. ended stage.0 last.1) x e in
@@ -73,7 +74,7 @@ stage_takes s x e =
     let parts : s.lines ≡ extra_lines c.0.0 = ta.parts ∙ ap (λ (ws : Line). ws ∷ a.0.1.lines) wa ∙ ap (λ (ls : List Line). (codes "EXTRA" ∷ codes "1" ∷ []) ∷ ls) mark in
     subst (λ (y : StageCert). (s.lines ≡ extra_lines y) × IsExtra y) g.1 (parts, record { tried = ap is_tried tc.mark_is ∙ wb.1; fits = tc.fits })
 
-stage_again : (x : StageCert) (line : ℕ) → IsExtra x → extra_at (record { line = line; lines = extra_lines x }) ≡ Ok x
+pub stage_again : (x : StageCert) (line : ℕ) → IsExtra x → extra_at (record { line = line; lines = extra_lines x }) ≡ Ok x
 unfolding extra_at
 stage_again x line is =
     let s : Spot = record { line = line; lines = extra_lines x } in

@@ -1,12 +1,12 @@
 -- Lines are cut from their text again, and the text of the lines of a text is that text.
-use Rattle.std.proofs.Common.{◌≡◌, ℕ, zero, suc, ◌+◌, ◌-◌, ◌^◌, ◌<◌, ◌≤◌, ◌⊎◌, Bool, true, false, cond, eqb, List, [], ◌∷◌, ◌++◌, length, Option, Some, None, refl, sym, ap, subst, ◌∙◌, append_assoc, arith, inl, inr, codes}
+use Rattle.std.proofs.Common.{◌≡◌, ℕ, suc, ◌+◌, ◌^◌, ◌<◌, ◌≤◌, Bool, true, false, cond, eqb, List, [], ◌∷◌, ◌++◌, length, Option, Some, None, refl, sym, ap, ◌∙◌, append_assoc, arith, inl, inr, codes}
 use Rattle.std.specs.Prelude.{ℤ, pos, negsuc, IfSome, ◌&&◌, not}
 use Rattle.std.specs.Fmt.{decimal, signed_decimal}
-use Rattle.std.specs.List.{AllByRecursion, flat_map, list_all}
+use Rattle.std.specs.List.{AllByRecursion, list_all}
 use Rattle.std.proofs.lemmas.Bool.{cases_Bool, and_parts, eqb-true, eqb-false, ne_eqb}
 use Rattle.std.proofs.lemmas.List.{append-nil}
 use Rattle.std.proofs.lemmas.List.Concat.{flat_map-cons}
-use Rattle.cert_format.specs.Lines.{Word, onto_line, onto_lines, cert_lines_of, line_text, text_of}
+use Rattle.cert_format.specs.Lines.{Word, onto_lines, cert_lines_of, line_text, text_of}
 use Rattle.choice_problem.specs.declared.vectors.Price.{Price}
 use Rattle.choice_problem.specs.declared.nodes.Node.{Node}
 use Rattle.choice_problem.specs.declared.nodes.Node.TheVariants.{Split, Leaf, Over, Undone}
@@ -15,7 +15,7 @@ use Rattle.cert_format.specs.declared.cert.Mark.{Mark}
 use Rattle.cert_format.specs.declared.cert.Mark.TheVariants.{Optimal, Infeasible, Unsettled, NotTried}
 use Rattle.cert_format.specs.declared.cert.StageCert.{StageCert}
 use Rattle.cert_format.specs.declared.cert.Certificate.{Certificate}
-use Rattle.cert_format.specs.Spelling.{numbered, count_words, choices_words, alternative_lines, alternative_words, price_lines, price_words, vector_lines, seen_word, undone_words, node_words, is_undone, node_lines, optional_lines, choice_lines, stage_words, is_tried, proof_lines, stage_lines, cert_lines, NodeFits, FloorFits, PriceFits, VectorFits, IsLong, ProofFits, StageFitsAs, StageFits, IsCert}
+use Rattle.cert_format.specs.Spelling.{numbered, count_words, alternative_lines, price_lines, vector_lines, seen_word, undone_words, node_words, is_undone, node_lines, optional_lines, choice_lines, stage_words, is_tried, proof_lines, stage_lines, cert_lines, NodeFits, FloorFits, PriceFits, VectorFits, IsLong, ProofFits, StageFitsAs, StageFits, IsCert}
 use Rattle.cert_format.proofs.WordLemmas.{Each, Each-weaker, IsDigit, digits_of_number}
 
 -- a byte of a word

@@ -6,3 +6,4 @@ pub mod Spots
 pub mod Spelling
 pub mod Printable
 pub mod Reading
+pub mod Forms

@@ -2,7 +2,7 @@
 
 ghost use Rattle.std.specs.Prelude.{◌≡◌, ◌^◌, ◌+◌, ◌<◌, ◌≤◌, ◌∷◌, ◌++◌, List, OnOk, IfErr, codes, option_to_list};
 ghost use Rattle.cert_format.specs.Words.{most_small, most_large};
-ghost use Rattle.cert_format.specs.Rows.{count_row, choices_row, node_row, mark_row, version_row, end_row, extra_row, tried_row};
+ghost use Rattle.cert_format.specs.Rows.{count_row, choices_row, node_row, mark_row};
 ghost use Rattle.cert_format.specs.Spelling.{has_bound};
 ghost use Rattle.cert_format.specs.Spots.{spot_of, line_by, Gives};
 ghost use Rattle.cert_format.specs.Reading.{many, alternative_at, alternatives_at, choice_at, price_at, one_vector, vector_at, vectors_at, not_tried, optional_at, nodes_at, tree_at, proof_at, stage_at};
@@ -10,93 +10,11 @@ ghost use Rattle.cert_format.specs.Reading.{many, alternative_at, alternatives_a
 use crate::cert::{Floor, FloorList, Mark, StageCert};
 use crate::fault::CertFault;
 use crate::lines::Place;
-use crate::rows::{
-    alternative_of, choices_of, count_of, end_of, extra_of, mark_of, node_of, price_of,
-    small_count_of, tried_of, version_of,
+use crate::places::{
+    alternative_at, choices_at, count_at, mark_at, node_at, price_at, small_count_at,
 };
 use choice_problem::{Choice, Node, Price, Tree, Vector, VectorList};
 use std::alloc::Global;
-
-fn count_at<'a>(tag: &[u8], most: u64, place: Place<'a>) -> Result<(u64, Place<'a>), CertFault>
-    ensures { Gives (λ x. (x.0, spot_of x.1)) result (line_by (count_row tag.now most) (spot_of place.entry)) }
-{
-    let bad_line = CertFault::BadLine { line: place.line };
-    let (words, after) = place.next_line().ok_or(bad_line)?;
-    let count = count_of(tag, most, words).ok_or(bad_line)?;
-    Ok((count, after))
-}
-
-fn small_count_at<'a>(tag: &[u8], place: Place<'a>) -> Result<(u32, Place<'a>), CertFault>
-    ensures { Gives (λ x. (x.0, spot_of x.1)) result (line_by (count_row tag.now most_small) (spot_of place.entry)) }
-{
-    let bad_line = CertFault::BadLine { line: place.line };
-    let (words, after) = place.next_line().ok_or(bad_line)?;
-    let count = small_count_of(tag, words).ok_or(bad_line)?;
-    Ok((count, after))
-}
-
-fn alternative_at(unit: u32, place: Place<'_>) -> Result<(u32, Place<'_>), CertFault>
-    ensures { Gives (λ x. (x.0, spot_of x.1)) result (alternative_at unit (spot_of place.entry)) }
-{
-    let bad_line = CertFault::BadLine { line: place.line };
-    let (words, after) = place.next_line().ok_or(bad_line)?;
-    let alt = alternative_of(unit, words).ok_or(bad_line)?;
-    Ok((alt, after))
-}
-
-fn choices_at(place: Place<'_>) -> Result<(Option<u32>, Place<'_>), CertFault>
-    ensures { Gives (λ x. (x.0, spot_of x.1)) result (line_by choices_row (spot_of place.entry)) }
-{
-    let bad_line = CertFault::BadLine { line: place.line };
-    let (words, after) = place.next_line().ok_or(bad_line)?;
-    let count = choices_of(words).ok_or(bad_line)?;
-    Ok((count, after))
-}
-
-fn price_at(place: Place<'_>) -> Result<(Price, Place<'_>), CertFault>
-    ensures { Gives (λ x. (x.0, spot_of x.1)) result (price_at 0 (spot_of place.entry)) }
-{
-    let bad_line = CertFault::BadLine { line: place.line };
-    let (words, after) = place.next_line().ok_or(bad_line)?;
-    let price = price_of(words).ok_or(bad_line)?;
-    Ok((price, after))
-}
-
-fn node_at(version: u32, place: Place<'_>) -> Result<((Node, Option<Floor>), Place<'_>), CertFault>
-    ensures { Gives (λ x. (x.0, spot_of x.1)) result (line_by (node_row version) (spot_of place.entry)) }
-{
-    let bad_line = CertFault::BadLine { line: place.line };
-    let (words, after) = place.next_line().ok_or(bad_line)?;
-    let node = node_of(version, words).ok_or(bad_line)?;
-    Ok((node, after))
-}
-
-fn mark_at(stage: u32, place: Place<'_>) -> Result<(Mark, Place<'_>), CertFault>
-    ensures { Gives (λ x. (x.0, spot_of x.1)) result (line_by (mark_row stage) (spot_of place.entry)) }
-{
-    let bad_line = CertFault::BadLine { line: place.line };
-    let (words, after) = place.next_line().ok_or(bad_line)?;
-    let mark = mark_of(stage, words).ok_or(bad_line)?;
-    Ok((mark, after))
-}
-
-pub fn version_at(place: Place<'_>) -> Result<(u32, Place<'_>), CertFault>
-    ensures { Gives (λ x. (x.0, spot_of x.1)) result (line_by version_row (spot_of place.entry)) }
-{
-    let bad_line = CertFault::BadLine { line: place.line };
-    let (words, after) = place.next_line().ok_or(bad_line)?;
-    let version = version_of(words).ok_or(bad_line)?;
-    Ok((version, after))
-}
-
-pub fn end_at(place: Place<'_>) -> Result<(u64, Place<'_>), CertFault>
-    ensures { Gives (λ x. (x.0, spot_of x.1)) result (line_by end_row (spot_of place.entry)) }
-{
-    let bad_line = CertFault::BadLine { line: place.line };
-    let (words, after) = place.next_line().ok_or(bad_line)?;
-    let end = end_of(words).ok_or(bad_line)?;
-    Ok((end, after))
-}
 
 // The alternatives of the units below the count.
 fn some_alternatives(
@@ -116,6 +34,7 @@ fn some_alternatives(
     Ok((alts, next))
 }
 
+// How many units have a choice, and the alternative of each.
 #[tactic(auto, unfolding(crate::specs::Reading::choice_at, crate::specs::Reading::alternatives_at))]
 fn choice_at(alloc: Global, place: Place<'_>) -> Result<(Option<Choice>, Place<'_>), CertFault>
     ensures { Gives (λ x. (x.0, spot_of x.1)) result (choice_at (spot_of place.entry)) }
@@ -148,6 +67,7 @@ fn some_prices(
     Ok((prices, next))
 }
 
+// How many prices a vector has, and each of them.
 #[tactic(auto, unfolding(crate::specs::Reading::one_vector))]
 fn vector_at(alloc: Global, place: Place<'_>) -> Result<(Vector, Place<'_>), CertFault>
     ensures { Gives (λ x. (x.0, spot_of x.1)) result (one_vector (spot_of place.entry)) }
@@ -175,6 +95,7 @@ fn some_vectors(
     Ok((vectors, next))
 }
 
+// How many vectors there are, and each of them.
 #[tactic(auto, unfolding(crate::specs::Reading::vectors_at))]
 fn vectors_at(alloc: Global, place: Place<'_>) -> Result<(VectorList, Place<'_>), CertFault>
     ensures { Gives (λ x. (x.0, spot_of x.1)) result (vectors_at (spot_of place.entry)) }
@@ -221,6 +142,7 @@ fn some_nodes(
     Ok((nodes, floors, next))
 }
 
+// One more floor, if there is one.
 fn push_some(floors: &mut Vec<Floor>, floor: Option<Floor>) -> Result<(), CertFault>
     ensures ok { OnOk result (floors.new.items ≡ floors.old.items ++ option_to_list floor) }
     ensures err { IfErr result (λ e. e ≡ CertFault.Memory) }
@@ -231,6 +153,7 @@ fn push_some(floors: &mut Vec<Floor>, floor: Option<Floor>) -> Result<(), CertFa
     Ok(())
 }
 
+// How many nodes a tree has, and each of them.
 #[tactic(auto, unfolding(crate::specs::Reading::tree_at))]
 fn tree_at(
     alloc: Global,
@@ -244,6 +167,7 @@ fn tree_at(
     Ok((Tree::new(nodes), FloorList::new(floors), place))
 }
 
+// Whether a stage has a line with its bound.
 fn has_bound(version: u32, mark: Mark) -> bool
     ensures { result ≡ has_bound version mark }
 {
@@ -253,6 +177,7 @@ fn has_bound(version: u32, mark: Mark) -> bool
     }
 }
 
+/// What follows the line of the mark of a stage that was tried.
 #[tactic(auto, unfolding(crate::specs::Reading::proof_at))]
 pub fn proof_at(
     alloc: Global,
@@ -279,6 +204,7 @@ pub fn proof_at(
     Ok((stage, place))
 }
 
+// A stage that was not tried.
 fn not_tried(alloc: Global) -> StageCert
     ensures { result ≡ not_tried Mark.NotTried }
 {
@@ -308,22 +234,4 @@ pub fn stage_at(
         Mark::NotTried => Ok((not_tried(alloc), place)),
         Mark::Optimal | Mark::Infeasible | Mark::Unsettled => proof_at(alloc, version, mark, place),
     }
-}
-
-pub fn extra_line_at(place: Place<'_>) -> Result<(u64, Place<'_>), CertFault>
-    ensures { Gives (λ x. (x.0, spot_of x.1)) result (line_by extra_row (spot_of place.entry)) }
-{
-    let bad_line = CertFault::BadLine { line: place.line };
-    let (words, after) = place.next_line().ok_or(bad_line)?;
-    let head = extra_of(words).ok_or(bad_line)?;
-    Ok((head, after))
-}
-
-pub fn tried_at(place: Place<'_>) -> Result<(Mark, Place<'_>), CertFault>
-    ensures { Gives (λ x. (x.0, spot_of x.1)) result (line_by tried_row (spot_of place.entry)) }
-{
-    let bad_line = CertFault::BadLine { line: place.line };
-    let (words, after) = place.next_line().ok_or(bad_line)?;
-    let mark = tried_of(words).ok_or(bad_line)?;
-    Ok((mark, after))
 }

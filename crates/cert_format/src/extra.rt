@@ -1,20 +1,25 @@
 //! One more stage by itself.
 
-ghost use Rattle.std.specs.Prelude.{◌≡◌, ◌<◌, ◌^◌, IfOk, Ok, length};
+ghost use Rattle.std.specs.Prelude.{◌≡◌, ◌<◌, ◌^◌, ℕ, IfOk, Ok, Err, length};
 ghost use Rattle.cert_format.specs.declared.cert.StageCert.{StageCert};
 ghost use Rattle.cert_format.specs.Spelling.{IsExtra, extra_spelling};
 ghost use Rattle.cert_format.specs.Printable.{IsPrintableExtra};
+ghost use Rattle.cert_format.specs.Forms.{IsExtraText, IfBadLine};
+ghost use Rattle.slot_text.specs.Forms.{IsFirstBadLine};
 ghost use Rattle.cert_format.specs.Spots.{spot_of, Gives};
 ghost use Rattle.cert_format.specs.Reading.{extra_at, extra_of};
 
-use crate::blocks::{end_at, extra_line_at, proof_at, tried_at};
+use crate::blocks::proof_at;
 use crate::cert::StageCert;
 use crate::fault::CertFault;
+use crate::line_writing::{put_end, put_extra, put_mark};
 use crate::lines::Place;
-use crate::writing::{put_end, put_extra, put_mark, put_proof};
+use crate::places::{end_at, extra_line_at, tried_at};
+use crate::writing::put_proof;
 use slot_text::Memory;
 use std::alloc::Global;
 
+// One more stage, and nothing after it.
 #[tactic(auto, unfolding(crate::specs::Reading::extra_at))]
 fn extra_at(alloc: Global, place: Place<'_>) -> Result<StageCert, CertFault>
     ensures { Gives (λ s. s) result (extra_at (spot_of place.entry)) }
@@ -29,6 +34,7 @@ fn extra_at(alloc: Global, place: Place<'_>) -> Result<StageCert, CertFault>
     }
 }
 
+// The one more stage that the bytes spell.
 fn whole_extra(alloc: Global, bytes: &[u8]) -> Result<StageCert, CertFault>
     requires { length bytes.now < 2 ^ 31 }
     ensures { Gives (λ s. s) result (extra_of bytes.now) }
@@ -47,7 +53,11 @@ pub fn read_extra(alloc: Global, bytes: &[u8]) -> Result<StageCert, CertFault>
     ensures printable { IfOk result (λ s. IsPrintableExtra s) }
     // What is spelled so is read, unless memory runs out.
     ensures only { (s : StageCert) → IsExtra s → bytes.now ≡ extra_spelling s → Gives (λ x. x) result (Ok s) }
-    // Which line is bad: the first that isn't in the form at its place.
+    // The line of a refusal: no text of a stage begins with the lines up to it, while one begins with those before it.
+    ensures first { IfBadLine result (IsFirstBadLine IsExtraText bytes.now) }
+    // Where some line is the first bad one, the text is refused with it, unless memory runs out.
+    ensures bad { (line : ℕ) → IsFirstBadLine IsExtraText bytes.now line → Gives (λ x. x) result (Err line) }
+    // The same line by line.
     ensures exact { Gives (λ s. s) result (extra_of bytes.now) }
 {
     whole_extra(alloc, bytes)
@@ -55,9 +65,12 @@ pub fn read_extra(alloc: Global, bytes: &[u8]) -> Result<StageCert, CertFault>
 
 /// The one spelling of one more stage, as `read_extra` reads it. A caller owes what `print_cert` asks of a stage of
 /// version 2, and that the stage was tried.
+#[tactic(auto, using(crate::proofs::RangeLemmas::extra_is))]
 pub fn print_extra(alloc: Global, cert: &StageCert) -> Result<Vec<u8>, Memory>
     requires { IsPrintableExtra cert.now }
-    ensures { IfOk result (λ v. v.items ≡ extra_spelling cert.now) }
+    ensures text { IfOk result (λ v. v.items ≡ extra_spelling cert.now) }
+    // What was printed is in the form, so it is read again as the same.
+    ensures again { IfOk result (λ v. IsExtra cert.now) }
 {
     let mut out = Vec::new(alloc);
     put_extra(&mut out)?;

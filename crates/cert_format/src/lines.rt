@@ -21,6 +21,7 @@ impl<'a> Place<'a> {
     ghost use Rattle.cert_format.specs.Spots.{spot_of};
     ghost use Rattle.cert_format.specs.Left.{words_left};
 
+    /// The beginning of a text.
     pub fn start(text: &'a [u8]) -> Place<'a>
         requires { length text.now < 2 ^ 31 }
         ensures line { result.line ≡ 1 }
@@ -69,7 +70,7 @@ fn split_line(text: &[u8]) -> (Words<'_>, &[u8])
     (Words { rest: None }, &[])
 }
 
-// The first word of a line, and the words after it.
+/// The first word of a line, and the words after it.
 pub fn split_word(line: &[u8]) -> (&[u8], Words<'_>)
     ensures { line_words line.now ≡ result.0.now ∷ words_left result.1 }
 {

@@ -1,18 +1,22 @@
 //! Reading a certificate.
 
-ghost use Rattle.std.specs.Prelude.{◌≡◌, ◌<◌, ◌^◌, List, IfOk, Ok, length};
+ghost use Rattle.std.specs.Prelude.{◌≡◌, ◌<◌, ◌^◌, ℕ, List, IfOk, Ok, Err, length};
 ghost use Rattle.cert_format.specs.declared.cert.Certificate.{Certificate};
 ghost use Rattle.cert_format.specs.Spelling.{IsCert, spelling};
 ghost use Rattle.cert_format.specs.Printable.{IsPrintable};
+ghost use Rattle.cert_format.specs.Forms.{IsCertText, IfBadLine};
+ghost use Rattle.slot_text.specs.Forms.{IsFirstBadLine};
 ghost use Rattle.cert_format.specs.Spots.{spot_of, Gives};
 ghost use Rattle.cert_format.specs.Reading.{many, stage_at, cert_at, cert_of};
 
-use crate::blocks::{end_at, stage_at, version_at};
+use crate::blocks::stage_at;
 use crate::cert::{Certificate, StageCert, StageList};
 use crate::fault::CertFault;
 use crate::lines::Place;
+use crate::places::{end_at, version_at};
 use std::alloc::Global;
 
+// The stages 1 to 4, in order.
 fn four_stages(
     alloc: Global,
     version: u32,
@@ -30,6 +34,7 @@ fn four_stages(
     Ok((stages, next))
 }
 
+// A certificate, and nothing after it.
 #[tactic(auto, unfolding(crate::specs::Reading::cert_at))]
 fn cert_at(alloc: Global, place: Place<'_>) -> Result<Certificate, CertFault>
     ensures { Gives (λ c. c) result (cert_at (spot_of place.entry)) }
@@ -46,6 +51,7 @@ fn cert_at(alloc: Global, place: Place<'_>) -> Result<Certificate, CertFault>
     }
 }
 
+// The certificate that the bytes spell.
 fn whole_cert(alloc: Global, bytes: &[u8]) -> Result<Certificate, CertFault>
     requires { length bytes.now < 2 ^ 31 }
     ensures { Gives (λ c. c) result (cert_of bytes.now) }
@@ -66,7 +72,11 @@ pub fn read_cert(alloc: Global, bytes: &[u8]) -> Result<Certificate, CertFault>
     ensures printable { IfOk result (λ c. IsPrintable c) }
     // What is spelled so is read, unless memory runs out.
     ensures only { (c : Certificate) → IsCert c → bytes.now ≡ spelling c → Gives (λ x. x) result (Ok c) }
-    // Which line is bad: the first that isn't in the form at its place.
+    // The line of a refusal: no certificate begins with the lines up to it, while one begins with those before it.
+    ensures first { IfBadLine result (IsFirstBadLine IsCertText bytes.now) }
+    // Where some line is the first bad one, the text is refused with it, unless memory runs out.
+    ensures bad { (line : ℕ) → IsFirstBadLine IsCertText bytes.now line → Gives (λ x. x) result (Err line) }
+    // The same line by line.
     ensures exact { Gives (λ c. c) result (cert_of bytes.now) }
 {
     whole_cert(alloc, bytes)

@@ -1,135 +1,25 @@
 //! Printing a certificate.
 
-ghost use Rattle.std.specs.Prelude.{◌≡◌, ◌++◌, ◌∷◌, ◌<◌, ◌^◌, [], List, ℕ, None, OnOk, IfOk, codes, length};
+ghost use Rattle.std.specs.Prelude.{◌≡◌, ◌++◌, ◌∷◌, ◌<◌, ◌≤◌, ◌^◌, List, ℕ, true, OnOk, IfOk, IfSome, codes, length};
+ghost use Rattle.std.specs.List.{AllByRecursion};
 ghost use Rattle.choice_problem.specs.declared.nodes.Node.{Node};
-ghost use Rattle.std.specs.Fmt.{decimal, signed_decimal};
-ghost use Rattle.cert_format.specs.Lines.{line_text, text_of};
-ghost use Rattle.cert_format.specs.Spelling.{numbered, count_words, choices_words, alternative_words, alternative_lines, price_words, price_lines, vector_lines, seen_word, undone_words, node_words, node_lines, optional_lines, choice_lines, mark_name, stage_words, proof_lines, stage_lines, cert_lines, spelling};
-ghost use Rattle.cert_format.specs.Printable.{IsPrintable};
+ghost use Rattle.cert_format.specs.Lines.{text_of};
+ghost use Rattle.cert_format.specs.Spelling.{numbered, count_words, alternative_lines, price_lines, vector_lines, node_words, node_lines, optional_lines, choice_lines, proof_lines, stage_lines, spelling, is_undone, is_tried, undone_count, SeenFits, PriceFits, NodeFits, FloorFits, IsCert};
+ghost use Rattle.cert_format.specs.Printable.{HasRanges, RangesAs, IsPrintable};
 
 use crate::cert::{Certificate, Floor, FloorList, Mark, StageCert};
+use crate::line_writing::{
+    put_alternative, put_count, put_end, put_mark, put_node, put_none, put_price,
+};
 use choice_problem::{Choice, Node, Price, Tree, Vector, VectorList};
-use slot_text::{Memory, put_number};
+use slot_text::Memory;
 use std::alloc::Global;
-
-// A word, and a blank after it.
-fn put_word(out: &mut Vec<u8>, word: &[u8]) -> Result<(), Memory>
-    ensures { OnOk result (out.new.items ≡ out.old.items ++ (word.now ++ 32 ∷ [])) }
-{
-    out.extend_from_slice(word)?;
-    out.push(b' ')?;
-    Ok(())
-}
-
-// The last word of a line.
-fn put_last(out: &mut Vec<u8>, word: &[u8]) -> Result<(), Memory>
-    ensures { OnOk result (out.new.items ≡ out.old.items ++ (word.now ++ 10 ∷ [])) }
-{
-    out.extend_from_slice(word)?;
-    out.push(b'\n')?;
-    Ok(())
-}
-
-fn put_number_word(alloc: Global, out: &mut Vec<u8>, number: u64) -> Result<(), Memory>
-    ensures { OnOk result (out.new.items ≡ out.old.items ++ (decimal number ++ 32 ∷ [])) }
-{
-    put_number(alloc, out, number)?;
-    out.push(b' ')?;
-    Ok(())
-}
-
-fn put_last_number(alloc: Global, out: &mut Vec<u8>, number: u64) -> Result<(), Memory>
-    ensures { OnOk result (out.new.items ≡ out.old.items ++ (decimal number ++ 10 ∷ [])) }
-{
-    put_number(alloc, out, number)?;
-    out.push(b'\n')?;
-    Ok(())
-}
-
-#[tactic(auto, unfolding(crate::specs::Lines::line_text))]
-fn put_count(alloc: Global, out: &mut Vec<u8>, tag: &[u8], number: u64) -> Result<(), Memory>
-    ensures { OnOk result (out.new.items ≡ out.old.items ++ line_text (count_words tag.now number)) }
-{
-    put_word(out, tag)?;
-    put_last_number(alloc, out, number)
-}
-
-#[tactic(auto, unfolding(crate::specs::Lines::line_text))]
-fn put_alternative(alloc: Global, out: &mut Vec<u8>, unit: u64, alt: u32) -> Result<(), Memory>
-    ensures { OnOk result (out.new.items ≡ out.old.items ++ line_text (alternative_words unit alt)) }
-{
-    put_word(out, b"C")?;
-    put_number_word(alloc, out, unit)?;
-    put_last_number(alloc, out, u64::from(alt))
-}
-
-#[tactic(auto, unfolding(crate::specs::Lines::line_text))]
-fn put_price(alloc: Global, out: &mut Vec<u8>, price: Price) -> Result<(), Memory>
-    ensures { OnOk result (out.new.items ≡ out.old.items ++ line_text (price_words price)) }
-{
-    put_word(out, b"P")?;
-    put_number_word(alloc, out, u64::from(price.resource))?;
-    let text = price.price.to_string(alloc)?;
-    put_last(out, text.as_bytes())
-}
-
-fn put_seen(alloc: Global, out: &mut Vec<u8>, seen: Option<u64>) -> Result<(), Memory>
-    ensures { OnOk result (out.new.items ≡ out.old.items ++ (seen_word seen ++ 10 ∷ [])) }
-{
-    match seen {
-        None => put_last(out, b"-"),
-        Some(number) => put_last_number(alloc, out, number),
-    }
-}
-
-#[tactic(auto, unfolding(crate::specs::Lines::line_text))]
-fn put_node(
-    alloc: Global,
-    out: &mut Vec<u8>,
-    node: Node,
-    floor: Option<Floor>,
-) -> Result<(), Memory>
-    ensures { OnOk result (out.new.items ≡ out.old.items ++ line_text (node_words node floor)) }
-{
-    match node {
-        Node::Split { unit, cut, seen } => {
-            put_word(out, b"S")?;
-            put_number_word(alloc, out, u64::from(unit))?;
-            put_number_word(alloc, out, u64::from(cut))?;
-            put_seen(alloc, out, seen)
-        }
-        Node::Leaf {
-            vector,
-            scale,
-            seen,
-        } => {
-            put_word(out, b"L")?;
-            put_number_word(alloc, out, u64::from(vector))?;
-            put_number_word(alloc, out, scale)?;
-            put_seen(alloc, out, seen)
-        }
-        Node::Over { resource } => put_count(alloc, out, b"O", u64::from(resource)),
-        Node::Undone => put_undone(alloc, out, floor),
-    }
-}
-
-#[tactic(auto, unfolding(crate::specs::Lines::line_text))]
-fn put_undone(alloc: Global, out: &mut Vec<u8>, floor: Option<Floor>) -> Result<(), Memory>
-    ensures { OnOk result (out.new.items ≡ out.old.items ++ line_text (undone_words floor)) }
-{
-    match floor {
-        None => put_last(out, b"U"),
-        Some(floor) => {
-            put_word(out, b"U")?;
-            put_number_word(alloc, out, u64::from(floor.vector))?;
-            put_last_number(alloc, out, floor.scale)
-        }
-    }
-}
 
 // The floor of a node, if it has one, and the floors after it.
 fn split_floor(node: Node, floors: &[Floor]) -> (Option<Floor>, &[Floor])
-    ensures { (nodes : List Node) → node_lines (node ∷ nodes) floors.now ≡ node_words node result.0 ∷ node_lines nodes result.1.now }
+    ensures lines { (nodes : List Node) → node_lines (node ∷ nodes) floors.now ≡ node_words node result.0 ∷ node_lines nodes result.1.now }
+    ensures range { (is_undone node ≡ true → IfSome result.0 FloorFits) → AllByRecursion FloorFits result.1.now → AllByRecursion FloorFits floors.now }
+    ensures count { (nodes : List Node) → length floors.now ≤ undone_count (node ∷ nodes) → length result.1.now ≤ undone_count nodes }
 {
     if node != Node::Undone {
         return (None, floors);
@@ -140,25 +30,10 @@ fn split_floor(node: Node, floors: &[Floor]) -> (Option<Floor>, &[Floor])
     }
 }
 
-#[tactic(auto, unfolding(crate::specs::Lines::line_text))]
-pub fn put_mark(alloc: Global, out: &mut Vec<u8>, stage: u64, mark: Mark) -> Result<(), Memory>
-    ensures { OnOk result (out.new.items ≡ out.old.items ++ line_text (stage_words stage mark)) }
-{
-    put_word(out, b"STAGE")?;
-    put_number_word(alloc, out, stage)?;
-    match mark {
-        Mark::Optimal => put_last(out, b"OPTIMAL"),
-        Mark::Infeasible => put_last(out, b"INFEASIBLE"),
-        Mark::Unsettled => put_last(out, b"OPEN"),
-        Mark::NotTried => {
-            put_word(out, b"NOT")?;
-            put_last(out, b"TRIED")
-        }
-    }
-}
-
+// The alternatives of the units, from unit 0 on.
 fn put_alternatives(alloc: Global, out: &mut Vec<u8>, alts: &[u32]) -> Result<(), Memory>
-    ensures { OnOk result (out.new.items ≡ out.old.items ++ text_of (numbered alternative_lines 0 alts.now)) }
+    ensures text { OnOk result (out.new.items ≡ out.old.items ++ text_of (numbered alternative_lines 0 alts.now)) }
+    ensures range { OnOk result (AllByRecursion (λ alt. alt < 2 ^ 32) alts.now) }
 {
     for (unit, alt) in alts.iter().enumerate() {
         put_alternative(alloc, out, unit as u64, *alt)?;
@@ -166,8 +41,10 @@ fn put_alternatives(alloc: Global, out: &mut Vec<u8>, alts: &[u32]) -> Result<()
     Ok(())
 }
 
+// How many units have a choice, and the alternative of each.
 fn put_choice(alloc: Global, out: &mut Vec<u8>, choice: &Option<Choice>) -> Result<(), Memory>
-    ensures { OnOk result (out.new.items ≡ out.old.items ++ text_of (choice_lines choice.now)) }
+    ensures text { OnOk result (out.new.items ≡ out.old.items ++ text_of (choice_lines choice.now)) }
+    ensures range { OnOk result (IfSome choice.now (λ alts. AllByRecursion (λ alt. alt < 2 ^ 32) alts)) }
 {
     match choice {
         None => put_none(out),
@@ -179,21 +56,15 @@ fn put_choice(alloc: Global, out: &mut Vec<u8>, choice: &Option<Choice>) -> Resu
     }
 }
 
-#[tactic(auto, unfolding(crate::specs::Lines::line_text))]
-fn put_none(out: &mut Vec<u8>) -> Result<(), Memory>
-    ensures { OnOk result (out.new.items ≡ out.old.items ++ line_text (choices_words None)) }
-{
-    put_word(out, b"CHOICES")?;
-    put_last(out, b"NONE")
-}
-
+// A line with a number, if there is one.
 fn put_optional(
     alloc: Global,
     out: &mut Vec<u8>,
     tag: &[u8],
     number: Option<u64>,
 ) -> Result<(), Memory>
-    ensures { OnOk result (out.new.items ≡ out.old.items ++ text_of (optional_lines tag.now number)) }
+    ensures text { OnOk result (out.new.items ≡ out.old.items ++ text_of (optional_lines tag.now number)) }
+    ensures range { OnOk result (SeenFits number) }
 {
     match number {
         None => Ok(()),
@@ -201,8 +72,10 @@ fn put_optional(
     }
 }
 
+// The prices of a vector.
 fn put_prices(alloc: Global, out: &mut Vec<u8>, prices: &[Price]) -> Result<(), Memory>
-    ensures { OnOk result (out.new.items ≡ out.old.items ++ text_of (numbered price_lines 0 prices.now)) }
+    ensures text { OnOk result (out.new.items ≡ out.old.items ++ text_of (numbered price_lines 0 prices.now)) }
+    ensures range { OnOk result (AllByRecursion PriceFits prices.now) }
 {
     for price in prices {
         put_price(alloc, out, *price)?;
@@ -210,16 +83,20 @@ fn put_prices(alloc: Global, out: &mut Vec<u8>, prices: &[Price]) -> Result<(), 
     Ok(())
 }
 
+// How many prices a vector has, and each of them.
 fn put_vector(alloc: Global, out: &mut Vec<u8>, vector: &Vector) -> Result<(), Memory>
-    ensures { OnOk result ((number : ℕ) → out.new.items ≡ out.old.items ++ text_of (vector_lines number vector.now)) }
+    ensures text { OnOk result ((number : ℕ) → out.new.items ≡ out.old.items ++ text_of (vector_lines number vector.now)) }
+    ensures range { OnOk result (AllByRecursion PriceFits vector.now) }
 {
     let prices = vector.items();
     put_count(alloc, out, b"VECTOR", prices.len() as u64)?;
     put_prices(alloc, out, prices)
 }
 
+// The vectors, from vector 1 on.
 fn put_vectors(alloc: Global, out: &mut Vec<u8>, vectors: &[Vector]) -> Result<(), Memory>
-    ensures { OnOk result (out.new.items ≡ out.old.items ++ text_of (numbered vector_lines 0 vectors.now)) }
+    ensures text { OnOk result (out.new.items ≡ out.old.items ++ text_of (numbered vector_lines 0 vectors.now)) }
+    ensures range { OnOk result (AllByRecursion (AllByRecursion PriceFits) vectors.now) }
 {
     for vector in vectors {
         put_vector(alloc, out, vector)?;
@@ -227,13 +104,16 @@ fn put_vectors(alloc: Global, out: &mut Vec<u8>, vectors: &[Vector]) -> Result<(
     Ok(())
 }
 
+// The nodes, each undone one with its floor, if it has one.
 fn put_nodes(
     alloc: Global,
     out: &mut Vec<u8>,
     nodes: &[Node],
     floors: &[Floor],
 ) -> Result<(), Memory>
-    ensures { OnOk result (out.new.items ≡ out.old.items ++ text_of (node_lines nodes.now floors.now)) }
+    ensures text { OnOk result (out.new.items ≡ out.old.items ++ text_of (node_lines nodes.now floors.now)) }
+    ensures nodes { OnOk result (AllByRecursion NodeFits nodes.now) }
+    ensures floors { OnOk result (length floors.now ≤ undone_count nodes.now → AllByRecursion FloorFits floors.now) }
 {
     let mut rest = floors;
     for node in nodes {
@@ -244,24 +124,30 @@ fn put_nodes(
     Ok(())
 }
 
+// How many vectors there are, and each of them.
 fn put_vector_list(alloc: Global, out: &mut Vec<u8>, vectors: &VectorList) -> Result<(), Memory>
-    ensures { OnOk result (out.new.items ≡ out.old.items ++ text_of (count_words (codes "VECTORS") (length vectors.now) ∷ numbered vector_lines 0 vectors.now)) }
+    ensures text { OnOk result (out.new.items ≡ out.old.items ++ text_of (count_words (codes "VECTORS") (length vectors.now) ∷ numbered vector_lines 0 vectors.now)) }
+    ensures range { OnOk result (AllByRecursion (AllByRecursion PriceFits) vectors.now) }
 {
     let vectors = vectors.items();
     put_count(alloc, out, b"VECTORS", vectors.len() as u64)?;
     put_vectors(alloc, out, vectors)
 }
 
+// How many nodes a tree has, and each of them.
 fn put_tree(alloc: Global, out: &mut Vec<u8>, tree: &Tree, floors: &FloorList) -> Result<(), Memory>
-    ensures { OnOk result (out.new.items ≡ out.old.items ++ text_of (count_words (codes "TREE") (length tree.now) ∷ node_lines tree.now floors.now)) }
+    ensures text { OnOk result (out.new.items ≡ out.old.items ++ text_of (count_words (codes "TREE") (length tree.now) ∷ node_lines tree.now floors.now)) }
+    ensures range { OnOk result (AllByRecursion NodeFits tree.now × (length floors.now ≤ undone_count tree.now → AllByRecursion FloorFits floors.now)) }
 {
     let nodes = tree.items();
     put_count(alloc, out, b"TREE", nodes.len() as u64)?;
     put_nodes(alloc, out, nodes, floors.items())
 }
 
+/// What follows the line of the mark of a stage that was tried.
 pub fn put_proof(alloc: Global, out: &mut Vec<u8>, stage: &StageCert) -> Result<(), Memory>
-    ensures { OnOk result (out.new.items ≡ out.old.items ++ text_of (proof_lines stage.now)) }
+    ensures text { OnOk result (out.new.items ≡ out.old.items ++ text_of (proof_lines stage.now)) }
+    ensures range { OnOk result (HasRanges stage.now) }
 {
     put_choice(alloc, out, &stage.choice)?;
     put_optional(alloc, out, b"COST", stage.cost)?;
@@ -270,8 +156,10 @@ pub fn put_proof(alloc: Global, out: &mut Vec<u8>, stage: &StageCert) -> Result<
     put_tree(alloc, out, &stage.tree, &stage.floors)
 }
 
+// A stage by its number.
 fn put_stage(alloc: Global, out: &mut Vec<u8>, number: u64, stage: &StageCert) -> Result<(), Memory>
-    ensures { OnOk result (out.new.items ≡ out.old.items ++ text_of (stage_lines number stage.now)) }
+    ensures text { OnOk result (out.new.items ≡ out.old.items ++ text_of (stage_lines number stage.now)) }
+    ensures range { OnOk result (RangesAs stage.now (is_tried stage.now.mark)) }
 {
     put_mark(alloc, out, number, stage.mark)?;
     match stage.mark {
@@ -280,8 +168,10 @@ fn put_stage(alloc: Global, out: &mut Vec<u8>, number: u64, stage: &StageCert) -
     }
 }
 
+// The stages, from stage 1 on.
 fn put_stages(alloc: Global, out: &mut Vec<u8>, stages: &[StageCert]) -> Result<(), Memory>
-    ensures { OnOk result (out.new.items ≡ out.old.items ++ text_of (numbered stage_lines 1 stages.now)) }
+    ensures text { OnOk result (out.new.items ≡ out.old.items ++ text_of (numbered stage_lines 1 stages.now)) }
+    ensures range { OnOk result (AllByRecursion (λ stage. RangesAs stage (is_tried stage.mark)) stages.now) }
 {
     for (i, stage) in stages.iter().enumerate() {
         put_stage(alloc, out, i as u64 + 1, stage)?;
@@ -289,28 +179,16 @@ fn put_stages(alloc: Global, out: &mut Vec<u8>, stages: &[StageCert]) -> Result<
     Ok(())
 }
 
-#[tactic(auto, unfolding(crate::specs::Lines::line_text))]
-pub fn put_end(out: &mut Vec<u8>) -> Result<(), Memory>
-    ensures { OnOk result (out.new.items ≡ out.old.items ++ line_text (codes "END" ∷ [])) }
-{
-    put_last(out, b"END")
-}
-
-#[tactic(auto, unfolding(crate::specs::Lines::line_text))]
-pub fn put_extra(out: &mut Vec<u8>) -> Result<(), Memory>
-    ensures { OnOk result (out.new.items ≡ out.old.items ++ line_text (codes "EXTRA" ∷ codes "1" ∷ [])) }
-{
-    put_word(out, b"EXTRA")?;
-    put_last(out, b"1")
-}
-
 /// The one spelling of a certificate, as `read_cert` reads it: one pass, and no further memory than the text.
 ///
 /// A caller owes what `IsPrintable` asks: choice and cost both or neither, a stage that was not tried without parts, at
 /// most 64 vectors, four stages, version 1 or 2 with bounds and floors as the version has them, and fewer than 2^32 lines.
+#[tactic(auto, using(crate::proofs::RangeLemmas::cert_is))]
 pub fn print_cert(alloc: Global, cert: &Certificate) -> Result<Vec<u8>, Memory>
     requires { IsPrintable cert.now }
-    ensures { IfOk result (λ v. v.items ≡ spelling cert.now) }
+    ensures text { IfOk result (λ v. v.items ≡ spelling cert.now) }
+    // What was printed is in the form, so it is read again as the same.
+    ensures again { IfOk result (λ v. IsCert cert.now) }
 {
     let mut out = Vec::new(alloc);
     put_count(alloc, &mut out, b"CERT", u64::from(cert.version))?;

@@ -4,6 +4,7 @@
 
 mod board;
 mod bounds;
+mod certificates;
 mod messages;
 mod report;
 mod turn;
@@ -15,17 +16,19 @@ fn main(rt: HostRuntime) -> anyhow::Result<()> {
     let word = env::args(&rt)?.nth(1);
     match word.as_deref() {
         Some("bounds") => bounds::run(&rt, Size::Full),
+        Some("certificates") => certificates::run(&rt, Size::Full),
         Some("board") => board::run(&rt, rt.alloc(), Size::Full),
         Some("turn") => turn::run(&rt, rt.alloc(), Size::Full),
         Some("messages") => messages::run(&rt, rt.alloc(), Size::Full),
         Some("short") => {
             bounds::run(&rt, Size::Short)?;
+            certificates::run(&rt, Size::Short)?;
             board::run(&rt, rt.alloc(), Size::Short)?;
             turn::run(&rt, rt.alloc(), Size::Short)?;
             messages::run(&rt, rt.alloc(), Size::Short)
         }
         _ => {
-            println!(rt; "desk_bench WORD: bounds, board, turn, messages, short")?;
+            println!(rt; "desk_bench WORD: bounds, certificates, board, turn, messages, short")?;
             Ok(())
         }
     }
