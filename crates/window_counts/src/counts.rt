@@ -1,0 +1,103 @@
+//! Kept counts.
+
+ghost use Rattle.std.specs.Prelude.{◌≡◌, ℕ, ◌^◌, ◌<◌, length, slice_index, All};
+ghost use Rattle.choice_problem.specs.Counts.{GrowsBy, HasRoom};
+ghost use Rattle.choice_problem.specs.Strips.{IsPartInRange};
+ghost use Rattle.window_counts.specs.Counts.{listed_uses};
+
+use crate::adding::{add_all, add_part};
+use crate::fitting::{first_above, part_fits};
+use crate::taking::take_part;
+use choice_problem::Part;
+use slot_text::Memory;
+use std::alloc::Global;
+use std::marker::Model;
+
+/// How often each resource is used by the parts that were added and not taken away: 4 bytes a resource. Contracts see
+/// the counts, resource by resource. Only `of` takes memory.
+#[derive(Drop)]
+pub struct Counts {
+    counts: Vec<u32>,
+}
+
+impl Model for Counts {
+    ghost use Rattle.std.specs.Prelude.{List, ℕ, ◌<◌, ◌^◌, length};
+
+    ghost Value = { List ℕ };
+
+    ghost view = { λ c. c.counts.items };
+
+    ghost invariant = { λ c. length c.counts.items < 2 ^ 32 };
+}
+
+impl Counts {
+    ghost use Rattle.std.specs.Prelude.{◌≡◌, ◌↔◌, ℕ, ◌+◌, ◌^◌, ◌<◌, ◌≤◌, List, [], ◌++◌, ◌∷◌, length, slice_index, All, IsTrue, IfOk, IfSome, IfNone, pos, ◌≤ℤ◌, ◌<ℤ◌};
+    ghost use Rattle.choice_problem.specs.declared.strips.Strip.{Strip};
+    ghost use Rattle.choice_problem.specs.Strips.{part_uses, IsPartInRange};
+    ghost use Rattle.choice_problem.specs.Counts.{GrowsBy, HasRoom};
+    ghost use Rattle.window_counts.specs.Counts.{listed_uses, AreCountsOf, HasUses, FitsWith, IsFirstAbove, limit_at};
+
+    /// The counts of these parts: one step a resource and a use. The resources are numbered from 0; the parts stay within
+    /// them, and each is used fewer than 2^32 times.
+    pub fn of(alloc: Global, parts: &[Part], resources: u32) -> Result<Counts, Memory>
+        requires there { All (λ strips. IsPartInRange resources strips) parts.now }
+        requires few { (r : ℕ) → r < resources → listed_uses parts.now r < 2 ^ 32 }
+        ensures length { IfOk result (λ counts. length counts ≡ resources) }
+        ensures listed { IfOk result (AreCountsOf parts.now) }
+    {
+        let mut counts = vec![in alloc; 0; resources as usize]?;
+        add_all(&mut counts, parts);
+        Ok(Counts { counts })
+    }
+
+    /// Adds the uses of a part: one step a use. No count reaches 2^32.
+    pub fn add(&mut self, part: &Part)
+        requires there { IsPartInRange (length self.old) part.now }
+        requires room { HasRoom self.old (λ r. part_uses part.now r) }
+        ensures length { length self.new ≡ length self.old }
+        ensures uses { GrowsBy self.old self.new (λ r. part_uses part.now r) }
+        ensures listed { (parts : List (List Strip)) → AreCountsOf parts self.old → AreCountsOf (parts ++ part.now ∷ []) self.new }
+    {
+        add_part(&mut self.counts, part.strips());
+    }
+
+    /// Takes the uses of a part away again, which was added before: one step a use.
+    pub fn take(&mut self, part: &Part)
+        requires there { IsPartInRange (length self.old) part.now }
+        requires added { HasUses self.old (λ r. part_uses part.now r) }
+        ensures length { length self.new ≡ length self.old }
+        ensures uses { GrowsBy self.new self.old (λ r. part_uses part.now r) }
+        ensures listed { (before after : List (List Strip)) → AreCountsOf (before ++ part.now ∷ after) self.old → AreCountsOf (before ++ after) self.new }
+    {
+        take_part(&mut self.counts, part.strips());
+    }
+
+    /// Whether the part fits beside what is counted: whether at each resource that it uses, the count and the part's uses
+    /// are together at most the limit. Resources that it does not use are not asked. One step a use and strip, and none
+    /// after the first resource at which it does not fit.
+    pub fn fits(&self, part: &Part, limits: &[i64]) -> bool
+        requires there { IsPartInRange (length self.now) part.now }
+        requires few { (r : ℕ) → r < length self.now → part_uses part.now r < 2 ^ 32 }
+        requires limits { length limits.now ≡ length self.now }
+        ensures { IsTrue result ↔ FitsWith self.now (λ r. part_uses part.now r) limits.now }
+    {
+        part_fits(&self.counts, part.strips(), limits)
+    }
+
+    /// How often a resource is used.
+    pub fn count(&self, resource: u32) -> u32
+        requires { resource < length self.now }
+        ensures { result ≡ slice_index self.now resource }
+    {
+        self.counts[resource as usize]
+    }
+
+    /// The lowest resource whose count is above its limit: one step a resource.
+    pub fn first_over(&self, limits: &[i64]) -> Option<u32>
+        requires { length limits.now ≡ length self.now }
+        ensures some { IfSome result (IsFirstAbove self.now limits.now) }
+        ensures none { IfNone result ((r : ℕ) → r < length self.now → pos (slice_index self.now r) ≤ℤ limit_at limits.now r) }
+    {
+        first_above(&self.counts, limits)
+    }
+}

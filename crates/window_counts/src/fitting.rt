@@ -1,0 +1,82 @@
+//! Whether a part fits beside what is counted, and which count is above its limit.
+
+ghost use Rattle.std.specs.Prelude.{◌≡◌, ◌↔◌, ℕ, ◌+◌, ◌^◌, ◌<◌, ◌≤◌, length, slice_index, IsTrue, IfSome, IfNone, pos, ◌≤ℤ◌};
+ghost use Rattle.choice_problem.specs.Strips.{strip_uses, part_uses, IsStripInRange, IsPartInRange};
+ghost use Rattle.window_counts.specs.Counts.{FitsWith, IsFirstAbove, IsWithin, limit_at};
+
+use crate::runs::{run_of, uses_of};
+use choice_problem::Strip;
+
+// Whether the strips fit at each resource that they use.
+pub(crate) fn part_fits(counts: &[u32], strips: &[Strip], limits: &[i64]) -> bool
+    requires there { IsPartInRange (length counts.now) strips.now }
+    requires few { (r : ℕ) → r < length counts.now → part_uses strips.now r < 2 ^ 32 }
+    requires resources { length counts.now < 2 ^ 32 }
+    requires limits { length limits.now ≡ length counts.now }
+    ensures { IsTrue result ↔ FitsWith counts.now (λ r. part_uses strips.now r) limits.now }
+{
+    for strip in strips {
+        if !strip_fits(counts, strips, limits, strip) {
+            return false;
+        }
+    }
+    true
+}
+
+// Whether the strips fit at each resource that one of them uses.
+fn strip_fits(counts: &[u32], strips: &[Strip], limits: &[i64], strip: &Strip) -> bool
+    requires there { IsStripInRange (length counts.now) strip.now }
+    requires few { (r : ℕ) → r < length counts.now → part_uses strips.now r < 2 ^ 32 }
+    requires resources { length counts.now < 2 ^ 32 }
+    requires limits { length limits.now ≡ length counts.now }
+    ensures { IsTrue result
+        ↔ ((r : ℕ) → 0 < strip_uses strip.now r → IsWithin counts.now (λ q. part_uses strips.now q) limits.now r) }
+{
+    for i in 0..strip.times {
+        let (start, end) = run_of(strip, i);
+        if !run_fits(counts, strips, limits, start, end) {
+            return false;
+        }
+    }
+    true
+}
+
+// Whether the strips fit at each resource from one place to another.
+fn run_fits(counts: &[u32], strips: &[Strip], limits: &[i64], start: usize, end: usize) -> bool
+    requires ordered { start ≤ end }
+    requires there { end ≤ length counts.now }
+    requires few { (r : ℕ) → r < length counts.now → part_uses strips.now r < 2 ^ 32 }
+    requires resources { length counts.now < 2 ^ 32 }
+    requires limits { length limits.now ≡ length counts.now }
+    ensures { IsTrue result
+        ↔ ((r : ℕ) → start ≤ r → r < end → IsWithin counts.now (λ q. part_uses strips.now q) limits.now r) }
+{
+    for at in start..end {
+        if !is_within(counts[at], uses_of(strips, at as u32), limits[at]) {
+            return false;
+        }
+    }
+    true
+}
+
+// Whether a count and more uses are together at most a limit.
+fn is_within(count: u32, uses: u32, limit: i64) -> bool
+    ensures { IsTrue result ↔ (pos (count + uses) ≤ℤ limit) }
+{
+    i64::from(count) + i64::from(uses) <= limit
+}
+
+// The lowest resource whose count is above its limit.
+pub(crate) fn first_above(counts: &[u32], limits: &[i64]) -> Option<u32>
+    requires resources { length counts.now < 2 ^ 32 }
+    requires limits { length limits.now ≡ length counts.now }
+    ensures some { IfSome result (IsFirstAbove counts.now limits.now) }
+    ensures none { IfNone result ((r : ℕ) → r < length counts.now → pos (slice_index counts.now r) ≤ℤ limit_at limits.now r) }
+{
+    for at in 0..counts.len() {
+        if !is_within(counts[at], 0, limits[at]) {
+            return Some(at as u32);
+        }
+    }
+    None
+}
