@@ -1,0 +1,5 @@
+pub mod WorthLemmas
+pub mod TableLemmas
+pub mod BoundLemmas
+pub mod StepLemmas
+pub mod KnownLemmas

@@ -1,0 +1,10 @@
+use Rattle.std.proofs.Common.{◌≡◌, ◌≤◌, ◌*◌, ◌^◌}
+use Rattle.choice_problem.specs.Sums.{sum_below}
+use Rattle.dual_bound.specs.Loops.{run_cost}
+use Rattle.dual_bound.proofs.strips.strip_price.Given as goal
+
+abbrev pub invariant-loop-i : goal.invariant-loop-i
+invariant-loop-i l = record {
+  summed : l.total ≡ sum_below l.i (λ i. run_cost l.sums l.strip i);
+  small : l.total ≤ l.i * 2 ^ 64;
+}

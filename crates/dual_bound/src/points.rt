@@ -1,0 +1,235 @@
+//! Points of subgradient runs: prices of all resources, and the bound there.
+
+ghost use Rattle.std.specs.Prelude.{◌≡◌, ℕ, ◌+◌, ◌*◌, ◌^◌, ◌<◌, ◌≤◌, IfOk, List, length, slice_index, pos, ◌-ℤ◌};
+ghost use Rattle.choice_problem.specs.declared.vectors.Price.{Price};
+ghost use Rattle.choice_problem.specs.Sums.{least_within};
+ghost use Rattle.choice_problem.specs.Counts.{GrowsBy, HasRoom};
+ghost use Rattle.choice_problem.specs.Problems.{ProblemView, unit_count, resource_count, alt_uses, limit_of};
+ghost use Rattle.choice_problem.specs.Bounds.{AreRanges, IsVector, low_of, high_of, priced, priced_cost, least_total};
+ghost use Rattle.dual_bound.specs.Loops.{ArePrices, IsPoint, AreMoved, IsPricedBy, IsAfter, IsGreatestUpTo, vector_in, least_alt, least_alt_load};
+
+use crate::bounds::first_least;
+use crate::strips::StripPrices;
+use choice_problem::{Price, Problem, Ranges, Vector};
+use slot_text::Memory;
+use std::alloc::Global;
+
+/// The greatest price that a vector may have.
+const MOST: u64 = (1 << 40) - 1;
+
+// Prices of all resources, how often each unit's first least alternative at these prices uses a resource, all units
+// together, and the bound.
+#[derive(Drop)]
+pub(crate) struct Point {
+    pub(crate) prices: Vec<u64>,
+    pub(crate) loads: Vec<u32>,
+    pub(crate) bound: i128,
+}
+
+// Prices of all resources, and the bound there.
+#[derive(Drop)]
+pub(crate) struct Best {
+    pub(crate) prices: Vec<u64>,
+    pub(crate) bound: i128,
+}
+
+// The prices of a point, as the first best ones.
+pub(crate) fn first_best(alloc: Global, here: &Point) -> Result<Best, Memory>
+    ensures { IfOk result (λ best. (best.prices.items ≡ here.now.prices.items) × (best.bound ≡ here.now.bound)) }
+{
+    Ok(Best {
+        prices: Vec::from_slice(alloc, &here.prices)?,
+        bound: here.bound,
+    })
+}
+
+// The best prices, or those of a point whose bound is greater.
+pub(crate) fn better(alloc: Global, best: Best, here: &Point) -> Result<Best, Memory>
+    ensures greatest { IfOk result (λ better. (p : ProblemView) (ranges : List (ℕ × ℕ)) (n : ℕ) →
+        IsPoint p ranges 1024 here.now.prices.items here.now.loads.items here.now.bound → IsAfter p ranges (n + 1) here.now.prices.items →
+        IsGreatestUpTo p ranges n best.prices.items best.bound → IsGreatestUpTo p ranges (n + 1) better.prices.items better.bound) }
+    ensures prices { IfOk result (λ better. (p : ProblemView) → ArePrices p best.prices.items → ArePrices p here.now.prices.items →
+        ArePrices p better.prices.items) }
+{
+    if here.bound > best.bound {
+        first_best(alloc, here)
+    } else {
+        Ok(best)
+    }
+}
+
+// The point of no prices.
+pub(crate) fn start(
+    alloc: Global,
+    problem: &Problem,
+    ranges: &Ranges,
+    scale: u64,
+) -> Result<Point, Memory>
+    requires ranges { AreRanges problem.now ranges.now }
+    requires scale { scale < 2 ^ 20 }
+    ensures point { IfOk result (λ point. IsPoint problem.now ranges.now scale point.prices.items point.loads.items point.bound) }
+    ensures free { IfOk result (λ point. (r : ℕ) → r < resource_count problem.now → slice_index point.prices.items r ≡ 0) }
+{
+    let prices = vec![in alloc; 0; problem.resources() as usize]?;
+    evaluate(alloc, problem, ranges, prices, scale)
+}
+
+// The point of these prices.
+pub(crate) fn evaluate(
+    alloc: Global,
+    problem: &Problem,
+    ranges: &Ranges,
+    prices: Vec<u64>,
+    scale: u64,
+) -> Result<Point, Memory>
+    requires ranges { AreRanges problem.now ranges.now }
+    requires prices { ArePrices problem.now prices.items }
+    requires scale { scale < 2 ^ 20 }
+    ensures point { IfOk result (λ point. IsPoint problem.now ranges.now scale point.prices.items point.loads.items point.bound) }
+    ensures same { IfOk result (λ point. point.prices.items ≡ prices.items) }
+{
+    let mut strips = StripPrices::new(alloc, problem, &prices)?;
+    let mut loads = vec![in alloc; 0; problem.resources() as usize]?;
+    let total = take_least(alloc, problem, ranges, &mut strips, scale, &mut loads)?;
+    let bound = difference(total, priced_limits(problem, &prices));
+    Ok(Point {
+        prices,
+        loads,
+        bound,
+    })
+}
+
+// The difference of two numbers that fit.
+fn difference(one: u128, other: u128) -> i128
+    requires one { one < 2 ^ 126 }
+    requires other { other < 2 ^ 126 }
+    ensures { result ≡ pos one -ℤ pos other }
+{
+    one as i128 - other as i128
+}
+
+// The limits at their prices.
+fn priced_limits(problem: &Problem, prices: &[u64]) -> u128
+    requires { ArePrices problem.now prices.now }
+    ensures value { result ≡ priced (vector_in problem.now prices.now) (λ r. limit_of problem.now r) }
+    ensures small { result < 2 ^ 126 }
+{
+    let mut total = 0;
+    for resource in 0..problem.resources() {
+        let limit = problem.limit(resource) as u64;
+        total += u128::from(prices[resource as usize]) * u128::from(limit);
+    }
+    total
+}
+
+// Adds the uses of each unit's first least alternative, and answers the sum of the least priced costs.
+fn take_least(
+    alloc: Global,
+    problem: &Problem,
+    ranges: &Ranges,
+    strips: &mut StripPrices,
+    scale: u64,
+    loads: &mut [u32],
+) -> Result<u128, Memory>
+    requires ranges { AreRanges problem.now ranges.now }
+    requires priced { (prices : List Price) × IsPricedBy problem.now prices strips.old }
+    requires sums { length strips.old ≡ resource_count problem.now + 1 }
+    requires scale { scale < 2 ^ 20 }
+    requires count { length loads.old ≡ resource_count problem.now }
+    requires empty { (r : ℕ) → r < length loads.old → slice_index loads.old r ≡ 0 }
+    ensures total { IfOk result (λ total. (prices : List Price) → IsPricedBy problem.now prices strips.old →
+        total ≡ least_total problem.now ranges.now prices scale) }
+    ensures loads { IfOk result (λ _. (prices : List Price) → IsPricedBy problem.now prices strips.old → (r : ℕ) → r < length loads.old →
+        slice_index loads.new r ≡ least_alt_load problem.now ranges.now prices scale (unit_count problem.now) r) }
+    ensures few { IfOk result (λ _. (r : ℕ) → r < length loads.old → slice_index loads.new r ≤ 4096 * 434) }
+    ensures small { IfOk result (λ total. total < 2 ^ 126) }
+    ensures same { strips.new ≡ strips.old }
+{
+    let mut total = 0;
+    for unit in 0..problem.units() {
+        total += take_unit(alloc, problem, ranges, unit, strips, scale, loads)?;
+    }
+    Ok(total)
+}
+
+// Adds the uses of a unit's first least alternative, and answers its priced cost.
+fn take_unit(
+    alloc: Global,
+    problem: &Problem,
+    ranges: &Ranges,
+    unit: u32,
+    strips: &mut StripPrices,
+    scale: u64,
+    loads: &mut [u32],
+) -> Result<u128, Memory>
+    requires ranges { AreRanges problem.now ranges.now }
+    requires unit { unit < unit_count problem.now }
+    requires priced { (prices : List Price) × IsPricedBy problem.now prices strips.old }
+    requires sums { length strips.old ≡ resource_count problem.now + 1 }
+    requires scale { scale < 2 ^ 20 }
+    requires count { length loads.old ≡ resource_count problem.now }
+    requires room { HasRoom loads.old (λ _. 434) }
+    ensures cost { IfOk result (λ cost. (prices : List Price) → IsPricedBy problem.now prices strips.old →
+        cost ≡ least_within (low_of ranges.now unit) (high_of ranges.now unit) (λ a. priced_cost problem.now prices scale unit a)) }
+    ensures loads { IfOk result (λ _. (prices : List Price) → IsPricedBy problem.now prices strips.old →
+        GrowsBy loads.old loads.new (λ r. alt_uses problem.now unit (least_alt problem.now ranges.now prices scale unit) r)) }
+    ensures few { IfOk result (λ _. (r : ℕ) → r < length loads.old → slice_index loads.new r ≤ slice_index loads.old r + 434) }
+    ensures small { IfOk result (λ cost. cost < 2 ^ 101) }
+    ensures same { strips.new ≡ strips.old }
+{
+    let prices = strips.unit(alloc, problem, unit)?;
+    let alts = problem.unit_alts(unit);
+    let least = first_least(
+        alts,
+        ranges.low(unit),
+        ranges.high(unit),
+        prices.items(),
+        scale,
+    );
+    problem.add_uses(unit, least.alt, loads);
+    Ok(least.cost)
+}
+
+// The prices after a step of this length: each rises or falls by so much for each use above or below the limit, and stays
+// a price.
+pub(crate) fn move_prices(
+    alloc: Global,
+    problem: &Problem,
+    prices: &[u64],
+    loads: &[u32],
+    step: u64,
+) -> Result<Vec<u64>, Memory>
+    requires prices { ArePrices problem.now prices.now }
+    requires count { length loads.now ≡ resource_count problem.now }
+    requires step { step ≤ 16384 }
+    ensures moved { IfOk result (λ moved. AreMoved problem.now prices.now loads.now step moved.items) }
+    ensures prices { IfOk result (λ moved. ArePrices problem.now moved.items) }
+{
+    let mut moved = Vec::with_capacity(alloc, prices.len())?;
+    for resource in 0..problem.resources() {
+        let at = resource as usize;
+        let raised = prices[at] + step * u64::from(loads[at]);
+        let lowered = raised.saturating_sub(step * problem.limit(resource) as u64);
+        moved.push(lowered.min(MOST))?;
+    }
+    Ok(moved)
+}
+
+// The vector of these prices.
+pub(crate) fn vector_in(alloc: Global, problem: &Problem, prices: &[u64]) -> Result<Vector, Memory>
+    requires { ArePrices problem.now prices.now }
+    ensures value { IfOk result (λ vector. vector ≡ vector_in problem.now prices.now) }
+    ensures valid { IfOk result (λ vector. IsVector problem.now vector) }
+{
+    let mut entries = Vec::new(alloc);
+    for resource in 0..problem.resources() {
+        let price = prices[resource as usize];
+        if price > 0 {
+            entries.push(Price {
+                resource,
+                price: price as i64,
+            })?;
+        }
+    }
+    Ok(Vector::new(entries))
+}
