@@ -1,0 +1,10 @@
+pub mod RangeLemmas
+pub mod RestLemmas
+pub mod DateLemmas
+pub mod SpanLemmas
+pub mod UnitLemmas
+pub mod OptionLemmas
+pub mod MovementLemmas
+pub mod ReadLemmas
+pub mod FitLemmas
+pub mod BoundLemmas

@@ -1,0 +1,41 @@
+//! Laws of the model. Each function does nothing; its contract is the law.
+
+ghost use Rattle.std.specs.Prelude.{◌≡◌, ◌+◌, ◌<◌, ◌≤◌, ◌^◌, ℕ, List, All, length};
+ghost use Rattle.std.specs.Option.{ForSome};
+ghost use Rattle.season_days.specs.declared.declaration.Declaration.{Declaration as DeclarationValue};
+ghost use Rattle.season_days.specs.declared.declaration.Kind.TheVariants.{Arr, Dep};
+ghost use Rattle.scr_reader.specs.Messages.{ReadsAll};
+ghost use Rattle.scr_reader.specs.declared.line.Line.{Line as LineValue};
+ghost use Rattle.scr_reader.specs.declared.message.Message.{Message as MessageValue};
+ghost use Rattle.capacity_windows.specs.Windows.{Capacity, window_load};
+ghost use Rattle.series_model.specs.Units.{UnitFits};
+ghost use Rattle.series_model.specs.Options.{options_of, IsAlternative};
+ghost use Rattle.series_model.specs.Displacement.{displacement_of};
+ghost use Rattle.series_model.specs.Submissions.{HasNumbers, MessagePairs, item_count};
+ghost use Rattle.series_model.specs.Movements.{movements_at, stop_load};
+ghost use Rattle.series_model.specs.declared.times.Times.TheVariants.{At as at_times};
+ghost use Rattle.series_model.specs.declared.unit.Unit.{Unit as SlotUnit};
+
+/// Messages that are read of fewer than 2^31 bytes have what a submission asks of them: each pair is a historic line and
+/// a request to change it, there are fewer than 2^31 items, and each line has a number.
+pub fn read_messages()
+    ensures pairs { (bytes : List ℕ) (messages : List MessageValue) → ReadsAll bytes messages → All MessagePairs messages }
+    ensures few { (bytes : List ℕ) (messages : List MessageValue) → length bytes < 2 ^ 31 → ReadsAll bytes messages → item_count messages < 2 ^ 31 }
+    ensures numbers { (bytes : List ℕ) (messages : List MessageValue) → length bytes < 2 ^ 31 → ReadsAll bytes messages → All HasNumbers messages }
+{}
+
+/// The load of a unit's movements on a resource is the sum of the loads of its stops: of the arrivals on the dates of the
+/// line, and of the departures so many days later. So a part of strips for each stop has the load of the movements.
+pub fn movement_loads()
+    ensures { (c : Capacity) (line : LineValue) (arrival departure r : ℕ) →
+        window_load c (movements_at c.season line (at_times arrival departure)) r
+        ≡ stop_load c Arr line.arrival arrival line.period r + stop_load c Dep line.departure departure line.period r }
+{}
+
+/// Each unit has an alternative, and alternatives stay within what windows and problems of choice ask: an arrival is on its date, a departure at most nine
+/// nights later, only a priced refusal is there, and where a price is at most 9,999 each costs less than 2^24.
+pub fn option_bounds()
+    ensures some { (d : DeclarationValue) (unit : SlotUnit) → UnitFits d.season unit → 0 < length (options_of d unit) }
+    ensures times { (d : DeclarationValue) (unit : SlotUnit) → UnitFits d.season unit → All (IsAlternative d.refuse) (options_of d unit) }
+    ensures costs { (d : DeclarationValue) (unit : SlotUnit) → UnitFits d.season unit → ForSome d.refuse (λ price. price ≤ 9999) → All (λ times. displacement_of d unit times < 2 ^ 24) (options_of d unit) }
+{}

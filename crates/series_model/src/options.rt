@@ -1,0 +1,171 @@
+//! The alternatives of a unit.
+
+ghost use Rattle.std.specs.Prelude.{◌≡◌, ◌+◌, ◌*◌, ◌<◌, ◌++◌, ◌∷◌, [], IfOk, OnOk, IsSomeAnd};
+ghost use Rattle.std.specs.List.{list_any};
+ghost use Rattle.scr_reader.specs.Printed.{LineFits};
+ghost use Rattle.series_model.specs.Units.{UnitFits, IsHistoric};
+ghost use Rattle.series_model.specs.Options.{relative_minute, line_times, shifts_of, lies_between, are_same, with_times, with_refused, flexible_options, either_options, new_options, options_of};
+
+use crate::group::Group;
+use crate::shifts::{Span, minute_after, push_shifts};
+use crate::times::Times;
+use crate::unit::Unit;
+use scr_reader::{Line, Stop};
+use season_days::Declaration;
+use slot_text::Memory;
+use std::alloc::Global;
+
+/// The alternatives of a unit, in their order, which numbers them from 0.
+///
+/// A unit of group F has the requested times. One of N or B has all shifts, and last the refusal, where that has a price.
+/// One of R has the shifts whose movements lie between the historic and the requested ones, and then the historic times,
+/// unless they are there; one of L has the requested times, and then the historic ones, unless they are the same.
+///
+/// A shift moves a movement by a multiple of the step, at most the flexibility, on its own date. Single movements rise; of
+/// a turnaround the arrivals rise, and of one arrival the departures, where the ground time is at least the declared one
+/// or the requested one. One step for each alternative and for each shift of an arrival; the one fault is want of memory.
+pub fn options_of(
+    alloc: Global,
+    unit: &Unit,
+    declaration: &Declaration,
+) -> Result<Vec<Times>, Memory>
+    requires step { 0 < declaration.now.step }
+    requires unit { UnitFits declaration.now.season unit.now }
+    ensures { IfOk result (λ options. options.items ≡ options_of declaration.now unit.now) }
+{
+    let mut options = Vec::new(alloc);
+    match unit.group {
+        Group::F => options.push(line_times(&unit.request))?,
+        Group::R => push_flexible(&mut options, declaration, &unit.request, unit.historic)?,
+        Group::L => push_either(&mut options, &unit.request, unit.historic)?,
+        Group::B | Group::N => push_new(&mut options, declaration, &unit.request)?,
+    }
+    Ok(options)
+}
+
+// All shifts, and then the refusal.
+fn push_new(
+    options: &mut Vec<Times>,
+    declaration: &Declaration,
+    request: &Line,
+) -> Result<(), Memory>
+    requires step { 0 < declaration.now.step }
+    requires request { LineFits declaration.now.season request.now }
+    requires empty { options.old.items ≡ [] }
+    ensures { OnOk result (options.new.items ≡ new_options declaration.now request.now) }
+{
+    let coming_in = Span::of_date(0);
+    let going_in = Span::of_date(request.nights);
+    push_shifts(options, declaration, request, coming_in, going_in)?;
+    if declaration.refuse.is_some() {
+        options.push(Times::Refused)?;
+    }
+    Ok(())
+}
+
+// The shifts between the historic and the requested times, and then the historic ones.
+fn push_flexible(
+    options: &mut Vec<Times>,
+    declaration: &Declaration,
+    request: &Line,
+    historic: Option<Line>,
+) -> Result<(), Memory>
+    requires step { 0 < declaration.now.step }
+    requires request { LineFits declaration.now.season request.now }
+    requires historic { IsSomeAnd historic (IsHistoric declaration.now.season request.now) }
+    requires empty { options.old.items ≡ [] }
+    ensures { OnOk result (options.new.items ≡ flexible_options declaration.now request.now historic) }
+{
+    let Some(historic) = historic else {
+        return Ok(());
+    };
+    let coming_in = Span::of_date(0).between(arrival_minute(&historic), arrival_minute(request));
+    let going_in = Span::of_date(request.nights).between(
+        departure_minute(&historic),
+        departure_minute(request),
+    );
+    push_shifts(options, declaration, request, coming_in, going_in)?;
+    push_missing(options, line_times(&historic))
+}
+
+// The requested times, and then the historic ones.
+fn push_either(
+    options: &mut Vec<Times>,
+    request: &Line,
+    historic: Option<Line>,
+) -> Result<(), Memory>
+    requires empty { options.old.items ≡ [] }
+    ensures { OnOk result (options.new.items ≡ either_options request.now historic) }
+{
+    options.push(line_times(request))?;
+    match historic {
+        Some(historic) => push_missing(options, line_times(&historic)),
+        None => Ok(()),
+    }
+}
+
+// Appends times, unless they are there.
+fn push_missing(options: &mut Vec<Times>, times: Times) -> Result<(), Memory>
+    ensures { OnOk result (options.new.items ≡ with_times options.old.items times) }
+{
+    if !has_times(options, times) {
+        options.push(times)?;
+    }
+    Ok(())
+}
+
+// Whether the times are among these.
+fn has_times(options: &[Times], times: Times) -> bool
+    ensures { result ≡ list_any (are_same times) options.now }
+{
+    options.iter().any(|option| are_same(&times, option))
+}
+
+// Whether these are the same times.
+fn are_same(one: &Times, other: &Times) -> bool
+    ensures { result ≡ are_same one.now other.now }
+{
+    match (one, other) {
+        (Times::Refused, Times::Refused) => true,
+        (
+            Times::At { arrival, departure },
+            Times::At {
+                arrival: other,
+                departure: later,
+            },
+        ) => arrival == other && departure == later,
+        _ => false,
+    }
+}
+
+// The times that a line names.
+fn line_times(line: &Line) -> Times
+    ensures { result ≡ line_times line.now }
+{
+    Times::At {
+        arrival: arrival_minute(line),
+        departure: departure_minute(line),
+    }
+}
+
+fn arrival_minute(line: &Line) -> u32
+    ensures { result ≡ relative_minute 0 line.now.arrival }
+{
+    relative_minute(0, line.arrival)
+}
+
+fn departure_minute(line: &Line) -> u32
+    ensures { result ≡ relative_minute line.now.nights line.now.departure }
+{
+    relative_minute(line.nights, line.departure)
+}
+
+// The minutes from the beginning of a line's date to a movement some nights later; 0 where there is no such movement.
+fn relative_minute(nights: u8, stop: Option<Stop>) -> u32
+    ensures { result ≡ relative_minute nights stop }
+{
+    match stop {
+        Some(stop) => minute_after(nights, stop.minute),
+        None => 0,
+    }
+}
