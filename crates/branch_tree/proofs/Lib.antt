@@ -1,0 +1,6 @@
+pub mod PlaceLemmas
+pub mod OrderLemmas
+pub mod GreedyLemmas
+pub mod ListLemmas
+pub mod WalkLemmas
+pub mod VisitLemmas

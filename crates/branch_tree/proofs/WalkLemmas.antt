@@ -1,0 +1,254 @@
+-- What a walk keeps, and how it changes with one unit's range.
+use Rattle.std.proofs.Common.{◌≡◌, ℕ, zero, suc, ◌+◌, ◌*◌, ◌<◌, ◌≤◌, sym, ◌∙◌, ap, subst, arith, inl, inr, ◌⊎◌, List, [], ◌++◌, length, take, drop, Option, Some, None, map, pos, set}
+use Rattle.std.proofs.Math.Seq.{take-append_seam}
+use Rattle.std.specs.Prelude.{slice_index, slice_index_or, slice_set, ℤ, ◌≤ℤ◌, ◌<ℤ◌, IfSome, IfNone}
+use Rattle.std.proofs.lemmas.Bool.{cases_lt}
+use Rattle.std.proofs.lemmas.Int.{ints}
+use Rattle.std.proofs.lemmas.List.{get_or-map, get_or-set_same, get_or-set_other, length-set}
+use Rattle.choice_problem.specs.Sums.{sum_below, least_within, IsFirstLeast}
+use Rattle.choice_problem.specs.Problems.{ProblemView, IsChooser, unit_count, alt_count, resource_count, chooser_at, alt_cost, alt_uses, limit_of}
+use Rattle.choice_problem.specs.Choices.{IsChoice, choice_cost, load_of, Fits, IsFirstPassed}
+use Rattle.choice_problem.specs.Bounds.{AreRanges, Closes, low_of, high_of, least_load, least_total, priced_cost}
+use Rattle.choice_problem.specs.Splits.{IsCheapest, IsFirstCheapest, least_uses}
+use Rattle.choice_problem.proofs.SumLemmas.{sum_below-same, least_within-le, least_within-ge}
+use Rattle.choice_problem.proofs.BoundLemmas.{Closes-from_Some, Closes-Some, Closes-from_None}
+use Rattle.window_counts.specs.Counts.{IsFirstAbove, limit_at}
+use Rattle.choice_problem.proofs.TreeLemmas.{AreRanges-slice_set}
+use Rattle.branch_tree.specs.Lists.{times_in}
+use Rattle.branch_tree.specs.Walks.{AreLoads, IsKept}
+
+-- the first cheapest alternatives cost what is least in range
+least-cheapest : (p : ProblemView) (ranges : List (ℕ × ℕ)) (u a : ℕ) → low_of ranges u ≤ high_of ranges u → IsFirstCheapest p ranges u a →
+    least_within (low_of ranges u) (high_of ranges u) (λ b. priced_cost p [] 1 u b) ≡ alt_cost p u a
+least-cheapest p ranges u a l h =
+    let below = least_within-le (low_of ranges u) (high_of ranges u) a (λ b. priced_cost p [] 1 u b) h.from h.to in
+    let above = least_within-ge (low_of ranges u) (high_of ranges u) (alt_cost p u a) (λ b. priced_cost p [] 1 u b) l (λ b m n. omega (arith, h.least b m n)) in
+    omega (arith, below, above)
+
+least_total-cheapest : (p : ProblemView) (ranges : List (ℕ × ℕ)) (x : List ℕ) → AreRanges p ranges → IsCheapest p ranges x →
+    least_total p ranges [] 1 ≡ choice_cost p x
+least_total-cheapest p ranges x r h =
+    sum_below-same (unit_count p) (λ u. least_within (low_of ranges u) (high_of ranges u) (λ b. priced_cost p [] 1 u b)) (λ u. alt_cost p u (slice_index x u))
+    (λ u l. least-cheapest p ranges u (slice_index x u) (r.ordered u l) (h.each u l))
+
+-- vector 0 closes exactly where they cost as much as what was seen
+pub zero-closes : (p : ProblemView) (ranges : List (ℕ × ℕ)) (x : List ℕ) (seen : ℕ) → AreRanges p ranges → IsCheapest p ranges x →
+    seen ≤ choice_cost p x → Closes p ranges [] 1 (Some seen)
+zero-closes p ranges x seen r h l = Closes-Some p ranges [] 1 seen (omega (arith, least_total-cheapest p ranges x r h, l))
+
+pub closes-zero : (p : ProblemView) (ranges : List (ℕ × ℕ)) (x : List ℕ) (seen : ℕ) → AreRanges p ranges → IsCheapest p ranges x →
+    Closes p ranges [] 1 (Some seen) → seen ≤ choice_cost p x
+closes-zero p ranges x seen r h c = omega (arith, least_total-cheapest p ranges x r h, Closes-from_Some p ranges [] 1 seen c)
+
+pub closes-none : (p : ProblemView) (ranges : List (ℕ × ℕ)) → Closes p ranges [] 1 None → ⊥
+closes-none p ranges c = let h = (Closes-from_None p ranges [] 1 c).0 in omega (arith, h)
+
+-- counts above limits, as numbers
+limit_at-map : (limits : List ℕ) (r : ℕ) → r < length limits → limit_at (map pos limits) r ≡ pos (slice_index limits r)
+limit_at-map limits r l = get_or-map pos limits r 0 (pos 0) l
+
+number_less : (a b : ℕ) (z : ℤ) → z ≡ pos b → z <ℤ pos a → b < a
+number_less a b z e h = omega (arith, ints)
+
+number_le : (a b : ℕ) (z : ℤ) → z ≡ pos b → pos a ≤ℤ z → a ≤ b
+number_le a b z e h = omega (arith, ints)
+
+pub passed-first : (p : ProblemView) (x loads : List ℕ) (r : ℕ) → length loads ≡ resource_count p → AreLoads p x loads →
+    IsFirstAbove loads (map pos p.limits) r → IsFirstPassed p x r
+passed-first p x loads r e h f =
+    let there : r < resource_count p = omega (arith, f.there) in
+    record {
+      there = there;
+      passed = omega (arith, h r there, number_less (slice_index loads r) (limit_of p r) (limit_at (map pos p.limits) r) (limit_at-map p.limits r there) f.above);
+      first = λ q l.
+          let within : q < resource_count p = omega arith in
+          omega (arith, h q within, number_le (slice_index loads q) (limit_of p q) (limit_at (map pos p.limits) q) (limit_at-map p.limits q within) (f.first q l));
+    }
+
+pub passed-none : (p : ProblemView) (x loads : List ℕ) → length loads ≡ resource_count p → AreLoads p x loads →
+    ((r : ℕ) → r < length loads → pos (slice_index loads r) ≤ℤ limit_at (map pos p.limits) r) → Fits p x
+passed-none p x loads e h f = λ r l.
+    omega (arith, h r l, number_le (slice_index loads r) (limit_of p r) (limit_at (map pos p.limits) r) (limit_at-map p.limits r l) (f r (omega arith)))
+
+pub passed-some : (p : ProblemView) (x loads : List ℕ) (found : Option ℕ) → length loads ≡ resource_count p → AreLoads p x loads →
+    IfSome found (IsFirstAbove loads (map pos p.limits)) → IfSome found (IsFirstPassed p x)
+passed-some p x loads None e h f = tt
+passed-some p x loads (Some r) e h f = passed-first p x loads r e h f
+
+pub passed-nothing : (p : ProblemView) (x loads : List ℕ) (found : Option ℕ) → length loads ≡ resource_count p → AreLoads p x loads →
+    IfNone found ((r : ℕ) → r < length loads → pos (slice_index loads r) ≤ℤ limit_at (map pos p.limits) r) → IfNone found (Fits p x)
+passed-nothing p x loads None e h f = passed-none p x loads e h f
+passed-nothing p x loads (Some r) e h f = tt
+
+-- a sum in which one term changes
+pub sum_below-change : (n k : ℕ) (f g : ℕ → ℕ) → k < n → ((i : ℕ) → i < n → (i ≡ k → ⊥) → f i ≡ g i) → sum_below n f + g k ≡ sum_below n g + f k
+sum_below-change zero k f g l h = absurd (omega arith)
+sum_below-change (suc n) k f g l h =
+    elim (cases_lt k n) [
+      | inl below ↦ omega (arith, sum_below-change n k f g below (λ i m ne. h i (omega arith) ne), h n (omega arith) (λ e. omega arith))
+      | inr last ↦
+          let e : k ≡ n = omega arith in
+          rw e (omega (arith, sum_below-same n f g (λ i m. h i (omega arith) (λ d. omega arith))))
+    ]
+
+sum_below-const : (n m : ℕ) (f : ℕ → ℕ) → ((i : ℕ) → i < n → f i ≤ m) → sum_below n f ≤ n * m
+sum_below-const zero m f h = omega arith
+sum_below-const (suc n) m f h = omega (arith, sum_below-const n m f (λ i l. h i (omega arith)), h n (omega arith))
+
+-- loads stay small
+pub load-small : (p : ProblemView) (x : List ℕ) (r : ℕ) → ((u : ℕ) → u < unit_count p → IsChooser (chooser_at p u)) → IsChoice p x → load_of p x r ≤ unit_count p * 434
+load-small p x r units c = sum_below-const (unit_count p) 434 (λ u. alt_uses p u (slice_index x u) r) (λ u l. (units u l).uses (slice_index x u) r (c.there u l))
+
+pub least-small : (p : ProblemView) (ranges : List (ℕ × ℕ)) (r : ℕ) → ((u : ℕ) → u < unit_count p → IsChooser (chooser_at p u)) → AreRanges p ranges →
+    least_load p ranges r ≤ unit_count p * 434
+least-small p ranges r units v = sum_below-const (unit_count p) 434 (λ u. least_uses p ranges u r)
+    (λ u l. omega (
+      arith,
+      least_within-le (low_of ranges u) (high_of ranges u) (low_of ranges u) (λ a. alt_uses p u a r) (omega arith) (v.ordered u l),
+      (units u l).uses (low_of ranges u) r (omega (arith, v.ordered u l, v.there u l)),
+    ))
+
+pub cost-small : (p : ProblemView) (x : List ℕ) → ((u : ℕ) → u < unit_count p → IsChooser (chooser_at p u)) → IsChoice p x → choice_cost p x ≤ unit_count p * 16777216
+cost-small p x units c = sum_below-const (unit_count p) 16777216 (λ u. alt_cost p u (slice_index x u)) (λ u l. omega (arith, (units u l).cost (slice_index x u) (c.there u l)))
+
+pub term-le : (n k : ℕ) (f : ℕ → ℕ) → k < n → f k ≤ sum_below n f
+term-le zero k f l = absurd (omega arith)
+term-le (suc n) k f l = elim (cases_lt k n) [
+  | inl below ↦ omega (arith, term-le n k f below)
+  | inr last ↦ let e : k ≡ n = omega arith in rw e (omega arith)
+]
+
+-- what a slice of a vector leaves in it
+pub written-back : (new items : List ℕ) (n : ℕ) → length new ≡ n → take n (new ++ drop (length new) items) ≡ new
+written-back new items n e = rw (← e) (take-append_seam new (drop (length new) items))
+
+-- what a walk keeps has room, and holds what one unit adds to it
+module _ (p : ProblemView) (ranges : List (ℕ × ℕ)) (alts : List ℕ) (cost : ℕ) (loads least zeros : List ℕ) (k : IsKept p ranges alts cost loads least zeros) where
+  pub least-few : (r : ℕ) → r < length least → slice_index least r < 2147483648
+  least-few r l =
+      let there : r < resource_count p = omega (arith, l, k.least_count) in
+      omega (arith, k.least_are r there, least-small p ranges r k.units k.valid, k.few_units)
+
+  pub loads-room : (r : ℕ) → r < length loads → slice_index loads r + 434 < 4294967296
+  loads-room r l =
+      let there : r < resource_count p = omega (arith, l, k.loads_count) in
+      omega (arith, k.loads_are r there, load-small p alts r k.units k.choice, k.few_units)
+
+  module _ (u : ℕ) (l : u < unit_count p) where
+    pub least-has : (r : ℕ) → r < length least → least_uses p ranges u r ≤ slice_index least r
+    least-has r m =
+        let there : r < resource_count p = omega (arith, m, k.least_count) in
+        omega (arith, k.least_are r there, term-le (unit_count p) u (λ v. least_uses p ranges v r) l)
+
+    pub loads-have : (r : ℕ) → r < length loads → alt_uses p u (slice_index alts u) r ≤ slice_index loads r
+    loads-have r m =
+        let there : r < resource_count p = omega (arith, m, k.loads_count) in
+        omega (arith, k.loads_are r there, term-le (unit_count p) u (λ v. alt_uses p v (slice_index alts v) r) l)
+
+    pub cost-has : alt_cost p u (slice_index alts u) ≤ cost
+    cost-has = omega (arith, k.cost_is, term-le (unit_count p) u (λ v. alt_cost p v (slice_index alts v)) l)
+
+    pub cost-few : cost ≤ 68719476736
+    cost-few = omega (arith, k.cost_is, cost-small p alts k.units k.choice, k.few_units)
+
+    -- with another range of the unit
+    module _ (low high a : ℕ) (ordered : low ≤ high) (there : high < alt_count p u) (first : IsFirstLeast low high (λ b. alt_cost p u b) a) where
+      abbrev spans : List (ℕ × ℕ)
+      spans = set ranges u (low, high)
+
+      abbrev chosen : List ℕ
+      chosen = set alts u a
+
+      span-same : slice_index_or spans u (0, 0) ≡ (low, high)
+      span-same = get_or-set_same ranges u (low, high) (0, 0) (omega (arith, k.valid.length, l))
+
+      span-other : (v : ℕ) → (v ≡ u → ⊥) → slice_index_or spans v (0, 0) ≡ slice_index_or ranges v (0, 0)
+      span-other v ne = get_or-set_other ranges u v (low, high) (0, 0) ne
+
+      alt-same : slice_index chosen u ≡ a
+      alt-same = get_or-set_same alts u a 0 (omega (arith, k.cheapest.length, l))
+
+      alt-other : (v : ℕ) → (v ≡ u → ⊥) → slice_index chosen v ≡ slice_index alts v
+      alt-other v ne = get_or-set_other alts u v a 0 ne
+
+      apart : (v : ℕ) → (v ≡ u) ⊎ (v ≡ u → ⊥)
+      apart v = elim (cases_lt v u) [
+        | inl below ↦ inr (λ e. omega (arith, e, below))
+        | inr more ↦ elim (cases_lt u v) [
+          | inl above ↦ inr (λ e. omega (arith, e, above))
+          | inr same ↦ inl (omega arith)
+        ]
+      ]
+
+      cheapest-moved : IsCheapest p spans chosen
+      cheapest-moved = record {
+        length = length-set alts u a ∙ k.cheapest.length;
+        each = λ v m. elim (apart v) [
+          | inl e ↦ subst (λ (w : ℕ). IsFirstCheapest p spans w (slice_index chosen w)) (sym e)
+              (subst (λ (b : ℕ). IsFirstCheapest p spans u b) (sym alt-same)
+              (subst (λ (s : ℕ × ℕ). IsFirstLeast s.0 s.1 (λ b. alt_cost p u b) a) (sym span-same) first))
+          | inr ne ↦ subst (λ (b : ℕ). IsFirstCheapest p spans v b) (sym (alt-other v ne))
+              (subst (λ (s : ℕ × ℕ). IsFirstLeast s.0 s.1 (λ b. alt_cost p v b) (slice_index alts v)) (sym (span-other v ne)) (k.cheapest.each v m))
+        ];
+      }
+
+      choice-moved : IsChoice p chosen
+      choice-moved = record {
+        length = length-set alts u a ∙ k.choice.length;
+        there = λ v m. elim (apart v) [
+          | inl e ↦ rw (e, alt-same) (omega (arith, first.to, there))
+          | inr ne ↦ rw (alt-other v ne) (k.choice.there v m)
+        ];
+      }
+
+      cost-moved : choice_cost p chosen + alt_cost p u (slice_index alts u) ≡ choice_cost p alts + alt_cost p u a
+      cost-moved =
+          let same : alt_cost p u (slice_index chosen u) ≡ alt_cost p u a = ap (λ b. alt_cost p u b) alt-same in
+          omega (
+            arith,
+            same,
+            sum_below-change (unit_count p) u (λ v. alt_cost p v (slice_index chosen v)) (λ v. alt_cost p v (slice_index alts v)) l
+                (λ v m ne. ap (λ b. alt_cost p v b) (alt-other v ne)),
+          )
+
+      load-moved : (r : ℕ) → load_of p chosen r + alt_uses p u (slice_index alts u) r ≡ load_of p alts r + alt_uses p u a r
+      load-moved r =
+          let same : alt_uses p u (slice_index chosen u) r ≡ alt_uses p u a r = ap (λ b. alt_uses p u b r) alt-same in
+          omega (
+            arith,
+            same,
+            sum_below-change (unit_count p) u (λ v. alt_uses p v (slice_index chosen v) r) (λ v. alt_uses p v (slice_index alts v) r) l
+                (λ v m ne. ap (λ b. alt_uses p v b r) (alt-other v ne)),
+          )
+
+      least-moved : (r : ℕ) → least_load p spans r + least_uses p ranges u r ≡ least_load p ranges r + least_within low high (λ b. alt_uses p u b r)
+      least-moved r =
+          let same : least_uses p spans u r ≡ least_within low high (λ b. alt_uses p u b r) =
+          ap (λ (s : ℕ × ℕ). least_within s.0 s.1 (λ b. alt_uses p u b r)) span-same in
+          omega (
+            arith,
+            same,
+            sum_below-change (unit_count p) u (λ v. least_uses p spans v r) (λ v. least_uses p ranges v r) l
+                (λ v m ne. ap (λ (s : ℕ × ℕ). least_within s.0 s.1 (λ b. alt_uses p v b r)) (span-other v ne)),
+          )
+
+      pub IsKept-moved : (more : ℕ) (uses fewest was now : List ℕ) → more + alt_cost p u (slice_index alts u) ≡ cost + alt_cost p u a →
+          length uses ≡ length loads → length fewest ≡ length least →
+          ((r : ℕ) → r < length loads → slice_index uses r + alt_uses p u (slice_index alts u) r ≡ slice_index loads r + alt_uses p u a r) →
+          ((r : ℕ) → r < length least → slice_index fewest r + times_in was r ≡ slice_index least r + times_in now r) →
+          ((r : ℕ) → times_in was r ≡ least_uses p ranges u r) → ((r : ℕ) → times_in now r ≡ least_within low high (λ b. alt_uses p u b r)) →
+          IsKept p (slice_set ranges u (low, high)) (slice_set alts u a) more uses fewest zeros
+      IsKept-moved more uses fewest was now paid e f g h i j = record {
+        valid = AreRanges-slice_set p ranges u low high (omega (arith, k.valid.length, l)) k.valid ordered there;
+        few_units = k.few_units;
+        units = k.units;
+        cheapest = cheapest-moved;
+        choice = choice-moved;
+        cost_is = omega (arith, paid, cost-moved, k.cost_is);
+        loads_count = e ∙ k.loads_count;
+        loads_are = λ r m. omega (arith, g r (omega (arith, m, k.loads_count)), load-moved r, k.loads_are r m);
+        least_count = f ∙ k.least_count;
+        least_are = λ r m. omega (arith, h r (omega (arith, m, k.least_count)), least-moved r, k.least_are r m, i r, j r);
+        zeros_count = k.zeros_count;
+        zeros_are = k.zeros_are;
+      }

@@ -1,0 +1,18 @@
+use Rattle.std.proofs.Common.{◌≡◌, arith}
+use Rattle.choice_problem.specs.Strips.{is_in_run}
+use Rattle.choice_problem.proofs.SumLemmas.{count_below-more}
+use Rattle.branch_tree.proofs.listing.push_strip.Goals as goal
+
+pub loop-i-preserved : goal.loop-i-preserved
+loop-i-preserved c =
+    let s = c.args.strip.now in
+    let uses = rw (c.run_of-start.ensures.start, c.run_of-start.ensures.end) at c.in_ok-push_run.ensures.uses in
+    record {
+      uses = λ r. omega (arith, uses r, c.loop-i.invariant.uses r, count_below-more c.loop-i.i (λ i. is_in_run s r i));
+      within = c.in_ok-push_run.ensures.within;
+    }
+
+pub returns-clause-uses : goal.returns-clause-uses
+returns-clause-uses c = λ r.
+    let e : c.loop-i.i ≡ c.args.strip.now.times = omega (arith, c.loop-i.auto.i-end, c.loop-i-test.false) in
+    rw e at (c.loop-i.invariant.uses r)

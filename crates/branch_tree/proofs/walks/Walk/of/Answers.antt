@@ -1,0 +1,28 @@
+use Rattle.std.proofs.Common.{◌≡◌, List, ℕ, length, ap, arith}
+use Rattle.choice_problem.specs.Problems.{resource_count}
+use Rattle.branch_tree.proofs.WalkLemmas.{written-back}
+use Rattle.branch_tree.proofs.walks.Walk.of.Goals as goal
+
+pub invariant_of-result : goal.invariant_of-result
+invariant_of-result c =
+    let least_long : length c.count_least.new.least ≡ c.in_ok-least.least.len = omega (arith, ap (λ (xs : List ℕ). length xs) c.deref_mut.ensures.value) in
+    let zeros_long : length c.count_least.new.zeros ≡ c.in_ok-zeros.zeros.len = omega (arith, ap (λ (xs : List ℕ). length xs) c.deref_mut-2.ensures.value) in
+    let least_back = written-back c.count_least.new.least c.in_ok-least.least.items c.in_ok-least.least.len least_long in
+    let zeros_back = written-back c.count_least.new.zeros c.in_ok-zeros.zeros.items c.in_ok-zeros.zeros.len zeros_long in
+    let chosen = c.deref.ensures.value in
+    let counted : length c.count_least.new.least ≡ resource_count c.args.problem.now =
+    omega (arith, ap (λ (xs : List ℕ). length xs) c.deref_mut.ensures.value, c.in_ok-least.ensures.len, c.resources-resources.ensures.count) in
+    rw (least_back, zeros_back) (record {
+      valid = c.requires;
+      few_units = c.load_all-cost.ensures.few;
+      units = c.load_all-cost.ensures.units;
+      cheapest = c.in_ok-cheapest.ensures.cheapest;
+      choice = c.in_ok-cheapest.ensures.choice;
+      cost_is = rw chosen at c.load_all-cost.ensures.cost;
+      loads_count = c.load_all-cost.ensures.count;
+      loads_are = rw chosen at c.load_all-cost.ensures.loads;
+      least_count = counted;
+      least_are = c.in_ok-count_least.ensures.least;
+      zeros_count = c.in_ok-count_least.ensures.zeros_count;
+      zeros_are = c.in_ok-count_least.ensures.zeros;
+    })

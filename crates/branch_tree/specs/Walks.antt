@@ -1,0 +1,36 @@
+-- What a walk shows, and what it keeps.
+use Rattle.std.specs.Prelude.{◌≡◌, ℕ, ◌<◌, ◌≤◌, List, length, slice_index}
+use Rattle.choice_problem.specs.Problems.{ProblemView, IsChooser, unit_count, resource_count, chooser_at}
+use Rattle.choice_problem.specs.Choices.{IsChoice, choice_cost, load_of}
+use Rattle.choice_problem.specs.Bounds.{AreRanges, least_load}
+use Rattle.choice_problem.specs.Splits.{IsCheapest}
+use Rattle.branch_tree.specs.Lists.{AreZero}
+
+-- a problem, and ranges of it
+pub record WalkView : Type 0 where
+  pub problem : ProblemView
+  pub ranges : List (ℕ × ℕ)
+
+-- the counts are what a choice uses
+abbrev pub AreLoads : ProblemView → List ℕ → List ℕ → Type 0
+AreLoads p x counts = (r : ℕ) → r < resource_count p → slice_index counts r ≡ load_of p x r
+
+-- the counts are the least loads
+abbrev pub AreLeast : ProblemView → List (ℕ × ℕ) → List ℕ → Type 0
+AreLeast p ranges counts = (r : ℕ) → r < resource_count p → slice_index counts r ≡ least_load p ranges r
+
+-- what a walk keeps of its ranges: each unit's first cheapest alternative, what these cost and use, the least loads, and
+-- room to count in
+pub record IsKept (p : ProblemView) (ranges : List (ℕ × ℕ)) (alts : List ℕ) (cost : ℕ) (loads least zeros : List ℕ) : Type 0 where
+  pub valid : AreRanges p ranges
+  pub few_units : unit_count p ≤ 4096
+  pub units : (u : ℕ) → u < unit_count p → IsChooser (chooser_at p u)
+  pub cheapest : IsCheapest p ranges alts
+  pub choice : IsChoice p alts
+  pub cost_is : cost ≡ choice_cost p alts
+  pub loads_count : length loads ≡ resource_count p
+  pub loads_are : AreLoads p alts loads
+  pub least_count : length least ≡ resource_count p
+  pub least_are : AreLeast p ranges least
+  pub zeros_count : length zeros ≡ resource_count p
+  pub zeros_are : AreZero zeros

@@ -1,0 +1,84 @@
+//! What a walk keeps of its ranges.
+
+ghost use Rattle.std.specs.Prelude.{◌≡◌, ◌↔◌, ℕ, ◌+◌, ◌^◌, ◌<◌, ◌≤◌, length, slice_index, slice_set, IfOk, OnOk, IsTrue};
+ghost use Rattle.choice_problem.specs.Sums.{least_within, IsFirstLeast};
+ghost use Rattle.choice_problem.specs.Problems.{IsChooser, unit_count, alt_count, alt_cost, alt_uses, resource_count, chooser_at};
+ghost use Rattle.choice_problem.specs.Choices.{IsChoice, choice_cost, load_of};
+ghost use Rattle.choice_problem.specs.Counts.{GrowsBy, HasRoom};
+ghost use Rattle.choice_problem.specs.Bounds.{AreRanges, Closes, least_load, low_of, high_of};
+ghost use Rattle.choice_problem.specs.Splits.{IsCheapest, least_uses};
+ghost use Rattle.window_counts.specs.Counts.{HasUses};
+ghost use Rattle.branch_tree.specs.Lists.{times_in, AreWithin, AreZero};
+ghost use Rattle.branch_tree.specs.Walks.{AreLoads, AreLeast};
+
+use crate::least_uses::least_list;
+use crate::placing::{add_alt, change_alt};
+use crate::tallies::{add_list, take_list};
+use choice_problem::{Problem, Ranges};
+use slot_text::Memory;
+use std::alloc::Global;
+use window_counts::Counts;
+
+// Counts the uses of a choice on counts of 0, and adds its costs.
+pub(crate) fn load_all(problem: &Problem, alts: &[u32], loads: &mut Counts) -> u64
+    requires alts { IsChoice problem.now alts.now }
+    requires count { length loads.old ≡ resource_count problem.now }
+    requires zeros { AreZero loads.old }
+    ensures cost { result ≡ choice_cost problem.now alts.now }
+    ensures count { length loads.new ≡ resource_count problem.now }
+    ensures loads { AreLoads problem.now alts.now loads.new }
+    ensures units { (u : ℕ) → u < unit_count problem.now → IsChooser (chooser_at problem.now u) }
+    ensures few { unit_count problem.now ≤ 4096 }
+{
+    let mut cost = 0;
+    for unit in 0..problem.units() {
+        let alt = alts[unit as usize];
+        add_alt(problem, unit, alt, loads);
+        cost += problem.alt_cost(unit, alt);
+    }
+    cost
+}
+
+// Counts the least loads of ranges on counts of 0.
+pub(crate) fn count_least(
+    alloc: Global,
+    problem: &Problem,
+    ranges: &Ranges,
+    least: &mut [u32],
+    zeros: &mut [u32],
+) -> Result<(), Memory>
+    requires ranges { AreRanges problem.now ranges.now }
+    requires count { length least.old ≡ resource_count problem.now }
+    requires empty { AreZero least.old }
+    requires zeros_count { length zeros.old ≡ resource_count problem.now }
+    requires zeros { AreZero zeros.old }
+    ensures least { OnOk result (AreLeast problem.now ranges.now least.new) }
+    ensures zeros { AreZero zeros.new }
+    ensures zeros_count { length zeros.new ≡ resource_count problem.now }
+{
+    for unit in 0..problem.units() {
+        let list = least_list(
+            alloc,
+            problem,
+            unit,
+            ranges.low(unit),
+            ranges.high(unit),
+            zeros,
+        )?;
+        add_list(least, &list);
+    }
+    Ok(())
+}
+
+// Moves the least loads from what a unit uses whatever it takes of its range to the same of another range.
+pub(crate) fn move_least(least: &mut [u32], was: &[u32], now: &[u32])
+    requires was_within { AreWithin (length least.old) was.now }
+    requires now_within { AreWithin (length least.old) now.now }
+    requires held { (r : ℕ) → r < length least.old → times_in was.now r ≤ slice_index least.old r }
+    requires few { (r : ℕ) → r < length least.old → slice_index least.old r < 2 ^ 31 }
+    requires more { (r : ℕ) → r < length least.old → times_in now.now r ≤ 434 }
+    ensures { (r : ℕ) → r < length least.old → slice_index least.new r + times_in was.now r ≡ slice_index least.old r + times_in now.now r }
+{
+    take_list(least, was);
+    add_list(least, now);
+}

@@ -1,0 +1,103 @@
+//! The resources that an alternative uses, as a list.
+
+ghost use Rattle.std.specs.Prelude.{◌≡◌, ℕ, ◌+◌, ◌^◌, ◌<◌, ◌≤◌, length, IfOk, OnOk};
+ghost use Rattle.std.specs.Option.{ForSome};
+ghost use Rattle.choice_problem.specs.Problems.{unit_count, alt_count, part_count, alt_uses, named_uses, chooser_at, resource_count};
+ghost use Rattle.choice_problem.specs.Strips.{run_start, strip_uses, part_uses, IsStripInRange, IsPartInRange};
+ghost use Rattle.choice_problem.specs.Loops.{run_uses};
+ghost use Rattle.branch_tree.specs.Lists.{Appends, times_in, AreWithin};
+
+use choice_problem::{Problem, Strip};
+use slot_text::Memory;
+use std::alloc::Global;
+
+// The resources that an alternative uses, each as often as it does.
+pub(crate) fn uses_list(
+    alloc: Global,
+    problem: &Problem,
+    unit: u32,
+    alt: u32,
+) -> Result<Vec<u32>, Memory>
+    requires unit { unit < unit_count problem.now }
+    requires alt { alt < alt_count problem.now unit }
+    ensures listed { IfOk result (λ list. (r : ℕ) → times_in list.items r ≡ alt_uses problem.now unit alt r) }
+    ensures within { IfOk result (λ list. AreWithin (resource_count problem.now) list.items) }
+    ensures few { (r : ℕ) → alt_uses problem.now unit alt r ≤ 434 }
+{
+    let chosen = problem.unit_alts(unit)[alt as usize];
+    let mut list = Vec::new(alloc);
+    push_named(problem, unit, chosen.one, &mut list)?;
+    push_named(problem, unit, chosen.two, &mut list)?;
+    Ok(list)
+}
+
+// Appends the resources of the part that an alternative may name.
+fn push_named(
+    problem: &Problem,
+    unit: u32,
+    part: Option<u32>,
+    list: &mut Vec<u32>,
+) -> Result<(), Memory>
+    requires unit { unit < unit_count problem.now }
+    requires part { ForSome part (λ k. k < part_count problem.now unit) }
+    requires within { AreWithin (resource_count problem.now) list.old.items }
+    ensures uses { OnOk result (Appends list.old.items list.new.items (λ r. named_uses (chooser_at problem.now unit) part r)) }
+    ensures within { OnOk result (AreWithin (resource_count problem.now) list.new.items) }
+{
+    match part {
+        Some(n) => {
+            let resources = problem.resources();
+            push_strips(list, problem.part(unit, n).strips(), resources)
+        }
+        None => Ok(()),
+    }
+}
+
+// Appends the resources of strips, which stay within so many resources.
+fn push_strips(list: &mut Vec<u32>, strips: &[Strip], resources: u32) -> Result<(), Memory>
+    requires there { IsPartInRange resources strips.now }
+    requires within { AreWithin resources list.old.items }
+    ensures uses { OnOk result (Appends list.old.items list.new.items (λ r. part_uses strips.now r)) }
+    ensures within { OnOk result (AreWithin resources list.new.items) }
+{
+    for strip in strips {
+        push_strip(list, strip, resources)?;
+    }
+    Ok(())
+}
+
+fn push_strip(list: &mut Vec<u32>, strip: &Strip, resources: u32) -> Result<(), Memory>
+    requires there { IsStripInRange resources strip.now }
+    requires within { AreWithin resources list.old.items }
+    ensures uses { OnOk result (Appends list.old.items list.new.items (λ r. strip_uses strip.now r)) }
+    ensures within { OnOk result (AreWithin resources list.new.items) }
+{
+    for i in 0..strip.times {
+        let (start, end) = run_of(strip, i);
+        push_run(list, start, end, resources)?;
+    }
+    Ok(())
+}
+
+// Where a run of the strip begins and ends.
+fn run_of(strip: &Strip, run: u32) -> (u64, u64)
+    ensures start { result.0 ≡ run_start strip.now run }
+    ensures end { result.1 ≡ run_start strip.now run + strip.now.width }
+{
+    let start = u64::from(strip.first) + u64::from(run) * u64::from(strip.gap);
+    (start, start + u64::from(strip.width))
+}
+
+// Appends the numbers from one to another.
+fn push_run(list: &mut Vec<u32>, start: u64, end: u64, resources: u32) -> Result<(), Memory>
+    requires ordered { start ≤ end }
+    requires there { end ≤ resources }
+    requires within { AreWithin resources list.old.items }
+    ensures uses { OnOk result (Appends list.old.items list.new.items (λ r. run_uses start end r)) }
+    ensures within { OnOk result (AreWithin resources list.new.items) }
+{
+    for at in start..end {
+        list.push(at as u32)?;
+    }
+    Ok(())
+}

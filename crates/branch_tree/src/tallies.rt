@@ -1,0 +1,56 @@
+//! Lists of resources, counted.
+
+ghost use Rattle.std.specs.Prelude.{◌≡◌, ℕ, ◌+◌, ◌^◌, ◌<◌, ◌≤◌, min, take, length, slice_index};
+ghost use Rattle.choice_problem.specs.Counts.{GrowsBy, HasRoom};
+ghost use Rattle.branch_tree.specs.Lists.{times_in, AreWithin, HasListed};
+
+// Adds one to the count of each listed resource.
+pub(crate) fn add_list(counts: &mut [u32], list: &[u32])
+    requires within { AreWithin (length counts.old) list.now }
+    requires room { HasRoom counts.old (λ r. times_in list.now r) }
+    ensures { GrowsBy counts.old counts.new (λ r. times_in list.now r) }
+{
+    for resource in list {
+        counts[*resource as usize] += 1;
+    }
+}
+
+// Takes one from the count of each listed resource.
+pub(crate) fn take_list(counts: &mut [u32], list: &[u32])
+    requires within { AreWithin (length counts.old) list.now }
+    requires held { HasListed counts.old list.now }
+    ensures { GrowsBy counts.new counts.old (λ r. times_in list.now r) }
+{
+    for resource in list {
+        counts[*resource as usize] -= 1;
+    }
+}
+
+// Keeps of the list each resource at most as often as its count says, and takes what is kept from the counts.
+pub(crate) fn keep(list: &mut Vec<u32>, counts: &mut [u32])
+    requires { AreWithin (length counts.old) list.old.items }
+    ensures kept { (r : ℕ) → times_in list.new.items r ≡ min (times_in list.old.items r) (slice_index counts.old r) }
+    ensures taken { GrowsBy counts.new counts.old (λ r. times_in list.new.items r) }
+{
+    let kept = keep_front(list, counts);
+    list.truncate(kept);
+}
+
+// The same, with what is kept at the front of the list; and how much that is.
+fn keep_front(list: &mut [u32], counts: &mut [u32]) -> usize
+    requires { AreWithin (length counts.old) list.old }
+    ensures few { result ≤ length list.old }
+    ensures kept { (r : ℕ) → times_in (take result list.new) r ≡ min (times_in list.old r) (slice_index counts.old r) }
+    ensures taken { GrowsBy counts.new counts.old (λ r. times_in (take result list.new) r) }
+{
+    let mut kept = 0;
+    for at in 0..list.len() {
+        let resource = list[at];
+        if counts[resource as usize] > 0 {
+            counts[resource as usize] -= 1;
+            list[kept] = resource;
+            kept += 1;
+        }
+    }
+    kept
+}

@@ -1,0 +1,206 @@
+//! A walk through ranges, which keeps what a visit asks of them.
+
+ghost use Rattle.std.specs.Prelude.{◌≡◌, ◌↔◌, ℕ, ◌<◌, ◌≤◌, [], length, slice_index, IsTrue, IfOk, IfSome, IfNone};
+ghost use Rattle.choice_problem.specs.Problems.{unit_count, resource_count};
+ghost use Rattle.choice_problem.specs.Choices.{IsFirstPassed, Fits, choice_cost};
+ghost use Rattle.choice_problem.specs.Bounds.{AreRanges, Closes, IsOver};
+ghost use Rattle.choice_problem.specs.Splits.{IsCheapest, IsFirstOver};
+ghost use Rattle.branch_tree.specs.Walks.{AreLoads, AreLeast};
+
+use crate::answers::Visit;
+use crate::branching::found_or_split;
+use crate::closings::closing_leaf;
+use crate::kept::{count_least, load_all, move_least};
+use crate::least_uses::least_list;
+use crate::placing::change_alt;
+use crate::visits::{cheapest, first_cheapest};
+use choice_problem::{Node, Problem, Ranges, first_above};
+use dual_bound::PriceTable;
+use slot_text::Memory;
+use std::alloc::Global;
+use std::marker::Model;
+use window_counts::Counts;
+
+/// Ranges of a problem, with what a visit asks of them: the least load of each resource, each unit's first cheapest
+/// alternative, and what these together use and cost. Where a range changes, what changes with it is counted anew, and
+/// nothing else. Contracts see the problem and the ranges.
+///
+/// Memory: 12 bytes a resource and 12 bytes a unit.
+#[derive(Drop)]
+pub struct Walk<'a> {
+    problem: &'a Problem,
+    ranges: Ranges,
+    cheapest: Vec<u32>,
+    cost: u64,
+    loads: Counts,
+    least: Vec<u32>,
+    zeros: Vec<u32>,
+}
+
+impl<'a> Model for Walk<'a> {
+    ghost use Rattle.branch_tree.specs.Walks.{WalkView, IsKept};
+
+    ghost Value = { WalkView };
+
+    ghost view = { λ w. record { problem = w.problem.now; ranges = w.ranges } };
+
+    ghost invariant = { λ w. IsKept w.problem.now w.ranges w.cheapest.items w.cost w.loads w.least.items w.zeros.items };
+}
+
+impl<'a> Walk<'a> {
+    ghost use Rattle.std.specs.Prelude.{◌≡◌, ◌<◌, ◌≤◌, ℕ, [], All, length, slice_set, IfOk, OnOk, OnErr};
+    ghost use Rattle.choice_problem.specs.Problems.{unit_count, alt_count};
+    ghost use Rattle.choice_problem.specs.Bounds.{AreRanges};
+    ghost use Rattle.dual_bound.specs.Tables.{IsTableFor};
+    ghost use Rattle.branch_tree.specs.Visits.{IsVisit, vectors_of};
+
+    /// The walk at these ranges. A unit takes one step a use of its first alternative in range, and the same for each
+    /// further one until nothing is left that all of them use.
+    pub fn of(alloc: Global, problem: &'a Problem, ranges: Ranges) -> Result<Walk<'a>, Memory>
+        requires { AreRanges problem.now ranges }
+        ensures problem { IfOk result (λ walk. walk.problem ≡ problem.now) }
+        ensures ranges { IfOk result (λ walk. walk.ranges ≡ ranges) }
+    {
+        let resources = problem.resources();
+        let mut loads = Counts::of(alloc, &[], resources)?;
+        let mut least = vec![in alloc; 0; resources as usize]?;
+        let mut zeros = vec![in alloc; 0; resources as usize]?;
+        let cheapest = cheapest(alloc, problem, &ranges)?;
+        let cost = load_all(problem, &cheapest, &mut loads);
+        count_least(alloc, problem, &ranges, &mut least, &mut zeros)?;
+        Ok(Walk {
+            problem,
+            ranges,
+            cheapest,
+            cost,
+            loads,
+            least,
+            zeros,
+        })
+    }
+
+    /// The ranges.
+    pub fn ranges(&self) -> &Ranges
+        ensures value { result.now ≡ self.now.ranges }
+        ensures valid { AreRanges self.now.problem result.now }
+    {
+        &self.ranges
+    }
+
+    /// Visits the walk's ranges: the answer of `visit`. `problem` is the one of `of`.
+    pub fn visit(
+        &self,
+        alloc: Global,
+        problem: &Problem,
+        root: &PriceTable,
+        seen: Option<u64>,
+    ) -> Result<Visit, Memory>
+        requires problem { problem.now ≡ self.now.problem }
+        requires root { IsTableFor problem.now root.now }
+        ensures { IfOk result (IsVisit problem.now root.now.prices [] self.now.ranges seen) }
+    {
+        self.visit_with(alloc, problem, root, &[], seen)
+    }
+
+    /// Visits the walk's ranges with further vectors, whose tables these are, from number 2 on: at most 63. `problem` is
+    /// the one of `of`. One step a resource, and one an alternative in range for each vector with prices.
+    pub fn visit_with(
+        &self,
+        alloc: Global,
+        problem: &Problem,
+        root: &PriceTable,
+        further: &[PriceTable],
+        seen: Option<u64>,
+    ) -> Result<Visit, Memory>
+        requires problem { problem.now ≡ self.now.problem }
+        requires root { IsTableFor problem.now root.now }
+        requires further { All (IsTableFor problem.now) further.now }
+        requires few { length further.now ≤ 63 }
+        ensures { IfOk result (IsVisit problem.now root.now.prices (vectors_of further.now) self.now.ranges seen) }
+    {
+        if let Some(resource) = first_over(problem, &self.ranges, &self.least) {
+            return Ok(Visit::Close(Node::Over { resource }));
+        }
+        let closes = zero_closes(problem, &self.ranges, &self.cheapest, self.cost, seen);
+        if let Some(leaf) = closing_leaf(problem, &self.ranges, root, further, seen, closes) {
+            return Ok(Visit::Close(leaf));
+        }
+        let passed = first_passed(problem, &self.cheapest, &self.loads);
+        found_or_split(alloc, problem, &self.ranges, &self.cheapest, passed)
+    }
+
+    /// Sets a unit's range, which is not empty and of its alternatives. `problem` is the one of `of`. After want of memory
+    /// the walk is as before. One step a use of the unit's alternatives, as `of` has for a unit.
+    pub fn narrow(
+        &mut self,
+        alloc: Global,
+        problem: &Problem,
+        unit: u32,
+        low: u32,
+        high: u32,
+    ) -> Result<(), Memory>
+        requires problem { problem.now ≡ self.old.problem }
+        requires unit { unit < unit_count problem.now }
+        requires ordered { low ≤ high }
+        requires there { high < alt_count problem.now unit }
+        ensures problem { self.new.problem ≡ self.old.problem }
+        ensures ok { OnOk result (self.new.ranges ≡ slice_set self.old.ranges unit (low, high)) }
+        ensures err { OnErr result (self.new ≡ self.old) }
+    {
+        let (old_low, old_high) = (self.ranges.low(unit), self.ranges.high(unit));
+        let was = least_list(alloc, problem, unit, old_low, old_high, &mut self.zeros)?;
+        let now = least_list(alloc, problem, unit, low, high, &mut self.zeros)?;
+        move_least(&mut self.least, &was, &now);
+        let old_alt = self.cheapest[unit as usize];
+        let alt = first_cheapest(problem, unit, low, high);
+        change_alt(problem, unit, old_alt, alt, &mut self.loads);
+        self.cost = self.cost - problem.alt_cost(unit, old_alt) + problem.alt_cost(unit, alt);
+        self.cheapest[unit as usize] = alt;
+        self.ranges.set(unit, low, high);
+        Ok(())
+    }
+}
+
+// The lowest resource whose least load is above its limit.
+fn first_over(problem: &Problem, ranges: &Ranges, least: &[u32]) -> Option<u32>
+    requires count { length least.now ≡ resource_count problem.now }
+    requires least { AreLeast problem.now ranges.now least.now }
+    ensures some { IfSome result (IsFirstOver problem.now ranges.now) }
+    ensures none { IfNone result ((r : ℕ) → r < resource_count problem.now → IsOver problem.now ranges.now r → ⊥) }
+{
+    let _ranges = ranges;
+    first_above(problem, least)
+}
+
+// Whether vector 0 closes ranges at scale 1: whether their first cheapest alternatives together cost at least what was seen.
+fn zero_closes(
+    problem: &Problem,
+    ranges: &Ranges,
+    alts: &[u32],
+    cost: u64,
+    seen: Option<u64>,
+) -> bool
+    requires ranges { AreRanges problem.now ranges.now }
+    requires alts { IsCheapest problem.now ranges.now alts.now }
+    requires cost { cost ≡ choice_cost problem.now alts.now }
+    ensures { IsTrue result ↔ Closes problem.now ranges.now [] 1 seen }
+{
+    let _problem = problem;
+    let _ranges = ranges;
+    let _alts = alts;
+    match seen {
+        Some(seen) => seen <= cost,
+        None => false,
+    }
+}
+
+// The lowest resource that the choice uses above its limit.
+fn first_passed(problem: &Problem, alts: &[u32], loads: &Counts) -> Option<u32>
+    requires count { length loads.now ≡ resource_count problem.now }
+    requires loads { AreLoads problem.now alts.now loads.now }
+    ensures some { IfSome result (IsFirstPassed problem.now alts.now) }
+    ensures none { IfNone result (Fits problem.now alts.now) }
+{
+    let _alts = alts;
+    loads.first_over(problem.limits())
+}
