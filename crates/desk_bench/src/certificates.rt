@@ -62,7 +62,12 @@ fn text_of(alloc: Global, count: u32) -> Result<Vec<u8>, Memory> {
     out.extend_from_slice(b"CERT 2\nSTAGE 1 OPEN\nCHOICES NONE\nBOUND 30\nVECTORS 1\n")?;
     put_line(alloc, &mut out, b"VECTOR", &[u64::from(count)])?;
     for number in 0..count {
-        put_line(alloc, &mut out, b"P", &[u64::from(number), 32_768 + u64::from(number)])?;
+        put_line(
+            alloc,
+            &mut out,
+            b"P",
+            &[u64::from(number), 32_768 + u64::from(number)],
+        )?;
     }
     put_line(alloc, &mut out, b"TREE", &[u64::from(count)])?;
     for number in 0..count {
