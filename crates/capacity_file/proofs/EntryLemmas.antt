@@ -7,8 +7,9 @@ use Rattle.slot_text.specs.Stations.{IsStation}
 use Rattle.slot_text.specs.declared.station.Station.{Station}
 use Rattle.season_days.specs.declared.declaration.Kind.{Kind}
 use Rattle.season_days.specs.declared.declaration.Rule.{Rule}
-use Rattle.capacity_file.specs.Days.{IsDays}
-use Rattle.capacity_file.specs.Values.{clock_text, kind_text}
+use Rattle.schedule_text.specs.Days.{IsDays}
+use Rattle.schedule_text.specs.Times.{time_text}
+use Rattle.capacity_file.specs.Values.{kind_text}
 use Rattle.capacity_file.specs.Entries.{word_of, IsAllowed, AreValues}
 use Rattle.capacity_file.specs.Readings.{IsValueOf, IsEntryOf}
 use Rattle.capacity_file.specs.declared.entry.Entry.{Entry}
@@ -30,7 +31,7 @@ no_cap word fields None w e none = λ entry same allowed values. cap_states fiel
 no_cap word fields (Some x) w e none = absurd (cc)
 
 -- a capacity line that has minutes, a start and a weekday
-pub rule_value : (kind : Kind) (n f t d l : ℕ) (a b c x y z : List ℕ) (fields : List (List ℕ)) → fields ≡ a ∷ b ∷ c ∷ x ∷ y ∷ z ∷ [] → a ≡ kind_text kind → (n ≤ 1440) × (b ≡ decimal n) → (f < 1440) × (c ≡ clock_text f) → (t < 1440) × (x ≡ clock_text t) → IsDays y d
+pub rule_value : (kind : Kind) (n f t d l : ℕ) (a b c x y z : List ℕ) (fields : List (List ℕ)) → fields ≡ a ∷ b ∷ c ∷ x ∷ y ∷ z ∷ [] → a ≡ kind_text kind → (n ≤ 1440) × (b ≡ decimal n) → (f < 1440) × (c ≡ time_text f) → (t < 1440) × (x ≡ time_text t) → IsDays y d
     → (l ≤ 9999) × (z ≡ decimal l) → (1 ≤ n) × (f ≤ t) × (1 ≤ d)
     → IsAllowed (Cap (record { kind = kind; length = n; from = f; to = t; days = d; limit = l })) × AreValues (Cap (record { kind = kind; length = n; from = f; to = t; days = d; limit = l })) fields
 rule_value kind n f t d l a b c x y z fields e k len from to days lim usable = (
@@ -39,14 +40,14 @@ rule_value kind n f t d l a b c x y z fields e k len from to days lim usable = (
 )
 
 -- and one that has not
-pub no_rule : (n f t d : ℕ) (a b c x y z : List ℕ) (fields : List (List ℕ)) → fields ≡ a ∷ b ∷ c ∷ x ∷ y ∷ z ∷ [] → ((m : ℕ) → m ≤ 1440 → b ≡ decimal m → Some n ≡ Some m) → ((m : ℕ) → m < 1440 → c ≡ clock_text m → Some f ≡ Some m)
-    → ((m : ℕ) → m < 1440 → x ≡ clock_text m → Some t ≡ Some m) → ((m : ℕ) → IsDays y m → Some d ≡ Some m) → ((1 ≤ n) × (f ≤ t) × (1 ≤ d) → ⊥)
+pub no_rule : (n f t d : ℕ) (a b c x y z : List ℕ) (fields : List (List ℕ)) → fields ≡ a ∷ b ∷ c ∷ x ∷ y ∷ z ∷ [] → ((m : ℕ) → m ≤ 1440 → b ≡ decimal m → Some n ≡ Some m) → ((m : ℕ) → m < 1440 → c ≡ time_text m → Some f ≡ Some m)
+    → ((m : ℕ) → m < 1440 → x ≡ time_text m → Some t ≡ Some m) → ((m : ℕ) → IsDays y m → Some d ≡ Some m) → ((1 ≤ n) × (f ≤ t) × (1 ≤ d) → ⊥)
     → (rule : Rule) → IsAllowed (Cap rule) → AreValues (Cap rule) fields → ⊥
 no_rule n f t d a b c x y z fields e len from to days useless rule allowed values =
     let whole = sym e ∙ values.2 in
     let b-is : b ≡ decimal rule.length = cc in
-    let c-is : c ≡ clock_text rule.from = cc in
-    let x-is : x ≡ clock_text rule.to = cc in
+    let c-is : c ≡ time_text rule.from = cc in
+    let x-is : x ≡ time_text rule.to = cc in
     let y-is : y ≡ values.0 = cc in
     let n-is : n ≡ rule.length = same_Some n rule.length (len rule.length allowed.at_most_a_day b-is) in
     let f-is : f ≡ rule.from = same_Some f rule.from (from rule.from (omega (arith, allowed.ordered, allowed.in_day)) c-is) in

@@ -1,4 +1,3 @@
-pub mod DayLemmas
 pub mod SameLemmas
 pub mod LinesLemmas
 pub mod EntryLemmas

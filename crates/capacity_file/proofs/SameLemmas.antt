@@ -11,16 +11,15 @@ use Rattle.season_days.specs.declared.declaration.Kind.{Kind}
 use Rattle.season_days.specs.declared.declaration.Kind.TheVariants.{Arr, Dep, Tot}
 use Rattle.season_days.specs.declared.declaration.Rule.{Rule}
 use Rattle.season_days.specs.declared.declaration.Night.{Night}
-use Rattle.capacity_file.specs.Days.{placed_days, IsDays}
-use Rattle.capacity_file.specs.Bits.{bit_of_place, digit_bits}
-use Rattle.capacity_file.specs.Values.{is_step, IsPrice, clock_text, kind_text, price_text}
+use Rattle.schedule_text.specs.Times.{time_text}
+use Rattle.capacity_file.specs.Values.{is_step, IsPrice, kind_text, price_text}
 use Rattle.capacity_file.specs.Words.{word_text}
 use Rattle.capacity_file.specs.Entries.{word_of, IsAllowed, AreValues, IsEmpty, States}
 use Rattle.capacity_file.specs.declared.entry.Entry.{Entry}
 use Rattle.capacity_file.specs.declared.entry.Entry.TheVariants.{Airport, Season, Step, Flex, Ground, Share, Refuse, Night as night_entry, Cap}
 use Rattle.capacity_file.specs.declared.entry.Word.{Word}
 use Rattle.capacity_file.specs.declared.entry.Word.TheVariants.{Airport as airport_word, Season as season_word, Step as step_word, Flex as flex_word, Ground as ground_word, Share as share_word, Refuse as refuse_word, Night as night_word, Cap as cap_word}
-use Rattle.capacity_file.proofs.DayLemmas.{bits_again, rising_again}
+use Rattle.schedule_text.proofs.SameLemmas.{time_same, days_same}
 
 -- ---- words
 
@@ -58,37 +57,6 @@ kind_again Tot = refl
 
 kind_same : (a b : Kind) → kind_text a ≡ kind_text b → a ≡ b
 kind_same a b e = sym (kind_again a) ∙ ap kind_from e ∙ kind_again b
-
-clock_same : (a b : ℕ) → a < 1440 → b < 1440 → clock_text a ≡ clock_text b → a ≡ b
-clock_same a b x y e =
-    let hour_tens : 48 + a / 60 / 10 ≡ 48 + b / 60 / 10 = ap (λ (l : List ℕ). get_or l 0 0) e in
-    let hour_ones : 48 + a / 60 % 10 ≡ 48 + b / 60 % 10 = ap (λ (l : List ℕ). get_or l 1 0) e in
-    let tens : 48 + a % 60 / 10 ≡ 48 + b % 60 / 10 = ap (λ (l : List ℕ). get_or l 2 0) e in
-    let ones : 48 + a % 60 % 10 ≡ 48 + b % 60 % 10 = ap (λ (l : List ℕ). get_or l 3 0) e in
-    omega arith
-
-place_bits : List ℕ → ℕ
-place_bits text =
-    bit_of_place (get_or text 0 0) + 2 * bit_of_place (get_or text 1 0) + 4 * bit_of_place (get_or text 2 0) + 8 * bit_of_place (get_or text 3 0) + 16 * bit_of_place (get_or text 4 0)
-    + 32 * bit_of_place (get_or text 5 0) + 64 * bit_of_place (get_or text 6 0)
-
-placed_again : (days : ℕ) → days < 128 → place_bits (placed_days days) ≡ days
-unfolding place_bits
-placed_again days lt = bits_again days lt
-
-days_same : (text : List ℕ) (a b : ℕ) → IsDays text a → IsDays text b → a ≡ b
-days_same text a b x y =
-    elim (x.spelled) [
-      | inl placed ↦ elim (y.spelled) [
-        | inl other ↦ sym (placed_again a x.week) ∙ ap place_bits (sym placed ∙ other) ∙ placed_again b y.week
-        | inr rising ↦ absurd (let seven : length text ≡ 7 = ap length placed in omega (arith, rising.2))
-      ]
-      | inr rising ↦ elim (y.spelled) [
-        | inl placed ↦ absurd (let seven : length text ≡ 7 = ap length placed in omega (arith, rising.2))
-        | inr other ↦
-            sym (rising_again a x.week (omega (arith, rising.2, ap length rising.0))) ∙ ap digit_bits (sym rising.0 ∙ other.0) ∙ rising_again b y.week (omega (arith, other.2, ap length other.0))
-      ]
-    ]
 
 half_same : (a b : Half) → half_letter a ≡ half_letter b → a ≡ b
 half_same Summer Summer e = refl
@@ -165,22 +133,22 @@ entry_same (Ground a) (Ground b) fields w x y e f = ap (λ (n : ℕ). Ground n) 
 entry_same (Share a) (Share b) fields w x y e f = ap (λ (n : ℕ). Share n) (number_same a b (omega (arith, x)) (omega (arith, y)) (one_same _ _ fields e f))
 entry_same (Refuse a) (Refuse b) fields w x y e f = ap (λ (p : Option ℕ). Refuse p) (price_same a b x y (one_same _ _ fields e f))
 entry_same (night_entry a) (night_entry b) fields w x y e f =
-    let from : clock_text a.from ≡ clock_text b.from = cc in
-    let to : clock_text a.to ≡ clock_text b.to = cc in
+    let from : time_text a.from ≡ time_text b.from = cc in
+    let to : time_text a.to ≡ time_text b.to = cc in
     let limit : decimal a.limit ≡ decimal b.limit = cc in
     ap (λ (n : Night). night_entry n)
-    (night_same a b (clock_same a.from b.from x.from y.from from) (clock_same a.to b.to x.to y.to to) (number_same a.limit b.limit (omega (arith, x.limit)) (omega (arith, y.limit)) limit))
+    (night_same a b (time_same a.from b.from x.from y.from from) (time_same a.to b.to x.to y.to to) (number_same a.limit b.limit (omega (arith, x.limit)) (omega (arith, y.limit)) limit))
 entry_same (Cap a) (Cap b) fields w x y e f =
     let same = sym e.2 ∙ f.2 in
     let kind : kind_text a.kind ≡ kind_text b.kind = ap (field_of 0) same in
     let minutes : decimal a.length ≡ decimal b.length = ap (field_of 1) same in
-    let from : clock_text a.from ≡ clock_text b.from = ap (field_of 2) same in
-    let to : clock_text a.to ≡ clock_text b.to = ap (field_of 3) same in
+    let from : time_text a.from ≡ time_text b.from = ap (field_of 2) same in
+    let to : time_text a.to ≡ time_text b.to = ap (field_of 3) same in
     let days : e.0 ≡ f.0 = ap (field_of 4) same in
     let limit : decimal a.limit ≡ decimal b.limit = ap (field_of 5) same in
     ap (λ (r : Rule). Cap r)
     (rule_same a b (kind_same a.kind b.kind kind) (number_same a.length b.length (omega (arith, x.at_most_a_day)) (omega (arith, y.at_most_a_day)) minutes)
-    (clock_same a.from b.from (omega (arith, x.ordered, x.in_day)) (omega (arith, y.ordered, y.in_day)) from) (clock_same a.to b.to x.in_day y.in_day to)
+    (time_same a.from b.from (omega (arith, x.ordered, x.in_day)) (omega (arith, y.ordered, y.in_day)) from) (time_same a.to b.to x.in_day y.in_day to)
     (days_same e.0 a.days b.days e.1 (rw days f.1)) (number_same a.limit b.limit (omega (arith, x.limit)) (omega (arith, y.limit)) limit))
 entry_same a b fields w x y e f = absurd (cc)
 

@@ -6,8 +6,9 @@ use Rattle.slot_text.specs.Fields.{is_blank, fields_of}
 use Rattle.slot_text.specs.Stations.{IsStation}
 use Rattle.season_days.specs.Seasons.{season_text}
 use Rattle.season_days.specs.declared.declaration.TheConstants.{MINUTES_OF_DAY}
-use Rattle.capacity_file.specs.Days.{IsDays}
-use Rattle.capacity_file.specs.Values.{is_step, IsPrice, IsNight, IsCapacityLine, clock_text, kind_text, price_text}
+use Rattle.schedule_text.specs.Days.{IsDays}
+use Rattle.schedule_text.specs.Times.{time_text}
+use Rattle.capacity_file.specs.Values.{is_step, IsPrice, IsNight, IsCapacityLine, kind_text, price_text}
 use Rattle.capacity_file.specs.Words.{word_text}
 use Rattle.capacity_file.specs.declared.limits.TheConstants.{MOST_BYTES}
 use Rattle.capacity_file.specs.declared.entry.Entry.{Entry}
@@ -47,10 +48,10 @@ AreValues (Flex n) fields = fields ≡ decimal n ∷ []
 AreValues (Ground n) fields = fields ≡ decimal n ∷ []
 AreValues (Share n) fields = fields ≡ decimal n ∷ []
 AreValues (Refuse price) fields = fields ≡ price_text price ∷ []
-AreValues (Night night) fields = fields ≡ clock_text night.from ∷ clock_text night.to ∷ decimal night.limit ∷ []
+AreValues (Night night) fields = fields ≡ time_text night.from ∷ time_text night.to ∷ decimal night.limit ∷ []
 AreValues (Cap rule) fields =
     (days : List ℕ) × IsDays days rule.days
-    × (fields ≡ kind_text rule.kind ∷ decimal rule.length ∷ clock_text rule.from ∷ clock_text rule.to ∷ days ∷ decimal rule.limit ∷ [])
+    × (fields ≡ kind_text rule.kind ∷ decimal rule.length ∷ time_text rule.from ∷ time_text rule.to ∷ days ∷ decimal rule.limit ∷ [])
 
 -- ---- lines
 

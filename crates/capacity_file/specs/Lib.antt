@@ -1,5 +1,3 @@
-pub mod Days
-pub mod Bits
 pub mod Values
 pub mod Words
 pub mod Entries

@@ -34,13 +34,6 @@ pub record IsCapacityLine (rule : Rule) : Type 0 where
 
 -- ---- as text
 
-abbrev pub two_digits : ℕ → List ℕ
-two_digits n = (48 + n / 10) ∷ (48 + n % 10) ∷ []
-
--- hour and minute of a minute of the day
-abbrev pub clock_text : ℕ → List ℕ
-clock_text minute = two_digits (minute / 60) ++ two_digits (minute % 60)
-
 abbrev pub kind_text : Kind → List ℕ
 kind_text Arr = codes "ARR"
 kind_text Dep = codes "DEP"

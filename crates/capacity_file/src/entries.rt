@@ -3,11 +3,11 @@ ghost use Rattle.slot_text.specs.Fields.{fields_of};
 ghost use Rattle.capacity_file.specs.Readings.{IsValueOf, IsEntryOf, IsEntry};
 ghost use Rattle.capacity_file.specs.declared.entry.Entry.{Entry as EntryValue};
 
-use crate::days::read_weekdays;
 use crate::entry::{Entry, Word};
 use crate::fields::{last_field, night_fields, rule_fields};
-use crate::values::{is_allowed_step, read_clock, read_kind, read_number};
+use crate::values::{is_allowed_step, read_kind, read_minute, read_number};
 use crate::words::read_word;
+use schedule_text::read_weekdays;
 use season_days::{HIGHEST_LIMIT, HIGHEST_NIGHT_LIMIT, MINUTES_OF_DAY, Night, Rule, Season};
 use slot_text::{Station, read_u64};
 
@@ -91,8 +91,8 @@ fn read_night(rest: &[u8]) -> Option<Night>
     ensures { IsValueOf Entry.Night (fields_of rest.now) result }
 {
     let fields = night_fields(rest)?;
-    let from = read_clock(fields.from)?;
-    let to = read_clock(fields.to)?;
+    let from = read_minute(fields.from)?;
+    let to = read_minute(fields.to)?;
     let limit = read_number(fields.limit, HIGHEST_NIGHT_LIMIT)?;
     if from == to {
         return None;
@@ -107,8 +107,8 @@ fn read_rule(rest: &[u8]) -> Option<Rule>
     let rule = Rule {
         kind: read_kind(fields.kind)?,
         length: read_number(fields.length, MINUTES_OF_DAY)?,
-        from: read_clock(fields.from)?,
-        to: read_clock(fields.to)?,
+        from: read_minute(fields.from)?,
+        to: read_minute(fields.to)?,
         days: read_weekdays(fields.days)?,
         limit: read_number(fields.limit, HIGHEST_LIMIT)?,
     };

@@ -1,7 +1,6 @@
 //! The capacity file: its lines in any order, and the declaration that they make.
 #![tactic(auto)]
 
-mod days;
 mod draft;
 mod entries;
 mod entry;

@@ -1,5 +1,6 @@
 -- An arrival line from its parts, and back.
 use Rattle.std.proofs.Common.{◌≡◌, ℕ, ◌≤◌, List, [], ◌∷◌, ◌++◌, Option, Some, None, refl, sym, ap, subst, ◌∙◌, arith, zero, suc}
+use Rattle.schedule_text.specs.Days.{days_text}
 use Rattle.std.specs.Prelude.{IsSome, Contains}
 use Rattle.std.proofs.lemmas.Bool.{false≢true}
 use Rattle.season_days.specs.Term.{Term}
@@ -9,7 +10,6 @@ use Rattle.scr_reader.specs.declared.line.Stop.{Stop}
 use Rattle.scr_reader.specs.declared.line.Craft.{Craft}
 use Rattle.scr_reader.specs.declared.line.Code.TheVariants.{F}
 use Rattle.scr_reader.specs.Bytes.{three_digits}
-use Rattle.scr_reader.specs.Parts.{days_text}
 use Rattle.scr_reader.specs.Printed.{flight_text, arrival_group_text, dates_text, joined, line_text, StopFits, StopsFit, LineFits}
 use Rattle.historic_reader.specs.Fields.{HasFields, PrintsPeriod}
 use Rattle.historic_reader.specs.Historic.{IsHistoricArrival}

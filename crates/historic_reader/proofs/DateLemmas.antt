@@ -1,11 +1,11 @@
 -- A date, from its spelling back to its month and day, and the days of a season by their dates.
 use Rattle.std.proofs.Common.{◌≡◌, ℕ, ◌<◌, ◌≤◌, ◌↔◌, List, length, take, drop, ap, refl, ◌∙◌, arith, pos}
+use Rattle.schedule_text.specs.Times.{two_digits}
 use Rattle.std.proofs.lemmas.List.{take_at, drop_at}
 use Rattle.jiff_core.proofs.SignedLemmas.{signed_arith}
 use Rattle.jiff_core.proofs.CalendarLemmas.{days_in_month_bounds}
 use Rattle.season_days.specs.Term.{Term}
 use Rattle.season_days.specs.Seasons.{date_count, date_at, first_year, year_of_month, NamesDate, IsDayNamed}
-use Rattle.scr_reader.specs.Bytes.{two_digits}
 use Rattle.scr_reader.specs.Parts.{month_text, date_text}
 use Rattle.scr_reader.specs.Printed.{day_text}
 use Rattle.historic_reader.proofs.CleanLemmas.{date_long}

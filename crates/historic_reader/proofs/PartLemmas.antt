@@ -1,28 +1,13 @@
 -- Parts of a line, from their spelling back to their value.
-use Rattle.std.proofs.Common.{◌≡◌, ℕ, zero, suc, ◌+◌, ◌-◌, ◌*◌, ◌/◌, ◌%◌, ◌^◌, ◌<◌, ◌≤◌, true, false, eqb, ltb, List, [], ◌∷◌, ◌++◌, refl, sym, ap, ◌∙◌, arith, inl, inr}
+use Rattle.std.proofs.Common.{◌≡◌, ℕ, zero, suc, ◌/◌, true, false, ltb, List, [], ◌∷◌, ◌++◌, refl, sym, ap, ◌∙◌, arith, inl, inr}
+use Rattle.schedule_text.specs.Times.{digit}
 use Rattle.std.proofs.Math.Bool.{◌&&◌}
-use Rattle.std.proofs.lemmas.Bool.{cases_Bool, eqb-true, eqb-false, ne_eqb, both_ways}
+use Rattle.std.proofs.lemmas.Bool.{cases_Bool, both_ways}
 use Rattle.std.proofs.lemmas.Bool.Decides.{nat_tests}
 use Rattle.std.proofs.lemmas.List.{append-nil}
-use Rattle.scr_reader.specs.Bytes.{is_letter, digit}
-use Rattle.scr_reader.specs.Parts.{AirlineFits, airline_text, SuffixFits, suffix_text, place_of_day}
-use Rattle.scr_reader.specs.FieldForms.{bit_of_place}
+use Rattle.scr_reader.specs.Bytes.{is_letter}
+use Rattle.scr_reader.specs.Parts.{AirlineFits, airline_text, SuffixFits, suffix_text}
 use Rattle.scr_reader.specs.Printed.{number_text}
-
--- ---- days
-
-bit_is : (days weekday : ℕ) → 1 ≤ weekday → bit_of_place (place_of_day days weekday) ≡ (days / 2 ^ (weekday - 1)) % 2
-bit_is days weekday one =
-    elim (cases_Bool (eqb ((days / 2 ^ (weekday - 1)) % 2) 1)) [
-      | inl on ↦ rw (on, ne_eqb (48 + weekday) 48 (λ e. omega arith)) (sym (eqb-true _ _ on))
-      | inr off ↦ rw off (omega (arith, eqb-false _ _ off))
-    ]
-
--- the bits that the places show make the set again
-pub bits_again : (days : ℕ) → days < 128 → bit_of_place (place_of_day days 1) + 2 * bit_of_place (place_of_day days 2) + 4 * bit_of_place (place_of_day days 3) + 8 * bit_of_place (place_of_day days 4) + 16 * bit_of_place (place_of_day days 5)
-    + 32 * bit_of_place (place_of_day days 6) + 64 * bit_of_place (place_of_day days 7) ≡ days
-bits_again days lt =
-    omega (arith, bit_is days 1 (omega arith), bit_is days 2 (omega arith), bit_is days 3 (omega arith), bit_is days 4 (omega arith), bit_is days 5 (omega arith), bit_is days 6 (omega arith), bit_is days 7 (omega arith))
 
 -- ---- numbers and letters
 

@@ -1,9 +1,9 @@
 -- The six fields of an arrival line with the code F.
 use Rattle.std.specs.Prelude.{◌≡◌, ◌≢◌, ◌<◌, ◌≤◌, ℕ, List, [], ◌∷◌, Contains}
+use Rattle.schedule_text.specs.Days.{days_text}
 use Rattle.season_days.specs.Term.{Term}
 use Rattle.season_days.specs.Seasons.{date_count, dates_of}
 use Rattle.season_days.specs.declared.day.Period.{Period}
-use Rattle.scr_reader.specs.Parts.{days_text}
 use Rattle.scr_reader.specs.Printed.{dates_text, joined}
 
 abbrev pub NoBlank : List ℕ → Type 0

@@ -2,9 +2,9 @@ ghost use Rattle.std.specs.Prelude.{◌≡◌, ◌≤◌, ◌++◌, ◌∷◌, �
 ghost use Rattle.jiff_core.specs.Calendar.{days_in_month};
 ghost use Rattle.scr_reader.specs.Parts.{date_text, IsDayOfMonth};
 
-use crate::bytes::read_two_digits;
 use crate::period::read_month;
 use crate::split::split_byte;
+use schedule_text::read_two_digits;
 
 /// The most days that a month has in any year.
 fn days_of(month: u8) -> u8

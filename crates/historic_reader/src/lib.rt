@@ -2,7 +2,6 @@
 #![tactic(auto)]
 
 mod bytes;
-mod days;
 mod fields;
 mod flight;
 mod groups;

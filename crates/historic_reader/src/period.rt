@@ -1,12 +1,12 @@
 ghost use Rattle.std.specs.Prelude.{◌≡◌, ◌≢◌, ◌<◌, ◌≤◌, ◌↔◌, ◌++◌, [], ℕ, IfSome, Some, IsSomeAnd, IsTrue};
+ghost use Rattle.schedule_text.specs.Days.{days_text};
 ghost use Rattle.season_days.specs.Seasons.{date_count, dates_of};
 ghost use Rattle.season_days.specs.declared.day.Period.{Period as PeriodValue};
-ghost use Rattle.scr_reader.specs.Parts.{month_text, days_text};
+ghost use Rattle.scr_reader.specs.Parts.{month_text};
 ghost use Rattle.scr_reader.specs.Printed.{day_text};
 ghost use Rattle.historic_reader.specs.Fields.{PrintsPeriod};
 
-use crate::bytes::read_two_digits;
-use crate::days::read_places;
+use schedule_text::{read_places, read_two_digits};
 use season_days::{Day, Period, Season, laws};
 
 /// The month of a name.

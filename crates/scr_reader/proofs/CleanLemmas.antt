@@ -1,5 +1,7 @@
 -- No field that is spelled has a blank in it, and no line an LF; how long fields are.
 use Rattle.std.proofs.Common.{take, drop, ◌≡◌, ℕ, zero, suc, ◌-◌, ◌/◌, ◌%◌, ◌<◌, ◌≤◌, ◌⊎◌, length-append, Bool, true, eqb, ltb, leb, List, [], ◌∷◌, ◌++◌, length, get_or, Option, Some, None, refl, sym, ap, ◌∙◌, arith, inl, inr}
+use Rattle.schedule_text.specs.Days.{place_of_day, days_text}
+use Rattle.schedule_text.specs.Times.{time_text, two_digits}
 use Rattle.std.specs.Prelude.{Contains}
 use Rattle.std.proofs.Math.Bool.{◌&&◌}
 use Rattle.std.proofs.lemmas.Bool.{cases_Bool, and_parts, or_cases, leb-true, eqb-true}
@@ -8,8 +10,8 @@ use Rattle.scr_reader.specs.declared.line.Flight.{Flight}
 use Rattle.std.proofs.lemmas.List.{take_at, drop_at}
 use Rattle.slot_text.specs.Stations.{IsStation}
 use Rattle.slot_text.specs.declared.station.Station.{Station}
-use Rattle.scr_reader.specs.Bytes.{is_letter, is_digit, is_letter_or_digit, two_digits, three_digits}
-use Rattle.scr_reader.specs.Parts.{AirlineFits, airline_text, SuffixFits, suffix_text, month_names, month_text, date_text, place_of_day, days_text, ThreeLettersOrDigits, StationsFit, stations_text, time_text}
+use Rattle.scr_reader.specs.Bytes.{is_letter, is_digit, is_letter_or_digit, three_digits}
+use Rattle.scr_reader.specs.Parts.{AirlineFits, airline_text, SuffixFits, suffix_text, month_names, month_text, date_text, ThreeLettersOrDigits, StationsFit, stations_text}
 use Rattle.scr_reader.specs.Printed.{number_text, FlightFits, flight_text, day_text}
 
 abbrev pub Clean : List ℕ → Type 0

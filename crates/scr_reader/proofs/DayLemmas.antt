@@ -1,5 +1,7 @@
 -- A day of the season, from the date that names it and back.
 use Rattle.std.proofs.Common.{◌≡◌, ℕ, ◌<◌, ◌≤◌, ◌-◌, ◌⊎◌, zero, suc, Bool, true, eqb, List, [], ◌∷◌, ◌++◌, length, length-append, get_or, subst, take, drop, Result, Ok, Err, refl, sym, ap, ◌∙◌, arith, inl, inr, pos}
+use Rattle.schedule_text.specs.Days.{IsDays}
+use Rattle.schedule_text.specs.Times.{two_digits}
 use Rattle.std.specs.Prelude.{IfOk, IfSome, IsSomeAnd, Option, Some, None, ◌≢◌}
 use Rattle.std.specs.Result.{result_ok}
 use Rattle.std.proofs.lemmas.List.{take_at, drop_at, take-append-drop}
@@ -11,8 +13,7 @@ use Rattle.season_days.specs.Term.{Term}
 use Rattle.season_days.specs.Seasons.{NamesDate, IsDayNamed, year_of_month, first_year, dates_of}
 use Rattle.season_days.specs.declared.day.Day.{Day}
 use Rattle.season_days.specs.declared.day.DayFault.{DayFault}
-use Rattle.scr_reader.specs.Bytes.{two_digits}
-use Rattle.scr_reader.specs.Parts.{month_names, month_text, SpellsDay, IsTwoDays, IsPeriod, IsDays}
+use Rattle.scr_reader.specs.Parts.{month_names, month_text, SpellsDay, IsTwoDays, IsPeriod}
 use Rattle.scr_reader.specs.Shapes.{NamesPeriod}
 use Rattle.season_days.specs.declared.day.Period.{Period}
 

@@ -1,5 +1,6 @@
 -- A field that has not its form, for each kind of field.
 use Rattle.std.proofs.Common.{◌≡◌, ℕ, suc, true, List, [], ◌∷◌, take, Some, None, refl, sym, arith, subst}
+use Rattle.schedule_text.specs.Days.{IsDays}
 use Rattle.std.specs.Prelude.{Option, ◌≢◌, slice_get, IsSomeAnd}
 use Rattle.season_days.specs.Term.{Term}
 use Rattle.season_days.specs.Seasons.{dates_of}
@@ -11,7 +12,7 @@ use Rattle.scr_reader.specs.declared.line.Stop.{Stop}
 use Rattle.scr_reader.specs.declared.line.Code.{Code}
 use Rattle.scr_reader.specs.declared.line.Flight.{Flight}
 use Rattle.scr_reader.specs.Bytes.{is_letter}
-use Rattle.scr_reader.specs.Parts.{IsFlight, IsPeriod, IsDays, IsSeats, IsArrivalGroup, IsDepartureGroup}
+use Rattle.scr_reader.specs.Parts.{IsFlight, IsPeriod, IsSeats, IsArrivalGroup, IsDepartureGroup}
 use Rattle.scr_reader.specs.Shapes.{Shape, parts_of, shape_of, code_and_flight, code_alone, departing_flight, dates, weekdays, seats_and_craft, arrival_group, departure_group, departure_group_with_nights, arrival_service, departure_service, both_services, Agree, At, IsFaultyField, IsCodeAndFlight, IsCodeAlone, IsService, IsBothServices, IsLaterGroup, HasShape}
 use Rattle.scr_reader.proofs.AgreeLemmas.{said_in, faulty}
 use Rattle.scr_reader.proofs.DayLemmas.{same_day}

@@ -1,5 +1,6 @@
 -- A printed line is one line of a text.
 use Rattle.std.proofs.Common.{◌≡◌, ℕ, ◌≤◌, false, eqb, List, [], ◌∷◌, ◌++◌, Some, None, ap, arith, refl}
+use Rattle.schedule_text.specs.Days.{days_text}
 use Rattle.std.specs.Prelude.{Option}
 use Rattle.std.proofs.lemmas.Bool.{ne_eqb}
 use Rattle.slot_text.specs.Lines.{onto_first, lines_of}
@@ -8,7 +9,7 @@ use Rattle.scr_reader.specs.declared.line.Code.{Code}
 use Rattle.scr_reader.specs.declared.line.Line.{Line}
 use Rattle.scr_reader.specs.declared.line.Stop.{Stop}
 use Rattle.scr_reader.specs.Bytes.{three_digits}
-use Rattle.scr_reader.specs.Parts.{days_text, ThreeLettersOrDigits}
+use Rattle.scr_reader.specs.Parts.{ThreeLettersOrDigits}
 use Rattle.scr_reader.specs.Rows.{is_empty_line}
 use Rattle.scr_reader.specs.Printed.{code_letter, dates_text, fields_by, joined, line_text, StopsFit, LineFits}
 use Rattle.scr_reader.proofs.TrimLemmas.{not_blank}

@@ -1,14 +1,14 @@
 -- Nights and rising digits, from their spelling back to their value.
-use Rattle.std.proofs.Common.{◌≡◌, ℕ, zero, suc, ◌-◌, ◌<◌, ◌≤◌, true, false, eqb, List, [], ◌∷◌, ◌++◌, refl, sym, ap, ◌∙◌, arith, inl, inr, Some, None}
-use Rattle.std.specs.Prelude.{Bool, length, nat_lt, Option, ◌==◌}
-use Rattle.std.proofs.Math.Bool.{◌&&◌, ◌||◌}
-use Rattle.std.proofs.lemmas.Bool.{cases_Bool, eqb-true, eqb-false, both_ways}
+use Rattle.std.proofs.Common.{◌≡◌, ℕ, ◌-◌, ◌<◌, true, false, List, [], ◌∷◌, ◌++◌, refl, sym, ap, ◌∙◌, arith, inl, inr, Some, None}
+use Rattle.schedule_text.specs.Times.{digit}
+use Rattle.std.specs.Prelude.{Option}
+use Rattle.std.proofs.lemmas.Bool.{cases_Bool}
 use Rattle.std.proofs.lemmas.Bool.Decides.{nat_tests}
 use Rattle.slot_text.specs.Stations.{IsStation}
 use Rattle.slot_text.specs.declared.station.Station.{Station}
-use Rattle.scr_reader.specs.Bytes.{is_digit, digit}
-use Rattle.scr_reader.specs.Parts.{IsNights, StationsFit, stations_text, rising_text}
-use Rattle.scr_reader.specs.FieldForms.{leading_nights, after_nights, digit_bits}
+use Rattle.scr_reader.specs.Bytes.{is_digit}
+use Rattle.scr_reader.specs.Parts.{IsNights, StationsFit, stations_text}
+use Rattle.scr_reader.specs.FieldForms.{leading_nights, after_nights}
 
 -- ---- nights
 
@@ -50,35 +50,3 @@ nights_again nights text n near far (inr one) fits e =
     let is = digit_is n one.0 in
     let whole : text ≡ digit n ∷ stations_text near far = e ∙ ap (λ (l : List ℕ). l ++ stations_text near far) one.1 in
     (rw (whole, is.0) is.1, rw (whole, is.0) refl)
-
--- ---- rising digits
-
-all_below : (ℕ → Bool) → ℕ → Bool
-all_below p zero = true
-all_below p (suc n) = p n && all_below p n
-
-and_both : (a b : Bool) → (a && b) ≡ true → (a ≡ true) × (b ≡ true)
-and_both true b e = (refl, e)
-and_both false b e = absurd (both_ways false refl e)
-
-all_holds : (p : ℕ → Bool) (n k : ℕ) → all_below p n ≡ true → k < n → p k ≡ true
-unfolding all_below
-all_holds p zero k all lt = absurd (omega (arith, lt))
-all_holds p (suc n) k all lt =
-    let both = and_both (p n) (all_below p n) all in
-    elim (cases_Bool (eqb k n)) [
-      | inl same ↦ rw (eqb-true k n same) both.0
-      | inr other ↦ all_holds p n k both.1 (omega (arith, lt, eqb-false k n other))
-    ]
-
-bits_or_long : ℕ → Bool
-bits_or_long days = (digit_bits (rising_text days) == days) || nat_lt 6 (length (rising_text days))
-
-pub rising_again : (days : ℕ) → days < 128 → length (rising_text days) ≤ 6 → digit_bits (rising_text days) ≡ days
-unfolding all_below bits_or_long
-rising_again days lt short =
-    let holds : bits_or_long days ≡ true = all_holds bits_or_long 128 days refl lt in
-    elim (cases_Bool (eqb (digit_bits (rising_text days)) days)) [
-      | inl same ↦ eqb-true _ _ same
-      | inr other ↦ absurd (grind (arith, nat_tests, holds, other, short))
-    ]

@@ -1,5 +1,7 @@
 -- What is printed is read again.
 use Rattle.std.proofs.Common.{◌≡◌, ◌≢◌, ◌↔◌, ℕ, zero, suc, ◌+◌, ◌-◌, ◌*◌, ◌/◌, ◌%◌, ◌<◌, ◌≤◌, Bool, true, false, ltb, leb, List, [], ◌∷◌, ◌++◌, length, length-append, get_or, Some, None, refl, sym, ap, subst, ◌∙◌, arith, inl, inr}
+use Rattle.schedule_text.specs.Days.{days_text}
+use Rattle.schedule_text.specs.Times.{time_text, digit, two_digits}
 use Rattle.std.specs.Prelude.{Option, ◌==◌}
 use Rattle.std.proofs.Math.Bool.{◌&&◌, ◌||◌}
 use Rattle.std.proofs.lemmas.Bool.{cases_Bool, ne_eqb, and_parts, ltb-true, leb-true}
@@ -16,8 +18,8 @@ use Rattle.scr_reader.specs.declared.line.Craft.{Craft}
 use Rattle.scr_reader.specs.declared.line.Flight.{Flight}
 use Rattle.scr_reader.specs.declared.line.Code.{Code}
 use Rattle.scr_reader.specs.declared.line.Code.TheVariants.{N, B, F, C, R, L, D, A, Z, K, H, O, U, W, X}
-use Rattle.scr_reader.specs.Bytes.{is_letter, is_digit, digit, two_digits, three_digits, four_digits}
-use Rattle.scr_reader.specs.Parts.{AirlineFits, airline_text, NamesNumber, suffix_text, IsFlight, begins_with_flight, month_names, month_text, SpellsDay, IsPeriod, days_text, ThreeLettersOrDigits, time_text, StationsFit, stations_text, IsNights}
+use Rattle.scr_reader.specs.Bytes.{is_letter, is_digit, three_digits, four_digits}
+use Rattle.scr_reader.specs.Parts.{AirlineFits, airline_text, NamesNumber, suffix_text, IsFlight, begins_with_flight, month_names, month_text, SpellsDay, IsPeriod, ThreeLettersOrDigits, StationsFit, stations_text, IsNights}
 use Rattle.scr_reader.specs.Shapes.{arrival, departure, turnaround, shape_of, arrival_service, departure_service, both_services, IsLine}
 use Rattle.scr_reader.specs.Rows.{is_remark, is_question, line_fields, most_bytes, entry, IsRow}
 use Rattle.scr_reader.specs.Printed.{code_letter, number_text, flight_text, nights_text, arrival_group_text, departure_group_text, day_text, dates_text, joined, line_text, FlightFits, StopFits, LineFits, IsAsked, PrintsBack}

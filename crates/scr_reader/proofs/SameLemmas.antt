@@ -1,5 +1,6 @@
 -- Two lines that the same fields spell are the same.
 use Rattle.std.proofs.Common.{◌≡◌, ◌≢◌, ℕ, true, List, [], ◌∷◌, Some, None, Ok, Result, refl, sym, ap, subst, ◌∙◌, arith}
+use Rattle.schedule_text.specs.Days.{IsDays}
 use Rattle.std.specs.Prelude.{Option, IsSome, IsSomeAnd, slice_get}
 use Rattle.season_days.specs.Term.{Term}
 use Rattle.season_days.specs.Seasons.{dates_of}
@@ -12,7 +13,7 @@ use Rattle.scr_reader.specs.declared.line.Code.{Code}
 use Rattle.scr_reader.specs.declared.line.Craft.{Craft}
 use Rattle.scr_reader.specs.declared.line.Flight.{Flight}
 use Rattle.scr_reader.specs.Bytes.{is_letter}
-use Rattle.scr_reader.specs.Parts.{IsFlight, IsPeriod, IsDays, IsSeats, IsArrivalGroup, IsDepartureGroup}
+use Rattle.scr_reader.specs.Parts.{IsFlight, IsPeriod, IsSeats, IsArrivalGroup, IsDepartureGroup}
 use Rattle.scr_reader.specs.Shapes.{arrival, departure, turnaround, parts_of, shape_of, IsLine, code_and_flight, code_alone, departing_flight, dates, weekdays, seats_and_craft, arrival_group, departure_group, departure_group_with_nights, arrival_service, departure_service, both_services, At, IsCodeAndFlight, IsCodeAlone, IsService, IsBothServices, IsLaterGroup}
 use Rattle.scr_reader.proofs.AgreeLemmas.{said_in, shape_said}
 use Rattle.scr_reader.proofs.DayLemmas.{same_day}

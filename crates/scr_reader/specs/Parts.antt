@@ -1,9 +1,10 @@
 -- The parts of a data line: what a field has to be to say a value.
-use Rattle.std.specs.Prelude.{◌≡◌, ◌⊎◌, ℕ, zero, suc, ◌+◌, ◌-◌, ◌*◌, ◌/◌, ◌%◌, ◌<◌, ◌≤◌, Bool, true, false, ◌&&◌, ◌||◌, ◌==◌, if◌then◌else◌, List, [], ◌∷◌, ◌++◌, length, fold, slice_index_or, Option, Some, None, codes, pos}
+use Rattle.std.specs.Prelude.{◌≡◌, ◌⊎◌, ℕ, zero, suc, ◌+◌, ◌-◌, ◌*◌, ◌<◌, ◌≤◌, Bool, true, false, ◌&&◌, ◌||◌, ◌==◌, if◌then◌else◌, List, [], ◌∷◌, ◌++◌, length, fold, slice_index_or, Option, Some, None, codes, pos}
+use Rattle.schedule_text.specs.Times.{digit, two_digits, time_text}
 use Rattle.jiff_core.specs.Calendar.{days_in_month}
-use Rattle.scr_reader.specs.Bytes.{is_letter, is_digit, is_letter_or_digit, digit, two_digits, three_digits}
+use Rattle.scr_reader.specs.Bytes.{is_letter, is_digit, is_letter_or_digit, three_digits}
 use Rattle.season_days.specs.Term.{Term}
-use Rattle.season_days.specs.Seasons.{IsDayNamed, has_weekday}
+use Rattle.season_days.specs.Seasons.{IsDayNamed}
 use Rattle.slot_text.specs.Stations.{IsStation}
 use Rattle.slot_text.specs.declared.station.Station.{Station}
 use Rattle.scr_reader.specs.declared.line.Flight.{Flight}
@@ -115,27 +116,6 @@ pub record IsPeriod (season : Term) (text : List ℕ) (first last : ℕ) : Type 
   pub dates : IsTwoDays season text first last ⊎ (SpellsDay season text first × (last ≡ first))
   pub ordered : first ≤ last
 
--- ---- days of operation
-
--- seven places: the digit of a weekday that is in the set, and 0 for one that isn't
-abbrev pub place_of_day : ℕ → ℕ → ℕ
-place_of_day days weekday = if has_weekday days weekday then 48 + weekday else 48
-
-abbrev pub days_text : ℕ → List ℕ
-days_text days = place_of_day days 1 ∷ place_of_day days 2 ∷ place_of_day days 3 ∷ place_of_day days 4 ∷ place_of_day days 5 ∷ place_of_day days 6 ∷ place_of_day days 7 ∷ []
-
--- the digits of the weekdays that are in the set, rising
-abbrev pub rising_digit : ℕ → ℕ → List ℕ
-rising_digit days weekday = if has_weekday days weekday then (48 + weekday) ∷ [] else []
-
-abbrev pub rising_text : ℕ → List ℕ
-rising_text days = rising_digit days 1 ++ (rising_digit days 2 ++ (rising_digit days 3 ++ (rising_digit days 4 ++ (rising_digit days 5 ++ (rising_digit days 6 ++ rising_digit days 7)))))
-
--- the text names this set of weekdays: seven places, or one to six rising digits
-pub record IsDays (text : List ℕ) (days : ℕ) : Type 0 where
-  pub week : days < 128
-  pub spelled : (text ≡ days_text days) ⊎ ((text ≡ rising_text days) × (1 ≤ length text) × (length text ≤ 6))
-
 -- ---- seats and craft, stations, times
 
 abbrev pub ThreeLettersOrDigits : List ℕ → Type 0
@@ -146,10 +126,6 @@ pub record IsSeats (text : List ℕ) (seats : ℕ) (craft : List ℕ) : Type 0 w
   pub few : seats < 1000
   pub kind : ThreeLettersOrDigits craft
   pub spelled : text ≡ three_digits seats ++ craft
-
--- hours and minutes
-abbrev pub time_text : ℕ → List ℕ
-time_text minute = two_digits (minute / 60) ++ two_digits (minute % 60)
 
 abbrev pub StationsFit : Station → Option Station → Type 0
 StationsFit near None = IsStation near.0

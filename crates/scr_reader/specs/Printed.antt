@@ -1,12 +1,14 @@
 -- The one printed spelling of a line and of a message, and which values have one.
 use Rattle.std.specs.Prelude.{◌≡◌, ◌≢◌, ℕ, zero, suc, ◌+◌, ◌*◌, ◌<◌, ◌≤◌, true, nat_lt, if◌then◌else◌, List, [], ◌∷◌, ◌++◌, Option, Some, None, codes}
+use Rattle.schedule_text.specs.Days.{days_text}
+use Rattle.schedule_text.specs.Times.{time_text, digit}
 use Rattle.slot_text.specs.Ended.{ended}
 use Rattle.scr_reader.specs.Rows.{entry, IsRow}
 use Rattle.season_days.specs.Term.{Term}
 use Rattle.season_days.specs.Seasons.{season_text, date_at, date_count, dates_of}
 use Rattle.season_days.specs.declared.day.Period.{Period}
-use Rattle.scr_reader.specs.Bytes.{is_letter, digit, three_digits, four_digits}
-use Rattle.scr_reader.specs.Parts.{code_of, AirlineFits, airline_text, SuffixFits, suffix_text, date_text, days_text, time_text, StationsFit, stations_text, ThreeLettersOrDigits}
+use Rattle.scr_reader.specs.Bytes.{is_letter, three_digits, four_digits}
+use Rattle.scr_reader.specs.Parts.{code_of, AirlineFits, airline_text, SuffixFits, suffix_text, date_text, StationsFit, stations_text, ThreeLettersOrDigits}
 use Rattle.scr_reader.specs.declared.line.Line.{Line}
 use Rattle.scr_reader.specs.declared.line.Stop.{Stop}
 use Rattle.scr_reader.specs.declared.line.Flight.{Flight}

@@ -1,5 +1,6 @@
 -- The three shapes of a data line, what each field says about the line, and the first field that says nothing.
 use Rattle.std.specs.Prelude.{◌≡◌, ◌≢◌, ℕ, ◌+◌, ◌-◌, ◌*◌, ◌<◌, ◌≤◌, Bool, true, ◌==◌, if◌then◌else◌, List, [], ◌∷◌, length, take, Option, Some, None, IsSomeAnd, IsSome}
+use Rattle.schedule_text.specs.Days.{IsDays}
 use Rattle.slot_text.specs.Fields.{field_at}
 use Rattle.slot_text.specs.declared.station.Station.{Station}
 use Rattle.scr_reader.specs.declared.line.Flight.{Flight}
@@ -8,7 +9,7 @@ use Rattle.season_days.specs.Term.{Term}
 use Rattle.season_days.specs.declared.day.Period.{Period}
 use Rattle.season_days.specs.Seasons.{dates_of}
 use Rattle.scr_reader.specs.Bytes.{is_letter}
-use Rattle.scr_reader.specs.Parts.{code_of, IsFlight, begins_with_flight, IsPeriod, IsDays, IsSeats, IsArrivalGroup, IsDepartureGroup, IsNights}
+use Rattle.scr_reader.specs.Parts.{code_of, IsFlight, begins_with_flight, IsPeriod, IsSeats, IsArrivalGroup, IsDepartureGroup, IsNights}
 use Rattle.scr_reader.specs.declared.line.Line.{Line}
 use Rattle.scr_reader.specs.declared.line.Stop.{Stop}
 

@@ -1,11 +1,12 @@
 ghost use Rattle.std.specs.Prelude.{◌≡◌, ◌≢◌, ◌∷◌, [], List, ℕ, IfOk, IfErr, Ok, IsOkAnd, IfSome, Some, IsSome, None, true, Option};
+ghost use Rattle.schedule_text.specs.Days.{IsDays};
 ghost use Rattle.scr_reader.specs.Bytes.{is_letter};
 ghost use Rattle.season_days.specs.declared.day.Period.{Period as PeriodValue};
 ghost use Rattle.scr_reader.specs.declared.line.Code.{Code as CodeValue};
 ghost use Rattle.slot_text.specs.declared.station.Station.{Station as StationValue};
 ghost use Rattle.slot_text.specs.Fields.{field_at};
 ghost use Rattle.season_days.specs.Seasons.{dates_of};
-ghost use Rattle.scr_reader.specs.Parts.{IsFlight, IsPeriod, IsDays, IsSeats, IsArrivalGroup, IsDepartureGroup};
+ghost use Rattle.scr_reader.specs.Parts.{IsFlight, IsPeriod, IsSeats, IsArrivalGroup, IsDepartureGroup};
 ghost use Rattle.scr_reader.specs.Shapes.{At, IsCodeAndFlight, IsCodeAlone, IsLaterGroup};
 ghost use Rattle.scr_reader.specs.declared.line.Flight.{Flight as FlightValue};
 

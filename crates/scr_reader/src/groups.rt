@@ -1,14 +1,13 @@
 ghost use Rattle.std.specs.Prelude.{◌≡◌, ◌<◌, ◌≤◌, ◌++◌, ◌∷◌, [], ℕ, List, IfSome, Some, IsSomeAnd, Option, true};
 ghost use Rattle.scr_reader.specs.Bytes.{is_letter, three_digits};
-ghost use Rattle.scr_reader.specs.Parts.{ThreeLettersOrDigits, StationsFit, stations_text, time_text, IsSeats, IsArrivalGroup, IsDepartureGroup, IsNights};
+ghost use Rattle.scr_reader.specs.Parts.{ThreeLettersOrDigits, StationsFit, stations_text, IsSeats, IsArrivalGroup, IsDepartureGroup, IsNights};
 ghost use Rattle.scr_reader.specs.FieldForms.{leading_nights, after_nights};
 ghost use Rattle.slot_text.specs.declared.station.Station.{Station as StationValue};
 
-use crate::bytes::{is_letter_byte, is_letter_or_digit_byte, read_three_digits, read_two_digits};
+use crate::bytes::{is_letter_byte, is_letter_or_digit_byte, read_three_digits};
 use crate::line::Craft;
+use schedule_text::read_time;
 use slot_text::Station;
-
-const HOURS_OF_DAY: u8 = 24;
 
 /// Seats, and the type of aircraft.
 pub(crate) fn read_seats(text: &[u8]) -> Option<(u16, Craft)>
@@ -36,25 +35,6 @@ fn read_craft(text: &[u8]) -> Option<Craft>
     } else {
         None
     }
-}
-
-fn read_time(text: &[u8]) -> Option<u16>
-    ensures found { IfSome result (λ minute. (minute < 1440) × (text.now ≡ time_text minute)) }
-    ensures only { (minute : ℕ) → minute < 1440 → text.now ≡ time_text minute → result ≡ Some minute }
-{
-    if text.len() != 4 {
-        return None;
-    }
-    let (front, back) = text.split_at(2);
-    let hour = read_two_digits(front)?;
-    let minute = read_two_digits(back)?;
-    if hour >= HOURS_OF_DAY {
-        return None;
-    }
-    if minute >= 60 {
-        return None;
-    }
-    Some(60 * u16::from(hour) + u16::from(minute))
 }
 
 /// Stations, then a time.

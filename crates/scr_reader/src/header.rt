@@ -11,10 +11,10 @@ ghost use Rattle.scr_reader.specs.Rows.{trimmed};
 ghost use Rattle.scr_reader.specs.Texts.{texts_in};
 ghost use Rattle.scr_reader.specs.Messages.{parts_from_season, IsShort, has_address, header_parts, header_length, season_place, HeaderAgrees, IsMissingOrLong, IsPartFault, IsHeaderFault, title, address, season_name, date_name, airport_name};
 
-use crate::bytes::read_two_digits;
 use crate::fault::ScrFault;
 use crate::period::read_month;
 use crate::rows::{MOST_BYTES, trim};
+use schedule_text::read_two_digits;
 use season_days::Season;
 use slot_text::Station;
 

@@ -4,7 +4,6 @@
 mod at;
 mod bytes;
 mod cut;
-mod days;
 mod fault;
 mod fields;
 mod fits;
@@ -25,7 +24,6 @@ mod shapes;
 mod texts;
 
 pub use cut::cut_messages;
-pub use days::read_weekdays;
 pub use fault::ScrFault;
 pub use flight::read_flight;
 pub use line::{Code, Craft, Flight, Item, Line, Stop};

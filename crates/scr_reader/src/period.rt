@@ -1,11 +1,11 @@
 ghost use Rattle.std.specs.Prelude.{◌≡◌, ◌≢◌, ◌<◌, ◌≤◌, ℕ, IfSome, Some, IsSomeAnd, IsTrue, IfOk, IsErr, ◌⊎◌, [], ◌↔◌, ◌++◌, Ok};
+ghost use Rattle.schedule_text.specs.Days.{IsDays};
 ghost use Rattle.season_days.specs.Seasons.{dates_of};
 ghost use Rattle.season_days.specs.declared.day.Period.{Period as PeriodValue};
-ghost use Rattle.scr_reader.specs.Parts.{month_text, date_text, SpellsDay, IsPeriod, IsDays};
+ghost use Rattle.scr_reader.specs.Parts.{month_text, date_text, SpellsDay, IsPeriod};
 ghost use Rattle.scr_reader.specs.Shapes.{NamesPeriod};
 
-use crate::bytes::read_two_digits;
-use crate::days::read_weekdays;
+use schedule_text::{read_two_digits, read_weekdays};
 use season_days::laws::period_dates;
 use season_days::{Day, Period, Season};
 use slot_text::Memory;

@@ -1,17 +1,17 @@
 ghost use Rattle.std.specs.Prelude.{◌≡◌, ◌<◌, ◌++◌, ◌∷◌, [], ℕ, OnOk, OnErr, IfOk, Some, None};
+ghost use Rattle.schedule_text.specs.Days.{days_text};
 ghost use Rattle.slot_text.specs.Ended.{ended};
 ghost use Rattle.season_days.specs.Seasons.{date_count};
 ghost use Rattle.scr_reader.specs.Bytes.{three_digits};
-ghost use Rattle.scr_reader.specs.Parts.{days_text};
 ghost use Rattle.scr_reader.specs.Printed.{code_letter, flight_text, arrival_group_text, departure_group_text, dates_text, fields_by, joined, line_text, LineFits, header_lines};
 
-use crate::days::places_of;
 use crate::line::{Code, Line, Stop};
 use crate::message::Message;
 use crate::put::{
     last_three, letter_of, put, put_arrival_group, put_date, put_day, put_departure_group,
     put_flight,
 };
+use schedule_text::places_of;
 use season_days::Season;
 use slot_text::Memory;
 use std::alloc::Global;

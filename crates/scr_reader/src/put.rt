@@ -1,7 +1,9 @@
 ghost use Rattle.std.specs.Prelude.{◌≡◌, ◌<◌, ◌++◌, ◌∷◌, [], ℕ, OnOk};
+ghost use Rattle.schedule_text.specs.Days.{days_text};
+ghost use Rattle.schedule_text.specs.Times.{time_text, two_digits};
 ghost use Rattle.season_days.specs.Seasons.{date_count};
-ghost use Rattle.scr_reader.specs.Bytes.{two_digits, three_digits, four_digits};
-ghost use Rattle.scr_reader.specs.Parts.{airline_text, suffix_text, month_text, date_text, days_text, time_text, stations_text};
+ghost use Rattle.scr_reader.specs.Bytes.{three_digits, four_digits};
+ghost use Rattle.scr_reader.specs.Parts.{airline_text, suffix_text, month_text, date_text, stations_text};
 ghost use Rattle.scr_reader.specs.Printed.{code_letter, number_text, flight_text, nights_text, arrival_group_text, departure_group_text, day_text};
 
 use crate::line::{Code, Flight, Stop};

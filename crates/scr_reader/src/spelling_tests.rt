@@ -173,7 +173,5 @@ fn parts_of_lines_are_read(rt: HostRuntime) -> Result<(), Fail> {
         Some(period)
     );
     assert_eq!(rt; read_period(&season, b"31MAR", b"2")?, None);
-    assert_eq!(rt; read_weekdays(b"67"), Some(96));
-    assert_eq!(rt; read_weekdays(b"76"), None);
     Ok(())
 }

@@ -18,7 +18,9 @@ use Rattle.season_days.specs.declared.declaration.Kind.TheVariants.{Arr}
 use Rattle.slot_text.specs.Ended.{ended, ended_lines}
 use Rattle.slot_text.specs.Forms.{IsFirstBadLine}
 use Rattle.slot_program.specs.Cutting.{Lacks, AreFields}
-use Rattle.slot_program.specs.Capacity.{is_step, IsFlex, IsRule, IsDays, IsDeclaration, placed_days, clock_text, rule_fields, airport_line, season_line, step_line, flex_line, ground_line, refuse_line, rule_line, capacity_lines, IsCapacityText, IsCapacityForm}
+use Rattle.schedule_text.specs.Days.{IsDays, days_text}
+use Rattle.schedule_text.specs.Times.{time_text}
+use Rattle.slot_program.specs.Capacity.{is_step, IsFlex, IsRule, IsDeclaration, rule_fields, airport_line, season_line, step_line, flex_line, ground_line, refuse_line, rule_line, capacity_lines, IsCapacityText, IsCapacityForm}
 use Rattle.slot_program.proofs.CuttingLemmas.{lacks_append, cut_once, lacks_by}
 use Rattle.slot_program.proofs.HighLemmas.{high_lacks, high_decimal, high_clock, high_station, high_season, high_days}
 use Rattle.slot_program.proofs.EndedLemmas.{lines_then, AllLack, begins_with, peel, next_line, no_line}
@@ -46,12 +48,12 @@ step_bound n is = (step_small n is, grind (arith, nat_tests, is))
 
 -- ---- the fields of the capacity line
 
-pub rule_are_fields : (rule : Rule) (days : List ℕ) → IsRule rule → IsDays days rule.days → AreFields (rule_fields rule days) (decimal rule.length) (clock_text rule.from) (clock_text rule.to) days (decimal rule.limit)
+pub rule_are_fields : (rule : Rule) (days : List ℕ) → IsRule rule → IsDays days rule.days → AreFields (rule_fields rule days) (decimal rule.length) (time_text rule.from) (time_text rule.to) days (decimal rule.limit)
 rule_are_fields rule days is named =
     record {
       first = number_lacks 32 rule.length (omega arith) (omega (arith, is.at_most_a_day));
-      second = high_lacks 32 (clock_text rule.from) (omega arith) (high_clock rule.from);
-      third = high_lacks 32 (clock_text rule.to) (omega arith) (high_clock rule.to);
+      second = high_lacks 32 (time_text rule.from) (omega arith) (high_clock rule.from);
+      third = high_lacks 32 (time_text rule.to) (omega arith) (high_clock rule.to);
       fourth = high_lacks 32 days (omega arith) (high_days days rule.days named);
       parts = refl;
     }
@@ -68,11 +70,11 @@ pub rule_lacks : (rule : Rule) (days : List ℕ) → IsRule rule → IsDays days
 rule_lacks rule days is named =
     let tail4 : Lacks 10 (32 ∷ decimal rule.limit) = ((lacks_by 10 (32 ∷ []) refl).0, number_lacks 10 rule.limit (omega arith) is.small) in
     let tail3 : Lacks 10 (32 ∷ (days ++ (32 ∷ decimal rule.limit))) = ((lacks_by 10 (32 ∷ []) refl).0, lacks_append 10 days (32 ∷ decimal rule.limit) (high_lacks 10 days (omega arith) (high_days days rule.days named)) tail4) in
-    let tail2 : Lacks 10 (32 ∷ (clock_text rule.to ++ (32 ∷ (days ++ (32 ∷ decimal rule.limit))))) =
-    ((lacks_by 10 (32 ∷ []) refl).0, lacks_append 10 (clock_text rule.to) (32 ∷ (days ++ (32 ∷ decimal rule.limit))) (high_lacks 10 (clock_text rule.to) (omega arith) (high_clock rule.to)) tail3) in
-    let tail1 : Lacks 10 (32 ∷ (clock_text rule.from ++ (32 ∷ (clock_text rule.to ++ (32 ∷ (days ++ (32 ∷ decimal rule.limit))))))) =
-    ((lacks_by 10 (32 ∷ []) refl).0, lacks_append 10 (clock_text rule.from) (32 ∷ (clock_text rule.to ++ (32 ∷ (days ++ (32 ∷ decimal rule.limit))))) (high_lacks 10 (clock_text rule.from) (omega arith) (high_clock rule.from)) tail2) in
-    lacks_append 10 (decimal rule.length) (32 ∷ (clock_text rule.from ++ (32 ∷ (clock_text rule.to ++ (32 ∷ (days ++ (32 ∷ decimal rule.limit))))))) (number_lacks 10 rule.length (omega arith) (omega (arith, is.at_most_a_day))) tail1
+    let tail2 : Lacks 10 (32 ∷ (time_text rule.to ++ (32 ∷ (days ++ (32 ∷ decimal rule.limit))))) =
+    ((lacks_by 10 (32 ∷ []) refl).0, lacks_append 10 (time_text rule.to) (32 ∷ (days ++ (32 ∷ decimal rule.limit))) (high_lacks 10 (time_text rule.to) (omega arith) (high_clock rule.to)) tail3) in
+    let tail1 : Lacks 10 (32 ∷ (time_text rule.from ++ (32 ∷ (time_text rule.to ++ (32 ∷ (days ++ (32 ∷ decimal rule.limit))))))) =
+    ((lacks_by 10 (32 ∷ []) refl).0, lacks_append 10 (time_text rule.from) (32 ∷ (time_text rule.to ++ (32 ∷ (days ++ (32 ∷ decimal rule.limit))))) (high_lacks 10 (time_text rule.from) (omega arith) (high_clock rule.from)) tail2) in
+    lacks_append 10 (decimal rule.length) (32 ∷ (time_text rule.from ++ (32 ∷ (time_text rule.to ++ (32 ∷ (days ++ (32 ∷ decimal rule.limit))))))) (number_lacks 10 rule.length (omega arith) (omega (arith, is.at_most_a_day))) tail1
 
 -- ---- all lines
 
@@ -136,7 +138,7 @@ some_rule = record { kind = Arr; length = 1; from = 0; to = 0; days = 1; limit =
 pub some_rule_is : IsRule some_rule
 some_rule_is = record { kind = refl; some_minutes = omega arith; at_most_a_day = omega arith; ordered = omega arith; in_day = omega arith; some_weekday = omega arith; some_arrival = omega arith; small = omega arith }
 
-pub some_days_are : IsDays (placed_days 1) 1
+pub some_days_are : IsDays (days_text 1) 1
 some_days_are = record { week = omega arith; spelled = inl refl }
 
 pub no_flex : (step : ℕ) → IsFlex step 0
@@ -181,62 +183,62 @@ same_step step other one two e = decimal_injective step other (omega (arith, ste
 
 pub bad_1 : (text : List ℕ) → ((station tail : List ℕ) → IsStation station → text ≡ airport_line station ++ (10 ∷ tail) → ⊥) → IsFirstBadLine IsCapacityForm text 1
 bad_1 text none =
-    let v : HasValues some_airport some_season 5 0 0 some_rule (placed_days 1) = record { airport_is = some_airport_is; season_is = omega arith; step_is = refl; flex_is = no_flex 5; ground_is = omega arith; rule_is = some_rule_is; days_are = some_days_are } in
-    bad_line some_airport some_season 5 0 0 some_rule (placed_days 1) v text ([]) (drop 0 (value_lines some_airport some_season 5 0 0 some_rule (placed_days 1))) text refl tt (omega arith) (refl)
+    let v : HasValues some_airport some_season 5 0 0 some_rule (days_text 1) = record { airport_is = some_airport_is; season_is = omega arith; step_is = refl; flex_is = no_flex 5; ground_is = omega arith; rule_is = some_rule_is; days_are = some_days_are } in
+    bad_line some_airport some_season 5 0 0 some_rule (days_text 1) v text ([]) (drop 0 (value_lines some_airport some_season 5 0 0 some_rule (days_text 1))) text refl tt (omega arith) (refl)
     (λ d r ds fits named same e.
     let next = next_line text (airport_line d.airport.0) _ (all_lack d r ds fits named).0 e in
     none d.airport.0 next.0 fits.airport next.1)
 
 pub bad_2 : (text rest1 : List ℕ) (airport : Station) → IsStation airport.0 → text ≡ airport_line airport.0 ++ (10 ∷ rest1) → ((other : Term) (tail : List ℕ) → other.year < 100 → rest1 ≡ season_line other ++ (10 ∷ tail) → ⊥) → IsFirstBadLine IsCapacityForm text 2
 bad_2 text rest1 airport airport_is e1 none =
-    let v : HasValues airport some_season 5 0 0 some_rule (placed_days 1) = record { airport_is = airport_is; season_is = omega arith; step_is = refl; flex_is = no_flex 5; ground_is = omega arith; rule_is = some_rule_is; days_are = some_days_are } in
-    let all = all_lack (made airport some_season 5 0 0 some_rule) some_rule (placed_days 1) (declares airport some_season 5 0 0 some_rule (placed_days 1) v) v.days_are in
-    bad_line airport some_season 5 0 0 some_rule (placed_days 1) v text (airport_line airport.0 ∷ []) (drop 1 (value_lines airport some_season 5 0 0 some_rule (placed_days 1))) rest1 refl (all.0, tt) (omega arith) (e1)
+    let v : HasValues airport some_season 5 0 0 some_rule (days_text 1) = record { airport_is = airport_is; season_is = omega arith; step_is = refl; flex_is = no_flex 5; ground_is = omega arith; rule_is = some_rule_is; days_are = some_days_are } in
+    let all = all_lack (made airport some_season 5 0 0 some_rule) some_rule (days_text 1) (declares airport some_season 5 0 0 some_rule (days_text 1) v) v.days_are in
+    bad_line airport some_season 5 0 0 some_rule (days_text 1) v text (airport_line airport.0 ∷ []) (drop 1 (value_lines airport some_season 5 0 0 some_rule (days_text 1))) rest1 refl (all.0, tt) (omega arith) (e1)
     (λ d r ds fits named same e.
     let next = next_line rest1 (season_line d.season) _ (all_lack d r ds fits named).1.0 e in
     none d.season next.0 fits.season next.1)
 
 pub bad_3 : (text rest1 rest2 : List ℕ) (airport : Station) (season : Term) → IsStation airport.0 → season.year < 100 → text ≡ airport_line airport.0 ++ (10 ∷ rest1) → rest1 ≡ season_line season ++ (10 ∷ rest2) → ((other : ℕ) (tail : List ℕ) → is_step other ≡ true → rest2 ≡ step_line other ++ (10 ∷ tail) → ⊥) → IsFirstBadLine IsCapacityForm text 3
 bad_3 text rest1 rest2 airport season airport_is season_is e1 e2 none =
-    let v : HasValues airport season 5 0 0 some_rule (placed_days 1) = record { airport_is = airport_is; season_is = season_is; step_is = refl; flex_is = no_flex 5; ground_is = omega arith; rule_is = some_rule_is; days_are = some_days_are } in
-    let all = all_lack (made airport season 5 0 0 some_rule) some_rule (placed_days 1) (declares airport season 5 0 0 some_rule (placed_days 1) v) v.days_are in
-    bad_line airport season 5 0 0 some_rule (placed_days 1) v text (airport_line airport.0 ∷ season_line season ∷ []) (drop 2 (value_lines airport season 5 0 0 some_rule (placed_days 1))) rest2 refl (all.0, (all.1.0, tt)) (omega arith) (e1 ∙ then_line (airport_line airport.0) _ _ (e2))
+    let v : HasValues airport season 5 0 0 some_rule (days_text 1) = record { airport_is = airport_is; season_is = season_is; step_is = refl; flex_is = no_flex 5; ground_is = omega arith; rule_is = some_rule_is; days_are = some_days_are } in
+    let all = all_lack (made airport season 5 0 0 some_rule) some_rule (days_text 1) (declares airport season 5 0 0 some_rule (days_text 1) v) v.days_are in
+    bad_line airport season 5 0 0 some_rule (days_text 1) v text (airport_line airport.0 ∷ season_line season ∷ []) (drop 2 (value_lines airport season 5 0 0 some_rule (days_text 1))) rest2 refl (all.0, (all.1.0, tt)) (omega arith) (e1 ∙ then_line (airport_line airport.0) _ _ (e2))
     (λ d r ds fits named same e.
     let next = next_line rest2 (step_line d.step) _ (all_lack d r ds fits named).1.1.0 e in
     none d.step next.0 fits.step next.1)
 
 pub bad_4 : (text rest1 rest2 rest3 : List ℕ) (airport : Station) (season : Term) (step : ℕ) → IsStation airport.0 → season.year < 100 → is_step step ≡ true → text ≡ airport_line airport.0 ++ (10 ∷ rest1) → rest1 ≡ season_line season ++ (10 ∷ rest2) → rest2 ≡ step_line step ++ (10 ∷ rest3) → ((other : ℕ) (tail : List ℕ) → IsFlex step other → rest3 ≡ flex_line other ++ (10 ∷ tail) → ⊥) → IsFirstBadLine IsCapacityForm text 4
 bad_4 text rest1 rest2 rest3 airport season step airport_is season_is step_is e1 e2 e3 none =
-    let v : HasValues airport season step 0 0 some_rule (placed_days 1) = record { airport_is = airport_is; season_is = season_is; step_is = step_is; flex_is = no_flex step; ground_is = omega arith; rule_is = some_rule_is; days_are = some_days_are } in
-    let all = all_lack (made airport season step 0 0 some_rule) some_rule (placed_days 1) (declares airport season step 0 0 some_rule (placed_days 1) v) v.days_are in
-    bad_line airport season step 0 0 some_rule (placed_days 1) v text (airport_line airport.0 ∷ season_line season ∷ step_line step ∷ []) (drop 3 (value_lines airport season step 0 0 some_rule (placed_days 1))) rest3 refl (all.0, (all.1.0, (all.1.1.0, tt))) (omega arith) (e1 ∙ then_line (airport_line airport.0) _ _ (e2 ∙ then_line (season_line season) _ _ (e3)))
+    let v : HasValues airport season step 0 0 some_rule (days_text 1) = record { airport_is = airport_is; season_is = season_is; step_is = step_is; flex_is = no_flex step; ground_is = omega arith; rule_is = some_rule_is; days_are = some_days_are } in
+    let all = all_lack (made airport season step 0 0 some_rule) some_rule (days_text 1) (declares airport season step 0 0 some_rule (days_text 1) v) v.days_are in
+    bad_line airport season step 0 0 some_rule (days_text 1) v text (airport_line airport.0 ∷ season_line season ∷ step_line step ∷ []) (drop 3 (value_lines airport season step 0 0 some_rule (days_text 1))) rest3 refl (all.0, (all.1.0, (all.1.1.0, tt))) (omega arith) (e1 ∙ then_line (airport_line airport.0) _ _ (e2 ∙ then_line (season_line season) _ _ (e3)))
     (λ d r ds fits named same e.
     let next = next_line rest3 (flex_line d.flex) _ (all_lack d r ds fits named).1.1.1.0 e in
     let third : step_line step ≡ step_line d.step = cc in none d.flex next.0 (rw (same_step step d.step step_is fits.step third) fits.flex) next.1)
 
 pub bad_5 : (text rest1 rest2 rest3 rest4 : List ℕ) (airport : Station) (season : Term) (step : ℕ) (flex : ℕ) → IsStation airport.0 → season.year < 100 → is_step step ≡ true → IsFlex step flex → text ≡ airport_line airport.0 ++ (10 ∷ rest1) → rest1 ≡ season_line season ++ (10 ∷ rest2) → rest2 ≡ step_line step ++ (10 ∷ rest3) → rest3 ≡ flex_line flex ++ (10 ∷ rest4) → ((other : ℕ) (tail : List ℕ) → other ≤ 1440 → rest4 ≡ ground_line other ++ (10 ∷ tail) → ⊥) → IsFirstBadLine IsCapacityForm text 5
 bad_5 text rest1 rest2 rest3 rest4 airport season step flex airport_is season_is step_is flex_is e1 e2 e3 e4 none =
-    let v : HasValues airport season step flex 0 some_rule (placed_days 1) = record { airport_is = airport_is; season_is = season_is; step_is = step_is; flex_is = flex_is; ground_is = omega arith; rule_is = some_rule_is; days_are = some_days_are } in
-    let all = all_lack (made airport season step flex 0 some_rule) some_rule (placed_days 1) (declares airport season step flex 0 some_rule (placed_days 1) v) v.days_are in
-    bad_line airport season step flex 0 some_rule (placed_days 1) v text (airport_line airport.0 ∷ season_line season ∷ step_line step ∷ flex_line flex ∷ []) (drop 4 (value_lines airport season step flex 0 some_rule (placed_days 1))) rest4 refl (all.0, (all.1.0, (all.1.1.0, (all.1.1.1.0, tt)))) (omega arith) (e1 ∙ then_line (airport_line airport.0) _ _ (e2 ∙ then_line (season_line season) _ _ (e3 ∙ then_line (step_line step) _ _ (e4))))
+    let v : HasValues airport season step flex 0 some_rule (days_text 1) = record { airport_is = airport_is; season_is = season_is; step_is = step_is; flex_is = flex_is; ground_is = omega arith; rule_is = some_rule_is; days_are = some_days_are } in
+    let all = all_lack (made airport season step flex 0 some_rule) some_rule (days_text 1) (declares airport season step flex 0 some_rule (days_text 1) v) v.days_are in
+    bad_line airport season step flex 0 some_rule (days_text 1) v text (airport_line airport.0 ∷ season_line season ∷ step_line step ∷ flex_line flex ∷ []) (drop 4 (value_lines airport season step flex 0 some_rule (days_text 1))) rest4 refl (all.0, (all.1.0, (all.1.1.0, (all.1.1.1.0, tt)))) (omega arith) (e1 ∙ then_line (airport_line airport.0) _ _ (e2 ∙ then_line (season_line season) _ _ (e3 ∙ then_line (step_line step) _ _ (e4))))
     (λ d r ds fits named same e.
     let next = next_line rest4 (ground_line d.ground) _ (all_lack d r ds fits named).1.1.1.1.0 e in
     none d.ground next.0 fits.ground next.1)
 
 pub bad_6 : (text rest1 rest2 rest3 rest4 rest5 : List ℕ) (airport : Station) (season : Term) (step : ℕ) (flex : ℕ) (ground : ℕ) → IsStation airport.0 → season.year < 100 → is_step step ≡ true → IsFlex step flex → ground ≤ 1440 → text ≡ airport_line airport.0 ++ (10 ∷ rest1) → rest1 ≡ season_line season ++ (10 ∷ rest2) → rest2 ≡ step_line step ++ (10 ∷ rest3) → rest3 ≡ flex_line flex ++ (10 ∷ rest4) → rest4 ≡ ground_line ground ++ (10 ∷ rest5) → ((tail : List ℕ) → rest5 ≡ refuse_line ++ (10 ∷ tail) → ⊥) → IsFirstBadLine IsCapacityForm text 6
 bad_6 text rest1 rest2 rest3 rest4 rest5 airport season step flex ground airport_is season_is step_is flex_is ground_is e1 e2 e3 e4 e5 none =
-    let v : HasValues airport season step flex ground some_rule (placed_days 1) = record { airport_is = airport_is; season_is = season_is; step_is = step_is; flex_is = flex_is; ground_is = ground_is; rule_is = some_rule_is; days_are = some_days_are } in
-    let all = all_lack (made airport season step flex ground some_rule) some_rule (placed_days 1) (declares airport season step flex ground some_rule (placed_days 1) v) v.days_are in
-    bad_line airport season step flex ground some_rule (placed_days 1) v text (airport_line airport.0 ∷ season_line season ∷ step_line step ∷ flex_line flex ∷ ground_line ground ∷ []) (drop 5 (value_lines airport season step flex ground some_rule (placed_days 1))) rest5 refl (all.0, (all.1.0, (all.1.1.0, (all.1.1.1.0, (all.1.1.1.1.0, tt))))) (omega arith) (e1 ∙ then_line (airport_line airport.0) _ _ (e2 ∙ then_line (season_line season) _ _ (e3 ∙ then_line (step_line step) _ _ (e4 ∙ then_line (flex_line flex) _ _ (e5)))))
+    let v : HasValues airport season step flex ground some_rule (days_text 1) = record { airport_is = airport_is; season_is = season_is; step_is = step_is; flex_is = flex_is; ground_is = ground_is; rule_is = some_rule_is; days_are = some_days_are } in
+    let all = all_lack (made airport season step flex ground some_rule) some_rule (days_text 1) (declares airport season step flex ground some_rule (days_text 1) v) v.days_are in
+    bad_line airport season step flex ground some_rule (days_text 1) v text (airport_line airport.0 ∷ season_line season ∷ step_line step ∷ flex_line flex ∷ ground_line ground ∷ []) (drop 5 (value_lines airport season step flex ground some_rule (days_text 1))) rest5 refl (all.0, (all.1.0, (all.1.1.0, (all.1.1.1.0, (all.1.1.1.1.0, tt))))) (omega arith) (e1 ∙ then_line (airport_line airport.0) _ _ (e2 ∙ then_line (season_line season) _ _ (e3 ∙ then_line (step_line step) _ _ (e4 ∙ then_line (flex_line flex) _ _ (e5)))))
     (λ d r ds fits named same e.
     let next = next_line rest5 (refuse_line) _ (all_lack d r ds fits named).1.1.1.1.1.0 e in
     none next.0 next.1)
 
 pub bad_7 : (text rest1 rest2 rest3 rest4 rest5 rest6 : List ℕ) (airport : Station) (season : Term) (step : ℕ) (flex : ℕ) (ground : ℕ) → IsStation airport.0 → season.year < 100 → is_step step ≡ true → IsFlex step flex → ground ≤ 1440 → text ≡ airport_line airport.0 ++ (10 ∷ rest1) → rest1 ≡ season_line season ++ (10 ∷ rest2) → rest2 ≡ step_line step ++ (10 ∷ rest3) → rest3 ≡ flex_line flex ++ (10 ∷ rest4) → rest4 ≡ ground_line ground ++ (10 ∷ rest5) → rest5 ≡ refuse_line ++ (10 ∷ rest6) → ((other : Rule) (named tail : List ℕ) → IsRule other → IsDays named other.days → rest6 ≡ rule_line other named ++ (10 ∷ tail) → ⊥) → IsFirstBadLine IsCapacityForm text 7
 bad_7 text rest1 rest2 rest3 rest4 rest5 rest6 airport season step flex ground airport_is season_is step_is flex_is ground_is e1 e2 e3 e4 e5 e6 none =
-    let v : HasValues airport season step flex ground some_rule (placed_days 1) = record { airport_is = airport_is; season_is = season_is; step_is = step_is; flex_is = flex_is; ground_is = ground_is; rule_is = some_rule_is; days_are = some_days_are } in
-    let all = all_lack (made airport season step flex ground some_rule) some_rule (placed_days 1) (declares airport season step flex ground some_rule (placed_days 1) v) v.days_are in
-    bad_line airport season step flex ground some_rule (placed_days 1) v text (airport_line airport.0 ∷ season_line season ∷ step_line step ∷ flex_line flex ∷ ground_line ground ∷ refuse_line ∷ []) (drop 6 (value_lines airport season step flex ground some_rule (placed_days 1))) rest6 refl (all.0, (all.1.0, (all.1.1.0, (all.1.1.1.0, (all.1.1.1.1.0, (all.1.1.1.1.1.0, tt)))))) (omega arith) (e1 ∙ then_line (airport_line airport.0) _ _ (e2 ∙ then_line (season_line season) _ _ (e3 ∙ then_line (step_line step) _ _ (e4 ∙ then_line (flex_line flex) _ _ (e5 ∙ then_line (ground_line ground) _ _ (e6))))))
+    let v : HasValues airport season step flex ground some_rule (days_text 1) = record { airport_is = airport_is; season_is = season_is; step_is = step_is; flex_is = flex_is; ground_is = ground_is; rule_is = some_rule_is; days_are = some_days_are } in
+    let all = all_lack (made airport season step flex ground some_rule) some_rule (days_text 1) (declares airport season step flex ground some_rule (days_text 1) v) v.days_are in
+    bad_line airport season step flex ground some_rule (days_text 1) v text (airport_line airport.0 ∷ season_line season ∷ step_line step ∷ flex_line flex ∷ ground_line ground ∷ refuse_line ∷ []) (drop 6 (value_lines airport season step flex ground some_rule (days_text 1))) rest6 refl (all.0, (all.1.0, (all.1.1.0, (all.1.1.1.0, (all.1.1.1.1.0, (all.1.1.1.1.1.0, tt)))))) (omega arith) (e1 ∙ then_line (airport_line airport.0) _ _ (e2 ∙ then_line (season_line season) _ _ (e3 ∙ then_line (step_line step) _ _ (e4 ∙ then_line (flex_line flex) _ _ (e5 ∙ then_line (ground_line ground) _ _ (e6))))))
     (λ d r ds fits named same e.
     let next = next_line rest6 (rule_line r ds) _ (all_lack d r ds fits named).1.1.1.1.1.1.0 e in
     none r ds next.0 fits.is_rule named next.1)

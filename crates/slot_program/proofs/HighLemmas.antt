@@ -7,7 +7,8 @@ use Rattle.season_days.specs.Term.{Term}
 use Rattle.season_days.specs.Seasons.{half_letter, season_text, has_weekday}
 use Rattle.season_days.specs.declared.season.Half.{Half}
 use Rattle.season_days.specs.declared.season.Half.TheVariants.{Summer, Winter}
-use Rattle.slot_program.specs.Capacity.{clock_text, place_of_day, placed_days, rising_digit, rising_days, IsDays}
+use Rattle.schedule_text.specs.Days.{place_of_day, days_text, rising_digit, rising_text, IsDays}
+use Rattle.schedule_text.specs.Times.{time_text}
 use Rattle.slot_text.specs.Stations.{IsStation}
 use Rattle.slot_program.specs.Cutting.{Lacks}
 
@@ -27,7 +28,7 @@ high_append (x ∷ a) b ha hb = (ha.0, high_append a b ha.1 hb)
 pub high_decimal : (n : ℕ) → n < 2 ^ 64 → High (decimal n)
 high_decimal n lt = decimal_by_steps (λ k text. High text) (λ k lt. (omega arith, tt)) (λ k text ge high. high_append text _ high (omega arith, tt)) n lt
 
-pub high_clock : (minute : ℕ) → High (clock_text minute)
+pub high_clock : (minute : ℕ) → High (time_text minute)
 high_clock minute = (omega arith, (omega arith, (omega arith, (omega arith, tt))))
 
 pub high_station : (station : List ℕ) → IsStation station → High station
@@ -58,10 +59,10 @@ rising_high days weekday =
       | inr off ↦ rw off tt
     ]
 
-high_placed : (days : ℕ) → High (placed_days days)
+high_placed : (days : ℕ) → High (days_text days)
 high_placed days = (place_high days 1, (place_high days 2, (place_high days 3, (place_high days 4, (place_high days 5, (place_high days 6, (place_high days 7, tt)))))))
 
-high_rising : (days : ℕ) → High (rising_days days)
+high_rising : (days : ℕ) → High (rising_text days)
 high_rising days =
     let h = λ (weekday : ℕ). rising_high days weekday in
     high_append (rising_digit days 1) _ (h 1) (high_append (rising_digit days 2) _ (h 2) (high_append (rising_digit days 3) _ (h 3) (high_append (rising_digit days 4) _ (h 4) (high_append (rising_digit days 5) _ (h 5)

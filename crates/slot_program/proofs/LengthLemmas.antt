@@ -1,5 +1,7 @@
 -- A text in either form is far shorter than the most bytes that are read of a file.
-use Rattle.std.proofs.Common.{◌≡◌, ℕ, zero, suc, ◌+◌, ◌*◌, ◌<◌, ◌≤◌, ltb, true, false, List, [], ◌∷◌, ◌++◌, length, get_or, codes, length-append, Option, Some, None, refl, sym, ap, subst, arith, inl, inr}
+use Rattle.std.proofs.Common.{◌≡◌, ℕ, zero, suc, ◌+◌, ◌*◌, ◌≤◌, ltb, true, false, List, [], ◌∷◌, ◌++◌, length, get_or, codes, length-append, Option, Some, None, refl, sym, ap, subst, arith, inl, inr}
+use Rattle.schedule_text.specs.Days.{days_text}
+use Rattle.schedule_text.specs.Times.{time_text, two_digits}
 use Rattle.std.specs.Prelude.{IsSome}
 use Rattle.std.specs.Fmt.{decimal}
 use Rattle.std.proofs.lemmas.Fmt.{length-decimal-le}
@@ -13,16 +15,17 @@ use Rattle.season_days.specs.Seasons.{season_text}
 use Rattle.season_days.specs.declared.day.Period.{Period}
 use Rattle.season_days.specs.declared.declaration.Declaration.{Declaration}
 use Rattle.season_days.specs.declared.declaration.Rule.{Rule}
-use Rattle.scr_reader.specs.Bytes.{two_digits, three_digits}
-use Rattle.scr_reader.specs.Parts.{AirlineFits, airline_text, SuffixFits, suffix_text, month_names, month_text, date_text, days_text, ThreeLettersOrDigits, StationsFit, stations_text, time_text}
-use Rattle.scr_reader.specs.Printed.{number_text, FlightFits, flight_text, arrival_group_text, dates_text, fields_by, joined, line_text, code_letter, header_lines, items_lines, message_lines, message_text, StopsFit, LineFits}
+use Rattle.scr_reader.specs.Bytes.{three_digits}
+use Rattle.scr_reader.specs.Parts.{AirlineFits, airline_text, suffix_text, month_names, month_text, date_text, ThreeLettersOrDigits, StationsFit, stations_text}
+use Rattle.scr_reader.specs.Printed.{number_text, FlightFits, flight_text, arrival_group_text, dates_text, fields_by, joined, line_text, code_letter, header_lines, items_lines, message_lines, message_text, StopsFit}
 use Rattle.historic_reader.specs.Historic.{IsHistoricMessage}
 use Rattle.scr_reader.specs.declared.line.Flight.{Flight}
 use Rattle.scr_reader.specs.declared.line.Line.{Line}
 use Rattle.scr_reader.specs.declared.line.Stop.{Stop}
 use Rattle.scr_reader.specs.declared.message.Placed.{Placed}
 use Rattle.scr_reader.specs.declared.message.Message.{Message}
-use Rattle.slot_program.specs.Capacity.{is_step, IsRule, IsDays, IsDeclaration, rule_line, capacity_lines, IsCapacityText}
+use Rattle.schedule_text.specs.Days.{IsDays}
+use Rattle.slot_program.specs.Capacity.{IsRule, rule_line, capacity_lines, IsCapacityText}
 use Rattle.slot_program.specs.Order.{most_bytes}
 use Rattle.slot_program.proofs.CapacityLemmas.{step_bound}
 

@@ -1,6 +1,5 @@
 pub mod WordLemmas
 pub mod CuttingLemmas
-pub mod DayLemmas
 pub mod HighLemmas
 pub mod EndedLemmas
 pub mod CapacityLemmas

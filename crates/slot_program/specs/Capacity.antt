@@ -1,10 +1,12 @@
 -- The capacity file that is served: seven lines in a fixed order, the last with the one capacity line.
-use Rattle.std.specs.Prelude.{◌≡◌, ◌⊎◌, ℕ, ◌+◌, ◌/◌, ◌%◌, ◌<◌, ◌≤◌, ◌==◌, ◌||◌, Bool, true, List, [], ◌∷◌, ◌++◌, length, None, codes, if◌then◌else◌}
+use Rattle.std.specs.Prelude.{◌≡◌, ℕ, ◌%◌, ◌<◌, ◌≤◌, ◌==◌, ◌||◌, Bool, true, List, [], ◌∷◌, ◌++◌, None, codes}
 use Rattle.std.specs.Fmt.{decimal}
 use Rattle.slot_text.specs.Ended.{ended}
 use Rattle.slot_text.specs.Stations.{IsStation}
 use Rattle.season_days.specs.Term.{Term}
-use Rattle.season_days.specs.Seasons.{season_text, has_weekday}
+use Rattle.season_days.specs.Seasons.{season_text}
+use Rattle.schedule_text.specs.Days.{IsDays}
+use Rattle.schedule_text.specs.Times.{time_text}
 use Rattle.season_days.specs.declared.declaration.Declaration.{Declaration}
 use Rattle.season_days.specs.declared.declaration.Rule.{Rule}
 use Rattle.season_days.specs.declared.declaration.Kind.TheVariants.{Arr}
@@ -19,36 +21,6 @@ is_step n = (n == 5) || ((n == 10) || ((n == 15) || ((n == 20) || ((n == 30) || 
 pub record IsFlex (step n : ℕ) : Type 0 where
   pub multiple : n % step ≡ 0
   pub small : n ≤ 120
-
-abbrev pub two_digits : ℕ → List ℕ
-two_digits n = (48 + n / 10) ∷ (48 + n % 10) ∷ []
-
--- hour and minute of a minute of the day
-abbrev pub clock_text : ℕ → List ℕ
-clock_text minute = two_digits (minute / 60) ++ two_digits (minute % 60)
-
--- ---- weekdays
-
--- seven places: the digit of a weekday that is in the set, and 0 for one that isn't
-abbrev pub place_of_day : ℕ → ℕ → ℕ
-place_of_day days weekday = if has_weekday days weekday then 48 + weekday else 48
-
-abbrev pub placed_days : ℕ → List ℕ
-placed_days days =
-    place_of_day days 1 ∷ place_of_day days 2 ∷ place_of_day days 3 ∷ place_of_day days 4 ∷ place_of_day days 5 ∷ place_of_day days 6 ∷ place_of_day days 7 ∷ []
-
--- the digits of the weekdays that are in the set, rising
-abbrev pub rising_digit : ℕ → ℕ → List ℕ
-rising_digit days weekday = if has_weekday days weekday then (48 + weekday) ∷ [] else []
-
-abbrev pub rising_days : ℕ → List ℕ
-rising_days days =
-    rising_digit days 1 ++ (rising_digit days 2 ++ (rising_digit days 3 ++ (rising_digit days 4 ++ (rising_digit days 5 ++ (rising_digit days 6 ++ rising_digit days 7)))))
-
--- both spellings of a set of weekdays count: seven places, or one to six rising digits
-pub record IsDays (text : List ℕ) (days : ℕ) : Type 0 where
-  pub week : days < 128
-  pub spelled : (text ≡ placed_days days) ⊎ ((text ≡ rising_days days) × (1 ≤ length text) × (length text ≤ 6))
 
 -- ---- lines
 
@@ -96,7 +68,7 @@ refuse_line = codes "REFUSE NONE"
 -- what follows `CAP ARR` and a blank, with this spelling of the weekdays
 abbrev pub rule_fields : Rule → List ℕ → List ℕ
 rule_fields rule days =
-    decimal rule.length ++ (32 ∷ (clock_text rule.from ++ (32 ∷ (clock_text rule.to ++ (32 ∷ (days ++ (32 ∷ decimal rule.limit)))))))
+    decimal rule.length ++ (32 ∷ (time_text rule.from ++ (32 ∷ (time_text rule.to ++ (32 ∷ (days ++ (32 ∷ decimal rule.limit)))))))
 
 abbrev pub rule_line : Rule → List ℕ → List ℕ
 rule_line rule days = codes "CAP ARR " ++ rule_fields rule days

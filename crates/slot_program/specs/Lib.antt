@@ -10,5 +10,4 @@ pub mod Messages
 pub mod Stops
 pub mod CapacityFaults
 pub mod Cutting
-pub mod Bits
 pub mod Windows

@@ -3,7 +3,8 @@ ghost use Rattle.season_days.specs.Term.{Term};
 ghost use Rattle.season_days.specs.declared.declaration.Rule.{Rule as RuleValue};
 ghost use Rattle.slot_text.specs.Reads.{AnswersBy};
 ghost use Rattle.slot_text.specs.Stations.{IsStation};
-ghost use Rattle.slot_program.specs.Capacity.{is_step, IsFlex, IsRule, IsDays, airport_line, season_line, step_line, flex_line, ground_line, refuse_line, rule_line, IsCapacityText};
+ghost use Rattle.schedule_text.specs.Days.{IsDays};
+ghost use Rattle.slot_program.specs.Capacity.{is_step, IsFlex, IsRule, airport_line, season_line, step_line, flex_line, ground_line, refuse_line, rule_line, IsCapacityText};
 ghost use Rattle.slot_program.specs.CapacityFaults.{HasCapacityFault};
 
 use crate::cutting::{line_value, strip};

@@ -4,7 +4,6 @@
 mod allocate;
 mod capacity;
 mod cutting;
-mod days;
 mod job;
 pub mod laws;
 mod refusal;

@@ -1,11 +1,12 @@
 ghost use Rattle.std.specs.Prelude.{◌≡◌, ◌≤◌, ◌↔◌, ℕ, List, MatchOption, IsTrue};
 ghost use Rattle.season_days.specs.declared.declaration.Rule.{Rule as RuleValue};
-ghost use Rattle.slot_program.specs.Capacity.{IsRule, IsDays, rule_fields};
+ghost use Rattle.schedule_text.specs.Days.{IsDays};
+ghost use Rattle.slot_program.specs.Capacity.{IsRule, rule_fields};
 ghost use Rattle.slot_program.specs.Cutting.{AreFields};
 
 use crate::cutting::cut_at;
-use crate::days::read_weekdays;
-use crate::values::{read_clock, read_number};
+use crate::values::{read_minute, read_number};
+use schedule_text::read_weekdays;
 use season_days::{Kind, Rule};
 
 /// The fields of a capacity line behind its kind.
@@ -24,8 +25,8 @@ pub(crate) fn read_rule(text: &[u8]) -> Option<Rule>
 {
     let fields = cut_fields(text)?;
     let length = read_number(fields.length, 1440)?;
-    let from = read_clock(fields.from)?;
-    let to = read_clock(fields.to)?;
+    let from = read_minute(fields.from)?;
+    let to = read_minute(fields.to)?;
     let days = read_weekdays(fields.days)?;
     let limit = read_number(fields.limit, 9999)?;
     let rule = Rule {

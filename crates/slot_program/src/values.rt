@@ -1,7 +1,9 @@
 ghost use Rattle.std.specs.Prelude.{◌≡◌, ◌<◌, ◌≤◌, ℕ, List, IfSome, Some};
 ghost use Rattle.std.specs.Fmt.{decimal};
-ghost use Rattle.slot_program.specs.Capacity.{is_step, two_digits, clock_text};
+ghost use Rattle.schedule_text.specs.Times.{time_text};
+ghost use Rattle.slot_program.specs.Capacity.{is_step};
 
+use schedule_text::read_time;
 use slot_text::read_u64;
 
 /// The number that the text spells, if it is at most `most`.
@@ -17,34 +19,12 @@ pub(crate) fn read_number(text: &[u8], most: u32) -> Option<u32>
 }
 
 /// The minute of the day that hours and minutes spell.
-pub(crate) fn read_clock(text: &[u8]) -> Option<u32>
-    ensures found { IfSome result (λ minute. (minute < 1440) × (text.now ≡ clock_text minute)) }
-    ensures only { (minute : ℕ) → minute < 1440 → text.now ≡ clock_text minute → result ≡ Some minute }
+pub(crate) fn read_minute(text: &[u8]) -> Option<u32>
+    ensures found { IfSome result (λ minute. (minute < 1440) × (text.now ≡ time_text minute)) }
+    ensures only { (minute : ℕ) → minute < 1440 → text.now ≡ time_text minute → result ≡ Some minute }
 {
-    if text.len() != 4 {
-        return None;
-    }
-    let (front, back) = text.split_at(2);
-    let hour = read_two_digits(front)?;
-    let minute = read_two_digits(back)?;
-    if hour >= 24 {
-        return None;
-    }
-    if minute >= 60 {
-        return None;
-    }
-    Some(60 * u32::from(hour) + u32::from(minute))
-}
-
-/// The number of two digits.
-fn read_two_digits(text: &[u8]) -> Option<u8>
-    ensures found { IfSome result (λ n. (n < 100) × (text.now ≡ two_digits n)) }
-    ensures only { (n : ℕ) → n < 100 → text.now ≡ two_digits n → result ≡ Some n }
-{
-    match text {
-        [tens @ b'0'..=b'9', ones @ b'0'..=b'9'] => Some(10 * (tens - b'0') + (ones - b'0')),
-        _ => None,
-    }
+    let minute = read_time(text)?;
+    Some(u32::from(minute))
 }
 
 /// Whether windows may be so many minutes apart.

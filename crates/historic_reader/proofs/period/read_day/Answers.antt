@@ -1,4 +1,5 @@
 use Rattle.std.proofs.Common.{◌≡◌, ℕ, ◌<◌, List, length, take, drop, Result, Ok, Err, refl, sym, ap, ◌∙◌}
+use Rattle.schedule_text.specs.Times.{two_digits}
 use Rattle.std.specs.Prelude.{IfOk, IfSome}
 use Rattle.std.specs.Result.{result_ok}
 use Rattle.std.proofs.lemmas.Option.{none-some, same_Some}
@@ -7,7 +8,6 @@ use Rattle.season_days.specs.Term.{Term}
 use Rattle.season_days.specs.Seasons.{date_count, date_at, IsDayNamed}
 use Rattle.season_days.specs.declared.day.Day.{Day}
 use Rattle.season_days.specs.declared.day.DayFault.{DayFault}
-use Rattle.scr_reader.specs.Bytes.{two_digits}
 use Rattle.scr_reader.specs.Parts.{month_text}
 use Rattle.scr_reader.specs.Printed.{day_text}
 use Rattle.historic_reader.proofs.CleanLemmas.{date_long}

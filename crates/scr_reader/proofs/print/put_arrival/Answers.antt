@@ -1,6 +1,6 @@
 use Rattle.std.proofs.Common.{ℕ, [], ◌∷◌, ◌++◌, ap, ◌∙◌}
+use Rattle.schedule_text.specs.Days.{days_text}
 use Rattle.scr_reader.specs.Bytes.{three_digits}
-use Rattle.scr_reader.specs.Parts.{days_text}
 use Rattle.scr_reader.specs.Printed.{code_letter, flight_text, dates_text, arrival_group_text}
 use Rattle.scr_reader.proofs.PutLemmas.{on_ok, arrival}
 use Rattle.scr_reader.proofs.print.put_arrival.Goals as goal

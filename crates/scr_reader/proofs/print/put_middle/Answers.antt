@@ -1,6 +1,6 @@
 use Rattle.std.proofs.Common.{ℕ, List, ◌++◌, ap, ◌∙◌}
+use Rattle.schedule_text.specs.Days.{days_text}
 use Rattle.scr_reader.specs.Bytes.{three_digits}
-use Rattle.scr_reader.specs.Parts.{days_text}
 use Rattle.scr_reader.specs.Printed.{day_text}
 use Rattle.scr_reader.proofs.PutLemmas.{on_ok, middle}
 use Rattle.scr_reader.proofs.print.put_middle.Goals as goal
