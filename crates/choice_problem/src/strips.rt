@@ -10,9 +10,13 @@ use std::marker::Model;
 /// A resource that comes several times, as where runs overlap or `gap` is 0, counts as often.
 #[derive(Clone, Copy, Debug, PartialEq, Eq)]
 pub struct Strip {
+    /// The number of the first run's first resource, from 0.
     pub first: u32,
+    /// How many resources a run has.
     pub width: u32,
+    /// How far the first resource of a run is from that of the run before it.
     pub gap: u32,
+    /// How many runs there are.
     pub times: u32,
 }
 
@@ -23,9 +27,9 @@ impl Strip {
     ghost use Rattle.choice_problem.specs.Allowed.{strip_most};
     ghost use Rattle.choice_problem.specs.Counts.{GrowsBy, HasRoom};
 
-    // How often the strip uses a resource, by two divisions: the runs that begin at or before it, less those that end
-    // before it.
-    fn uses(&self, resource: u32) -> u32
+    /// How often the strip uses a resource, by two divisions: the runs that begin at or before it, less those that end
+    /// before it.
+    pub fn uses(&self, resource: u32) -> u32
         ensures { result ≡ strip_uses self.now resource }
     {
         if resource < self.first {
@@ -143,8 +147,8 @@ impl Part {
         &self.strips
     }
 
-    // How often the strips together use a resource: two divisions a strip.
-    pub(crate) fn uses(&self, resource: u32) -> u32
+    /// How often the strips together use a resource, which is fewer than 2^32 times: two divisions a strip.
+    pub fn uses(&self, resource: u32) -> u32
         requires { part_uses self.now resource < 2 ^ 32 }
         ensures { result ≡ part_uses self.now resource }
     {
@@ -179,8 +183,9 @@ impl Part {
         most
     }
 
-    // Counts the uses of the strips together.
-    pub(crate) fn add_uses(&self, counts: &mut [u32])
+    /// Adds the uses of the strips together to counts, one for each resource from 0: one step a use. The strips stay within
+    /// these resources, and no count reaches 2^32.
+    pub fn add_uses(&self, counts: &mut [u32])
         requires there { IsPartInRange (length counts.old) self.now }
         requires room { HasRoom counts.old (λ r. part_uses self.now r) }
         ensures { GrowsBy counts.old counts.new (λ r. part_uses self.now r) }

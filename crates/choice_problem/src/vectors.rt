@@ -9,7 +9,9 @@ use std::marker::Model;
 /// The price of one use of a resource.
 #[derive(Clone, Copy, Debug, PartialEq, Eq)]
 pub struct Price {
+    /// The number of the resource, from 0.
     pub resource: u32,
+    /// The price of one use: in a vector for a problem from 1 to 2^40 - 1.
     pub price: i64,
 }
 

@@ -5,7 +5,7 @@ ghost use Rattle.choice_problem.specs.Counts.{GrowsBy, HasRoom};
 ghost use Rattle.choice_problem.specs.Strips.{IsPartInRange};
 ghost use Rattle.window_counts.specs.Counts.{listed_uses};
 
-use crate::adding::{add_all, add_part};
+use crate::adding::add_all;
 use crate::fitting::{first_above, part_fits};
 use crate::taking::take_part;
 use choice_problem::Part;
@@ -58,7 +58,7 @@ impl Counts {
         ensures uses { GrowsBy self.old self.new (λ r. part_uses part.now r) }
         ensures listed { (parts : List (List Strip)) → AreCountsOf parts self.old → AreCountsOf (parts ++ part.now ∷ []) self.new }
     {
-        add_part(&mut self.counts, part.strips());
+        part.add_uses(&mut self.counts);
     }
 
     /// Takes the uses of a part away again, which was added before: one step a use.
@@ -81,7 +81,7 @@ impl Counts {
         requires limits { length limits.now ≡ length self.now }
         ensures { IsTrue result ↔ FitsWith self.now (λ r. part_uses part.now r) limits.now }
     {
-        part_fits(&self.counts, part.strips(), limits)
+        part_fits(&self.counts, part, limits)
     }
 
     /// How often a resource is used.
