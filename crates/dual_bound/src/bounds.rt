@@ -100,7 +100,18 @@ fn priced_cost(alt: &Alt, prices: &[u128], scale: u64) -> u128
     ensures value { result ≡ scale * alt.now.cost + (named_price prices.now alt.now.one + named_price prices.now alt.now.two) }
     ensures small { result < 2 ^ 101 }
 {
-    u128::from(scale * alt.cost) + (named_price(prices, alt.one) + named_price(prices, alt.two))
+    u128::from(scale * alt.cost) + named_prices(alt, prices)
+}
+
+// The prices of the parts that an alternative names, together.
+pub(crate) fn named_prices(alt: &Alt, prices: &[u128]) -> u128
+    requires one { ForSome alt.now.one (λ k. k < length prices.now) }
+    requires two { ForSome alt.now.two (λ k. k < length prices.now) }
+    requires uses { named_price prices.now alt.now.one + named_price prices.now alt.now.two < 2 ^ 100 }
+    ensures value { result ≡ named_price prices.now alt.now.one + named_price prices.now alt.now.two }
+    ensures small { result < 2 ^ 100 }
+{
+    named_price(prices, alt.one) + named_price(prices, alt.two)
 }
 
 // The price of the part that an alternative may name.
