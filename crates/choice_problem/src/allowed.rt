@@ -7,7 +7,7 @@ ghost use Rattle.choice_problem.specs.Strips.{IsPartInRange};
 ghost use Rattle.choice_problem.specs.Allowed.{IsAllowed, IsAllowedAlt, named_most};
 
 use crate::problems::{
-    Alt, COST_END, Chooser, HIGHEST_LIMIT, MOST_RESOURCES, MOST_UNITS, MOST_USES, Problem,
+    Alt, Chooser, HIGHEST_COST, HIGHEST_LIMIT, MOST_RESOURCES, MOST_UNITS, MOST_USES, Problem,
 };
 use crate::strips::Part;
 
@@ -67,7 +67,7 @@ fn are_allowed(parts: &[Part], alts: &[Alt]) -> bool
 fn is_allowed(parts: &[Part], alt: &Alt) -> bool
     ensures { IsTrue result ↔ IsAllowedAlt parts.now alt.now }
 {
-    alt.cost < COST_END
+    alt.cost <= HIGHEST_COST
         && is_there(parts, alt.one)
         && is_there(parts, alt.two)
         && named_most(parts, alt.one) + named_most(parts, alt.two) <= u128::from(MOST_USES)

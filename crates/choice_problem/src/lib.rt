@@ -25,11 +25,11 @@ pub use laws::{
 };
 pub use nodes::{Node, Tree, count_nodes};
 pub use problems::{
-    Alt, COST_END, Chooser, HIGHEST_LIMIT, MOST_RESOURCES, MOST_UNITS, MOST_USES, Problem,
+    Alt, Chooser, HIGHEST_COST, HIGHEST_LIMIT, MOST_RESOURCES, MOST_UNITS, MOST_USES, Problem,
 };
 pub use spans::Ranges;
 pub use strips::{Part, Strip};
-pub use vectors::{Price, Vector, VectorList};
+pub use vectors::{HIGHEST_PRICE, Price, Vector, VectorList};
 
 #[cfg(test)]
 mod closing_tests;

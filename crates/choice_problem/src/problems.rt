@@ -17,8 +17,8 @@ pub const HIGHEST_LIMIT: i64 = 999_999;
 /// The most uses of one resource that an alternative may have.
 pub const MOST_USES: u32 = 434;
 
-/// The lowest cost that no alternative may have.
-pub const COST_END: u64 = 1 << 24;
+/// The highest cost that an alternative may have.
+pub const HIGHEST_COST: u64 = (1 << 24) - 1;
 
 /// An alternative of a unit: what it costs, and the numbers of up to two parts of its unit, whose resources it uses.
 /// Where it names one part twice, it uses that part's resources twice.

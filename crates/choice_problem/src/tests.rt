@@ -93,6 +93,7 @@ fn strips_count_each_use(rt: HostRuntime) -> Result<(), Fail> {
         let units = vec![in alloc; unit(alloc, &[strip], 5)?]?;
         let problem = problem(alloc, units, &[9; 7])?;
         for (resource, want) in (0..7).zip(uses) {
+            assert_eq!(rt; strip.uses(resource), want);
             assert_eq!(rt; uses_at(&problem, resource), Some(want));
         }
     }
