@@ -1,7 +1,7 @@
 -- How many alternatives a unit has at most: a pair of minutes of two dates each, and one more.
-use Rattle.std.proofs.Common.{◌≡◌, ℕ, ◌+◌, ◌*◌, ◌≤◌, Bool, List, [], ◌∷◌, length, map, Some, None, arith, inl, inr}
-use Rattle.std.specs.Prelude.{Option, IsSomeAnd, nat_le}
-use Rattle.std.specs.List.{filter, range_with_len, list_any, count_by}
+use Rattle.std.proofs.Common.{◌≡◌, ℕ, ◌+◌, ◌*◌, ◌≤◌, Bool, List, [], ◌∷◌, length, Some, None, arith, inl, inr}
+use Rattle.std.specs.Prelude.{Option, nat_le}
+use Rattle.std.specs.List.{filter, range_with_len, list_any}
 use Rattle.std.proofs.lemmas.Bool.{cases_Bool}
 use Rattle.std.proofs.lemmas.Nat.{mul-le}
 use Rattle.std.proofs.Math.Nat.{suc-mul}

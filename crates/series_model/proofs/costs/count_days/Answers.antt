@@ -1,4 +1,4 @@
-use Rattle.std.proofs.Common.{ℕ, ◌+◌, ◌-◌, Bool, length, sym, ◌∙◌, arith}
+use Rattle.std.proofs.Common.{ℕ, ◌-◌, Bool, length, sym, ◌∙◌, arith}
 use Rattle.std.specs.List.{filter}
 use Rattle.season_days.specs.Seasons.{is_on, days_from}
 use Rattle.series_model.proofs.DateLemmas.{count_on, count_off, count_end}
