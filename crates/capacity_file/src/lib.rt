@@ -7,6 +7,7 @@ mod entry;
 mod fault;
 mod fields;
 mod finish;
+pub mod laws;
 mod limits;
 mod line;
 mod reading;

@@ -25,3 +25,6 @@ pub mod AtLemmas
 pub mod PlaceLemmas
 pub mod PieceLemmas
 pub mod LineLemmas
+pub mod OncePartLemmas
+pub mod OnceLineLemmas
+pub mod OnceTextLemmas

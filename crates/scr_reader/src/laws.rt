@@ -4,12 +4,14 @@ ghost use Rattle.std.specs.Prelude.{◌≡◌, ◌++◌, ◌∷◌, ◌<◌, ℕ
 ghost use Rattle.season_days.specs.Term.{Term};
 ghost use Rattle.slot_text.specs.Lines.{lines_of};
 ghost use Rattle.scr_reader.specs.Rows.{entry, IsRow, is_empty_line};
-ghost use Rattle.scr_reader.specs.Messages.{ReadsMessage, ReadsAll};
+ghost use Rattle.scr_reader.specs.Messages.{ReadsMessage, HasMessageFault, ReadsAll, HasFault};
 ghost use Rattle.scr_reader.specs.Printed.{line_text, LineFits, ItemsFit, MessagesFit, PrintsBack};
 ghost use Rattle.scr_reader.specs.declared.line.Code.{Code as CodeValue};
 ghost use Rattle.scr_reader.specs.declared.line.Line.{Line as LineValue};
 ghost use Rattle.scr_reader.specs.declared.message.Message.{Message as MessageValue};
+ghost use Rattle.scr_reader.specs.declared.fault.ScrFault.{ScrFault as ScrFaultValue};
 
+use schedule_text::laws::one_value;
 use season_days::laws::named_days;
 
 /// What is read has a printed spelling: each line, and each item of a message.
@@ -18,6 +20,18 @@ pub fn read_lines_fit()
     ensures message { (bytes : List ℕ) (message : MessageValue) → ReadsMessage bytes message → ItemsFit message.season message.items }
     ensures all { (bytes : List ℕ) (messages : List MessageValue) → ReadsAll bytes messages → MessagesFit messages }
 {}
+
+/// A text is read in one way at most and has one fault at most, and never both: as all messages of the text, and as its first.
+pub fn one_reading()
+    ensures all { (bytes : List ℕ) (a b : List MessageValue) → ReadsAll bytes a → ReadsAll bytes b → a ≡ b }
+    ensures all_fault { (bytes : List ℕ) (e f : ScrFaultValue) → HasFault bytes e → HasFault bytes f → e ≡ f }
+    ensures all_or_fault { (bytes : List ℕ) (a : List MessageValue) (e : ScrFaultValue) → ReadsAll bytes a → HasFault bytes e → ⊥ }
+    ensures first { (bytes : List ℕ) (a b : MessageValue) → ReadsMessage bytes a → ReadsMessage bytes b → a ≡ b }
+    ensures first_fault { (bytes : List ℕ) (e f : ScrFaultValue) → HasMessageFault bytes e → HasMessageFault bytes f → e ≡ f }
+    ensures first_or_fault { (bytes : List ℕ) (a : MessageValue) (e : ScrFaultValue) → ReadsMessage bytes a → HasMessageFault bytes e → ⊥ }
+{
+    one_value();
+}
 
 /// A line that is printed with the code of an airline's line is read again as the same line, with that code.
 pub fn printed_lines_are_read()
