@@ -17,7 +17,7 @@ use Rattle.slot_text.specs.declared.station.Station.{Station}
 use Rattle.scr_reader.specs.declared.line.Code.{Code}
 use Rattle.scr_reader.specs.declared.line.Flight.{Flight}
 use Rattle.scr_reader.specs.Bytes.{is_letter, three_digits}
-use Rattle.scr_reader.specs.Parts.{number_named, suffix_text, IsFlight, month_text, date_text, SpellsDay, IsPeriod, IsSeats, StationsFit, stations_text, IsArrivalGroup, IsNights, IsDepartureGroup}
+use Rattle.scr_reader.specs.Parts.{flight_number_of, suffix_text, IsFlight, month_text, date_text, SpellsDay, IsPeriod, IsSeats, StationsFit, stations_text, IsArrivalGroup, IsNights, IsDepartureGroup}
 use Rattle.scr_reader.specs.Shapes.{IsCodeAlone, IsCodeAndFlight, IsLaterGroup}
 use Rattle.scr_reader.specs.FieldForms.{leading_nights, after_nights}
 use Rattle.scr_reader.proofs.PartLemmas.{by_airline, same_number, no_letter_last}
@@ -77,7 +77,7 @@ flight_once text a b x y =
     let two = flight_parts text b y in
     let airline : a.airline ≡ b.airline = one.0 ∙ sym two.0 in
     let rest = same_number x.digits y.digits a.suffix b.suffix y.number.digits y.number.some x.suffix y.suffix (no_letter_last x.digits a.suffix x.number.digits x.number.some) (one.1 ∙ sym two.1) in
-    let number : a.number ≡ b.number = x.number.named ∙ ap number_named rest.0 ∙ sym y.number.named in
+    let number : a.number ≡ b.number = x.number.named ∙ ap flight_number_of rest.0 ∙ sym y.number.named in
     flight_is a ∙ rw (airline, number, rest.1) refl ∙ sym (flight_is b)
 
 pub code_and_flight_once : (text : List ℕ) (code code' : Code) (flight flight' : Flight) → IsCodeAndFlight text code flight → IsCodeAndFlight text code' flight' → (code ≡ code') × (flight ≡ flight')

@@ -10,3 +10,4 @@ pub mod Readings
 pub mod Pairing
 pub mod Decided
 pub mod Printed
+pub mod Faults
