@@ -20,4 +20,6 @@ pub use limits::{MOST_BYTES, MOST_FLEX, USUAL_SHARE};
 pub use reading::read_capacity;
 
 #[cfg(test)]
+mod limit_tests;
+#[cfg(test)]
 mod tests;

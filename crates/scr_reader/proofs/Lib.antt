@@ -28,3 +28,5 @@ pub mod LineLemmas
 pub mod OncePartLemmas
 pub mod OnceLineLemmas
 pub mod OnceTextLemmas
+pub mod AgainLemmas
+pub mod RisingLemmas

@@ -160,7 +160,7 @@ seats_once text seats seats' craft craft' x y =
 pub station_once : (a b : Station) → a.0 ≡ b.0 → a ≡ b
 station_once a b e = ap (λ (l : List ℕ). let s : Station = record { 0 = l } in s) e
 
-three_long : (station : Station) → IsStation station.0 → length station.0 ≡ 3
+pub three_long : (station : Station) → IsStation station.0 → length station.0 ≡ 3
 three_long station fits = elim (stations_long station None fits) [ inl three ↦ three.0 | inr six ↦ absurd (omega (arith, six.0, six.1)) ]
 
 stations_once : (near near' : Station) (far far' : Option Station) → StationsFit near far → StationsFit near' far' → stations_text near far ≡ stations_text near' far' → (near ≡ near') × (far ≡ far')

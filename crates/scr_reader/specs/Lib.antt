@@ -11,3 +11,5 @@ pub mod Pairing
 pub mod Decided
 pub mod Printed
 pub mod Faults
+pub mod Again
+pub mod Rising
