@@ -61,7 +61,11 @@ fn the_limit_of_windows_is_met_and_passed(rt: HostRuntime) -> Result<(), Fail> {
         text.extend_from_slice(line.as_bytes())?;
         assert_eq!(rt; fault_of(&rt, rt.alloc(), &text), want, "at {line}");
         text.extend_from_slice(b"NIGHT 0000 0600 1\n")?;
-        assert_eq!(rt; fault_of(&rt, rt.alloc(), &text), by_night, "at {line}, by night");
+        assert_eq!(rt;
+            fault_of(&rt, rt.alloc(), &text),
+            by_night,
+            "at {line}, by night"
+        );
     }
     Ok(())
 }
