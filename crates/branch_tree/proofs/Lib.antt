@@ -4,3 +4,5 @@ pub mod GreedyLemmas
 pub mod ListLemmas
 pub mod WalkLemmas
 pub mod VisitLemmas
+pub mod AllotmentLemmas
+pub mod OrderListLemmas

@@ -91,7 +91,7 @@ sum_below-change (suc n) k f g l h =
           rw e (omega (arith, sum_below-same n f g (λ i m. h i (omega arith) (λ d. omega arith))))
     ]
 
-sum_below-const : (n m : ℕ) (f : ℕ → ℕ) → ((i : ℕ) → i < n → f i ≤ m) → sum_below n f ≤ n * m
+pub sum_below-const : (n m : ℕ) (f : ℕ → ℕ) → ((i : ℕ) → i < n → f i ≤ m) → sum_below n f ≤ n * m
 sum_below-const zero m f h = omega arith
 sum_below-const (suc n) m f h = omega (arith, sum_below-const n m f (λ i l. h i (omega arith)), h n (omega arith))
 
@@ -119,7 +119,7 @@ term-le (suc n) k f l = elim (cases_lt k n) [
 ]
 
 -- what a slice of a vector leaves in it
-pub written-back : (new items : List ℕ) (n : ℕ) → length new ≡ n → take n (new ++ drop (length new) items) ≡ new
+pub written-back : {X : Type 0} (new items : List X) (n : ℕ) → length new ≡ n → take n (new ++ drop (length new) items) ≡ new
 written-back new items n e = rw (← e) (take-append_seam new (drop (length new) items))
 
 -- what a walk keeps has room, and holds what one unit adds to it

@@ -2,22 +2,30 @@
 //! ranges of alternatives, which closes them, finds a choice, or says where to split them.
 #![tactic(auto)]
 
+mod allotments;
 mod answers;
 mod branching;
 mod closings;
+mod draws;
+mod exchanges;
 mod greedy_start;
+mod groups;
+mod improved;
 mod kept;
 mod laws;
 mod least_uses;
 mod listing;
 mod order;
+mod orders;
 mod placing;
+mod pricing;
 mod tallies;
 mod visits;
 mod walks;
 
 pub use answers::Visit;
 pub use greedy_start::greedy;
+pub use improved::improved_choice;
 pub use laws::visited_nodes;
 pub use visits::visit;
 pub use walks::Walk;

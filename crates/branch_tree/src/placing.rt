@@ -101,7 +101,7 @@ pub(crate) fn add_alt(problem: &Problem, unit: u32, alt: u32, counts: &mut Count
 }
 
 // Takes the uses of an alternative away.
-fn take_alt(problem: &Problem, unit: u32, alt: u32, counts: &mut Counts)
+pub(crate) fn take_alt(problem: &Problem, unit: u32, alt: u32, counts: &mut Counts)
     requires unit { unit < unit_count problem.now }
     requires alt { alt < alt_count problem.now unit }
     requires counts { length counts.old ≡ resource_count problem.now }

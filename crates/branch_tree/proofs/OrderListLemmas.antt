@@ -1,0 +1,13 @@
+-- Orders of numbers, read and rearranged.
+use Rattle.std.proofs.Common.{◌≡◌, ℕ, ◌<◌, List, [], arith}
+use Rattle.std.specs.Prelude.{slice_index_or}
+use Rattle.std.proofs.lemmas.List.{get_or_read}
+use Rattle.choice_problem.specs.Problems.{ProblemView, unit_count, alt_count}
+use Rattle.branch_tree.specs.declared.orders.Ranked.{Ranked}
+use Rattle.branch_tree.specs.Orders.{AreBelow, AreOrders}
+
+pub orders-at : (p : ProblemView) (orders : List (List Ranked)) (u : ℕ) (order : List Ranked) → AreOrders p orders → u < unit_count p →
+    order ≡ slice_index_or orders u order → AreBelow (alt_count p u) order
+orders-at p orders u order h l e =
+    let read : order ≡ slice_index_or orders u [] = get_or_read orders u order (omega (arith, h.units)) e [] in
+    rw read (h.each u l)

@@ -1,0 +1,16 @@
+use Rattle.std.proofs.Common.{◌≡◌, sym, ap, refl, ◌∙◌}
+use Rattle.branch_tree.specs.Allotments.{AllotmentView}
+use Rattle.branch_tree.proofs.AllotmentLemmas.{allotted-room, allotted-placed}
+use Rattle.branch_tree.proofs.allotments.Allotment.place.Goals as goal
+
+pub place_alt-fits-requires-clause-room : goal.place_alt-fits-requires-clause-room
+place_alt-fits-requires-clause-room c = let s = c.self.inside in allotted-room s.problem.now s.alts.items s.loads c.self.invariant
+
+pub invariant_of-self : goal.invariant_of-self
+invariant_of-self c =
+    let s = c.self.inside in
+    let e : c.args.self.now.problem ≡ s.problem.now = sym (ap (λ (v : AllotmentView). v.problem) c.self.view_is) in
+    let f = ap (λ (v : AllotmentView). v.alts) c.self.view_is in
+    allotted-placed s.problem.now s.alts.items s.loads c.self.invariant c.args.unit (rw e at c.requires.unit) c.args.alt (rw e at c.requires.alt)
+    (rw (← f) at c.requires.none) (c.if-fits.ensures.fits.0 refl) c.place_alt-fits.ensures.few c.place_alt-fits.new.counts c.place_alt-fits.ensures.length
+    (c.if-fits.ensures.placed refl)
