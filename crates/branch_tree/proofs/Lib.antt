@@ -3,4 +3,5 @@ pub mod OrderLemmas
 pub mod GreedyLemmas
 pub mod ListLemmas
 pub mod WalkLemmas
+pub mod RowLemmas
 pub mod VisitLemmas

@@ -1,4 +1,5 @@
 pub mod Visits
 pub mod Lists
 pub mod Walks
+pub mod Rows
 pub mod Loops

@@ -12,6 +12,7 @@ mod least_uses;
 mod listing;
 mod order;
 mod placing;
+mod rows;
 mod tallies;
 mod visits;
 mod walks;

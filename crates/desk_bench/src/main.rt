@@ -8,6 +8,7 @@ mod certificates;
 mod messages;
 mod report;
 mod turn;
+mod walks;
 
 use report::Size;
 use std::env;
@@ -20,15 +21,19 @@ fn main(rt: HostRuntime) -> anyhow::Result<()> {
         Some("board") => board::run(&rt, rt.alloc(), Size::Full),
         Some("turn") => turn::run(&rt, rt.alloc(), Size::Full),
         Some("messages") => messages::run(&rt, rt.alloc(), Size::Full),
+        Some("walks") => walks::run(&rt, rt.alloc(), Size::Full),
         Some("short") => {
             bounds::run(&rt, Size::Short)?;
             certificates::run(&rt, Size::Short)?;
             board::run(&rt, rt.alloc(), Size::Short)?;
             turn::run(&rt, rt.alloc(), Size::Short)?;
-            messages::run(&rt, rt.alloc(), Size::Short)
+            messages::run(&rt, rt.alloc(), Size::Short)?;
+            walks::run(&rt, rt.alloc(), Size::Short)
         }
         _ => {
-            println!(rt; "desk_bench WORD: bounds, certificates, board, turn, messages, short")?;
+            println!(rt;
+                "desk_bench WORD: bounds, certificates, board, turn, messages, walks, short"
+            )?;
             Ok(())
         }
     }
