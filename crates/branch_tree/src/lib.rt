@@ -19,6 +19,7 @@ mod order;
 mod orders;
 mod placing;
 mod pricing;
+mod rows;
 mod tallies;
 mod visits;
 mod walks;

@@ -9,6 +9,7 @@ mod certificates;
 mod messages;
 mod report;
 mod turn;
+mod walks;
 
 use report::Size;
 use std::env;
@@ -22,16 +23,20 @@ fn main(rt: HostRuntime) -> anyhow::Result<()> {
         Some("turn") => turn::run(&rt, rt.alloc(), Size::Full),
         Some("messages") => messages::run(&rt, rt.alloc(), Size::Full),
         Some("capacity") => capacity::run(&rt, rt.alloc(), Size::Full),
+        Some("walks") => walks::run(&rt, rt.alloc(), Size::Full),
         Some("short") => {
             bounds::run(&rt, Size::Short)?;
             certificates::run(&rt, Size::Short)?;
             board::run(&rt, rt.alloc(), Size::Short)?;
             turn::run(&rt, rt.alloc(), Size::Short)?;
             messages::run(&rt, rt.alloc(), Size::Short)?;
-            capacity::run(&rt, rt.alloc(), Size::Short)
+            capacity::run(&rt, rt.alloc(), Size::Short)?;
+            walks::run(&rt, rt.alloc(), Size::Short)
         }
         _ => {
-            println!(rt; "desk_bench WORD: bounds, certificates, board, turn, messages, capacity, short")?;
+            println!(rt;
+                "desk_bench WORD: bounds, certificates, board, turn, messages, capacity, walks, short"
+            )?;
             Ok(())
         }
     }
