@@ -14,7 +14,7 @@ use std::alloc::Global;
 use std::marker::Model;
 
 /// How often each resource is used by the parts that were added and not taken away: 4 bytes a resource. Contracts see
-/// the counts, resource by resource. Only `of` takes memory.
+/// the counts, resource by resource. Only `of` and `copy` take memory.
 #[derive(Drop)]
 pub struct Counts {
     counts: Vec<u32>,
@@ -50,6 +50,15 @@ impl Counts {
         Ok(Counts { counts })
     }
 
+    /// The same counts again: one step a resource.
+    pub fn copy(&self, alloc: Global) -> Result<Counts, Memory>
+        ensures { IfOk result (λ counts. counts ≡ self.now) }
+    {
+        Ok(Counts {
+            counts: Vec::from_slice(alloc, &self.counts)?,
+        })
+    }
+
     /// Adds the uses of a part: one step a use. No count reaches 2^32.
     pub fn add(&mut self, part: &Part)
         requires there { IsPartInRange (length self.old) part.now }
@@ -73,8 +82,9 @@ impl Counts {
     }
 
     /// Whether the part fits beside what is counted: whether at each resource that it uses, the count and the part's uses
-    /// are together at most the limit. Resources that it does not use are not asked. One step a use and strip, and none
-    /// after the first resource at which it does not fit.
+    /// are together at most the limit. Resources that it does not use are not asked. The part uses each fewer than 2^32
+    /// times: who made the part knows it, and a part that an alternative of a unit names uses each at most 434 times. One
+    /// step for each use and each of the part's strips, and none after the first resource at which it does not fit.
     pub fn fits(&self, part: &Part, limits: &[i64]) -> bool
         requires there { IsPartInRange (length self.now) part.now }
         requires few { (r : ℕ) → r < length self.now → part_uses part.now r < 2 ^ 32 }

@@ -4,7 +4,6 @@ ghost use Rattle.std.specs.Prelude.{◌≡◌, ◌↔◌, ℕ, ◌+◌, ◌^◌,
 ghost use Rattle.choice_problem.specs.Strips.{strip_uses, part_uses, IsStripInRange, IsPartInRange};
 ghost use Rattle.window_counts.specs.Counts.{FitsWith, IsFirstAbove, KeepsLimit, limit_at};
 
-use crate::runs::run_of;
 use choice_problem::{Part, Strip};
 
 // Whether the part fits at each resource that it uses.
@@ -33,8 +32,8 @@ fn strip_fits(counts: &[u32], part: &Part, limits: &[i64], strip: &Strip) -> boo
         ↔ ((r : ℕ) → 0 < strip_uses strip.now r → KeepsLimit counts.now (λ q. part_uses part.now q) limits.now r) }
 {
     for i in 0..strip.times {
-        let (start, end) = run_of(strip, i);
-        if !run_fits(counts, part, limits, start, end) {
+        let (start, end) = strip.run(i);
+        if !run_fits(counts, part, limits, start as usize, end as usize) {
             return false;
         }
     }
