@@ -60,8 +60,8 @@ flight_parts text flight is =
     let tail = is.digits ++ suffix_text flight.suffix in
     by_airline {P = (flight.airline ≡ airline_in text) × (tail ≡ behind_airline text)} flight.airline text tail is.digits flight.number (suffix_text flight.suffix) is.airline is.number refl is.spelled
     (λ a b c letters same t.
-        let letter : is_letter c ≡ true = (and_parts (is_letter a && is_letter b) (is_letter c) letters).1 in
-        (rw (t, letter) same, rw (t, letter) refl))
+    let letter : is_letter c ≡ true = (and_parts (is_letter a && is_letter b) (is_letter c) letters).1 in
+    (rw (t, letter) same, rw (t, letter) refl))
     (λ a b c rest fits no same t end. (rw (t, no) same, rw (t, no) (sym end)))
 
 flight_of : List ℕ → ℕ → ℕ → Flight

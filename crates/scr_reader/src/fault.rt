@@ -29,7 +29,10 @@ impl fmt::Display for ScrFault {
             ScrFault::BadLine { line, field } => {
                 write!(f, "line {line}: field {field} has not its form")
             }
-            ScrFault::BadHeader { line } => write!(f, "line {line}: a header line that has not its form"),
+            ScrFault::BadHeader { line } => write!(
+                f,
+                "line {line}: a header line that has not its form"
+            ),
             ScrFault::Unpaired { line } => write!(f, "line {line}: an unpaired change"),
             ScrFault::TooLong { line } => write!(f, "line {line}: more than 200 bytes"),
             ScrFault::Memory => f.write_str("out of memory"),

@@ -229,10 +229,7 @@ fn faults_print_their_place(rt: HostRuntime) -> Result<(), Fail> {
             ScrFault::Unpaired { line: 14 },
             "line 14: an unpaired change",
         ),
-        (
-            ScrFault::TooLong { line: 1 },
-            "line 1: more than 200 bytes",
-        ),
+        (ScrFault::TooLong { line: 1 }, "line 1: more than 200 bytes"),
         (ScrFault::Memory, "out of memory"),
     ] {
         assert_eq!(rt; format!(in rt.alloc(); "{fault}")?.as_str(), text);
