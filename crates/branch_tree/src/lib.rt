@@ -31,4 +31,6 @@ pub use visits::visit;
 pub use walks::Walk;
 
 #[cfg(test)]
+mod improved_tests;
+#[cfg(test)]
 mod tests;
