@@ -1,6 +1,6 @@
 //! The search for a cheaper choice near one: groups of units give up their alternatives and take new ones.
 
-ghost use Rattle.std.specs.Prelude.{◌≡◌, ◌<◌, ◌≤◌, All, IfOk};
+ghost use Rattle.std.specs.Prelude.{◌≡◌, ◌<◌, ◌≤◌, All, IfOk, IfSome};
 ghost use Rattle.choice_problem.specs.Problems.{unit_count, alt_count};
 ghost use Rattle.choice_problem.specs.Choices.{IsFeasible, choice_cost};
 ghost use Rattle.branch_tree.specs.Orders.{AreOrders};
@@ -15,12 +15,20 @@ use choice_problem::{Choice, Problem, cost_of};
 use slot_text::Memory;
 use std::alloc::Global;
 
-// How many groups are tried, and after how many in a row that helped nothing no more is tried.
+// How many descents there are at most, and how many in a row that lead to nothing cheaper.
+const DESCENTS: u32 = 4096;
+
+const IDLE: u32 = 48;
+
+// How many exchanges begin a descent at any cost, how many there are in it at most, and how many in a row that help nothing.
+const SHAKES: u32 = 4;
+
 const ROUNDS: u32 = 65536;
 
-const QUIET: u32 = 4096;
+const QUIET: u32 = 128;
 
-// A choice that costs at most as much, and no more than the floor where the search comes down to it.
+// A choice that costs at most as much. Descents begin at the cheapest choice so far, until one comes down to the floor or
+// many in a row have led to nothing cheaper.
 pub(crate) fn exchanged(
     alloc: Global,
     problem: &Problem,
@@ -32,65 +40,100 @@ pub(crate) fn exchanged(
     ensures cost { IfOk result (λ found. choice_cost problem.now found ≤ choice_cost problem.now choice) }
 {
     let orders = orders_of(alloc, problem, None)?;
-    let mut allotment = Allotment::of(alloc, problem, &choice)?;
-    exchange(alloc, &mut allotment, &orders, floor)?;
-    let Some(found) = allotment.choice(alloc)? else {
-        return Ok(choice);
-    };
-    if cost_of(problem, &found) <= cost_of(problem, &choice) {
-        Ok(found)
-    } else {
-        Ok(choice)
+    let mut draws = Draws::new();
+    let mut least = cost_of(problem, &choice);
+    let mut best = choice;
+    let mut idle = 0;
+    for _ in 0..DESCENTS {
+        if idle == IDLE || least <= floor {
+            break;
+        }
+        idle += 1;
+        if let Some(found) = descended(alloc, problem, &orders, &best, floor, &mut draws)? {
+            let cost = cost_of(problem, &found);
+            if cost < least {
+                idle = 0;
+            }
+            if cost <= least {
+                least = cost;
+                best = found;
+            }
+        }
     }
+    Ok(best)
 }
 
-// Tries groups until the cost is down at the floor, or many in a row helped nothing.
-fn exchange(
+// A choice near one that fits: some exchanges at any cost, and then those that cost no more.
+fn descended(
+    alloc: Global,
+    problem: &Problem,
+    orders: &[Order],
+    choice: &Choice,
+    floor: u64,
+    draws: &mut Draws,
+) -> Result<Option<Choice>, Memory>
+    requires some { 0 < unit_count problem.now }
+    requires choice { IsFeasible problem.now choice.now }
+    requires orders { AreOrders problem.now orders.now }
+    ensures { IfOk result (λ found. IfSome found (IsFeasible problem.now)) }
+{
+    let mut allotment = Allotment::of(alloc, problem, choice)?;
+    for _ in 0..SHAKES {
+        exchange(alloc, &mut allotment, orders, u64::MAX, draws)?;
+    }
+    descend(alloc, &mut allotment, orders, floor, draws)?;
+    allotment.choice(alloc)
+}
+
+// Exchanges that cost no more, until the cost is down at the floor or many in a row have helped nothing.
+fn descend(
     alloc: Global,
     allotment: &mut Allotment<'_>,
     orders: &[Order],
     floor: u64,
+    draws: &mut Draws,
 ) -> Result<(), Memory>
-    requires { AreOrders allotment.old.problem orders.now }
+    requires some { 0 < unit_count allotment.old.problem }
+    requires orders { AreOrders allotment.old.problem orders.now }
     ensures { allotment.new.problem ≡ allotment.old.problem }
 {
-    let mut draws = Draws::new();
     let mut quiet = 0;
     for _ in 0..ROUNDS {
-        if quiet == QUIET || allotment.cost() <= floor {
+        let cost = allotment.cost();
+        if quiet == QUIET || cost <= floor {
             break;
         }
-        let group = draw_group(alloc, allotment, &mut draws)?;
-        if helps(alloc, allotment, orders, &group)? {
-            quiet = 0;
+        exchange(alloc, allotment, orders, cost, draws)?;
+        quiet = if allotment.cost() < cost {
+            0
         } else {
-            quiet += 1;
-        }
+            quiet + 1
+        };
     }
     Ok(())
 }
 
-// Takes the alternatives of a group away, and gives each of its units in order the cheapest one that fits. Where that
-// costs more, or a unit finds none, they have their old ones back. Says whether the cost went down.
-fn helps(
+// Takes the alternatives of a group away, and gives each of its units in order the cheapest one that fits. Where one finds
+// none, or all units together cost more than the given cost, the group has its old alternatives back.
+fn exchange(
     alloc: Global,
     allotment: &mut Allotment<'_>,
     orders: &[Order],
-    group: &[u32],
-) -> Result<bool, Memory>
-    requires group { All (λ unit. unit < unit_count allotment.old.problem) group.now }
+    most: u64,
+    draws: &mut Draws,
+) -> Result<(), Memory>
+    requires some { 0 < unit_count allotment.old.problem }
     requires orders { AreOrders allotment.old.problem orders.now }
     ensures { allotment.new.problem ≡ allotment.old.problem }
 {
-    let before = allotment.cost();
-    let held = held_of(alloc, allotment, group)?;
-    take_all(allotment, group);
-    if place_all(allotment, orders, group, before) {
-        return Ok(allotment.cost() < before);
+    let group = draw_group(alloc, allotment, draws)?;
+    let held = held_of(alloc, allotment, &group)?;
+    take_all(allotment, &group);
+    if !place_all(allotment, orders, &group, most) {
+        take_all(allotment, &group);
+        put_back(allotment, &held);
     }
-    take_all(allotment, group);
-    put_back(allotment, &held);
-    Ok(false)
+    Ok(())
 }
 
 // A unit and its alternative.

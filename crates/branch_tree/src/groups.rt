@@ -1,10 +1,9 @@
 //! Groups of units that stand in each other's way.
 
-ghost use Rattle.std.specs.Prelude.{◌≡◌, ◌+◌, ◌*◌, ◌<◌, ◌≤◌, All, IfOk};
+ghost use Rattle.std.specs.Prelude.{◌<◌, ◌≤◌, length, All, IfOk};
 ghost use Rattle.std.specs.Option.{ForSome};
 ghost use Rattle.choice_problem.specs.Problems.{unit_count, alt_count, resource_count};
 ghost use Rattle.choice_problem.specs.Strips.{IsStripInRange, IsPartInRange};
-ghost use Rattle.branch_tree.specs.Allotments.{AllotmentView};
 
 use crate::allotments::Allotment;
 use crate::draws::Draws;
@@ -12,10 +11,11 @@ use choice_problem::{Part, Problem, Strip};
 use slot_text::Memory;
 use std::alloc::Global;
 
-// How many units a group has at most.
-const GROUP: usize = 12;
+// How many units that use one resource join a group at most.
+const USERS: usize = 5;
 
-// A unit that is drawn, and those that use one resource with it or with another alternative of it, in a drawn order.
+// A unit that is drawn, and units that use a resource with it, with another alternative of it, and with another
+// alternative of one of these; in a drawn order.
 pub(crate) fn draw_group(
     alloc: Global,
     allotment: &Allotment<'_>,
@@ -24,54 +24,72 @@ pub(crate) fn draw_group(
     requires { 0 < unit_count allotment.now.problem }
     ensures { IfOk result (λ group. All (λ unit. unit < unit_count allotment.now.problem) group.items) }
 {
-    let problem = allotment.problem();
-    let unit = draws.below(problem.units() as usize) as u32;
-    let here = match allotment.alt(unit) {
-        Some(alt) => draw_resource(problem, unit, alt, draws),
-        None => None,
-    };
-    let other = draws.below(problem.alts(unit) as usize) as u32;
-    let there = draw_resource(problem, unit, other, draws);
-    let mut group = users(alloc, allotment, unit, here, there)?;
+    let unit = draws.below(allotment.problem().units() as usize) as u32;
+    let mut group = vec![in alloc; unit]?;
+    if let Some(alt) = allotment.alt(unit) {
+        add_users(allotment, &mut group, unit, alt, draws)?;
+    }
+    add_rivals(allotment, &mut group, unit, draws)?;
+    let member = group[draws.below(group.len())];
+    add_rivals(allotment, &mut group, member, draws)?;
     draws.shuffle(&mut group);
     Ok(group)
 }
 
-// The unit, and those after it in turn that use one of two resources.
-fn users(
-    alloc: Global,
+// Adds units that use a resource of an alternative of the unit, which is drawn.
+fn add_rivals(
     allotment: &Allotment<'_>,
+    group: &mut Vec<u32>,
     unit: u32,
-    here: Option<u32>,
-    there: Option<u32>,
-) -> Result<Vec<u32>, Memory>
+    draws: &mut Draws,
+) -> Result<(), Memory>
     requires unit { unit < unit_count allotment.now.problem }
-    requires here { ForSome here (λ r. r < resource_count allotment.now.problem) }
-    requires there { ForSome there (λ r. r < resource_count allotment.now.problem) }
-    ensures { IfOk result (λ group. All (λ unit. unit < unit_count allotment.now.problem) group.items) }
+    requires group { All (λ unit. unit < unit_count allotment.now.problem) group.old.items }
+    ensures group { All (λ unit. unit < unit_count allotment.now.problem) group.new.items }
+    ensures more { length group.old.items ≤ length group.new.items }
 {
-    let units = allotment.problem().units();
-    let mut group = Vec::new(alloc);
+    let alt = draws.below(allotment.problem().alts(unit) as usize) as u32;
+    add_users(allotment, group, unit, alt, draws)
+}
+
+// Adds units that use a resource which the unit uses with this alternative: the first ones after it in turn.
+fn add_users(
+    allotment: &Allotment<'_>,
+    group: &mut Vec<u32>,
+    unit: u32,
+    alt: u32,
+    draws: &mut Draws,
+) -> Result<(), Memory>
+    requires unit { unit < unit_count allotment.now.problem }
+    requires alt { alt < alt_count allotment.now.problem unit }
+    requires group { All (λ unit. unit < unit_count allotment.now.problem) group.old.items }
+    ensures group { All (λ unit. unit < unit_count allotment.now.problem) group.new.items }
+    ensures more { length group.old.items ≤ length group.new.items }
+{
+    let problem = allotment.problem();
+    let Some(resource) = draw_resource(problem, unit, alt, draws) else {
+        return Ok(());
+    };
+    let units = problem.units();
+    let mut added = 0;
     for step in 0..units {
         let other = (unit + step) % units;
-        if step == 0 || uses(allotment, other, here) || uses(allotment, other, there) {
+        if added < USERS && uses(allotment, other, resource) && !group.contains(&other) {
             group.push(other)?;
-        }
-        if group.len() >= GROUP {
-            break;
+            added += 1;
         }
     }
-    Ok(group)
+    Ok(())
 }
 
 // Whether a unit uses a resource.
-fn uses(allotment: &Allotment<'_>, unit: u32, resource: Option<u32>) -> bool
+fn uses(allotment: &Allotment<'_>, unit: u32, resource: u32) -> bool
     requires unit { unit < unit_count allotment.now.problem }
-    requires resource { ForSome resource (λ r. r < resource_count allotment.now.problem) }
+    requires resource { resource < resource_count allotment.now.problem }
 {
-    match (allotment.alt(unit), resource) {
-        (Some(alt), Some(resource)) => allotment.problem().uses(unit, alt, resource) > 0,
-        _ => false,
+    match allotment.alt(unit) {
+        Some(alt) => allotment.problem().uses(unit, alt, resource) > 0,
+        None => false,
     }
 }
 

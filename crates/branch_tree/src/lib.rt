@@ -32,4 +32,6 @@ pub use visits::visit;
 pub use walks::Walk;
 
 #[cfg(test)]
+mod improved_tests;
+#[cfg(test)]
 mod tests;
