@@ -24,4 +24,6 @@ pub use visits::visit;
 pub use walks::Walk;
 
 #[cfg(test)]
+mod plain;
+#[cfg(test)]
 mod tests;
