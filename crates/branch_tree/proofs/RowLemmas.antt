@@ -1,5 +1,5 @@
 -- Least values over rows of alternatives.
-use Rattle.std.proofs.Common.{◌≡◌, ℕ, ◌+◌, ◌-◌, ◌<◌, ◌≤◌, min, arith, inl, inr, List, ◌++◌}
+use Rattle.std.proofs.Common.{◌≡◌, ℕ, ◌+◌, ◌-◌, ◌<◌, ◌≤◌, arith, inl, inr, List, ◌++◌}
 use Rattle.std.proofs.lemmas.Bool.{cases_lt}
 use Rattle.std.proofs.lemmas.List.Sums.{sum_by-append}
 use Rattle.std.specs.Prelude.{if◌then◌else◌, ◌==◌}
@@ -13,18 +13,6 @@ use Rattle.branch_tree.specs.Rows.{one_uses, two_uses, IsRow, EndAlike}
 pub least_within-part : (low high from to : ℕ) (f : ℕ → ℕ) → low ≤ from → from ≤ to → to ≤ high → least_within low high f ≤ least_within from to f
 least_within-part low high from to f a b c =
     least_within-ge from to (least_within low high f) f b (λ k l m. least_within-le low high k f (omega arith) (omega arith))
-
--- one more in front
-pub least_within-front : (low next high : ℕ) (f : ℕ → ℕ) → next ≡ low + 1 → next ≤ high → least_within low high f ≡ min (least_within next high f) (f low)
-least_within-front low next high f e l =
-    let rest = least_within-part low high next high f (omega arith) l (omega arith) in
-    let first = least_within-le low high low f (omega arith) (omega arith) in
-    let below = least_within-ge low high (min (least_within next high f) (f low)) f (omega arith)
-    (λ k m n. elim (cases_lt low k) [
-      | inl above ↦ omega (arith, least_within-le next high k f (omega arith) n)
-      | inr same ↦ let d : k ≡ low = omega arith in rw d (omega arith)
-    ]) in
-    omega (arith, rest, first, below)
 
 -- rows that end alike have the same least uses of second parts
 pub least-alike : (p : ProblemView) (u first last end r : ℕ) → first ≤ last → last - first ≤ end → EndAlike p u first last end →

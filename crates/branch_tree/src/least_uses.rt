@@ -35,6 +35,9 @@ pub(crate) fn least_list(
     ensures few { (r : ℕ) → least_within low high (λ a. alt_uses problem.now unit a r) ≤ 434 }
 {
     let mut list = uses_list(alloc, problem, unit, low)?;
+    if low == high {
+        return Ok(list);
+    }
     let mut twos = second_list(alloc, problem, unit, high)?;
     let mut row = Row {
         first: high,

@@ -34,4 +34,6 @@ pub use walks::Walk;
 #[cfg(test)]
 mod improved_tests;
 #[cfg(test)]
+mod plain;
+#[cfg(test)]
 mod tests;

@@ -108,7 +108,8 @@ fn begin_twos(
     Ok(row.last)
 }
 
-// Lowers the least uses of the second parts of a row's alternatives from one on to those of the whole row.
+// Lowers the least uses of the second parts of a row's alternatives from one on to those of the whole row. The first
+// alternative is tried first, since it has least in common with the last ones.
 fn lower_twos(
     alloc: Global,
     problem: &Problem,
@@ -130,8 +131,11 @@ fn lower_twos(
     ensures within { OnOk result (AreWithin (resource_count problem.now) twos.new.items) }
     ensures same { zeros.new ≡ zeros.old }
 {
-    for back in 0..from - row.first {
-        let other = second_list(alloc, problem, unit, from - back - 1)?;
+    for alt in row.first..from {
+        if twos.is_empty() {
+            return Ok(());
+        }
+        let other = second_list(alloc, problem, unit, alt)?;
         lower(twos, &other, zeros);
     }
     Ok(())

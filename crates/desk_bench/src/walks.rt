@@ -1,6 +1,6 @@
 //! A walk through ranges: making it, narrowing it, and visiting its ranges.
 
-ghost use Rattle.std.specs.Prelude.{◌≡◌, OnOk};
+ghost use Rattle.std.specs.Prelude.{◌≡◌};
 ghost use Rattle.dual_bound.specs.Tables.{IsTableFor};
 
 use crate::bounds;
@@ -37,7 +37,7 @@ pub fn run(rt: &HostRuntime, alloc: Global, size: Size) -> anyhow::Result<()> {
 }
 
 // Ranges, from and to these hundredths of a unit's alternatives.
-const SPANS: [(&str, usize, usize); 6] = [
+const SPANS: [(&str, u32, u32); 6] = [
     ("narrow each unit to the same range", 0, 100),
     ("narrow each unit to its lower half", 0, 50),
     ("narrow each unit to its lowest quarter", 0, 25),
@@ -46,21 +46,21 @@ const SPANS: [(&str, usize, usize); 6] = [
     ("widen each unit to the upper three quarters", 25, 100),
 ];
 
-// Narrows each unit's range.
+// Sets each unit's range.
 fn narrow(
     alloc: Global,
     problem: &Problem,
     walk: &mut Walk<'_>,
-    from: usize,
-    to: usize,
+    from: u32,
+    to: u32,
 ) -> Result<(), Memory>
     requires { walk.old.problem ≡ problem.now }
-    ensures { OnOk result (walk.new.problem ≡ problem.now) }
+    ensures { walk.new.problem ≡ problem.now }
 {
     for unit in 0..problem.units() {
-        let last = problem.alts(unit).saturating_sub(1) as usize;
-        let low = (last.wrapping_mul(from) / 100) as u32;
-        let high = (last.wrapping_mul(to) / 100) as u32;
+        let last = problem.alts(unit).saturating_sub(1);
+        let low = last.wrapping_mul(from) / 100;
+        let high = last.wrapping_mul(to) / 100;
         if low <= high && high < problem.alts(unit) {
             walk.narrow(alloc, problem, unit, low, high)?;
         }

@@ -1,7 +1,7 @@
 use Rattle.std.proofs.Common.{◌≡◌, ℕ, ◌<◌, length, slice_index}
 use Rattle.choice_problem.specs.Problems.{alt_count}
 use Rattle.choice_problem.specs.Splits.{IsFirstCheapest}
-use Rattle.branch_tree.proofs.visits.cheapest.Given as goal
+use Rattle.branch_tree.proofs.kept.cheapest.Given as goal
 
 abbrev pub invariant-loop-unit : goal.invariant-loop-unit
 invariant-loop-unit l = record {
