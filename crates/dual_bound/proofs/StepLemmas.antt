@@ -1,16 +1,13 @@
 -- Vectors of prices in lists, and the prices of subgradient steps.
-use Rattle.std.proofs.Common.{◌≡◌, ℕ, zero, suc, ◌+◌, ◌-◌, ◌*◌, ◌<◌, ◌≤◌, ◌^◌, refl, ◌∙◌, ap, arith, add-one, List, [], ◌∷◌, ◌++◌, length, pos, ◌<ℤ◌, inl, inr, false}
-use Rattle.std.specs.Prelude.{if◌then◌else◌, ◌==◌, slice_index, slice_index_or, All, ℤ, ◌≤ℤ◌}
+use Rattle.std.proofs.Common.{◌≡◌, ℕ, zero, suc, ◌+◌, ◌-◌, ◌*◌, ◌<◌, ◌≤◌, refl, ◌∙◌, ap, arith, add-one, List, pos, ◌<ℤ◌, inl, inr}
+use Rattle.std.specs.Prelude.{slice_index, ℤ, ◌≤ℤ◌}
 use Rattle.std.proofs.lemmas.Int.{ints}
 use Rattle.std.proofs.lemmas.Bool.{cases_lt}
-use Rattle.std.proofs.lemmas.Grind.{common_steps}
-use Rattle.std.proofs.lemmas.List.{length-append, get_or_append_left, get_or_push}
 use Rattle.std.proofs.lemmas.List.Sums.{sum_by_push}
-use Rattle.std.proofs.lemmas.List.Elements.{All-push}
 use Rattle.choice_problem.specs.declared.vectors.Price.{Price}
 use Rattle.choice_problem.specs.Sums.{sum_below}
 use Rattle.choice_problem.specs.Problems.{ProblemView, resource_count, amount, limit_of}
-use Rattle.choice_problem.specs.Bounds.{priced, IsPrice, IsVector, bound_of}
+use Rattle.choice_problem.specs.Bounds.{priced, bound_of}
 use Rattle.choice_problem.specs.Roots.{vector_of, price_after, priced_load, step_length, step_vector, IsNodeVector}
 use Rattle.choice_problem.proofs.RootLemmas.{with_price, with_price-suc, vector_of-IsVector, step_lengths-le}
 use Rattle.dual_bound.specs.Loops.{worth, AreSums, IsPricedBy, vector_in, ArePrices, IsPoint, AreMoved, IsAfter, IsGreatestUpTo}
