@@ -27,13 +27,7 @@ pub fn run(rt: &HostRuntime, alloc: Global, size: Size) -> anyhow::Result<()> {
     let mut walk = Walk::of(alloc, &problem, ranges)?;
     step(rt, size, "Walk::of at whole ranges", start)?;
     visit(rt, alloc, size, &problem, &walk, &table)?;
-    for (name, from, to) in SPANS {
-        let start = Instant::now(rt)?;
-        narrow(alloc, &problem, &mut walk, from, to)?;
-        step(rt, size, name, start)?;
-        visit(rt, alloc, size, &problem, &walk, &table)?;
-    }
-    Ok(())
+    narrow_all(rt, alloc, size, &problem, &mut walk, &table)
 }
 
 // Ranges, from and to these hundredths of a unit's alternatives.
@@ -45,6 +39,27 @@ const SPANS: [(&str, u32, u32); 6] = [
     ("narrow each unit to one alternative", 50, 50),
     ("widen each unit to the upper three quarters", 25, 100),
 ];
+
+// Sets the ranges one after the other, and visits them.
+fn narrow_all(
+    rt: &HostRuntime,
+    alloc: Global,
+    size: Size,
+    problem: &Problem,
+    walk: &mut Walk<'_>,
+    table: &PriceTable,
+) -> anyhow::Result<()>
+    requires problem { walk.old.problem ≡ problem.now }
+    requires table { IsTableFor problem.now table.now }
+{
+    for (name, from, to) in SPANS {
+        let start = Instant::now(rt)?;
+        narrow(alloc, problem, walk, from, to)?;
+        step(rt, size, name, start)?;
+        visit(rt, alloc, size, problem, walk, table)?;
+    }
+    Ok(())
+}
 
 // Sets each unit's range.
 fn narrow(
