@@ -9,6 +9,7 @@ mod certificates;
 mod messages;
 mod report;
 mod turn;
+mod units;
 mod walks;
 
 use report::Size;
@@ -23,6 +24,7 @@ fn main(rt: HostRuntime) -> anyhow::Result<()> {
         Some("turn") => turn::run(&rt, rt.alloc(), Size::Full),
         Some("messages") => messages::run(&rt, rt.alloc(), Size::Full),
         Some("capacity") => capacity::run(&rt, rt.alloc(), Size::Full),
+        Some("units") => units::run(&rt, rt.alloc(), Size::Full),
         Some("walks") => walks::run(&rt, rt.alloc(), Size::Full),
         Some("short") => {
             bounds::run(&rt, Size::Short)?;
@@ -31,11 +33,12 @@ fn main(rt: HostRuntime) -> anyhow::Result<()> {
             turn::run(&rt, rt.alloc(), Size::Short)?;
             messages::run(&rt, rt.alloc(), Size::Short)?;
             capacity::run(&rt, rt.alloc(), Size::Short)?;
+            units::run(&rt, rt.alloc(), Size::Short)?;
             walks::run(&rt, rt.alloc(), Size::Short)
         }
         _ => {
             println!(rt;
-                "desk_bench WORD: bounds, certificates, board, turn, messages, capacity, walks, short"
+                "desk_bench WORD: bounds, certificates, board, turn, messages, capacity, units, walks, short"
             )?;
             Ok(())
         }
