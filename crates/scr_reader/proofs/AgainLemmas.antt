@@ -14,14 +14,12 @@ use Rattle.scr_reader.specs.Messages.{AsksChange, HeaderPart, title, parts_from_
 use Rattle.scr_reader.specs.Printed.{line_text, flight_text, item_lines, items_lines, message_lines, message_text, IsAsked, LineFits, ItemFits, ItemsFit}
 use Rattle.scr_reader.specs.Again.{IsAskedItem, AreAsked, line_count, AreNumbered, IsReadAgain, messages_text, AreReadAgain}
 use Rattle.scr_reader.specs.declared.line.Line.{Line}
-use Rattle.scr_reader.specs.declared.line.Flight.{Flight}
 use Rattle.scr_reader.specs.declared.line.Code.{Code}
 use Rattle.scr_reader.specs.declared.line.Code.TheVariants.{N, B, F, C, R, L, D, A, Z, K, H, O, U, W, X}
 use Rattle.scr_reader.specs.declared.line.Item.{Item}
 use Rattle.scr_reader.specs.declared.line.Item.TheVariants.{One, Pair, Query}
 use Rattle.scr_reader.specs.declared.message.Placed.{Placed}
 use Rattle.scr_reader.specs.declared.message.Message.{Message}
-use Rattle.scr_reader.specs.declared.header.Header.{Header}
 use Rattle.scr_reader.proofs.CleanLemmas.{Clean, clean_flight, clean_date, clean_station, date_long}
 use Rattle.scr_reader.proofs.PrintLemmas.{NamedDays, printed_back, printed_question}
 use Rattle.scr_reader.proofs.LineLemmas.{IsFullLine, full_line, clean_is_line}

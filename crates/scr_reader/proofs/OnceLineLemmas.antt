@@ -1,5 +1,5 @@
 -- The fields of a line spell one line.
-use Rattle.std.proofs.Common.{◌≡◌, ◌≢◌, ℕ, true, List, [], ◌∷◌, Some, None, Ok, Result, refl, sym, ap, ◌∙◌, arith}
+use Rattle.std.proofs.Common.{◌≡◌, ◌≢◌, ℕ, true, List, [], ◌∷◌, Some, None, Ok, refl, sym, ap, ◌∙◌, arith}
 use Rattle.std.specs.Prelude.{Option, IsSomeAnd, slice_get}
 use Rattle.schedule_text.specs.Days.{IsDays}
 use Rattle.season_days.specs.Term.{Term}
@@ -13,7 +13,7 @@ use Rattle.scr_reader.specs.declared.line.Code.{Code}
 use Rattle.scr_reader.specs.declared.line.Flight.{Flight}
 use Rattle.scr_reader.specs.Bytes.{is_letter}
 use Rattle.scr_reader.specs.Parts.{IsFlight, IsPeriod, IsSeats, IsArrivalGroup, IsDepartureGroup}
-use Rattle.scr_reader.specs.Shapes.{Shape, Part, arrival, departure, turnaround, parts_of, shape_of, Says, Agree, IsLine, code_and_flight, code_alone, departing_flight, dates, weekdays, seats_and_craft, arrival_group, departure_group, departure_group_with_nights, arrival_service, departure_service, both_services, IsCodeAndFlight, IsCodeAlone, IsService, IsBothServices, IsLaterGroup}
+use Rattle.scr_reader.specs.Shapes.{Shape, Part, arrival, departure, turnaround, parts_of, shape_of, Says, IsLine, code_and_flight, code_alone, departing_flight, dates, weekdays, seats_and_craft, arrival_group, departure_group, departure_group_with_nights, arrival_service, departure_service, both_services, IsCodeAndFlight, IsCodeAlone, IsService, IsBothServices, IsLaterGroup}
 use Rattle.scr_reader.proofs.AgreeLemmas.{said_in, shape_said}
 use Rattle.scr_reader.proofs.ShapeLemmas.{arriving, leaving, turning, stop_of}
 use Rattle.scr_reader.proofs.SameLemmas.{some_stop, with_stop, with_stops, fine, fine_two, fine_three, fine_four, arrival_same, departure_same, turnaround_same}

@@ -1,5 +1,5 @@
 -- A field says one value of its kind.
-use Rattle.std.proofs.Common.{◌≡◌, ◌≢◌, ◌⊎◌, ℕ, suc, zero, ◌+◌, ◌-◌, ◌/◌, ◌%◌, ◌<◌, ◌≤◌, Bool, true, false, cond, eqb, List, [], ◌∷◌, ◌++◌, length, length-append, get_or, take, drop, Option, Some, None, refl, sym, ap, subst, ◌∙◌, arith, inl, inr}
+use Rattle.std.proofs.Common.{◌≡◌, ℕ, suc, zero, ◌+◌, ◌/◌, ◌%◌, ◌<◌, ◌≤◌, Bool, true, cond, eqb, List, [], ◌∷◌, ◌++◌, length, length-append, get_or, take, drop, Option, Some, None, refl, sym, ap, ◌∙◌, arith, inl, inr}
 use Rattle.std.specs.Prelude.{if◌then◌else◌}
 use Rattle.std.proofs.Math.Bool.{◌&&◌}
 use Rattle.std.proofs.lemmas.Bool.{and_parts, cases_eq, eqb-true}
@@ -7,7 +7,7 @@ use Rattle.std.proofs.lemmas.List.{take_at, drop_at}
 use Rattle.std.proofs.lemmas.Option.{same_Some}
 use Rattle.jiff_core.proofs.SignedLemmas.{signed_arith}
 use Rattle.schedule_text.specs.Days.{IsDays}
-use Rattle.schedule_text.specs.Times.{digit, two_digits, time_text}
+use Rattle.schedule_text.specs.Times.{two_digits, time_text}
 use Rattle.season_days.specs.Term.{Term}
 use Rattle.season_days.specs.Seasons.{season_text, half_letter}
 use Rattle.season_days.specs.declared.season.Half.{Half}

@@ -1,5 +1,5 @@
 -- A text has one reading or one fault at most, and never both.
-use Rattle.std.proofs.Common.{◌≡◌, ◌⊎◌, ℕ, ◌+◌, ◌<◌, ◌≤◌, Bool, true, false, List, [], ◌∷◌, length, Option, Some, None, codes, pos, refl, sym, ap, subst, ◌∙◌, arith, inl, inr}
+use Rattle.std.proofs.Common.{◌≡◌, ℕ, ◌+◌, ◌<◌, Bool, true, false, List, [], ◌∷◌, length, Option, Some, None, pos, refl, sym, ap, subst, ◌∙◌, arith, inl, inr}
 use Rattle.std.specs.Prelude.{IsSomeAnd, slice_get, if◌then◌else◌}
 use Rattle.std.proofs.lemmas.Bool.{both_ways}
 use Rattle.jiff_core.proofs.SignedLemmas.{signed_arith}
@@ -10,8 +10,8 @@ use Rattle.slot_text.specs.Lines.{lines_of}
 use Rattle.slot_text.specs.Stations.{IsStation}
 use Rattle.slot_text.specs.declared.station.Station.{Station}
 use Rattle.scr_reader.specs.Parts.{date_text, IsDayOfMonth}
-use Rattle.scr_reader.specs.Rows.{Row, remark, entry, question, trimmed, most_bytes, is_remark, is_question, line_fields, IsAskedFlight, IsQuestion, IsRow, IsRowOrNone, AreRows, IsBadField}
-use Rattle.scr_reader.specs.Messages.{HeaderPart, address, season_name, date_name, airport_name, title, parts_from_season, has_address, header_parts, header_length, header_of, body_of, IsShort, PartSays, HeaderAgrees, IsPaired, IsGoodRow, AreGood, IsLineFault, IsBodyFault, items_of, Run, IsMessage, IsFaultBelow, IsMessageFault, AreMessages, IsFirstFault, FirstIs, IsFaultOfFirst, runs_in, ReadsMessage, HasMessageFault, ReadsAll, HasFault}
+use Rattle.scr_reader.specs.Rows.{Row, remark, entry, question, trimmed, is_remark, is_question, line_fields, IsAskedFlight, IsQuestion, IsRow, IsRowOrNone, AreRows, IsBadField}
+use Rattle.scr_reader.specs.Messages.{HeaderPart, address, parts_from_season, has_address, header_parts, header_length, header_of, body_of, IsShort, HeaderAgrees, IsPaired, IsGoodRow, AreGood, IsLineFault, IsBodyFault, items_of, Run, IsMessage, IsFaultBelow, IsMessageFault, AreMessages, IsFirstFault, FirstIs, IsFaultOfFirst, runs_in, ReadsMessage, HasMessageFault, ReadsAll, HasFault}
 use Rattle.scr_reader.specs.declared.header.Header.{Header}
 use Rattle.scr_reader.specs.declared.line.Line.{Line}
 use Rattle.scr_reader.specs.declared.line.Flight.{Flight}
@@ -20,7 +20,7 @@ use Rattle.scr_reader.specs.declared.fault.ScrFault.{ScrFault}
 use Rattle.scr_reader.specs.declared.fault.ScrFault.TheVariants.{BadLine, BadHeader, Unpaired, TooLong, Memory}
 use Rattle.scr_reader.proofs.HeaderLemmas.{header_or_fault, header_once, names_same}
 use Rattle.scr_reader.proofs.BodyLemmas.{bad_once, bad_is_short, bad_no_row}
-use Rattle.scr_reader.proofs.MessageLemmas.{message_of, same_message}
+use Rattle.scr_reader.proofs.MessageLemmas.{same_message}
 use Rattle.scr_reader.proofs.OncePartLemmas.{OneTime, OneSet, flight_once, date_once, season_once, station_once}
 use Rattle.scr_reader.proofs.OnceLineLemmas.{line_once}
 

@@ -1,5 +1,5 @@
 -- The lines by which messages and items are named rise.
-use Rattle.std.proofs.Common.{◌≡◌, ℕ, zero, suc, ◌+◌, ◌<◌, ◌≤◌, List, [], ◌∷◌, ◌++◌, length, get_or, map, Option, Some, None, refl, sym, ap, subst, ◌∙◌, arith, inl, inr}
+use Rattle.std.proofs.Common.{◌≡◌, ℕ, zero, suc, ◌+◌, ◌<◌, ◌≤◌, List, [], ◌∷◌, ◌++◌, length, map, Option, Some, None, refl, sym, ap, subst, arith, inl, inr}
 use Rattle.std.specs.Prelude.{All}
 use Rattle.std.specs.List.Sorted.{IsStrictlyIncreasing}
 use Rattle.std.proofs.lemmas.Bool.{cases_Bool}
@@ -7,7 +7,7 @@ use Rattle.std.proofs.lemmas.List.{length-drop}
 use Rattle.season_days.specs.Term.{Term}
 use Rattle.slot_text.specs.Lines.{lines_of}
 use Rattle.scr_reader.specs.Rows.{Row, is_empty_line, AreRows}
-use Rattle.scr_reader.specs.Messages.{header_length, season_place, header_of, body_of, Run, begins_in_run, onto_run, runs_of, row_item, place, items_of, IsMessage, AreMessages, runs_in, ReadsAll}
+use Rattle.scr_reader.specs.Messages.{header_length, header_of, body_of, Run, begins_in_run, onto_run, runs_of, row_item, place, items_of, IsMessage, AreMessages, runs_in, ReadsAll}
 use Rattle.scr_reader.specs.Rising.{item_line, named_lines, all_named_lines}
 use Rattle.scr_reader.specs.declared.line.Item.{Item}
 use Rattle.scr_reader.specs.declared.message.Placed.{Placed}
