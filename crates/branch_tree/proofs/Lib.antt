@@ -3,6 +3,7 @@ pub mod OrderLemmas
 pub mod GreedyLemmas
 pub mod ListLemmas
 pub mod WalkLemmas
+pub mod RowLemmas
 pub mod VisitLemmas
 pub mod AllotmentLemmas
 pub mod OrderListLemmas

@@ -1,6 +1,7 @@
 pub mod Visits
 pub mod Lists
 pub mod Walks
+pub mod Rows
 pub mod Loops
 pub mod Improved
 pub mod Allotments

@@ -82,3 +82,37 @@ pub(crate) fn move_least(least: &mut [u32], was: &[u32], now: &[u32])
     take_list(least, was);
     add_list(least, now);
 }
+
+// Each unit's first cheapest alternative.
+pub(crate) fn cheapest(
+    alloc: Global,
+    problem: &Problem,
+    ranges: &Ranges,
+) -> Result<Vec<u32>, Memory>
+    requires { AreRanges problem.now ranges.now }
+    ensures cheapest { IfOk result (λ alts. IsCheapest problem.now ranges.now alts.items) }
+    ensures choice { IfOk result (λ alts. IsChoice problem.now alts.items) }
+{
+    let mut alts = Vec::new(alloc);
+    for unit in 0..problem.units() {
+        alts.push(first_cheapest(problem, unit, ranges.low(unit), ranges.high(unit)))?;
+    }
+    Ok(alts)
+}
+
+// The first cheapest alternative of a unit from one to another.
+pub(crate) fn first_cheapest(problem: &Problem, unit: u32, low: u32, high: u32) -> u32
+    requires unit { unit < unit_count problem.now }
+    requires ordered { low ≤ high }
+    requires there { high < alt_count problem.now unit }
+    ensures cheapest { IsFirstLeast low high (λ b. alt_cost problem.now unit b) result }
+    ensures there { result < alt_count problem.now unit }
+{
+    let mut best = low;
+    for before in low..high {
+        if problem.alt_cost(unit, before + 1) < problem.alt_cost(unit, best) {
+            best = before + 1;
+        }
+    }
+    best
+}

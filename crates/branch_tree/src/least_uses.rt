@@ -1,18 +1,21 @@
 //! The resources that a unit uses whatever it takes of a range.
 
-ghost use Rattle.std.specs.Prelude.{◌≡◌, ℕ, ◌<◌, ◌≤◌, min, length, IfOk, OnOk};
+ghost use Rattle.std.specs.Prelude.{◌≡◌, ℕ, ◌<◌, ◌≤◌, min, length, IfOk};
 ghost use Rattle.choice_problem.specs.Sums.{least_within};
 ghost use Rattle.choice_problem.specs.Problems.{unit_count, alt_count, alt_uses, resource_count};
 ghost use Rattle.branch_tree.specs.Lists.{times_in, AreWithin, AreZero};
 
-use crate::listing::uses_list;
-use crate::tallies::{add_list, keep, take_list};
+use crate::listing::{second_list, uses_list};
+use crate::rows::{Row, move_twos, row_before, row_list};
+use crate::tallies::lower;
 use choice_problem::Problem;
 use slot_text::Memory;
 use std::alloc::Global;
 
-// The resources that each alternative of a unit from one to another uses, each as often as each of them does. The last
-// alternative is tried first, since it has least in common with the first one. `zeros` is room to count in.
+// The resources that each alternative of a unit from one to another uses, each as often as each of them does. In a row of
+// alternatives with the same first part this is what that part uses, and what their second parts have in common; from row
+// to row mostly the same second parts come again, so that each part is listed once. The last row is tried first, since it
+// has least in common with the first alternative. `zeros` is room to count in.
 pub(crate) fn least_list(
     alloc: Global,
     problem: &Problem,
@@ -32,37 +35,25 @@ pub(crate) fn least_list(
     ensures few { (r : ℕ) → least_within low high (λ a. alt_uses problem.now unit a r) ≤ 434 }
 {
     let mut list = uses_list(alloc, problem, unit, low)?;
-    for back in 0..high - low {
+    if low == high {
+        return Ok(list);
+    }
+    let mut twos = second_list(alloc, problem, unit, high)?;
+    let mut row = Row {
+        first: high,
+        last: high,
+    };
+    let mut done = high + 1;
+    while low < done {
         if list.is_empty() {
             return Ok(list);
         }
-        lower(alloc, problem, unit, high - back, &mut list, zeros)?;
+        let next = row_before(problem, unit, low, done);
+        move_twos(alloc, problem, unit, row, next, &mut twos, zeros)?;
+        let uses = row_list(alloc, problem, unit, next, &twos)?;
+        lower(&mut list, &uses, zeros);
+        done = next.first;
+        row = next;
     }
     Ok(list)
-}
-
-// Keeps of the list each resource at most as often as an alternative uses it.
-fn lower(
-    alloc: Global,
-    problem: &Problem,
-    unit: u32,
-    alt: u32,
-    list: &mut Vec<u32>,
-    zeros: &mut [u32],
-) -> Result<(), Memory>
-    requires unit { unit < unit_count problem.now }
-    requires alt { alt < alt_count problem.now unit }
-    requires within { AreWithin (resource_count problem.now) list.old.items }
-    requires count { length zeros.old ≡ resource_count problem.now }
-    requires zeros { AreZero zeros.old }
-    ensures lowered { OnOk result ((r : ℕ) → times_in list.new.items r ≡ min (times_in list.old.items r) (alt_uses problem.now unit alt r)) }
-    ensures within { OnOk result (AreWithin (resource_count problem.now) list.new.items) }
-    ensures same { zeros.new ≡ zeros.old }
-{
-    let other = uses_list(alloc, problem, unit, alt)?;
-    add_list(zeros, &other);
-    keep(list, zeros);
-    add_list(zeros, list);
-    take_list(zeros, &other);
-    Ok(())
 }

@@ -19,6 +19,7 @@ mod order;
 mod orders;
 mod placing;
 mod pricing;
+mod rows;
 mod tallies;
 mod visits;
 mod walks;
@@ -32,5 +33,7 @@ pub use walks::Walk;
 
 #[cfg(test)]
 mod improved_tests;
+#[cfg(test)]
+mod plain;
 #[cfg(test)]
 mod tests;

@@ -6,6 +6,7 @@ ghost use Rattle.choice_problem.specs.Problems.{unit_count, alt_count, part_coun
 ghost use Rattle.choice_problem.specs.Strips.{run_start, strip_uses, part_uses, IsStripInRange, IsPartInRange};
 ghost use Rattle.choice_problem.specs.Loops.{run_uses};
 ghost use Rattle.branch_tree.specs.Lists.{Appends, times_in, AreWithin};
+ghost use Rattle.branch_tree.specs.Rows.{one_uses, two_uses};
 
 use choice_problem::{Problem, Strip};
 use slot_text::Memory;
@@ -23,10 +24,49 @@ pub(crate) fn uses_list(
     ensures listed { IfOk result (λ list. (r : ℕ) → times_in list.items r ≡ alt_uses problem.now unit alt r) }
     ensures within { IfOk result (λ list. AreWithin (resource_count problem.now) list.items) }
     ensures few { (r : ℕ) → alt_uses problem.now unit alt r ≤ 434 }
+    ensures alts { alt_count problem.now unit < 2 ^ 32 }
 {
     let chosen = problem.unit_alts(unit)[alt as usize];
     let mut list = Vec::new(alloc);
     push_named(problem, unit, chosen.one, &mut list)?;
+    push_named(problem, unit, chosen.two, &mut list)?;
+    Ok(list)
+}
+
+// The resources that the first part of an alternative uses, each as often as it does.
+pub(crate) fn first_list(
+    alloc: Global,
+    problem: &Problem,
+    unit: u32,
+    alt: u32,
+) -> Result<Vec<u32>, Memory>
+    requires unit { unit < unit_count problem.now }
+    requires alt { alt < alt_count problem.now unit }
+    ensures listed { IfOk result (λ list. (r : ℕ) → times_in list.items r ≡ one_uses problem.now unit alt r) }
+    ensures within { IfOk result (λ list. AreWithin (resource_count problem.now) list.items) }
+    ensures few { (r : ℕ) → alt_uses problem.now unit alt r ≤ 434 }
+{
+    let chosen = problem.unit_alts(unit)[alt as usize];
+    let mut list = Vec::new(alloc);
+    push_named(problem, unit, chosen.one, &mut list)?;
+    Ok(list)
+}
+
+// The resources that the second part of an alternative uses, each as often as it does.
+pub(crate) fn second_list(
+    alloc: Global,
+    problem: &Problem,
+    unit: u32,
+    alt: u32,
+) -> Result<Vec<u32>, Memory>
+    requires unit { unit < unit_count problem.now }
+    requires alt { alt < alt_count problem.now unit }
+    ensures listed { IfOk result (λ list. (r : ℕ) → times_in list.items r ≡ two_uses problem.now unit alt r) }
+    ensures within { IfOk result (λ list. AreWithin (resource_count problem.now) list.items) }
+    ensures few { (r : ℕ) → alt_uses problem.now unit alt r ≤ 434 }
+{
+    let chosen = problem.unit_alts(unit)[alt as usize];
+    let mut list = Vec::new(alloc);
     push_named(problem, unit, chosen.two, &mut list)?;
     Ok(list)
 }

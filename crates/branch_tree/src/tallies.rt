@@ -2,7 +2,7 @@
 
 ghost use Rattle.std.specs.Prelude.{◌≡◌, ℕ, ◌+◌, ◌^◌, ◌<◌, ◌≤◌, min, take, length, slice_index};
 ghost use Rattle.choice_problem.specs.Counts.{GrowsBy, HasRoom};
-ghost use Rattle.branch_tree.specs.Lists.{times_in, AreWithin, HasListed};
+ghost use Rattle.branch_tree.specs.Lists.{times_in, AreWithin, AreZero, HasListed};
 
 // Adds one to the count of each listed resource.
 pub(crate) fn add_list(counts: &mut [u32], list: &[u32])
@@ -24,6 +24,22 @@ pub(crate) fn take_list(counts: &mut [u32], list: &[u32])
     for resource in list {
         counts[*resource as usize] -= 1;
     }
+}
+
+// Keeps of the list each resource at most as often as it comes in the other list. `zeros` is room to count in.
+pub(crate) fn lower(list: &mut Vec<u32>, other: &[u32], zeros: &mut [u32])
+    requires within { AreWithin (length zeros.old) list.old.items }
+    requires other_within { AreWithin (length zeros.old) other.now }
+    requires few { (r : ℕ) → times_in other.now r ≤ 434 }
+    requires zeros { AreZero zeros.old }
+    ensures lowered { (r : ℕ) → times_in list.new.items r ≡ min (times_in list.old.items r) (times_in other.now r) }
+    ensures within { AreWithin (length zeros.old) list.new.items }
+    ensures same { zeros.new ≡ zeros.old }
+{
+    add_list(zeros, other);
+    keep(list, zeros);
+    add_list(zeros, list);
+    take_list(zeros, other);
 }
 
 // Keeps of the list each resource at most as often as its count says, and takes what is kept from the counts.

@@ -4,6 +4,8 @@ ghost use Rattle.std.specs.Prelude.{◌≡◌, ◌<◌, IfOk};
 ghost use Rattle.choice_problem.specs.Problems.{unit_count};
 ghost use Rattle.choice_problem.specs.Bounds.{AreRanges};
 
+mod side_by_side;
+
 use super::*;
 use choice_problem::{Alt, Chooser, Part, Price, Problem, Ranges, Strip, Vector};
 use dual_bound::price_table;

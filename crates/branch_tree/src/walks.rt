@@ -10,10 +10,9 @@ ghost use Rattle.branch_tree.specs.Walks.{AreLoads, AreLeast};
 use crate::answers::Visit;
 use crate::branching::found_or_split;
 use crate::closings::closing_leaf;
-use crate::kept::{count_least, load_all, move_least};
+use crate::kept::{cheapest, count_least, first_cheapest, load_all, move_least};
 use crate::least_uses::least_list;
 use crate::placing::change_alt;
-use crate::visits::{cheapest, first_cheapest};
 use choice_problem::{Node, Problem, Ranges, first_above};
 use dual_bound::PriceTable;
 use slot_text::Memory;
@@ -54,8 +53,10 @@ impl<'a> Walk<'a> {
     ghost use Rattle.dual_bound.specs.Tables.{IsTableFor};
     ghost use Rattle.branch_tree.specs.Visits.{IsVisit, vectors_of};
 
-    /// The walk at these ranges. A unit takes one step a use of its first alternative in range, and the same for each
-    /// further one until nothing is left that all of them use.
+    /// The walk at these ranges. A unit takes some steps a use of each part that its alternatives in range name, and ends
+    /// early where nothing is left that all of them use. This counts on alternatives that name the same first part
+    /// standing together, and on their second parts being those of the next such row, or these and others in front: else
+    /// the second parts of a row are listed anew.
     pub fn of(alloc: Global, problem: &'a Problem, ranges: Ranges) -> Result<Walk<'a>, Memory>
         requires { AreRanges problem.now ranges }
         ensures problem { IfOk result (λ walk. walk.problem ≡ problem.now) }
@@ -130,7 +131,8 @@ impl<'a> Walk<'a> {
     }
 
     /// Sets a unit's range, which is not empty and of its alternatives. `problem` is the one of `of`. After want of memory
-    /// the walk is as before. One step a use of the unit's alternatives, as `of` has for a unit.
+    /// the walk is as before. The steps of `of` for the unit at its old and at its new range, and one step a use of the
+    /// two alternatives that are cheapest in them.
     pub fn narrow(
         &mut self,
         alloc: Global,

@@ -4,8 +4,8 @@ use Rattle.std.specs.Prelude.{All}
 use Rattle.std.proofs.lemmas.Bool.{cases_lt}
 use Rattle.season_days.specs.declared.declaration.Declaration.{Declaration}
 use Rattle.capacity_file.specs.Lines.{HasWord, IsBad, IsRepeat, IsSpoiled, IsCleanBefore}
-use Rattle.capacity_file.specs.Declares.{Declares, IsEven, IsWithinLimits, LinesDeclare}
-use Rattle.capacity_file.specs.Faults.{needed_word, words_before, IsMissing, IsOver, IsUneven, IsOverLimit, LinesHaveFault}
+use Rattle.capacity_file.specs.Declares.{Declares, IsWholeSteps, IsWithinLimits, LinesDeclare}
+use Rattle.capacity_file.specs.Faults.{needed_word, words_before, IsMissing, IsOver, IsBrokenStep, IsOverLimit, LinesHaveFault}
 use Rattle.capacity_file.specs.declared.entry.Entry.TheVariants.{Airport as airport_entry, Season as season_entry, Step as step_entry, Flex as flex_entry, Ground as ground_entry, Refuse as refuse_entry}
 use Rattle.capacity_file.specs.declared.entry.Word.TheVariants.{Airport as airport_word}
 use Rattle.capacity_file.specs.declared.fault.CapWord.{CapWord}
@@ -96,10 +96,10 @@ missing_declares lines d name missing says = missing.lacks (declares_all lines d
 
 -- ---- the declaration as a whole
 
-uneven_even : (lines : List (List ℕ)) (number : ℕ) (d : Declaration) → IsUneven lines number → Declares lines d → IsEven d → ⊥
+uneven_even : (lines : List (List ℕ)) (number : ℕ) (d : Declaration) → IsBrokenStep lines number → Declares lines d → IsWholeSteps d → ⊥
 uneven_even lines number d x says even = x.uneven (rw (declares_same lines x.d d x.clean x.declares says) even)
 
-uneven_same : (lines : List (List ℕ)) (m n : ℕ) → IsUneven lines m → IsUneven lines n → m ≡ n
+uneven_same : (lines : List (List ℕ)) (m n : ℕ) → IsBrokenStep lines m → IsBrokenStep lines n → m ≡ n
 uneven_same lines m n x y = same_line lines m n (flex_entry x.d.flex) (flex_entry y.d.flex) x.clean x.line y.line refl (λ e. cc)
 
 over_same : (d : Declaration) (a b : CapLimit) (m n : ℕ) → IsOver a m d → IsOver b n d → OverLimit a m ≡ OverLimit b n
@@ -123,7 +123,7 @@ limit_same lines a b m n x y = over_same y.d a b m n (rw (declares_same lines x.
 
 -- ---- two faults are the same
 
-bad_bad : (lines : List (List ℕ)) (m n : ℕ) → (IsCleanBefore lines m × IsBad lines m) ⊎ IsUneven lines m → (IsCleanBefore lines n × IsBad lines n) ⊎ IsUneven lines n → m ≡ n
+bad_bad : (lines : List (List ℕ)) (m n : ℕ) → (IsCleanBefore lines m × IsBad lines m) ⊎ IsBrokenStep lines m → (IsCleanBefore lines n × IsBad lines n) ⊎ IsBrokenStep lines n → m ≡ n
 bad_bad lines m n x y =
     elim (x) [
       | inl p ↦ elim (y) [ inl q ↦ first_same lines m n p.0 (inl p.1) q.0 (inl q.1) | inr q ↦ absurd (q.clean m (inl p.1)) ]

@@ -35,8 +35,8 @@ pub record Declares (lines : List (List ℕ)) (d : Declaration) : Type 0 where
   pub rules : AreRules lines d.rules
 
 -- the flexibility is a whole number of steps
-abbrev pub IsEven : Declaration → Type 0
-IsEven d = d.flex % d.step ≡ 0
+abbrev pub IsWholeSteps : Declaration → Type 0
+IsWholeSteps d = d.flex % d.step ≡ 0
 
 -- the limits of a declaration as a whole: minutes of flexibility, capacity lines, and windows
 pub record AreWithinLimits (minutes lines resources : ℕ) : Type 0 where
@@ -51,7 +51,7 @@ IsWithinLimits d = AreWithinLimits d.flex (length d.rules) (resource_count (capa
 pub record LinesDeclare (lines : List (List ℕ)) (d : Declaration) : Type 0 where
   pub clean : IsClean lines
   pub declares : Declares lines d
-  pub even : IsEven d
+  pub even : IsWholeSteps d
   pub limits : IsWithinLimits d
 
 -- the text is a capacity file, and declares this

@@ -5,7 +5,7 @@ use Rattle.season_days.specs.Capacity.{capacity_of, resource_count}
 use Rattle.season_days.specs.declared.declaration.Declaration.{Declaration}
 use Rattle.season_days.specs.declared.declaration.TheConstants.{MOST_RULES, MOST_WINDOWS}
 use Rattle.capacity_file.specs.Lines.{LineStates, HasWord, LacksWord, IsBad, IsRepeat, IsCleanBefore, IsClean}
-use Rattle.capacity_file.specs.Declares.{Declares, IsEven}
+use Rattle.capacity_file.specs.Declares.{Declares, IsWholeSteps}
 use Rattle.capacity_file.specs.declared.limits.TheConstants.{MOST_FLEX}
 use Rattle.capacity_file.specs.declared.entry.Entry.TheVariants.{Flex as flex_entry}
 use Rattle.capacity_file.specs.declared.entry.Word.{Word}
@@ -55,22 +55,22 @@ IsOver name number d = PassesLimit name number d.flex (length d.rules) (resource
 -- ---- the causes, in order: the lowest line that is bad or a repetition; a word that is missing; a flexibility that is no
 -- whole number of steps, which is a fault of its line; a limit
 
-pub record IsUneven (lines : List (List ℕ)) (number : ℕ) : Type 0 where
+pub record IsBrokenStep (lines : List (List ℕ)) (number : ℕ) : Type 0 where
   pub clean : IsClean lines
   pub d : Declaration
   pub declares : Declares lines d
   pub line : LineStates lines number (flex_entry d.flex)
-  pub uneven : IsEven d → ⊥
+  pub uneven : IsWholeSteps d → ⊥
 
 pub record IsOverLimit (lines : List (List ℕ)) (name : CapLimit) (number : ℕ) : Type 0 where
   pub clean : IsClean lines
   pub d : Declaration
   pub declares : Declares lines d
-  pub even : IsEven d
+  pub even : IsWholeSteps d
   pub over : IsOver name number d
 
 abbrev pub LinesHaveFault : List (List ℕ) → CapFault → Type 0
-LinesHaveFault lines (BadLine number) = (IsCleanBefore lines number × IsBad lines number) ⊎ IsUneven lines number
+LinesHaveFault lines (BadLine number) = (IsCleanBefore lines number × IsBad lines number) ⊎ IsBrokenStep lines number
 LinesHaveFault lines (Missing name) = IsClean lines × IsMissing lines name
 LinesHaveFault lines (Twice number) = IsCleanBefore lines number × IsRepeat lines number
 LinesHaveFault lines (OverLimit name number) = IsOverLimit lines name number

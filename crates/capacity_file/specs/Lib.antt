@@ -7,3 +7,4 @@ pub mod Faults
 pub mod Readings
 pub mod Singles
 pub mod Needed
+pub mod Texts

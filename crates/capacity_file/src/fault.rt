@@ -1,17 +1,41 @@
-ghost use Rattle.std.specs.Prelude.{◌≡◌};
+ghost use Rattle.std.specs.Prelude.{◌≡◌, Some};
+ghost use Rattle.capacity_file.specs.Texts.{cap_word_text, cap_limit_text, cap_fault_text};
 ghost use Rattle.capacity_file.specs.declared.fault.CapFault.TheVariants.{Memory};
 
 use std::alloc::{AllocError, AllocFailed};
+use std::error::Error;
+use std::fmt;
 
 /// A word that a capacity file must have, in the order in which a missing one is looked for.
 #[derive(Clone, Copy, Debug, PartialEq, Eq)]
 pub enum CapWord {
+    /// The airport.
     Airport,
+    /// The season.
     Season,
+    /// The minutes between two times that may be offered.
     Step,
+    /// The flexibility in minutes.
     Flex,
+    /// The ground time in minutes.
     Ground,
+    /// The price of a refused movement on one date.
     Refuse,
+}
+
+impl fmt::Display for CapWord {
+    ghost output = { λ word. Some (cap_word_text word) };
+
+    fn fmt<W: fmt::Write>(&self, f: &mut fmt::Formatter<W>) -> fmt::Result {
+        f.write_str(match self {
+            CapWord::Airport => "AIRPORT",
+            CapWord::Season => "SEASON",
+            CapWord::Step => "STEP",
+            CapWord::Flex => "FLEX",
+            CapWord::Ground => "GROUND",
+            CapWord::Refuse => "REFUSE",
+        })
+    }
 }
 
 /// A limit of a declaration as a whole, in the order in which one that is passed is looked for.
@@ -23,6 +47,18 @@ pub enum CapLimit {
     Caps,
     /// The number of windows in the season, the night quota counted as one: at most 1,000,000.
     Windows,
+}
+
+impl fmt::Display for CapLimit {
+    ghost output = { λ limit. Some (cap_limit_text limit) };
+
+    fn fmt<W: fmt::Write>(&self, f: &mut fmt::Formatter<W>) -> fmt::Result {
+        f.write_str(match self {
+            CapLimit::Flex => "FLEX",
+            CapLimit::Caps => "CAPS",
+            CapLimit::Windows => "WINDOWS",
+        })
+    }
 }
 
 /// Why a text is no capacity file: the first cause, in the order of `BadLine` and `Twice` by their lines, `Missing`,
@@ -41,6 +77,22 @@ pub enum CapFault {
     /// Memory ran out.
     Memory,
 }
+
+impl fmt::Display for CapFault {
+    ghost output = { λ fault. Some (cap_fault_text fault) };
+
+    fn fmt<W: fmt::Write>(&self, f: &mut fmt::Formatter<W>) -> fmt::Result {
+        match *self {
+            CapFault::BadLine { line } => write!(f, "line {line}: no line of a capacity file"),
+            CapFault::Missing { name } => write!(f, "no {name} line"),
+            CapFault::Twice { line } => write!(f, "line {line}: a word that has a line already"),
+            CapFault::OverLimit { name, number } => write!(f, "{name} {number} is over the limit"),
+            CapFault::Memory => f.write_str("out of memory"),
+        }
+    }
+}
+
+impl Error for CapFault {}
 
 impl From<AllocError> for CapFault {
     ghost from_gives = { λ _ e. e ≡ Memory };

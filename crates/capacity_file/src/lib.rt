@@ -7,6 +7,7 @@ mod entry;
 mod fault;
 mod fields;
 mod finish;
+pub mod laws;
 mod limits;
 mod line;
 mod reading;
@@ -18,5 +19,7 @@ pub use fault::{CapFault, CapLimit, CapWord};
 pub use limits::{MOST_BYTES, MOST_FLEX, USUAL_SHARE};
 pub use reading::read_capacity;
 
+#[cfg(test)]
+mod limit_tests;
 #[cfg(test)]
 mod tests;

@@ -16,19 +16,19 @@ const BASE: [&str; 7] = [
     "CAP ARR 60 0600 0600 1234567 1",
 ];
 
-fn bad(line: u32) -> CapFault {
+pub(crate) fn bad(line: u32) -> CapFault {
     CapFault::BadLine { line }
 }
 
-fn twice(line: u32) -> CapFault {
+pub(crate) fn twice(line: u32) -> CapFault {
     CapFault::Twice { line }
 }
 
-fn missing(name: CapWord) -> CapFault {
+pub(crate) fn missing(name: CapWord) -> CapFault {
     CapFault::Missing { name }
 }
 
-fn over(name: CapLimit, number: u64) -> CapFault {
+pub(crate) fn over(name: CapLimit, number: u64) -> CapFault {
     CapFault::OverLimit { name, number }
 }
 
@@ -37,12 +37,12 @@ fn read(rt: &impl Abort, alloc: Global, text: &[u8]) -> Result<Declaration, CapF
     read_capacity(alloc, text)
 }
 
-fn fault_of(rt: &impl Abort, alloc: Global, text: &[u8]) -> Option<CapFault> {
+pub(crate) fn fault_of(rt: &impl Abort, alloc: Global, text: &[u8]) -> Option<CapFault> {
     read(rt, alloc, text).err()
 }
 
 /// The file with one of its lines, from 1, replaced. Line 8 is one more.
-fn with_line(alloc: Global, number: u32, line: &[u8]) -> Result<Vec<u8>, AllocError> {
+pub(crate) fn with_line(alloc: Global, number: u32, line: &[u8]) -> Result<Vec<u8>, AllocError> {
     let mut text = Vec::new(alloc);
     for (i, base) in BASE.iter().enumerate() {
         let now = if i + 1 == number as usize {
@@ -272,74 +272,55 @@ fn the_lowest_line_counts_and_then_the_order_of_causes(rt: HostRuntime) {
             "FLEX 125\nAIRPORT ABC\nSEASON S25\nSTEP 5\nGROUND 0\nREFUSE 1\nFLEX 60",
             twice(7),
         ),
+        (
+            "CAP ARR 1 0000 0000 1 1\nCAP ARR 1 0000 0000 0 1\nSTEP 5\nSTEP 5",
+            bad(2),
+        ),
     ] {
         let fault = fault_of(&rt, rt.alloc(), text.as_bytes());
         assert_eq!(rt; fault, Some(want), "at {text}");
     }
 }
 
-/// The file without its capacity line, and then so many like this.
-fn with_caps(alloc: Global, count: usize, line: &[u8]) -> Result<Vec<u8>, AllocError> {
-    let mut text = with_line(alloc, 7, b"")?;
-    for _ in 0..count {
-        text.extend_from_slice(line)?;
-    }
-    Ok(text)
-}
-
 #[test]
-fn limits_are_those_of_the_whole(rt: HostRuntime) -> Result<(), Fail> {
-    let caps = Some(over(CapLimit::Caps, 65));
-    // 17 lines with 288 starts on 210 days, and the night.
-    let windows = over(CapLimit::Windows, 1_028_160);
-    let one_more = over(CapLimit::Windows, 1_028_161);
-    for (count, line, want, by_night) in [
-        (64, "CAP ARR 60 0600 0600 1 1\n", None, None),
-        (65, "CAP ARR 60 0600 0600 1 1\n", caps, caps),
-        (65, "CAP ARR 60 0000 2355 1 1\n", caps, caps),
-        (16, "CAP ARR 60 0000 2355 1 1\n", None, None),
-        (
-            17,
-            "CAP ARR 60 0000 2355 1234567 1\n",
-            Some(windows),
-            Some(one_more),
-        ),
+fn values_at_their_limits_are_read(rt: HostRuntime) -> Result<(), Fail> {
+    for (number, line) in [
+        (2, "SEASON S00"),
+        (2, "SEASON W99"),
+        (3, "STEP 10"),
+        (3, "STEP 15"),
+        (3, "STEP 20"),
+        (3, "STEP 30"),
+        (3, "STEP 60"),
+        (4, "FLEX 0"),
+        (4, "FLEX 120"),
+        (5, "GROUND 0"),
+        (5, "GROUND 1440"),
+        (6, "REFUSE 1"),
+        (6, "REFUSE 9999"),
+        (8, "SHARE 0"),
+        (8, "SHARE 100"),
+        (8, "NIGHT 2359 0000 0"),
+        (8, "NIGHT 0000 2359 999999"),
+        (8, "CAP DEP 1 0000 2359 0000007 0"),
+        (8, "CAP TOT 1440 2359 2359 7 9999"),
     ] {
-        let mut text = with_caps(rt.alloc(), count, line.as_bytes())?;
-        assert_eq!(rt;
-            fault_of(&rt, rt.alloc(), &text),
-            want,
-            "at {count}, {line}"
-        );
-        text.extend_from_slice(b"NIGHT 0000 0600 1\n")?;
-        assert_eq!(rt;
-            fault_of(&rt, rt.alloc(), &text),
-            by_night,
-            "at {count}, {line}, by night"
-        );
+        let text = with_line(rt.alloc(), number, line.as_bytes())?;
+        assert_eq!(rt; fault_of(&rt, rt.alloc(), &text), None, "at {line}");
     }
     Ok(())
 }
 
 #[test]
-fn long_lines(rt: HostRuntime) -> Result<(), Fail> {
-    let alloc = rt.alloc();
-    for (blanks, want) in [(192, None), (193, Some(bad(8)))] {
-        let mut line = Vec::new(alloc);
-        line.extend_from_slice(b"SHARE")?;
-        for _ in 0..blanks {
-            line.push(b' ')?;
-        }
-        line.extend_from_slice(b"100")?;
-        let text = with_line(alloc, 8, &line)?;
-        assert_eq!(rt; fault_of(&rt, alloc, &text), want, "at {blanks}");
+fn faults_print_their_place(rt: HostRuntime) -> Result<(), Fail> {
+    for (fault, text) in [
+        (bad(7), "line 7: no line of a capacity file"),
+        (missing(CapWord::Season), "no SEASON line"),
+        (twice(12), "line 12: a word that has a line already"),
+        (over(CapLimit::Caps, 65), "CAPS 65 is over the limit"),
+        (CapFault::Memory, "out of memory"),
+    ] {
+        assert_eq!(rt; format!(in rt.alloc(); "{fault}")?.as_str(), text);
     }
-    let whole = vec![in alloc; b'A'; 1_000_000]?;
-    assert_eq!(rt; fault_of(&rt, alloc, &whole), Some(bad(1)));
-    let empty = vec![in alloc; b' '; 1_000_000]?;
-    assert_eq!(rt;
-        fault_of(&rt, alloc, &empty),
-        Some(missing(CapWord::Airport))
-    );
     Ok(())
 }

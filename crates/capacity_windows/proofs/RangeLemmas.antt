@@ -1,5 +1,5 @@
 -- Strips lie in the numbers of the resources, since nothing past these holds a movement.
-use Rattle.std.proofs.Common.{◌≡◌, ℕ, zero, suc, ◌+◌, ◌-◌, ◌<◌, ◌≤◌, true, refl, ◌∙◌, ap, arith, inl, inr, List, [], ◌∷◌, Option, Some, None, get_or}
+use Rattle.std.proofs.Common.{◌≡◌, ℕ, ◌+◌, ◌-◌, ◌<◌, ◌≤◌, true, refl, ◌∙◌, ap, arith, inl, inr, List, [], ◌∷◌, Option, Some, None, get_or}
 use Rattle.std.specs.Prelude.{All, sum_by, is_some, if◌then◌else◌}
 use Rattle.std.proofs.lemmas.Bool.{lt-ltb, le-ltb, le-leb, cases_lt, ne_eqb}
 use Rattle.std.proofs.lemmas.List.Sums.{sum_by-cons, get_or-le-sum_by}

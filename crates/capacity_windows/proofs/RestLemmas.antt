@@ -1,5 +1,5 @@
 -- Rule by rule, and then the night quota.
-use Rattle.std.proofs.Common.{◌≡◌, ℕ, zero, suc, ◌+◌, ◌-◌, ◌*◌, ◌<◌, ◌≤◌, Bool, true, false, ◌&&◌, leb, ltb, eqb, refl, sym, ◌∙◌, ap, arith, inl, inr, List, [], ◌∷◌, Option, Some, None, length, drop, get_or, add-one, drop-cons}
+use Rattle.std.proofs.Common.{◌≡◌, ℕ, ◌+◌, ◌-◌, ◌*◌, ◌<◌, ◌≤◌, Bool, true, false, ◌&&◌, leb, ltb, eqb, refl, sym, ◌∙◌, ap, arith, inl, inr, List, [], ◌∷◌, Option, Some, None, length, drop, get_or, add-one, drop-cons}
 use Rattle.std.specs.Prelude.{if◌then◌else◌}
 use Rattle.std.specs.List.{count_by}
 use Rattle.std.proofs.Math.ListN.{drop_of_length-le}
@@ -15,7 +15,6 @@ use Rattle.season_days.specs.declared.declaration.Rule.{Rule}
 use Rattle.season_days.specs.declared.declaration.Night.{Night}
 use Rattle.capacity_windows.specs.declared.movement.Movement.{Movement}
 use Rattle.capacity_windows.specs.declared.resource.Resource.TheVariants.{Quota, Nothing}
-use Rattle.choice_problem.specs.Sums.{count_below}
 use Rattle.capacity_windows.specs.Windows.{Capacity, windows_of, holds, window_load, resource_load, resource_from, quota_from, is_at_night, movement_on, stop_movements}
 use Rattle.capacity_windows.specs.Bands.{is_date, listed_dates, rule_load, rest_load}
 use Rattle.choice_problem.proofs.SumLemmas.{count_below-same, count_below-none, count_below-all}

@@ -1,4 +1,4 @@
--- What the dates of a period use of a band of windows.
+-- What the dates of a period use of a band of windows: contracts of private functions alone cite these words.
 use Rattle.std.specs.Prelude.{◌≡◌, ℕ, ◌+◌, ◌*◌, ◌-◌, ◌/◌, ◌%◌, ◌<◌, ◌≤◌, Bool, ◌&&◌, nat_le, nat_lt, min, max, if◌then◌else◌, List, Option, Some, None}
 use Rattle.choice_problem.specs.declared.strips.Strip.{Strip}
 use Rattle.choice_problem.specs.Strips.{part_uses, strip_uses}
@@ -7,6 +7,7 @@ use Rattle.season_days.specs.Seasons.{date_count, is_on}
 use Rattle.season_days.specs.declared.day.Period.{Period}
 use Rattle.capacity_windows.specs.declared.band.Band.{Band}
 use Rattle.season_days.specs.declared.declaration.Rule.{Rule}
+use Rattle.season_days.specs.declared.declaration.TheConstants.{MINUTES_OF_DAY, MOST_WINDOWS}
 use Rattle.capacity_windows.specs.declared.movement.Movement.{Movement}
 use Rattle.capacity_windows.specs.declared.series.Series.{Series}
 use Rattle.capacity_windows.specs.declared.resource.Resource.TheVariants.{Window}
@@ -55,8 +56,8 @@ band_of step rule first minute ago = record {
   days = rule.days;
   first = first;
   starts = starts_of step rule;
-  low = min (starts_of step rule) (starts_until (rule.from + rule.length) step (minute + 1440 * ago));
-  high = min (starts_of step rule) (starts_until rule.from step (minute + 1440 * ago));
+  low = min (starts_of step rule) (starts_until (rule.from + rule.length) step (minute + MINUTES_OF_DAY * ago));
+  high = min (starts_of step rule) (starts_until rule.from step (minute + MINUTES_OF_DAY * ago));
   ago = ago;
 }
 
@@ -82,14 +83,14 @@ weekday_uses season period later band c r = count_below (date_count season) (λ 
 
 -- a band lies in the numbers of a rule's windows
 pub record IsBand (season : Term) (band : Band) : Type 0 where
-  pub room : band.first + date_count season * band.starts ≤ 1000000
+  pub room : band.first + date_count season * band.starts ≤ MOST_WINDOWS
   pub ordered : band.low ≤ band.high
   pub few : band.high ≤ band.starts
   pub near : band.ago < 2
 
 -- the minute is one of a day, and the period lies in the season
 pub record IsSeries (season : Term) (series : Series) : Type 0 where
-  pub minute : series.minute < 1440
+  pub minute : series.minute < MINUTES_OF_DAY
   pub first : series.period.first.0 < date_count season
   pub last : series.period.last.0 < date_count season
 

@@ -1,12 +1,13 @@
 -- The windows of a declaration and its night quota: how they are numbered, how much they may hold, what they hold, and
 -- the load of a list of movements on them.
-use Rattle.std.specs.Prelude.{◌≡◌, ℕ, ◌+◌, ◌*◌, ◌-◌, ◌/◌, ◌%◌, ◌<◌, ◌≤◌, ◌==◌, Bool, true, false, ◌&&◌, ◌||◌, nat_le, nat_lt, if◌then◌else◌, List, [], ◌∷◌, take, map, sum_by, count_by, filter, Option, Some, None}
+use Rattle.std.specs.Prelude.{ℕ, ◌+◌, ◌*◌, ◌-◌, ◌/◌, ◌%◌, ◌<◌, ◌≤◌, ◌==◌, Bool, true, false, ◌&&◌, ◌||◌, nat_le, nat_lt, if◌then◌else◌, List, [], ◌∷◌, take, map, sum_by, count_by, filter, Option, Some, None}
 use Rattle.season_days.specs.Seasons.{date_count, is_on, dates_of}
 use Rattle.season_days.specs.declared.day.Period.{Period}
 use Rattle.season_days.specs.declared.declaration.Kind.{Kind}
 use Rattle.season_days.specs.declared.declaration.Kind.TheVariants.{Arr, Dep, Tot}
 use Rattle.season_days.specs.declared.declaration.Rule.{Rule}
 use Rattle.season_days.specs.declared.declaration.Night.{Night}
+use Rattle.season_days.specs.declared.declaration.TheConstants.{MINUTES_OF_DAY}
 use Rattle.capacity_windows.specs.Counts.{numbers_below}
 use Rattle.capacity_windows.specs.declared.movement.Movement.{Movement}
 use Rattle.capacity_windows.specs.declared.resource.Resource.{Resource}
@@ -60,7 +61,7 @@ is_of_kind Dep Tot = false
 
 -- minutes from the beginning of the season, so that a window may reach into the next day
 abbrev pub absolute_minute : ℕ → ℕ → ℕ
-absolute_minute day minute = 1440 * day + minute
+absolute_minute day minute = MINUTES_OF_DAY * day + minute
 
 -- from the first minute on, for so many minutes
 abbrev pub is_within : ℕ → ℕ → ℕ → Bool
@@ -92,8 +93,8 @@ abbrev pub window_load : Capacity → List Movement → ℕ → ℕ
 window_load c list r = resource_load c (resource_at c r) list
 
 -- no resource holds more than it may
-abbrev pub Fits : Capacity → List Movement → Type 0
-Fits c list = (r : ℕ) → r < resource_count c → window_load c list r ≤ window_limit c r
+abbrev pub WindowsFit : Capacity → List Movement → Type 0
+WindowsFit c list = (r : ℕ) → r < resource_count c → window_load c list r ≤ window_limit c r
 
 -- the movements of a stop of one kind and minute: one for each date of a period, some days later
 abbrev pub movement_on : Kind → ℕ → ℕ → ℕ → Movement
@@ -120,17 +121,3 @@ rule_strips kind period rule = if is_of_kind rule.kind kind then 2 * band_strips
 -- all lines together, and one strip for the night quota
 abbrev pub most_strips : Capacity → Kind → Period → ℕ
 most_strips c kind period = sum_by (rule_strips kind period) c.rules + 1
-
--- ---- what a `Windows` keeps beside the declaration: the numbers of dates and of resources
-
-pub record IsKept (c : Capacity) (days resources : ℕ) : Type 0 where
-  pub dates : days ≡ date_count c.season
-  pub few : days ≤ 217
-  pub all : resources ≡ resource_count c
-  pub limits : IsCapacity c
-
--- a window lies on a date of the season and begins on it, and limits are small
-abbrev pub IsResource : Capacity → Resource → Type 0
-IsResource c (Window rule day start) = (day < date_count c.season) × (start_of c.step rule start < 1440) × (rule.limit ≤ 9999)
-IsResource c (Quota night) = night.limit ≤ 999999
-IsResource c Nothing = Unit {0}

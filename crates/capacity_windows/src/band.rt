@@ -1,7 +1,7 @@
-/// The windows of a capacity line at some of its starts, on the day some days before a movement's: the starts from `low`
-/// on and below `high` of the `starts` of a day, where `first` is the number of the line's first window.
+// The windows of a capacity line at some of its starts, on the day some days before a movement's: the starts from `low`
+// on and below `high` of the `starts` of a day, where `first` is the number of the line's first window.
 #[derive(Clone, Copy, Debug, PartialEq, Eq)]
-pub struct Band {
+pub(crate) struct Band {
     pub days: u8,
     pub first: u32,
     pub starts: u32,

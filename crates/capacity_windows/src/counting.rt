@@ -2,12 +2,13 @@
 
 ghost use Rattle.std.specs.Prelude.{◌≡◌, ◌<◌, ◌≤◌, ◌^◌, IfOk, OnOk, length};
 ghost use Rattle.season_days.specs.declared.declaration.TheConstants.{MINUTES_OF_DAY};
-ghost use Rattle.capacity_windows.specs.Windows.{is_of_kind, is_within, is_at_night, holds, window_load, resource_at, resource_count, IsResource, uses_below};
+ghost use Rattle.capacity_windows.specs.Windows.{is_of_kind, is_within, is_at_night, holds, window_load, resource_at, resource_count, uses_below};
+ghost use Rattle.capacity_windows.specs.Kept.{IsResource};
 
 use crate::movement::Movement;
 use crate::resource::Resource;
 use crate::windows::Windows;
-use season_days::{Day, Kind, Night};
+use season_days::{Day, Kind, MINUTES_OF_DAY, Night};
 use slot_text::Memory;
 use std::alloc::Global;
 
@@ -22,8 +23,9 @@ impl Windows {
         }
         match *resource {
             Resource::Window { rule, day, start } => {
-                let begin = 1440 * day + self.start_of(&rule, start);
-                let minute = 1440 * u64::from(movement.day) + u64::from(movement.minute);
+                let begin = MINUTES_OF_DAY * day + self.start_of(&rule, start);
+                let minute = u64::from(MINUTES_OF_DAY) * u64::from(movement.day)
+                    + u64::from(movement.minute);
                 self.is_on(rule.days, Day(day))
                     && is_of_kind(rule.kind, movement.kind)
                     && is_within(begin, rule.length, minute)

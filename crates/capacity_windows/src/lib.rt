@@ -18,4 +18,6 @@ pub use movement::Movement;
 pub use windows::Windows;
 
 #[cfg(test)]
+mod number_tests;
+#[cfg(test)]
 mod tests;

@@ -6,7 +6,7 @@ ghost use Rattle.std.specs.Prelude.{◌≡◌, ◌+◌, ◌*◌, ◌<◌, ◌≤
 ghost use Rattle.choice_problem.specs.Strips.{part_uses, IsPartInRange};
 ghost use Rattle.season_days.specs.Seasons.{date_count};
 ghost use Rattle.season_days.specs.declared.declaration.Kind.{Kind};
-ghost use Rattle.season_days.specs.declared.declaration.TheConstants.{MINUTES_OF_DAY};
+ghost use Rattle.season_days.specs.declared.declaration.TheConstants.{MINUTES_OF_DAY, MOST_WINDOWS};
 ghost use Rattle.capacity_windows.specs.Windows.{IsRule, windows_of, window_load, stop_movements, resource_count, band_strips, rule_strips, most_strips};
 ghost use Rattle.capacity_windows.specs.Bands.{Adds, IsBand, IsSeries, series_of, starts_until, band_of, band_uses, weekday_uses, rule_load, rest_load, listed_dates, option_uses, first_date, end_date, IsWide, IsOptionWide};
 
@@ -15,7 +15,7 @@ use crate::counting::{is_at_night, is_of_kind};
 use crate::series::Series;
 use crate::windows::Windows;
 use choice_problem::{Part, Strip};
-use season_days::{Day, Kind, Period, Rule};
+use season_days::{Day, Kind, MINUTES_OF_DAY, Period, Rule};
 use slot_text::Memory;
 use std::alloc::Global;
 
@@ -32,7 +32,7 @@ impl Windows {
     /// that holds the kind takes one strip for its windows of the movement's day and one for those of the day before where
     /// all weekdays are in its set and in the period's, and else up to seven for each; any other line takes none, and the
     /// night quota one. So a daily stop under 16 daily lines takes at most 33 strips, however many dates it has, and any
-    /// part at most 897. The time is one step a strip, and for the quota one step a date. The one fault is want of memory.
+    /// part at most 897. The time is one step a strip or weekday, and for the quota one step a date. The one fault is want of memory.
     pub fn strips_of(
         &self,
         alloc: Global,
@@ -77,7 +77,7 @@ impl Windows {
         requires wide { All IsWide strips.old.items }
         requires step { 0 < self.now.step }
         requires rule { IsRule rule.now }
-        requires room { first + windows_of self.now rule.now ≤ 1000000 }
+        requires room { first + windows_of self.now rule.now ≤ MOST_WINDOWS }
         requires series { IsSeries self.now.season series.now }
         ensures uses { OnOk result (Adds strips.old.items strips.new.items (λ r. rule_load self.now rule.now first (series_of self.now series.now) r)) }
         ensures wide { OnOk result (All IsWide strips.new.items) }
@@ -97,12 +97,12 @@ impl Windows {
     fn band_of(&self, rule: &Rule, first: u32, minute: u32, ago: u32) -> Band
         requires step { 0 < self.now.step }
         requires rule { IsRule rule.now }
-        requires minute { minute < 1440 }
+        requires minute { minute < MINUTES_OF_DAY }
         requires ago { ago < 2 }
         ensures { result ≡ band_of self.now.step rule.now first minute ago }
     {
         let starts = self.starts_of(rule);
-        let minute = minute + 1440 * ago;
+        let minute = minute + MINUTES_OF_DAY * ago;
         Band {
             days: rule.days,
             first,

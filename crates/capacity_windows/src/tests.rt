@@ -14,9 +14,9 @@ use slot_text::Station;
 use std::alloc::Global;
 use std::test::Fail;
 
-const DAILY: u8 = 0b111_1111;
+pub(crate) const DAILY: u8 = 0b111_1111;
 
-const SATURDAY_AND_SUNDAY: u8 = 0b110_0000;
+pub(crate) const SATURDAY_AND_SUNDAY: u8 = 0b110_0000;
 
 // A capacity line with one start a day.
 fn line(kind: Kind, length: u32, start: u32, days: u8, limit: u32) -> Rule
@@ -37,18 +37,45 @@ fn line(kind: Kind, length: u32, start: u32, days: u8, limit: u32) -> Rule
 }
 
 // The windows of one capacity line with one start a day, and of a quota, in S25 at a step of five minutes.
-#[tactic(auto, using(season_days::proofs::SeasonLemmas::date_count_small))]
 fn windows(alloc: Global, rule: Rule, night: Option<Night>) -> Result<Windows, Fail>
     requires rule { IsRule rule }
     requires one { rule.from ≡ rule.to }
     requires night { ForSome night (λ night. night.limit ≤ HIGHEST_NIGHT_LIMIT) }
     ensures { IfOk result (λ windows. date_count windows.season ≡ 210) }
 {
-    let season = Season::read(b"S25").ok_or("season")?;
-    if season.length() != 210 {
+    windows_in(alloc, b"S25", 210, rule, night)
+}
+
+// The same in a season of so many dates.
+#[tactic(auto, using(season_days::proofs::SeasonLemmas::date_count_small))]
+fn windows_in(
+    alloc: Global,
+    season: &[u8],
+    dates: u32,
+    rule: Rule,
+    night: Option<Night>,
+) -> Result<Windows, Fail>
+    requires rule { IsRule rule }
+    requires one { rule.from ≡ rule.to }
+    requires night { ForSome night (λ night. night.limit ≤ HIGHEST_NIGHT_LIMIT) }
+    ensures { IfOk result (λ windows. date_count windows.season ≡ dates) }
+{
+    let season = Season::read(season).ok_or("season")?;
+    if season.length() != dates {
         return Err("length".into());
     }
-    let declaration = Declaration {
+    let declaration = declaration(season, vec![in alloc; rule]?, night);
+    Ok(Windows::new(alloc, &declaration)?)
+}
+
+// A declaration of some capacity lines at a step of five minutes.
+pub(crate) fn declaration(season: Season, rules: Vec<Rule>, night: Option<Night>) -> Declaration
+    ensures season { result.season ≡ season }
+    ensures step { result.step ≡ 5 }
+    ensures night { result.night ≡ night }
+    ensures rules { result.rules ≡ rules.items }
+{
+    Declaration {
         airport: Station(*b"ABC"),
         season,
         step: 5,
@@ -57,12 +84,11 @@ fn windows(alloc: Global, rule: Rule, night: Option<Night>) -> Result<Windows, F
         share: 50,
         refuse: None,
         night,
-        rules: RuleList::new(vec![in alloc; rule]?),
-    };
-    Ok(Windows::new(alloc, &declaration)?)
+        rules: RuleList::new(rules),
+    }
 }
 
-fn period(first: u32, last: u32, days: u8) -> Period
+pub(crate) fn period(first: u32, last: u32, days: u8) -> Period
     ensures first { result.first.0 ≡ first }
     ensures last { result.last.0 ≡ last }
 {
@@ -73,7 +99,7 @@ fn period(first: u32, last: u32, days: u8) -> Period
     }
 }
 
-fn movement(kind: Kind, day: u32, minute: u32) -> Movement
+pub(crate) fn movement(kind: Kind, day: u32, minute: u32) -> Movement
     ensures { result.minute ≡ minute }
 {
     Movement { kind, day, minute }
@@ -104,7 +130,7 @@ fn problem(alloc: Global, windows: &Windows, part: Part) -> Result<Problem, Fail
 }
 
 // The resources that a stop uses, in rising order, each as often as it does.
-fn used(
+pub(crate) fn used(
     alloc: Global,
     windows: &Windows,
     kind: Kind,
@@ -198,6 +224,20 @@ fn windows_end_before_their_end_and_with_the_season(rt: HostRuntime) -> Result<(
     Ok(())
 }
 
+#[test]
+fn a_window_of_twenty_minutes(rt: HostRuntime) -> Result<(), Fail> {
+    let alloc = rt.alloc();
+    let windows = windows(alloc, line(Kind::Arr, 20, 380, DAILY, 1), None)?;
+    let mut held = Vec::new(alloc);
+    for minute in [370, 375, 379, 380, 385, 399, 400] {
+        if windows.count_listed(&[movement(Kind::Arr, 0, minute)], 0) == 1 {
+            held.push(minute)?;
+        }
+    }
+    assert_eq!(rt; held.as_slice(), [380, 385, 399].as_slice());
+    Ok(())
+}
+
 // Days 0, 7 and 14 are Sundays, days 6 and 13 Saturdays.
 #[test]
 fn windows_have_weekdays(rt: HostRuntime) -> Result<(), Fail> {
@@ -250,6 +290,11 @@ fn a_window_of_a_day_holds_both_kinds(rt: HostRuntime) -> Result<(), Fail> {
         let used = used(alloc, &windows, kind, minute, 0, period(0, 3, DAILY))?;
         assert_eq!(rt; used.as_slice(), want);
     }
+    // an arrival in the evening and the departure of the next morning are in the same windows
+    for (kind, minute, later) in [(Kind::Arr, 1430, 0), (Kind::Dep, 700, 1)] {
+        let used = used(alloc, &windows, kind, minute, later, period(0, 1, DAILY))?;
+        assert_eq!(rt; used.as_slice(), [0, 1].as_slice());
+    }
     Ok(())
 }
 
@@ -286,6 +331,60 @@ fn a_night_reaches_over_midnight(rt: HostRuntime) -> Result<(), Fail> {
     ];
     for (minute, later, period, want) in table {
         let used = used(alloc, &windows, Kind::Dep, minute, later, period)?;
+        assert_eq!(rt; used.as_slice(), want);
+    }
+    Ok(())
+}
+
+// S01 has 31 weeks, from Sunday 25 March to Saturday 27 October 2001, which is day 216.
+#[test]
+fn the_longest_season_has_its_last_dates(rt: HostRuntime) -> Result<(), Fail> {
+    let alloc = rt.alloc();
+    let windows = windows_in(
+        alloc,
+        b"S01",
+        217,
+        line(Kind::Arr, 60, 1410, DAILY, 1),
+        None,
+    )?;
+    assert_eq!(rt; windows.resources(), 217);
+    assert_eq!(rt; windows.resource_of(0, Day(216), 0), 216);
+    assert_eq!(rt; (windows.limit(216), windows.limit(217)), (1, 0));
+    let last = movement(Kind::Arr, 216, 1420);
+    assert_eq!(rt; windows.count_listed(&[last], 216), 1);
+    let table = [
+        // in the evening and after midnight, on the last four dates
+        (
+            1420,
+            0,
+            period(213, 216, DAILY),
+            [213, 214, 215, 216].as_slice(),
+        ),
+        (
+            10,
+            0,
+            period(213, 216, DAILY),
+            [212, 213, 214, 215].as_slice(),
+        ),
+        // a day later, the last of which is no date of the season
+        (1420, 1, period(213, 216, DAILY), [214, 215, 216].as_slice()),
+        (10, 1, period(216, 216, DAILY), [].as_slice()),
+        // days 209 and 216 are Saturdays
+        (
+            1420,
+            0,
+            period(209, 216, SATURDAY_AND_SUNDAY),
+            [209, 210, 216].as_slice(),
+        ),
+        (
+            10,
+            0,
+            period(209, 216, SATURDAY_AND_SUNDAY),
+            [208, 209, 215].as_slice(),
+        ),
+    ];
+    for (minute, later, period, want) in table {
+        let used = used(alloc, &windows, Kind::Arr, minute, later, period)?;
         assert_eq!(rt; used.as_slice(), want);
     }
     Ok(())

@@ -3,8 +3,9 @@ ghost use Rattle.std.specs.Option.{ForSome};
 ghost use Rattle.season_days.specs.Seasons.{date_count, is_on};
 ghost use Rattle.season_days.specs.declared.declaration.Night.{Night};
 ghost use Rattle.season_days.specs.declared.declaration.Rule.{Rule};
-ghost use Rattle.season_days.specs.declared.declaration.TheConstants.{MOST_WINDOWS, HIGHEST_NIGHT_LIMIT};
-ghost use Rattle.capacity_windows.specs.Windows.{Capacity, IsCapacity, IsRule, capacity_of, starts_of, windows_of, first_of, resource_count, resource_at, IsResource, window_limit, start_of};
+ghost use Rattle.season_days.specs.declared.declaration.TheConstants.{MINUTES_OF_DAY, MOST_WINDOWS, HIGHEST_NIGHT_LIMIT};
+ghost use Rattle.capacity_windows.specs.Windows.{Capacity, IsCapacity, IsRule, capacity_of, starts_of, windows_of, first_of, resource_count, resource_at, window_limit, start_of};
+ghost use Rattle.capacity_windows.specs.Kept.{IsResource};
 ghost use Rattle.capacity_windows.specs.declared.resource.Resource.TheVariants.{Window, Quota};
 
 use crate::resource::Resource;
@@ -27,7 +28,8 @@ pub struct Windows {
 }
 
 impl Model for Windows {
-    ghost use Rattle.capacity_windows.specs.Windows.{Capacity, IsKept};
+    ghost use Rattle.capacity_windows.specs.Windows.{Capacity};
+    ghost use Rattle.capacity_windows.specs.Kept.{IsKept};
 
     ghost Value = { Capacity };
 
@@ -82,8 +84,18 @@ impl Windows {
         }
     }
 
+    /// How many windows a capacity line has on a day of the season, at least one and at most 1,440: one for each start, a
+    /// step apart. `rule` is the position of the line in the file, from 0.
+    pub fn starts(&self, rule: u32) -> u32
+        requires { rule < length self.now.rules }
+        ensures starts { IfSome (slice_get self.now.rules rule) (λ of. result ≡ starts_of self.now.step of) }
+        ensures few { result ≤ MINUTES_OF_DAY }
+    {
+        starts_of(self.step, &self.rules[rule as usize])
+    }
+
     /// The number of a window: `rule` is the position of its capacity line, `day` a day of the season, and `start` counts
-    /// the line's starts from 0. On a day whose weekday is not in the line's set the window is there and has limit 0.
+    /// the line's starts from 0, of which `starts` says how many there are. On a day whose weekday is not in the line's set the window is there and has limit 0.
     pub fn resource_of(&self, rule: u32, day: Day, start: u32) -> u32
         requires rule { rule < length self.now.rules }
         requires day { day.0 < date_count self.now.season }
@@ -161,7 +173,7 @@ impl Windows {
     pub(crate) fn starts_of(&self, rule: &Rule) -> u32
         requires { IsRule rule.now }
         ensures value { result ≡ starts_of self.now.step rule.now }
-        ensures bound { result ≤ 1440 }
+        ensures bound { result ≤ MINUTES_OF_DAY }
     {
         starts_of(self.step, rule)
     }
@@ -183,7 +195,7 @@ impl Windows {
 
     // The minute of the day at which a start of a capacity line lies.
     pub(crate) fn start_of(&self, rule: &Rule, start: u32) -> u32
-        requires { start_of self.now.step rule.now start < 1440 }
+        requires { start_of self.now.step rule.now start < MINUTES_OF_DAY }
         ensures { result ≡ start_of self.now.step rule.now start }
     {
         rule.from + start * self.step
@@ -214,7 +226,7 @@ pub(crate) fn starts_of(step: u32, rule: &Rule) -> u32
     requires step { 0 < step }
     requires rule { IsRule rule.now }
     ensures value { result ≡ starts_of step rule.now }
-    ensures bound { result ≤ 1440 }
+    ensures bound { result ≤ MINUTES_OF_DAY }
 {
     (rule.to - rule.from) / step + 1
 }

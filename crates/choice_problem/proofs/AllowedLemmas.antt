@@ -1,6 +1,7 @@
 -- What is allowed keeps the limits.
-use Rattle.std.proofs.Common.{◌≡◌, ℕ, ◌+◌, ◌-◌, ◌*◌, ◌<◌, ◌≤◌, sym, ◌∙◌, ap, arith, inl, inr, List, [], ◌∷◌, length, Option, Some, None, min}
-use Rattle.std.specs.Prelude.{◌/◌, ◌==◌, nat_lt, if◌then◌else◌, slice_index_or}
+use Rattle.std.proofs.Common.{◌≡◌, ℕ, ◌+◌, ◌-◌, ◌*◌, ◌<◌, ◌≤◌, refl, sym, ◌∙◌, ap, arith, inl, inr, List, [], ◌∷◌, length, Option, Some, None, min}
+use Rattle.std.specs.Prelude.{◌/◌, ◌==◌, nat_lt, if◌then◌else◌, slice_index_or, All, ◌^◌}
+use Rattle.std.specs.Option.{ForSome}
 use Rattle.std.proofs.lemmas.Grind.{common_steps}
 use Rattle.std.proofs.lemmas.Bool.{cases_lt, cases_eq}
 use Rattle.std.proofs.lemmas.List.Sums.{sum_by-cons}
@@ -9,7 +10,7 @@ use Rattle.choice_problem.specs.declared.strips.Strip.{Strip}
 use Rattle.choice_problem.specs.declared.problems.Alt.{Alt}
 use Rattle.choice_problem.specs.Strips.{strip_uses, part_uses}
 use Rattle.choice_problem.specs.Problems.{ChooserView, IsChooser, alt_at, named_uses}
-use Rattle.choice_problem.specs.Allowed.{strip_most, part_most, named_most, IsAllowedAlt, IsAllowed}
+use Rattle.choice_problem.specs.Allowed.{strip_most, part_most, named_most, IsAllowedAlt, IsAllowed, UseAtMost, IsNamedAlt}
 use Rattle.choice_problem.proofs.StripLemmas.{strip_uses-le, strip_uses-before, strip_uses-begun, strip_uses-ended, count-multiples}
 
 -- how many starts lie within a width of each other
@@ -103,4 +104,23 @@ IsAllowed-IsChooser m h =
       one = λ a l. (keeps a l).one;
       two = λ a l. (keeps a l).two;
       uses = λ a r l. omega (arith, (keeps a l).uses, named_uses-le_most m.parts m.alts (alt_at m a).one r, named_uses-le_most m.parts m.alts (alt_at m a).two r);
+    }
+
+-- the part that an alternative may name uses no resource more often than all parts do
+named_uses-le : (m : ChooserView) (most : ℕ) (part : Option ℕ) (r : ℕ) → UseAtMost most m.parts → ForSome part (λ k. k < length m.parts) → named_uses m part r ≤ most
+named_uses-le m most None r h l = omega arith
+named_uses-le m most (Some k) r h l = h k [] (l k refl) r
+
+pub few_uses-IsChooser : (m : ChooserView) → UseAtMost 217 m.parts → 0 < length m.alts → length m.alts < 2 ^ 32 → length m.parts < 2 ^ 32 →
+    All (IsNamedAlt m.parts) m.alts → IsChooser m
+few_uses-IsChooser m few some few_alts few_parts each =
+    let named : (a : ℕ) → a < length m.alts → IsNamedAlt m.parts (alt_at m a) = λ a l. each a (record { cost = 0; one = None; two = None }) l in
+    record {
+      some = some;
+      few_alts = few_alts;
+      few_parts = few_parts;
+      cost = λ a l. (named a l).cost;
+      one = λ a l. (named a l).one;
+      two = λ a l. (named a l).two;
+      uses = λ a r l. omega (arith, named_uses-le m 217 (alt_at m a).one r few (named a l).one, named_uses-le m 217 (alt_at m a).two r few (named a l).two);
     }

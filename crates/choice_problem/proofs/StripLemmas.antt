@@ -12,7 +12,7 @@ use Rattle.choice_problem.proofs.SumLemmas.{sum_below-add, sum_below-same, count
 use Rattle.std.proofs.Math.Nat.{le-div_iff_mul-le}
 use Rattle.choice_problem.specs.Sums.{sum_below, count_below}
 use Rattle.choice_problem.specs.Loops.{run_uses}
-use Rattle.choice_problem.specs.Strips.{run_start, run_resources, strip_resources, strip_uses, is_in_run}
+use Rattle.choice_problem.specs.Strips.{run_start, run_resources, strip_resources, strip_uses, is_in_run, IsStripInRange}
 
 -- no run holds a resource twice
 pub strip_uses-le : (s : Strip) (r : ℕ) → strip_uses s r ≤ s.times
@@ -72,6 +72,13 @@ strip_uses-before s r l = count_below-none s.times (λ i. is_in_run s r i) (λ i
   where
     outside : (first t width q : ℕ) → q < first → (nat_le (first + t) q && nat_lt q (first + t + width)) ≡ false
     outside first t width q h = grind (arith, common_steps)
+
+-- nor after all have ended
+pub strip_uses-after : (s : Strip) (r : ℕ) → IsStripInRange r s → strip_uses s r ≡ 0
+strip_uses-after s r h = count_below-none s.times (λ i. is_in_run s r i) (λ i l. outside (run_start s i) s.width r (h i l))
+  where
+    outside : (start width q : ℕ) → start + width ≤ q → (nat_le start q && nat_lt q (start + width)) ≡ false
+    outside start width q h = grind (arith, common_steps)
 
 -- a resource within the first run's width is held by the runs that have begun
 pub strip_uses-begun : (s : Strip) (r : ℕ) → s.first ≤ r → r - s.first < s.width →

@@ -97,6 +97,10 @@ least_from-ge low (suc n) m f h =
 pub least_within-ge : (low high m : ℕ) (f : ℕ → ℕ) → low ≤ high → ((a : ℕ) → low ≤ a → a ≤ high → m ≤ f a) → m ≤ least_within low high f
 least_within-ge low high m f o h = least_from-ge low (high - low) m f (λ a l k. h a l (omega arith))
 
+-- the least of more values is no greater
+pub least_within-shorter : (low mid high : ℕ) (f : ℕ → ℕ) → low ≤ mid → mid ≤ high → least_within low high f ≤ least_within low mid f
+least_within-shorter low mid high f o h = least_within-ge low mid (least_within low high f) f o (λ a l k. least_within-le low high a f l (omega arith))
+
 -- counts: one test more, and tests that none or all pass
 pub count_below-more : (n : ℕ) (passes : ℕ → Bool) → count_below (n + 1) passes ≡ count_below n passes + (if passes n then 1 else 0)
 count_below-more n passes = sum_below-more n (λ i. if passes i then 1 else 0)

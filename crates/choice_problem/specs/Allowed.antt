@@ -3,6 +3,7 @@ use Rattle.std.specs.Prelude.{ℕ, ◌+◌, ◌-◌, ◌/◌, ◌<◌, ◌≤◌
 use Rattle.std.specs.Option.{ForSome}
 use Rattle.choice_problem.specs.declared.strips.Strip.{Strip}
 use Rattle.choice_problem.specs.declared.problems.Alt.{Alt}
+use Rattle.choice_problem.specs.Strips.{part_uses}
 use Rattle.choice_problem.specs.Problems.{ChooserView}
 
 -- how many runs of the strip can hold one resource: all where they do not move, else as many starts as a width holds
@@ -31,3 +32,13 @@ pub record IsAllowed (m : ChooserView) : Type 0 where
   pub few_alts : length m.alts < 2 ^ 32
   pub few_parts : length m.parts < 2 ^ 32
   pub each : All (IsAllowedAlt m.parts) m.alts
+
+-- no part uses a resource more often than this
+abbrev pub UseAtMost : ℕ → List (List Strip) → Type 0
+UseAtMost most parts = All (λ (strips : List Strip). (r : ℕ) → part_uses strips r ≤ most) parts
+
+-- an alternative whose cost is small and whose parts are there, however often they use a resource
+pub record IsNamedAlt (parts : List (List Strip)) (alt : Alt) : Type 0 where
+  pub cost : alt.cost < 2 ^ 24
+  pub one : ForSome alt.one (λ k. k < length parts)
+  pub two : ForSome alt.two (λ k. k < length parts)

@@ -6,7 +6,9 @@ ghost use Rattle.choice_problem.specs.Problems.{ArePartsInRange};
 ghost use Rattle.choice_problem.specs.Strips.{IsPartInRange};
 ghost use Rattle.choice_problem.specs.Allowed.{IsAllowed, IsAllowedAlt, named_most};
 
-use crate::problems::{Alt, Chooser, Problem};
+use crate::problems::{
+    Alt, Chooser, HIGHEST_COST, HIGHEST_LIMIT, MOST_RESOURCES, MOST_UNITS, MOST_USES, Problem,
+};
 use crate::strips::Part;
 
 impl Chooser {
@@ -15,8 +17,9 @@ impl Chooser {
     ghost use Rattle.choice_problem.specs.Allowed.{IsAllowed};
 
     /// Whether `new` takes these parts and alternatives. Of an alternative's uses it knows how many runs of each strip can
-    /// overlap, and takes it that the strips of its parts share a resource: where they do not, `new` takes more. One step
-    /// an alternative and strip of its parts.
+    /// overlap, and takes it that the strips of its parts share a resource: where they do not, `new` takes more. So parts
+    /// of series under a night quota, or under many lines with weekdays, may be refused although `new` takes them: there
+    /// the law `few_uses` is the way. One step an alternative and strip of its parts.
     pub fn allows(parts: &[Part], alts: &[Alt]) -> bool
         ensures exact { IsTrue result ↔ IsAllowed (record { parts = parts.now; alts = alts.now }) }
         ensures valid { IsTrue result → IsChooser (record { parts = parts.now; alts = alts.now }) }
@@ -33,10 +36,10 @@ impl Problem {
     pub fn allows(units: &[Chooser], limits: &[i64]) -> bool
         ensures { IsTrue result ↔ IsProblem units.now limits.now }
     {
-        units.len() <= 4096
-            && limits.len() <= 1_000_000
+        units.len() <= MOST_UNITS as usize
+            && limits.len() <= MOST_RESOURCES as usize
             && limits.iter().all(|&limit| limit >= 0)
-            && limits.iter().all(|&limit| limit <= 999_999)
+            && limits.iter().all(|&limit| limit <= HIGHEST_LIMIT)
             && are_units_within(units, limits.len() as u32)
     }
 }
@@ -64,10 +67,10 @@ fn are_allowed(parts: &[Part], alts: &[Alt]) -> bool
 fn is_allowed(parts: &[Part], alt: &Alt) -> bool
     ensures { IsTrue result ↔ IsAllowedAlt parts.now alt.now }
 {
-    alt.cost < 1 << 24
+    alt.cost <= HIGHEST_COST
         && is_there(parts, alt.one)
         && is_there(parts, alt.two)
-        && named_most(parts, alt.one) + named_most(parts, alt.two) <= 434
+        && named_most(parts, alt.one) + named_most(parts, alt.two) <= u128::from(MOST_USES)
 }
 
 // Whether the part that an alternative may name is there.

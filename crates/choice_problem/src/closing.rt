@@ -32,7 +32,8 @@ pub fn over_closes(problem: &Problem, ranges: &Ranges, resource: u32) -> bool
     load > problem.limit(resource)
 }
 
-/// The least number of a unit's uses of a resource from one alternative to another.
+/// The least number of a unit's uses of a resource from one alternative to another. It stops at the first that does not
+/// use it.
 #[tactic(auto, using(crate::proofs::SumLemmas::least_within_steps))]
 pub fn least_uses(problem: &Problem, unit: u32, low: u32, high: u32, resource: u32) -> u32
     requires unit { unit < unit_count problem.now }
@@ -43,6 +44,9 @@ pub fn least_uses(problem: &Problem, unit: u32, low: u32, high: u32, resource: u
 {
     let mut least = problem.uses(unit, low, resource);
     for alt in low..high {
+        if least == 0 {
+            return 0;
+        }
         least = least.min(problem.uses(unit, alt + 1, resource));
     }
     least

@@ -1,14 +1,15 @@
 //! Laws of closed ranges, of trees, and of what trees prove. The functions do nothing; their contracts are the laws.
 
-ghost use Rattle.std.specs.Prelude.{◌≡◌, ℕ, ◌≤◌, List, Option, Some, None, All, [], ◌∷◌, ◌++◌, count_by, ◌==◌};
+ghost use Rattle.std.specs.Prelude.{◌≡◌, ℕ, ◌<◌, ◌≤◌, ◌^◌, List, length, Option, Some, None, All, [], ◌∷◌, ◌++◌, count_by, ◌==◌};
 ghost use Rattle.choice_problem.specs.declared.strips.Strip.{Strip};
 ghost use Rattle.choice_problem.specs.Strips.{strip_uses, strip_resources};
 ghost use Rattle.choice_problem.specs.declared.nodes.Node.{Node};
 ghost use Rattle.choice_problem.specs.declared.nodes.Node.TheVariants as node;
 ghost use Rattle.choice_problem.specs.declared.vectors.Price.{Price};
-ghost use Rattle.choice_problem.specs.Problems.{ProblemView, unit_count};
+ghost use Rattle.choice_problem.specs.Problems.{ChooserView, ProblemView, IsChooser, unit_count};
+ghost use Rattle.choice_problem.specs.Allowed.{UseAtMost, IsNamedAlt};
 ghost use Rattle.choice_problem.specs.Choices.{IsFeasible, IsBest, HasNone, choice_cost};
-ghost use Rattle.choice_problem.specs.Bounds.{IsWithin, IsVector, Closes, IsOver, whole_of};
+ghost use Rattle.choice_problem.specs.Bounds.{AreRanges, IsWithin, IsVector, Closes, IsOver, whole_of};
 ghost use Rattle.choice_problem.specs.Trees.{
   AreSound,
   IsSound,
@@ -29,6 +30,12 @@ ghost use Rattle.choice_problem.specs.Floors.{IsFloored, AreFloors, IsAtMost};
 /// A strip uses a resource as often as the resource comes in the list that the strip stands for.
 pub fn strip_list()
     ensures { (s : Strip) (r : ℕ) → strip_uses s r ≡ count_by (λ c. c == r) (strip_resources s) }
+{}
+
+/// Parts that use no resource more than 217 times make units, whatever strips they are in: an alternative names two of them.
+pub fn few_uses()
+    ensures { (m : ChooserView) → UseAtMost 217 m.parts → 0 < length m.alts → length m.alts < 2 ^ 32 →
+        length m.parts < 2 ^ 32 → All (IsNamedAlt m.parts) m.alts → IsChooser m }
 {}
 
 /// What closed ranges say of the feasible choices within them, by weak Lagrangian duality. What closes for none closes
@@ -111,13 +118,16 @@ pub fn joined_trees()
         AreDriven p vectors root pending (graft nodes trees) }
 {}
 
-/// The greedy choice is feasible, and its cost, or that there is none, is determined by the problem; so is the root vector.
+/// The greedy choice is feasible, and its cost, or that there is none, is determined by the problem. So is the node vector of
+/// ranges, and with it the root vector, whose prices are those of a vector for the problem: all are below 2^40.
 pub fn search_start()
     ensures feasible { (p : ProblemView) (x : List ℕ) → IsGreedy p (unit_count p) x → IsFeasible p x }
     ensures one_cost { (p : ProblemView) (one other : Option ℕ) →
         IsGreedyCost p one → IsGreedyCost p other → one ≡ other }
     ensures one_vector { (p : ProblemView) (ranges : List (ℕ × ℕ)) (one other : List Price) →
         IsNodeVector p ranges one → IsNodeVector p ranges other → one ≡ other }
+    ensures prices { (p : ProblemView) (ranges : List (ℕ × ℕ)) (prices : List Price) →
+        unit_count p ≤ 4096 → All IsChooser p.units → AreRanges p ranges → IsNodeVector p ranges prices → IsVector p prices }
 {}
 
 /// A tree that is driven for a result is sound for it, and stays driven where vectors are added to the list.

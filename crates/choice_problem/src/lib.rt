@@ -20,14 +20,18 @@ mod vectors;
 pub use choices::{Choice, cost_of, first_above, first_passed, fits};
 pub use closing::{leaf_closes, least_uses, over_closes};
 pub use laws::{
-    closed_ranges, driven_tree, floored_tree, joined_trees, search_start, sound_tree, split_trees,
-    strip_list,
+    closed_ranges, driven_tree, few_uses, floored_tree, joined_trees, search_start, sound_tree,
+    split_trees, strip_list,
 };
 pub use nodes::{Node, Tree, count_nodes};
-pub use problems::{Alt, Chooser, Problem};
+pub use problems::{
+    Alt, Chooser, HIGHEST_COST, HIGHEST_LIMIT, MOST_RESOURCES, MOST_UNITS, MOST_USES, Problem,
+};
 pub use spans::Ranges;
 pub use strips::{Part, Strip};
-pub use vectors::{Price, Vector, VectorList};
+pub use vectors::{HIGHEST_PRICE, Price, Vector, VectorList};
 
+#[cfg(test)]
+mod closing_tests;
 #[cfg(test)]
 mod tests;

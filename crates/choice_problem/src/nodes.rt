@@ -11,18 +11,25 @@ use std::marker::Model;
 pub enum Node {
     /// The unit's range is cut in two, and two trees follow: on the alternatives below the cut, and from the cut on.
     Split {
+        /// The number of the unit, from 0.
         unit: u32,
+        /// The lowest alternative of the high part.
         cut: u32,
+        /// The cost that was known.
         seen: Option<u64>,
     },
     /// The bound at a vector of prices and a scale closes the ranges. Vector 0 is the one without prices.
     Leaf {
+        /// The number of the vector: 0, or its place in the list, from 1.
         vector: u32,
+        /// The number by which costs are multiplied beside the prices, below 2^20.
         scale: u64,
+        /// The cost that was known.
         seen: Option<u64>,
     },
     /// Even the least load of a resource in range is above its limit.
     Over {
+        /// The number of the resource, from 0.
         resource: u32,
     },
     /// The ranges were not searched.

@@ -1,16 +1,34 @@
-//! ProblemView problems.
+//! Problems of units and resources.
 
 ghost use Rattle.std.specs.Prelude.{◌≡◌, ◌+◌, ◌^◌, ◌<◌, ◌≤◌, All, map, pos, ◌≤ℤ◌, length};
 
 use crate::strips::Part;
 use std::marker::Model;
 
+/// The most units that a problem may have.
+pub const MOST_UNITS: u32 = 4_096;
+
+/// The most resources that a problem may have.
+pub const MOST_RESOURCES: u32 = 1_000_000;
+
+/// The highest limit that a resource may have.
+pub const HIGHEST_LIMIT: i64 = 999_999;
+
+/// The most uses of one resource that an alternative may have.
+pub const MOST_USES: u32 = 434;
+
+/// The highest cost that an alternative may have.
+pub const HIGHEST_COST: u64 = (1 << 24) - 1;
+
 /// An alternative of a unit: what it costs, and the numbers of up to two parts of its unit, whose resources it uses.
 /// Where it names one part twice, it uses that part's resources twice.
 #[derive(Clone, Copy, Debug, PartialEq, Eq)]
 pub struct Alt {
+    /// What it costs, in the unit of the problem's costs, such as minutes of displacement.
     pub cost: u64,
+    /// The number of a part, from 0.
     pub one: Option<u32>,
+    /// The number of another part, or of the same one.
     pub two: Option<u32>,
 }
 

@@ -10,9 +10,13 @@ use std::marker::Model;
 /// A resource that comes several times, as where runs overlap or `gap` is 0, counts as often.
 #[derive(Clone, Copy, Debug, PartialEq, Eq)]
 pub struct Strip {
+    /// The number of the first run's first resource, from 0.
     pub first: u32,
+    /// How many resources a run has.
     pub width: u32,
+    /// How far the first resource of a run is from that of the run before it.
     pub gap: u32,
+    /// How many runs there are.
     pub times: u32,
 }
 
@@ -23,12 +27,24 @@ impl Strip {
     ghost use Rattle.choice_problem.specs.Allowed.{strip_most};
     ghost use Rattle.choice_problem.specs.Counts.{GrowsBy, HasRoom};
 
-    // How often the strip uses a resource, by two divisions: the runs that begin at or before it, less those that end
-    // before it.
-    fn uses(&self, resource: u32) -> u32
+    /// Where a run, numbered from 0, begins and ends: its first resource, and the first one after it.
+    pub fn run(&self, run: u32) -> (u64, u64)
+        ensures start { result.0 ≡ run_start self.now run }
+        ensures end { result.1 ≡ run_start self.now run + self.now.width }
+    {
+        let start = u64::from(self.first) + u64::from(run) * u64::from(self.gap);
+        (start, start + u64::from(self.width))
+    }
+
+    /// How often the strip uses a resource, by at most two divisions: the runs that begin at or before it, less those that
+    /// end before it.
+    pub fn uses(&self, resource: u32) -> u32
         ensures { result ≡ strip_uses self.now resource }
     {
         if resource < self.first {
+            return 0;
+        }
+        if self.is_within(resource) {
             return 0;
         }
         let distance = resource - self.first;
@@ -78,8 +94,7 @@ impl Strip {
         requires { 0 < self.now.times }
         ensures { result ≡ run_start self.now (self.now.times - 1) + self.now.width }
     {
-        let last = u64::from(self.times - 1);
-        u64::from(self.first) + last * u64::from(self.gap) + u64::from(self.width)
+        self.run(self.times - 1).1
     }
 
     // Counts the strip's uses.
@@ -89,8 +104,7 @@ impl Strip {
         ensures { GrowsBy counts.old counts.new (λ r. strip_uses self.now r) }
     {
         for i in 0..self.times {
-            let start = u64::from(self.first) + u64::from(i) * u64::from(self.gap);
-            let end = start + u64::from(self.width);
+            let (start, end) = self.run(i);
             add_run(counts, start as usize, end as usize);
         }
     }
@@ -143,8 +157,8 @@ impl Part {
         &self.strips
     }
 
-    // How often the strips together use a resource: two divisions a strip.
-    pub(crate) fn uses(&self, resource: u32) -> u32
+    /// How often the strips together use a resource, which is fewer than 2^32 times: at most two divisions a strip.
+    pub fn uses(&self, resource: u32) -> u32
         requires { part_uses self.now resource < 2 ^ 32 }
         ensures { result ≡ part_uses self.now resource }
     {
@@ -179,8 +193,9 @@ impl Part {
         most
     }
 
-    // Counts the uses of the strips together.
-    pub(crate) fn add_uses(&self, counts: &mut [u32])
+    /// Adds the uses of the strips together to counts, one for each resource from 0: one step a use. The strips stay within
+    /// these resources, and no count reaches 2^32.
+    pub fn add_uses(&self, counts: &mut [u32])
         requires there { IsPartInRange (length counts.old) self.now }
         requires room { HasRoom counts.old (λ r. part_uses self.now r) }
         ensures { GrowsBy counts.old counts.new (λ r. part_uses self.now r) }

@@ -6,10 +6,15 @@ ghost use Rattle.choice_problem.specs.Bounds.{IsVector};
 use crate::problems::Problem;
 use std::marker::Model;
 
+/// The highest price that a vector for a problem may have.
+pub const HIGHEST_PRICE: i64 = (1 << 40) - 1;
+
 /// The price of one use of a resource.
 #[derive(Clone, Copy, Debug, PartialEq, Eq)]
 pub struct Price {
+    /// The number of the resource, from 0.
     pub resource: u32,
+    /// The price of one use: in a vector for a problem from 1 to 2^40 - 1.
     pub price: i64,
 }
 
@@ -34,7 +39,7 @@ impl Price {
         next <= self.resource
             && self.resource < problem.resources()
             && self.price >= 1
-            && self.price < 1 << 40
+            && self.price <= HIGHEST_PRICE
     }
 }
 

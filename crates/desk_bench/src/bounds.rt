@@ -127,6 +127,11 @@ fn prices(alloc: Global, problem: &Problem, count: u32) -> Result<Vector, Memory
     Ok(Vector::new(prices))
 }
 
+/// The problem of this benchmark, or none where it passes a limit.
+pub(crate) fn problem(alloc: Global, size: Size) -> Result<Option<Problem>, Memory> {
+    build(alloc, scale_of(size))
+}
+
 // A problem of this size, or none where it passes a limit.
 fn build(alloc: Global, scale: Scale) -> Result<Option<Problem>, Memory> {
     let mut units = Vec::new(alloc);

@@ -4,10 +4,13 @@
 
 mod board;
 mod bounds;
+mod capacity;
 mod certificates;
 mod messages;
 mod report;
 mod turn;
+mod units;
+mod walks;
 
 use report::Size;
 use std::env;
@@ -20,15 +23,23 @@ fn main(rt: HostRuntime) -> anyhow::Result<()> {
         Some("board") => board::run(&rt, rt.alloc(), Size::Full),
         Some("turn") => turn::run(&rt, rt.alloc(), Size::Full),
         Some("messages") => messages::run(&rt, rt.alloc(), Size::Full),
+        Some("capacity") => capacity::run(&rt, rt.alloc(), Size::Full),
+        Some("units") => units::run(&rt, rt.alloc(), Size::Full),
+        Some("walks") => walks::run(&rt, rt.alloc(), Size::Full),
         Some("short") => {
             bounds::run(&rt, Size::Short)?;
             certificates::run(&rt, Size::Short)?;
             board::run(&rt, rt.alloc(), Size::Short)?;
             turn::run(&rt, rt.alloc(), Size::Short)?;
-            messages::run(&rt, rt.alloc(), Size::Short)
+            messages::run(&rt, rt.alloc(), Size::Short)?;
+            capacity::run(&rt, rt.alloc(), Size::Short)?;
+            units::run(&rt, rt.alloc(), Size::Short)?;
+            walks::run(&rt, rt.alloc(), Size::Short)
         }
         _ => {
-            println!(rt; "desk_bench WORD: bounds, certificates, board, turn, messages, short")?;
+            println!(rt;
+                "desk_bench WORD: bounds, certificates, board, turn, messages, capacity, units, walks, short"
+            )?;
             Ok(())
         }
     }

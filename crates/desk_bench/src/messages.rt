@@ -1,6 +1,6 @@
 //! Reading and printing the lines of slot clearance messages.
 
-use crate::report::{Size, step};
+use crate::report::{Size, rate};
 use scr_reader::{Item, Line, MessageList, print_line, read_all};
 use season_days::Season;
 use slot_text::Memory;
@@ -43,24 +43,6 @@ pub fn run(rt: &HostRuntime, alloc: Global, size: Size) -> anyhow::Result<()> {
     rate(rt, size, "printing", lines, start)?;
     println!(rt; "messages: {printed} bytes printed")?;
     Ok(())
-}
-
-// Prints, at full size, how long a step took and how many lines that is in a second.
-fn rate(
-    rt: &HostRuntime,
-    size: Size,
-    name: &str,
-    lines: usize,
-    start: Instant,
-) -> anyhow::Result<()> {
-    if size == Size::Full {
-        let nanos = start.elapsed(rt)?.as_nanos();
-        let rate = (lines as u128 * 1_000_000_000)
-            .checked_div(nanos)
-            .unwrap_or(0);
-        println!(rt; "{name}: {rate} lines a second")?;
-    }
-    step(rt, size, name, start)
 }
 
 // A message with so many times three lines.

@@ -22,6 +22,24 @@ pub fn step(rt: &HostRuntime, size: Size, name: &str, start: Instant) -> anyhow:
     Ok(())
 }
 
+/// Prints, at full size, how long a step took and how many lines that is in a second.
+pub fn rate(
+    rt: &HostRuntime,
+    size: Size,
+    name: &str,
+    lines: usize,
+    start: Instant,
+) -> anyhow::Result<()> {
+    if size == Size::Full {
+        let nanos = start.elapsed(rt)?.as_nanos();
+        let rate = (lines as u128 * 1_000_000_000)
+            .checked_div(nanos)
+            .unwrap_or(0);
+        println!(rt; "{name}: {rate} lines a second")?;
+    }
+    step(rt, size, name, start)
+}
+
 // Prints how much memory the program holds and held at most, as Linux tells it.
 fn memory(rt: &HostRuntime) -> anyhow::Result<()> {
     if let Ok(status) = fs::read_to_string(rt, "/proc/self/status") {

@@ -1,33 +1,20 @@
 -- Vectors of prices in lists, and the prices of subgradient steps.
-use Rattle.std.proofs.Common.{◌≡◌, ℕ, zero, suc, ◌+◌, ◌-◌, ◌*◌, ◌<◌, ◌≤◌, ◌^◌, refl, ◌∙◌, ap, arith, add-one, List, [], ◌∷◌, ◌++◌, length, pos, ◌<ℤ◌, inl, inr, false}
-use Rattle.std.specs.Prelude.{if◌then◌else◌, ◌==◌, slice_index, slice_index_or, All, ℤ, ◌≤ℤ◌}
+use Rattle.std.proofs.Common.{◌≡◌, ℕ, zero, suc, ◌+◌, ◌-◌, ◌*◌, ◌<◌, ◌≤◌, refl, ◌∙◌, ap, arith, add-one, List, pos, ◌<ℤ◌, inl, inr}
+use Rattle.std.specs.Prelude.{slice_index, ℤ, ◌≤ℤ◌}
 use Rattle.std.proofs.lemmas.Int.{ints}
 use Rattle.std.proofs.lemmas.Bool.{cases_lt}
-use Rattle.std.proofs.lemmas.Grind.{common_steps}
-use Rattle.std.proofs.lemmas.List.{length-append, get_or_append_left, get_or_push}
 use Rattle.std.proofs.lemmas.List.Sums.{sum_by_push}
-use Rattle.std.proofs.lemmas.List.Elements.{All-push}
 use Rattle.choice_problem.specs.declared.vectors.Price.{Price}
 use Rattle.choice_problem.specs.Sums.{sum_below}
 use Rattle.choice_problem.specs.Problems.{ProblemView, resource_count, amount, limit_of}
-use Rattle.choice_problem.specs.Bounds.{priced, IsPrice, IsVector, bound_of}
+use Rattle.choice_problem.specs.Bounds.{priced, bound_of}
 use Rattle.choice_problem.specs.Roots.{vector_of, price_after, priced_load, step_length, step_vector, IsNodeVector}
-use Rattle.choice_problem.proofs.VectorLemmas.{IsVector-nil}
+use Rattle.choice_problem.proofs.RootLemmas.{with_price, with_price-suc, vector_of-IsVector, step_lengths-le}
 use Rattle.dual_bound.specs.Loops.{worth, AreSums, IsPricedBy, vector_in, ArePrices, IsPoint, AreMoved, IsAfter, IsGreatestUpTo}
 use Rattle.std.proofs.Math.Nat.{mul-le-mul_left}
 use Rattle.choice_problem.specs.Problems.{unit_count}
 use Rattle.choice_problem.proofs.SumLemmas.{sum_below-more}
 use Rattle.dual_bound.specs.Loops.{least_alt_load}
-
--- a vector with one resource more, which it names where its price is above 0
-abbrev pub with_price : List Price → ℕ → ℕ → List Price
-with_price prices r price = if price == 0 then prices else prices ++ record { resource = r; price = pos price } ∷ []
-
-not_zero : (v : ℕ) → (suc v == 0) ≡ false
-not_zero v = grind (arith, common_steps)
-
-pub with_price-suc : (prices : List Price) (r v : ℕ) → with_price prices r (suc v) ≡ prices ++ record { resource = r; price = pos (suc v) } ∷ []
-with_price-suc prices r v = ap (λ b. if b then prices else prices ++ record { resource = r; price = pos (suc v) } ∷ []) (not_zero v)
 
 priced-with_price : (prices : List Price) (r price : ℕ) (uses : ℕ → ℕ) → priced (with_price prices r price) uses ≡ priced prices uses + price * uses r
 priced-with_price prices r zero uses = omega arith
@@ -43,46 +30,6 @@ vector_of-same (suc n) f g h =
     ap (λ v. with_price (vector_of n f) n v) (h n (omega arith))
     ∙ ap (λ v. with_price v n (g n)) (vector_of-same n f g (λ r l. h r (omega arith)))
 
--- a vector whose resources are all below a number
-record IsVectorBelow (p : ProblemView) (n : ℕ) (prices : List Price) : Type 0 where
-  vector : IsVector p prices
-  below : All (λ e. e.resource < n) prices
-
-IsVectorBelow-push : (p : ProblemView) (n : ℕ) (prices : List Price) (e : Price) → IsPrice p e → e.resource ≡ n → IsVectorBelow p n prices →
-    IsVectorBelow p (n + 1) (prices ++ e ∷ [])
-IsVectorBelow-push p n prices e h at b = record {
-  vector = record {
-    rising = λ i j d l m. elim (cases_lt j (length prices)) [
-      | inl within ↦ rw (get_or_append_left prices (e ∷ []) d i (omega arith), get_or_append_left prices (e ∷ []) d j within) (b.vector.rising i j d l within)
-      | inr last ↦ let k : length prices ≡ j = omega (arith, length-append prices (e ∷ [])) in
-          rw (get_or_append_left prices (e ∷ []) d i (omega (arith, k)), get_or_push prices e d j k, at) (b.below i d (omega (arith, k)))
-    ];
-    each = All-push (IsPrice p) prices e b.vector.each h;
-  };
-  below = All-push (λ f. f.resource < n + 1) prices e (λ i d l. let t : (slice_index_or prices i d).resource < n = b.below i d l in omega arith) (omega (arith, at));
-}
-
-IsVectorBelow-more : (p : ProblemView) (n : ℕ) (prices : List Price) → IsVectorBelow p n prices → IsVectorBelow p (n + 1) prices
-IsVectorBelow-more p n prices b = record {
-  vector = b.vector;
-  below = λ i d l. let t : (slice_index_or prices i d).resource < n = b.below i d l in omega arith;
-}
-
-IsVectorBelow-with_price : (p : ProblemView) (n v : ℕ) (prices : List Price) → n < resource_count p → v < 2 ^ 40 → IsVectorBelow p n prices →
-    IsVectorBelow p (n + 1) (with_price prices n v)
-IsVectorBelow-with_price p n zero prices l m b = IsVectorBelow-more p n prices b
-IsVectorBelow-with_price p n (suc v) prices l m b =
-    rw (with_price-suc prices n v) (IsVectorBelow-push p n prices (record { resource = n; price = pos (suc v) }) (record { there = l; positive = omega (arith, ints); small = omega (arith, ints) }) refl b)
-
-below_vector_of : (p : ProblemView) (n : ℕ) (f : ℕ → ℕ) → n ≤ resource_count p → ((r : ℕ) → r < n → f r < 2 ^ 40) → IsVectorBelow p n (vector_of n f)
-below_vector_of p zero f l h = record { vector = IsVector-nil p; below = λ i d m. absurd (omega arith) }
-below_vector_of p (suc n) f l h =
-    let e : n + 1 ≡ suc n = omega arith in
-    rw e at (IsVectorBelow-with_price p n (f n) (vector_of n f) (omega arith) (h n (omega arith)) (below_vector_of p n f (omega arith) (λ r m. h r (omega arith))))
-
-pub vector_of-IsVector : (p : ProblemView) (f : ℕ → ℕ) → ((r : ℕ) → r < resource_count p → f r < 2 ^ 40) → IsVector p (vector_of (resource_count p) f)
-vector_of-IsVector p f h = (below_vector_of p (resource_count p) f (omega arith) h).vector
-
 -- the vector in a list of prices, with their sums
 pub vector_in-priced : (p : ProblemView) (numbers sums : List ℕ) → ArePrices p numbers → resource_count p ≤ 1000000 → AreSums numbers sums →
     IsPricedBy p (vector_in p numbers) sums
@@ -95,20 +42,6 @@ vector_in-priced p numbers sums h few s = record {
     few = few;
   };
 }
-
--- all lengths of steps together
-sum_below-upto : (n m : ℕ) (f : ℕ → ℕ) → n ≤ m → sum_below n f ≤ sum_below m f
-sum_below-upto n zero f l = let e : n ≡ 0 = omega arith in rw e (omega arith)
-sum_below-upto n (suc m) f l = elim (cases_lt m n) [
-  | inl last ↦ let e : n ≡ suc m = omega arith in rw e (omega arith)
-  | inr part ↦ omega (arith, sum_below-upto n m f part)
-]
-
-all_lengths : sum_below 64 step_length ≡ 261120
-all_lengths = refl
-
-pub step_lengths-le : (n : ℕ) → n ≤ 64 → sum_below n step_length ≤ 261120
-step_lengths-le n l = omega (arith, sum_below-upto n 64 step_length l, all_lengths)
 
 -- a step from prices that are those after some steps, as far as they are below 2 ^ 40 whatever the cap
 pub moved_is : (p : ProblemView) (ranges : List (ℕ × ℕ)) (step : ℕ) (numbers loads moved : List ℕ) (bound : ℤ) → step < 64 →

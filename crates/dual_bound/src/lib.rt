@@ -9,6 +9,7 @@
 mod bounds;
 mod floors;
 mod further;
+mod momentum;
 mod points;
 mod roots;
 mod strips;

@@ -15,7 +15,7 @@ use slot_text::Memory;
 use std::alloc::Global;
 
 /// The greatest price that a vector may have.
-const MOST: u64 = (1 << 40) - 1;
+pub(crate) const MOST: u64 = (1 << 40) - 1;
 
 // Prices of all resources, how often each unit's first least alternative at these prices uses a resource, all units
 // together, and the bound.

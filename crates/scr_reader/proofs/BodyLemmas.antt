@@ -83,11 +83,11 @@ bad_once season line a b (inl x) (inr y) = absurd (both_ways (is_question (line_
 bad_once season line a b (inr x) (inl y) = absurd (both_ways (is_question (line_fields line)) y.0.kind x.0.kind)
 bad_once season line a b (inr x) (inr y) = faulty_question_once (line_fields line) a b x.1 y.1
 
-bad_is_short : (season : Term) (line : List ℕ) (k : ℕ) → IsBadField season line k → IsShort line
+pub bad_is_short : (season : Term) (line : List ℕ) (k : ℕ) → IsBadField season line k → IsShort line
 bad_is_short season line k (inl x) = x.0.short
 bad_is_short season line k (inr x) = x.0.short
 
-bad_no_row : (season : Term) (line : List ℕ) (k : ℕ) (row : Row) → IsBadField season line k → IsRow season line row → ⊥
+pub bad_no_row : (season : Term) (line : List ℕ) (k : ℕ) (row : Row) → IsBadField season line k → IsRow season line row → ⊥
 bad_no_row season line k remark (inl x) is = both_ways (is_remark line) x.0.read is
 bad_no_row season line k remark (inr x) is = both_ways (is_remark line) x.0.read is
 bad_no_row season line k (entry value) (inl x) is = faulty_no_line season (line_fields line) k value x.1 is.1

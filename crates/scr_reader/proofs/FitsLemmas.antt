@@ -11,7 +11,7 @@ use Rattle.scr_reader.specs.declared.line.Stop.{Stop}
 use Rattle.scr_reader.specs.declared.line.Code.{Code}
 use Rattle.scr_reader.specs.declared.line.Flight.{Flight}
 use Rattle.scr_reader.specs.Bytes.{is_digit}
-use Rattle.scr_reader.specs.Parts.{are_digits, number_named, IsFlight, IsPeriod, IsArrivalGroup, IsDepartureGroup, IsNights}
+use Rattle.scr_reader.specs.Parts.{are_digits, flight_number_of, IsFlight, IsPeriod, IsArrivalGroup, IsDepartureGroup, IsNights}
 use Rattle.scr_reader.specs.Shapes.{Shape, arrival, departure, turnaround, parts_of, shape_of, code_and_flight, departing_flight, dates, weekdays, seats_and_craft, arrival_group, departure_group, departure_group_with_nights, arrival_service, departure_service, both_services, IsLine, IsCodeAndFlight, IsService, IsBothServices, IsLaterGroup}
 use Rattle.scr_reader.specs.Rows.{entry, line_fields, IsRow}
 use Rattle.scr_reader.specs.Printed.{FlightFits, StopFits, StopsFit, LineFits}
@@ -26,7 +26,7 @@ some_text (Some t) has = (t, has)
 digit_few : (b : ℕ) → is_digit b ≡ true → b - 48 ≤ 9
 digit_few b is = grind (arith, nat_tests, is)
 
-number_small : (digits : List ℕ) → are_digits digits ≡ true → length digits ≤ 4 → number_named digits < 10000
+number_small : (digits : List ℕ) → are_digits digits ≡ true → length digits ≤ 4 → flight_number_of digits < 10000
 number_small [] are few = omega arith
 number_small (a ∷ []) are few = omega (arith, digit_few a (and_parts (is_digit a) true are).0)
 number_small (a ∷ b ∷ []) are few =

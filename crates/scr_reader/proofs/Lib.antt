@@ -25,3 +25,8 @@ pub mod AtLemmas
 pub mod PlaceLemmas
 pub mod PieceLemmas
 pub mod LineLemmas
+pub mod OncePartLemmas
+pub mod OnceLineLemmas
+pub mod OnceTextLemmas
+pub mod AgainLemmas
+pub mod RisingLemmas

@@ -91,3 +91,13 @@ full_fields season code line (Some coming) (Some going) fits = full_first (code_
 
 pub printed_full : (season : Term) (code : Code) (line : Line) → LineFits season line → is_empty_line (line_text season code line) ≡ false
 printed_full season code line fits = full_fields season code line line.arrival line.departure fits.stops
+
+-- one line of a text, and not an empty one
+abbrev pub IsFullLine : List ℕ → Type 0
+IsFullLine line = ((rest : List ℕ) → lines_of (line ++ 10 ∷ rest) ≡ line ∷ lines_of rest) × (is_empty_line line ≡ false)
+
+pub full_line : (season : Term) (code : Code) (line : Line) → LineFits season line → IsFullLine (line_text season code line)
+full_line season code line fits = ((λ rest. printed_line season code line rest fits), printed_full season code line fits)
+
+pub clean_is_line : (b : ℕ) (text : List ℕ) → Clean (b ∷ text) → IsFullLine (b ∷ text)
+clean_is_line b text clean = ((λ rest. one_line (b ∷ text) rest (plain_field (b ∷ text) clean)), full_first b text clean.0)

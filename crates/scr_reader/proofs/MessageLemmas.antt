@@ -75,7 +75,7 @@ no_fault first lines header readings g read are good (inr below) =
 abbrev pub message_of : ℕ → Header → List Placed → Message
 message_of line header items = record { line = line; season = header.season; day = header.day; month = header.month; airport = header.airport; items = items }
 
-same_message : (line : ℕ) (header : Header) (items : List Placed) (other : Message) → line ≡ other.line → header ≡ header_of other → items ≡ other.items → message_of line header items ≡ other
+pub same_message : (line : ℕ) (header : Header) (items : List Placed) (other : Message) → line ≡ other.line → header ≡ header_of other → items ≡ other.items → message_of line header items ≡ other
 same_message line header items other e1 e2 e3 = rw (e1, e2, e3) refl
 
 pub whole_message : (first : ℕ) (lines : List (List ℕ)) (header : Header) (readings : List Reading) (line : ℕ) (items : List Placed) → ReadHeader lines header → AreReadings header.season (body_of lines) readings → AreGoodReadings [] readings

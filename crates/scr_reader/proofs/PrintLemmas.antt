@@ -21,7 +21,7 @@ use Rattle.scr_reader.specs.declared.line.Code.TheVariants.{N, B, F, C, R, L, D,
 use Rattle.scr_reader.specs.Bytes.{is_letter, is_digit, three_digits, four_digits}
 use Rattle.scr_reader.specs.Parts.{AirlineFits, airline_text, NamesNumber, suffix_text, IsFlight, begins_with_flight, month_names, month_text, SpellsDay, IsPeriod, ThreeLettersOrDigits, StationsFit, stations_text, IsNights}
 use Rattle.scr_reader.specs.Shapes.{arrival, departure, turnaround, shape_of, arrival_service, departure_service, both_services, IsLine}
-use Rattle.scr_reader.specs.Rows.{is_remark, is_question, line_fields, most_bytes, entry, IsRow}
+use Rattle.scr_reader.specs.Rows.{is_remark, is_question, line_fields, most_bytes, entry, question, IsQuestion, IsRow}
 use Rattle.scr_reader.specs.Printed.{code_letter, number_text, flight_text, nights_text, arrival_group_text, departure_group_text, day_text, dates_text, joined, line_text, FlightFits, StopFits, LineFits, IsAsked, PrintsBack}
 use Rattle.scr_reader.proofs.AgreeLemmas.{whole_line}
 use Rattle.scr_reader.proofs.ShapeLemmas.{arriving, leaving, turning, arrival_6, departure_7, turnaround_8}
@@ -531,3 +531,14 @@ back season code c (Some coming) (Some going) nights period seats craft law aske
 
 pub printed_back : (season : Term) (code : Code) (line : Line) → NamedDays season → PrintsBack season code line
 printed_back season code line law asked fits = back season code line.code line.arrival line.departure line.nights line.period line.seats line.craft law asked fits
+
+-- ---- a question
+
+pub printed_question : (season : Term) (flight : Flight) → FlightFits flight → IsRow season (81 ∷ flight_text flight) (question flight)
+printed_question season flight fits =
+    let text = flight_text flight in
+    let long = flight_long flight fits in
+    let cut : line_fields (81 ∷ text) ≡ (81 ∷ text) ∷ [] = fields_last (81 ∷ text) (omega arith, clean_flight flight fits) (omega arith) in (
+      record { read = ap (λ (t : List ℕ). is_remark (81 ∷ t)) long.2; short = omega (arith, flight_few flight fits); kind = ap is_question cut },
+      subst (λ (f : List (List ℕ)). IsQuestion f flight) (sym cut) ((refl, flight_named flight fits), refl),
+    )

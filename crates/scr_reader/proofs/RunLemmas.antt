@@ -53,11 +53,11 @@ front_end lines i past so_far =
 
 -- ---- the first run
 
-runs_one : (n : ℕ) (line : List ℕ) (lines : List (List ℕ)) → is_empty_line line ≡ false → begins_in_run lines ≡ false → runs_of n (line ∷ lines) ≡ run_from n (line ∷ []) ∷ runs_of (n + 1) lines
+pub runs_one : (n : ℕ) (line : List ℕ) (lines : List (List ℕ)) → is_empty_line line ≡ false → begins_in_run lines ≡ false → runs_of n (line ∷ lines) ≡ run_from n (line ∷ []) ∷ runs_of (n + 1) lines
 unfolding runs_of
 runs_one n line lines full ends = rw (full, ends) refl
 
-runs_onto : (n : ℕ) (line : List ℕ) (lines : List (List ℕ)) → is_empty_line line ≡ false → begins_in_run lines ≡ true → runs_of n (line ∷ lines) ≡ onto_run n line (runs_of (n + 1) lines)
+pub runs_onto : (n : ℕ) (line : List ℕ) (lines : List (List ℕ)) → is_empty_line line ≡ false → begins_in_run lines ≡ true → runs_of n (line ∷ lines) ≡ onto_run n line (runs_of (n + 1) lines)
 unfolding runs_of
 runs_onto n line lines full goes_on = rw (full, goes_on) refl
 

@@ -10,3 +10,6 @@ pub mod Readings
 pub mod Pairing
 pub mod Decided
 pub mod Printed
+pub mod Faults
+pub mod Again
+pub mod Rising

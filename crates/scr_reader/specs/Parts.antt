@@ -44,15 +44,15 @@ are_digits [] = true
 are_digits (b ∷ text) = is_digit b && are_digits text
 
 -- the number that digits name, with zeros in front or without
-abbrev pub number_named : List ℕ → ℕ
-number_named text = fold (λ n b. 10 * n + (b - 48)) 0 text
+abbrev pub flight_number_of : List ℕ → ℕ
+flight_number_of text = fold (λ n b. 10 * n + (b - 48)) 0 text
 
 -- one to four digits that name the number
 pub record NamesNumber (text : List ℕ) (number : ℕ) : Type 0 where
   pub digits : are_digits text ≡ true
   pub some : 1 ≤ length text
   pub most : length text ≤ 4
-  pub named : number ≡ number_named text
+  pub named : number ≡ flight_number_of text
 
 -- a letter, or none, which stands as 0
 abbrev pub SuffixFits : ℕ → Type 0

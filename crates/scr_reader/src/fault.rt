@@ -1,7 +1,10 @@
-ghost use Rattle.std.specs.Prelude.{◌≡◌};
+ghost use Rattle.std.specs.Prelude.{◌≡◌, Some};
+ghost use Rattle.scr_reader.specs.Faults.{scr_fault_text};
 ghost use Rattle.scr_reader.specs.declared.fault.ScrFault.TheVariants.{Memory};
 
 use std::alloc::{AllocError, AllocFailed};
+use std::error::Error;
+use std::fmt;
 
 /// Why a text is no message, by the place of its first bad line. Lines and fields count from 1.
 #[derive(Clone, Copy, Debug, PartialEq, Eq)]
@@ -14,8 +17,30 @@ pub enum ScrFault {
     Unpaired { line: u32 },
     /// A line of more than 200 bytes.
     TooLong { line: u32 },
+    /// Memory ran out.
     Memory,
 }
+
+impl fmt::Display for ScrFault {
+    ghost output = { λ fault. Some (scr_fault_text fault) };
+
+    fn fmt<W: fmt::Write>(&self, f: &mut fmt::Formatter<W>) -> fmt::Result {
+        match *self {
+            ScrFault::BadLine { line, field } => {
+                write!(f, "line {line}: field {field} has not its form")
+            }
+            ScrFault::BadHeader { line } => write!(
+                f,
+                "line {line}: a header line that has not its form"
+            ),
+            ScrFault::Unpaired { line } => write!(f, "line {line}: an unpaired change"),
+            ScrFault::TooLong { line } => write!(f, "line {line}: more than 200 bytes"),
+            ScrFault::Memory => f.write_str("out of memory"),
+        }
+    }
+}
+
+impl Error for ScrFault {}
 
 impl From<AllocError> for ScrFault {
     ghost from_gives = { λ _ e. e ≡ Memory };

@@ -33,6 +33,8 @@ pub use print::{print_header, print_line};
 pub use texts::{read_all, read_message};
 
 #[cfg(test)]
+mod byte_tests;
+#[cfg(test)]
 mod fault_tests;
 #[cfg(test)]
 mod spelling_tests;

@@ -25,9 +25,10 @@ pub enum Code {
     F,
     /// The historic line that is to be changed.
     C,
-    /// The change of a historic line; its old times are kept if it can't be had.
+    /// The change of a historic line, where times between the old and the new ones will do too.
     R,
-    /// The change of a historic line; its old times are given up.
+    /// The change of a historic line to these times and no others. Under both codes the old times are kept where the change
+    /// cannot be had.
     L,
     /// Deleted.
     D,
@@ -77,7 +78,10 @@ pub struct Line {
 /// about a flight.
 #[derive(Clone, Copy, Debug, PartialEq, Eq)]
 pub enum Item {
+    /// A line that stands alone.
     One(Line),
+    /// The line that is to be changed, and the line that asks for the change.
     Pair(Line, Line),
+    /// The flight that is asked about.
     Query(Flight),
 }

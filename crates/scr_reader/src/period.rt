@@ -1,4 +1,4 @@
-ghost use Rattle.std.specs.Prelude.{◌≡◌, ◌≢◌, ◌<◌, ◌≤◌, ℕ, IfSome, Some, IsSomeAnd, IsTrue, IfOk, IsErr, ◌⊎◌, [], ◌↔◌, ◌++◌, Ok};
+ghost use Rattle.std.specs.Prelude.{◌≡◌, ◌≢◌, ◌<◌, ◌≤◌, ℕ, IfSome, Some, IsSomeAnd, IsTrue, IfOk, IsOk, [], ◌↔◌, ◌++◌, Ok};
 ghost use Rattle.schedule_text.specs.Days.{IsDays};
 ghost use Rattle.season_days.specs.Seasons.{dates_of};
 ghost use Rattle.season_days.specs.declared.day.Period.{Period as PeriodValue};
@@ -104,10 +104,12 @@ pub(crate) fn read_weekdays_of(
 
 /// The period that two fields of a data line name: one date or two, and its days of operation. None where a date does not
 /// exist or lies outside the season, where the period is reversed or has no date on these weekdays, and where a field has
-/// another form. It takes no memory.
+/// another form. It takes no memory, so there is no error.
 pub fn read_period(season: &Season, period: &[u8], days: &[u8]) -> Result<Option<Period>, Memory>
     ensures found { IfOk result (λ read. IfSome read (λ p. NamesPeriod season.now period.now days.now p)) }
-    ensures only { (p : PeriodValue) → NamesPeriod season.now period.now days.now p → (result ≡ Ok (Some p)) ⊎ IsErr result }
+    ensures only { (p : PeriodValue) → NamesPeriod season.now period.now days.now p → result ≡ Ok (Some p) }
+    // Memory cannot run out.
+    ensures answered { IsOk result }
 {
     Ok(read_period_fields(season, period, days))
 }

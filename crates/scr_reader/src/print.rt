@@ -18,7 +18,8 @@ use std::alloc::Global;
 
 /// Appends the printed spelling of a line with a code: the flight's number with at least three digits, both dates of
 /// the period, seven places of weekdays, no digit for no nights, and one blank between two fields; no line end. After an
-/// error `out` is as before. It takes memory once for the line's text, beside the growth of `out`.
+/// error `out` is as before. It takes memory once for the line's text, beside the growth of `out`. Lines that were read have a
+/// spelling (`laws::read_lines_fit`), and `Line::fits` tests it.
 pub fn print_line(
     alloc: Global,
     out: &mut Vec<u8>,

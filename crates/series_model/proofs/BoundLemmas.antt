@@ -25,7 +25,7 @@ use Rattle.series_model.specs.declared.unit.Unit.{Unit as SlotUnit}
 use Rattle.series_model.specs.declared.times.Times.{Times}
 use Rattle.series_model.specs.declared.times.Times.TheVariants.{Refused, At}
 use Rattle.series_model.specs.Units.{IsHistoric, HistoricFits, UnitFits}
-use Rattle.series_model.specs.Options.{relative_minute, line_times, is_shift, date_minutes, stop_shifts, least_ground, pairs_at, pairs_of, shifts_by, shifts_of, lies_between, are_same, with_times, with_refused, flexible_options, either_options, options_by, options_of, IsAlternative}
+use Rattle.series_model.specs.Options.{relative_minute, line_times, is_shift, date_minutes, stop_shifts, least_ground, pairs_at, pairs_of, shifts_by, shifts_of, lies_between, are_same, with_times, with_refused, flexible_options, either_options, options_by, options_of, TimesFit}
 
 -- ---- minutes of a date
 
@@ -46,26 +46,26 @@ shifts_below d nights most stop le =
 
 -- ---- alternatives of a line
 
-pairs_good : (price : Option ℕ) (least : ℕ) (comings goings : List ℕ) → All (λ x. x < 1440) comings → All (λ x. x < 14400) goings → All (IsAlternative price) (pairs_of least comings goings)
-pairs_good price least [] goings early late = All-nil (IsAlternative price)
+pairs_good : (price : Option ℕ) (least : ℕ) (comings goings : List ℕ) → All (λ x. x < 1440) comings → All (λ x. x < 14400) goings → All (TimesFit price) (pairs_of least comings goings)
+pairs_good price least [] goings early late = All-nil (TimesFit price)
 pairs_good price least (a ∷ comings) goings early late =
-    All-append (IsAlternative price) (pairs_at least goings a) (pairs_of least comings goings) (one price least a goings (All-head (λ x. x < 1440) a comings early) late)
+    All-append (TimesFit price) (pairs_at least goings a) (pairs_of least comings goings) (one price least a goings (All-head (λ x. x < 1440) a comings early) late)
     (pairs_good price least comings goings (All-tail (λ x. x < 1440) a comings early) late)
   where
-    one : (price : Option ℕ) (least a : ℕ) (goings : List ℕ) → a < 1440 → All (λ x. x < 14400) goings → All (IsAlternative price) (pairs_at least goings a)
+    one : (price : Option ℕ) (least a : ℕ) (goings : List ℕ) → a < 1440 → All (λ x. x < 14400) goings → All (TimesFit price) (pairs_at least goings a)
     one price least a goings lt late =
         let kept = filter (λ departure. nat_le (a + least) departure) goings in
-        All-map (IsAlternative price) (λ (departure : ℕ). At a departure) kept
-        (All-weaker (λ x. x < 14400) (λ departure. IsAlternative price (At a departure)) (λ x l. (lt, l)) kept (All-filter (λ departure. nat_le (a + least) departure) (λ x. x < 14400) goings late))
+        All-map (TimesFit price) (λ (departure : ℕ). At a departure) kept
+        (All-weaker (λ x. x < 14400) (λ departure. TimesFit price (At a departure)) (λ x l. (lt, l)) kept (All-filter (λ departure. nat_le (a + least) departure) (λ x. x < 14400) goings late))
 
-shifts_good : (d : Declaration) (price : Option ℕ) (nights : ℕ) (a g : Option Stop) → nights < 10 → All (IsAlternative price) (shifts_by d nights a g)
-shifts_good d price nights None None few = All-nil (IsAlternative price)
+shifts_good : (d : Declaration) (price : Option ℕ) (nights : ℕ) (a g : Option Stop) → nights < 10 → All (TimesFit price) (shifts_by d nights a g)
+shifts_good d price nights None None few = All-nil (TimesFit price)
 shifts_good d price nights (Some coming) None few =
-    All-map (IsAlternative price) (λ (arrival : ℕ). At arrival 0) (stop_shifts d 0 coming)
-    (All-weaker (λ x. x < 1440) (λ arrival. IsAlternative price (At arrival 0)) (λ x l. (l, omega arith)) (stop_shifts d 0 coming) (shifts_below d 0 1440 coming (omega arith)))
+    All-map (TimesFit price) (λ (arrival : ℕ). At arrival 0) (stop_shifts d 0 coming)
+    (All-weaker (λ x. x < 1440) (λ arrival. TimesFit price (At arrival 0)) (λ x l. (l, omega arith)) (stop_shifts d 0 coming) (shifts_below d 0 1440 coming (omega arith)))
 shifts_good d price nights None (Some going) few =
-    All-map (IsAlternative price) (λ (departure : ℕ). At 0 departure) (stop_shifts d nights going)
-    (All-weaker (λ x. x < 14400) (λ departure. IsAlternative price (At 0 departure)) (λ x l. (omega arith, l)) (stop_shifts d nights going) (shifts_below d nights 14400 going (omega (arith, few))))
+    All-map (TimesFit price) (λ (departure : ℕ). At 0 departure) (stop_shifts d nights going)
+    (All-weaker (λ x. x < 14400) (λ departure. TimesFit price (At 0 departure)) (λ x l. (omega arith, l)) (stop_shifts d nights going) (shifts_below d nights 14400 going (omega (arith, few))))
 shifts_good d price nights (Some coming) (Some going) few =
     pairs_good price (least_ground d coming.minute (1440 * nights + going.minute)) (stop_shifts d 0 coming) (stop_shifts d nights going)
     (shifts_below d 0 1440 coming (omega arith)) (shifts_below d nights 14400 going (omega (arith, few)))
@@ -86,42 +86,42 @@ leaves_early line a None few fits = omega arith
 leaves_early line None (Some going) few fits = omega (arith, few, fits.0.minute)
 leaves_early line (Some coming) (Some going) few fits = omega (arith, few, fits.1.minute)
 
-line_good : (price : Option ℕ) (season : Term) (line : Line) → LineFits season line → IsAlternative price (line_times line)
+line_good : (price : Option ℕ) (season : Term) (line : Line) → LineFits season line → TimesFit price (line_times line)
 line_good price season line fits =
     (arrives_early line line.arrival line.departure fits.stops, leaves_early line line.arrival line.departure (few_nights line line.arrival line.departure fits.stops) fits.stops)
 
 -- ---- alternatives of a unit
 
-with_good : (price : Option ℕ) (options : List Times) (times : Times) → All (IsAlternative price) options → IsAlternative price times → All (IsAlternative price) (with_times options times)
+with_good : (price : Option ℕ) (options : List Times) (times : Times) → All (TimesFit price) options → TimesFit price times → All (TimesFit price) (with_times options times)
 with_good price options times all one =
     elim (cases_Bool (list_any (are_same times) options)) [
       | inl there ↦ rw there all
-      | inr missing ↦ rw missing (All-append (IsAlternative price) options (times ∷ []) all (All-cons (IsAlternative price) times [] one (All-nil (IsAlternative price))))
+      | inr missing ↦ rw missing (All-append (TimesFit price) options (times ∷ []) all (All-cons (TimesFit price) times [] one (All-nil (TimesFit price))))
     ]
 
-refused_good : (price : Option ℕ) (options : List Times) → All (IsAlternative price) options → All (IsAlternative price) (with_refused options price)
+refused_good : (price : Option ℕ) (options : List Times) → All (TimesFit price) options → All (TimesFit price) (with_refused options price)
 refused_good None options all = all
-refused_good (Some price) options all = All-append (IsAlternative (Some price)) options (Refused ∷ []) all (All-cons (IsAlternative (Some price)) Refused [] refl (All-nil (IsAlternative (Some price))))
+refused_good (Some price) options all = All-append (TimesFit (Some price)) options (Refused ∷ []) all (All-cons (TimesFit (Some price)) Refused [] refl (All-nil (TimesFit (Some price))))
 
-flexible_good : (d : Declaration) (request : Line) (historic : Option Line) → LineFits d.season request → IsSomeAnd historic (IsHistoric d.season request) → All (IsAlternative d.refuse) (flexible_options d request historic)
+flexible_good : (d : Declaration) (request : Line) (historic : Option Line) → LineFits d.season request → IsSomeAnd historic (IsHistoric d.season request) → All (TimesFit d.refuse) (flexible_options d request historic)
 flexible_good d request None fits has = absurd has
 flexible_good d request (Some historic) fits has =
     let shifts = shifts_good d d.refuse request.nights request.arrival request.departure (few_nights request request.arrival request.departure fits.stops) in
-    with_good d.refuse (filter (lies_between historic request) (shifts_of d request)) (line_times historic) (All-filter (lies_between historic request) (IsAlternative d.refuse) (shifts_of d request) shifts) (line_good d.refuse d.season historic has.fits)
+    with_good d.refuse (filter (lies_between historic request) (shifts_of d request)) (line_times historic) (All-filter (lies_between historic request) (TimesFit d.refuse) (shifts_of d request) shifts) (line_good d.refuse d.season historic has.fits)
 
-either_good : (d : Declaration) (request : Line) (historic : Option Line) → LineFits d.season request → IsSomeAnd historic (IsHistoric d.season request) → All (IsAlternative d.refuse) (either_options request historic)
+either_good : (d : Declaration) (request : Line) (historic : Option Line) → LineFits d.season request → IsSomeAnd historic (IsHistoric d.season request) → All (TimesFit d.refuse) (either_options request historic)
 either_good d request None fits has = absurd has
 either_good d request (Some historic) fits has =
-    with_good d.refuse (line_times request ∷ []) (line_times historic) (All-cons (IsAlternative d.refuse) (line_times request) [] (line_good d.refuse d.season request fits) (All-nil (IsAlternative d.refuse))) (line_good d.refuse d.season historic has.fits)
+    with_good d.refuse (line_times request ∷ []) (line_times historic) (All-cons (TimesFit d.refuse) (line_times request) [] (line_good d.refuse d.season request fits) (All-nil (TimesFit d.refuse))) (line_good d.refuse d.season historic has.fits)
 
-by_group : (d : Declaration) (request : Line) (historic : Option Line) (group : Group) → LineFits d.season request → HistoricFits d.season request group historic → All (IsAlternative d.refuse) (options_by d request historic group)
-by_group d request historic F fits has = All-cons (IsAlternative d.refuse) (line_times request) [] (line_good d.refuse d.season request fits) (All-nil (IsAlternative d.refuse))
+by_group : (d : Declaration) (request : Line) (historic : Option Line) (group : Group) → LineFits d.season request → HistoricFits d.season request group historic → All (TimesFit d.refuse) (options_by d request historic group)
+by_group d request historic F fits has = All-cons (TimesFit d.refuse) (line_times request) [] (line_good d.refuse d.season request fits) (All-nil (TimesFit d.refuse))
 by_group d request historic R fits has = flexible_good d request historic fits has
 by_group d request historic L fits has = either_good d request historic fits has
 by_group d request historic B fits has = refused_good d.refuse (shifts_of d request) (shifts_good d d.refuse request.nights request.arrival request.departure (few_nights request request.arrival request.departure fits.stops))
 by_group d request historic N fits has = refused_good d.refuse (shifts_of d request) (shifts_good d d.refuse request.nights request.arrival request.departure (few_nights request request.arrival request.departure fits.stops))
 
-pub options_good : (d : Declaration) (unit : SlotUnit) → UnitFits d.season unit → All (IsAlternative d.refuse) (options_of d unit)
+pub options_good : (d : Declaration) (unit : SlotUnit) → UnitFits d.season unit → All (TimesFit d.refuse) (options_of d unit)
 options_good d unit fits = by_group d unit.request unit.historic unit.group fits.request fits.historic
 
 -- ---- costs
@@ -153,7 +153,7 @@ price_few : (price : Option ℕ) → ForSome price (λ p. p ≤ 9999) → unwrap
 price_few None few = omega arith
 price_few (Some p) few = few p refl
 
-cost_small : (d : Declaration) (line : Line) (times : Times) → LineFits d.season line → ForSome d.refuse (λ p. p ≤ 9999) → IsAlternative d.refuse times → cost_at d line times < 2 ^ 24
+cost_small : (d : Declaration) (line : Line) (times : Times) → LineFits d.season line → ForSome d.refuse (λ p. p ≤ 9999) → TimesFit d.refuse times → cost_at d line times < 2 ^ 24
 cost_small d line Refused fits few good =
     let dates = dates_few d.season line fits in
     let stops = stops_few line line.arrival line.departure in
@@ -172,7 +172,7 @@ cost_small d line (At arrival departure) fits few good =
 
 pub options_cheap : (d : Declaration) (unit : SlotUnit) → UnitFits d.season unit → ForSome d.refuse (λ p. p ≤ 9999) → All (λ times. displacement_of d unit times < 2 ^ 24) (options_of d unit)
 options_cheap d unit fits few =
-    All-weaker (IsAlternative d.refuse) (λ times. displacement_of d unit times < 2 ^ 24) (λ times good. cost_small d unit.request times fits.request few good) (options_of d unit) (options_good d unit fits)
+    All-weaker (TimesFit d.refuse) (λ times. displacement_of d unit times < 2 ^ 24) (λ times good. cost_small d unit.request times fits.request few good) (options_of d unit) (options_good d unit fits)
 
 -- ---- there is an alternative
 

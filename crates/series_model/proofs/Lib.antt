@@ -1,6 +1,7 @@
 pub mod RangeLemmas
 pub mod RestLemmas
 pub mod DateLemmas
+pub mod WeekLemmas
 pub mod SpanLemmas
 pub mod UnitLemmas
 pub mod OptionLemmas
@@ -8,3 +9,4 @@ pub mod MovementLemmas
 pub mod ReadLemmas
 pub mod FitLemmas
 pub mod BoundLemmas
+pub mod FewLemmas

@@ -5,6 +5,7 @@ use Rattle.std.specs.Int.{abs_diff}
 use Rattle.season_days.specs.Term.{Term}
 use Rattle.season_days.specs.Seasons.{dates_of}
 use Rattle.season_days.specs.declared.declaration.Declaration.{Declaration}
+use Rattle.season_days.specs.declared.declaration.TheConstants.{MINUTES_OF_DAY}
 use Rattle.scr_reader.specs.declared.line.Line.{Line}
 use Rattle.scr_reader.specs.declared.line.Stop.{Stop}
 use Rattle.series_model.specs.declared.unit.Unit.{Unit as SlotUnit}
@@ -14,7 +15,7 @@ use Rattle.series_model.specs.declared.times.Times.TheVariants.{Refused, At}
 -- by how many minutes a movement is moved, where the line has it
 abbrev pub stop_change : ℕ → Option Stop → ℕ → ℕ
 stop_change nights None minute = 0
-stop_change nights (Some stop) minute = abs_diff minute (1440 * nights + stop.minute)
+stop_change nights (Some stop) minute = abs_diff minute (MINUTES_OF_DAY * nights + stop.minute)
 
 -- all movements of a line on one date
 abbrev pub line_change : Line → ℕ → ℕ → ℕ

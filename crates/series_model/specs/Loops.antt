@@ -2,6 +2,7 @@
 use Rattle.std.specs.Prelude.{ℕ, ◌+◌, ◌-◌, ◌*◌, ◌<◌, List, [], map, filter, Option, Some, None}
 use Rattle.std.specs.List.{range_with_len}
 use Rattle.season_days.specs.declared.declaration.Declaration.{Declaration}
+use Rattle.season_days.specs.declared.declaration.TheConstants.{MINUTES_OF_DAY}
 use Rattle.scr_reader.specs.declared.line.Line.{Line}
 use Rattle.scr_reader.specs.declared.line.Stop.{Stop}
 use Rattle.series_model.specs.declared.shifts.Span.{Span}
@@ -31,9 +32,9 @@ shifts_in d requested span = record { requested = requested; low = span.low; hig
 abbrev pub within_by : Declaration → ℕ → Span → Span → Option Stop → Option Stop → List Times
 within_by d nights coming_in going_in None None = []
 within_by d nights coming_in going_in (Some coming) None = map (λ arrival. At arrival 0) (all_shifts (shifts_in d coming.minute coming_in))
-within_by d nights coming_in going_in None (Some going) = map (λ departure. At 0 departure) (all_shifts (shifts_in d (1440 * nights + going.minute) going_in))
+within_by d nights coming_in going_in None (Some going) = map (λ departure. At 0 departure) (all_shifts (shifts_in d (MINUTES_OF_DAY * nights + going.minute) going_in))
 within_by d nights coming_in going_in (Some coming) (Some going) =
-    pairs_of (least_ground d coming.minute (1440 * nights + going.minute)) (all_shifts (shifts_in d coming.minute coming_in)) (all_shifts (shifts_in d (1440 * nights + going.minute) going_in))
+    pairs_of (least_ground d coming.minute (MINUTES_OF_DAY * nights + going.minute)) (all_shifts (shifts_in d coming.minute coming_in)) (all_shifts (shifts_in d (MINUTES_OF_DAY * nights + going.minute) going_in))
 
 abbrev pub shifts_within : Declaration → Line → Span → Span → List Times
 shifts_within d line coming_in going_in = within_by d line.nights coming_in going_in line.arrival line.departure

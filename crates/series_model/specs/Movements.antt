@@ -5,6 +5,7 @@ use Rattle.season_days.specs.Term.{Term}
 use Rattle.season_days.specs.Seasons.{date_count, dates_of}
 use Rattle.season_days.specs.declared.day.Period.{Period}
 use Rattle.season_days.specs.declared.declaration.Kind.{Kind}
+use Rattle.season_days.specs.declared.declaration.TheConstants.{MINUTES_OF_DAY}
 use Rattle.season_days.specs.declared.declaration.Kind.TheVariants.{Arr, Dep}
 use Rattle.scr_reader.specs.declared.line.Line.{Line}
 use Rattle.scr_reader.specs.declared.line.Stop.{Stop}
@@ -16,7 +17,7 @@ use Rattle.series_model.specs.declared.times.Times.TheVariants.{Refused, At}
 
 -- so many minutes after the beginning of a date
 abbrev pub movement_after : Kind → ℕ → ℕ → Movement
-movement_after kind date minute = record { kind = kind; day = date + minute / 1440; minute = minute % 1440 }
+movement_after kind date minute = record { kind = kind; day = date + minute / MINUTES_OF_DAY; minute = minute % MINUTES_OF_DAY }
 
 -- a movement after the season's last date is listed nowhere
 abbrev pub listed : Term → Movement → List Movement
@@ -42,4 +43,4 @@ movements_of season unit times = movements_at season unit.request times
 -- the load of a line's movements of one kind, as that of the stop which its strips stand for
 abbrev pub stop_load : Capacity → Kind → Option Stop → ℕ → Period → ℕ → ℕ
 stop_load c kind None minute period r = 0
-stop_load c kind (Some stop) minute period r = window_load c (stop_movements c kind (minute % 1440) (minute / 1440) period) r
+stop_load c kind (Some stop) minute period r = window_load c (stop_movements c kind (minute % MINUTES_OF_DAY) (minute / MINUTES_OF_DAY) period) r

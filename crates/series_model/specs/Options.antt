@@ -3,6 +3,7 @@ use Rattle.std.specs.Prelude.{ℕ, ◌+◌, ◌-◌, ◌*◌, ◌%◌, ◌<◌, 
 use Rattle.std.specs.Int.{abs_diff}
 use Rattle.std.specs.List.{range_with_len, flat_map, list_any}
 use Rattle.season_days.specs.declared.declaration.Declaration.{Declaration}
+use Rattle.season_days.specs.declared.declaration.TheConstants.{MINUTES_OF_DAY}
 use Rattle.scr_reader.specs.declared.line.Line.{Line}
 use Rattle.scr_reader.specs.declared.line.Stop.{Stop}
 use Rattle.series_model.specs.declared.group.Group.{Group}
@@ -16,7 +17,7 @@ use Rattle.series_model.specs.declared.times.Times.TheVariants.{Refused, At}
 -- the minutes from the beginning of a line's date to a movement some nights later; 0 where there is no such movement
 abbrev pub relative_minute : ℕ → Option Stop → ℕ
 relative_minute nights None = 0
-relative_minute nights (Some stop) = 1440 * nights + stop.minute
+relative_minute nights (Some stop) = MINUTES_OF_DAY * nights + stop.minute
 
 abbrev pub arrival_minute : Line → ℕ
 arrival_minute line = relative_minute 0 line.arrival
@@ -36,11 +37,11 @@ is_shift step flex requested minute = nat_le (abs_diff minute requested) flex &&
 
 -- the minutes of the date some nights after a line's
 unfoldable pub date_minutes : ℕ → List ℕ
-date_minutes nights = range_with_len (1440 * nights) 1440
+date_minutes nights = range_with_len (MINUTES_OF_DAY * nights) MINUTES_OF_DAY
 
 -- the minutes to which a movement may be shifted, in rising order: those of its own date that are shifts
 abbrev pub stop_shifts : Declaration → ℕ → Stop → List ℕ
-stop_shifts d nights stop = filter (is_shift d.step d.flex (1440 * nights + stop.minute)) (date_minutes nights)
+stop_shifts d nights stop = filter (is_shift d.step d.flex (MINUTES_OF_DAY * nights + stop.minute)) (date_minutes nights)
 
 -- the ground time that a turnaround keeps: the declared one, or the one that it asked for where that is less
 abbrev pub least_ground : Declaration → ℕ → ℕ → ℕ
@@ -59,7 +60,7 @@ shifts_by d nights None None = []
 shifts_by d nights (Some coming) None = map (λ arrival. At arrival 0) (stop_shifts d 0 coming)
 shifts_by d nights None (Some going) = map (λ departure. At 0 departure) (stop_shifts d nights going)
 shifts_by d nights (Some coming) (Some going) =
-    pairs_of (least_ground d coming.minute (1440 * nights + going.minute)) (stop_shifts d 0 coming) (stop_shifts d nights going)
+    pairs_of (least_ground d coming.minute (MINUTES_OF_DAY * nights + going.minute)) (stop_shifts d 0 coming) (stop_shifts d nights going)
 
 abbrev pub shifts_of : Declaration → Line → List Times
 shifts_of d line = shifts_by d line.nights line.arrival line.departure
@@ -117,9 +118,8 @@ options_by d request historic N = new_options d request
 abbrev pub options_of : Declaration → SlotUnit → List Times
 options_of d unit = options_by d unit.request unit.historic unit.group
 
--- ---- what an alternative has
-
--- a refusal has a price; an arrival is on its date, and a departure at most nine nights later
-abbrev pub IsAlternative : Option ℕ → Times → Type 0
-IsAlternative price Refused = IsSome price
-IsAlternative price (At arrival departure) = (arrival < 1440) × (departure < 14400)
+-- ---- what the times of an alternative have: a refusal has a price; an arrival is on its date, and a departure at most nine
+-- nights later
+abbrev pub TimesFit : Option ℕ → Times → Type 0
+TimesFit price Refused = IsSome price
+TimesFit price (At arrival departure) = (arrival < MINUTES_OF_DAY) × (departure < 10 * MINUTES_OF_DAY)

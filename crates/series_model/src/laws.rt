@@ -1,18 +1,20 @@
 //! Laws of the model. Each function does nothing; its contract is the law.
 
-ghost use Rattle.std.specs.Prelude.{◌≡◌, ◌+◌, ◌<◌, ◌≤◌, ◌^◌, ℕ, List, All, length};
+ghost use Rattle.std.specs.Prelude.{◌≡◌, ◌+◌, ◌*◌, ◌<◌, ◌≤◌, ◌^◌, ℕ, List, All, length};
 ghost use Rattle.std.specs.Option.{ForSome};
 ghost use Rattle.season_days.specs.declared.declaration.Declaration.{Declaration as DeclarationValue};
 ghost use Rattle.season_days.specs.declared.declaration.Kind.TheVariants.{Arr, Dep};
+ghost use Rattle.season_days.specs.declared.declaration.TheConstants.{MINUTES_OF_DAY};
 ghost use Rattle.scr_reader.specs.Messages.{ReadsAll};
 ghost use Rattle.scr_reader.specs.declared.line.Line.{Line as LineValue};
 ghost use Rattle.scr_reader.specs.declared.message.Message.{Message as MessageValue};
 ghost use Rattle.capacity_windows.specs.Windows.{Capacity, window_load};
 ghost use Rattle.series_model.specs.Units.{UnitFits};
-ghost use Rattle.series_model.specs.Options.{options_of, IsAlternative};
+ghost use Rattle.series_model.specs.Options.{options_of, TimesFit};
 ghost use Rattle.series_model.specs.Displacement.{displacement_of};
 ghost use Rattle.series_model.specs.Submissions.{HasNumbers, MessagePairs, item_count};
 ghost use Rattle.series_model.specs.Movements.{movements_at, stop_load};
+ghost use Rattle.series_model.specs.declared.submission.TheConstants.{HIGHEST_PRICE};
 ghost use Rattle.series_model.specs.declared.times.Times.TheVariants.{At as at_times};
 ghost use Rattle.series_model.specs.declared.unit.Unit.{Unit as SlotUnit};
 
@@ -32,10 +34,12 @@ pub fn movement_loads()
         ≡ stop_load c Arr line.arrival arrival line.period r + stop_load c Dep line.departure departure line.period r }
 {}
 
-/// Each unit has an alternative, and alternatives stay within what windows and problems of choice ask: an arrival is on its date, a departure at most nine
-/// nights later, only a priced refusal is there, and where a price is at most 9,999 each costs less than 2^24.
+/// A unit has at least one alternative, and no more than there are pairs of minutes and a refusal, or historic times.
+/// Alternatives stay within what windows and problems of choice ask: an arrival is on its date, a departure at most nine
+/// nights later, only a priced refusal is there, and where the price is within its limit each costs less than 2^24.
 pub fn option_bounds()
     ensures some { (d : DeclarationValue) (unit : SlotUnit) → UnitFits d.season unit → 0 < length (options_of d unit) }
-    ensures times { (d : DeclarationValue) (unit : SlotUnit) → UnitFits d.season unit → All (IsAlternative d.refuse) (options_of d unit) }
-    ensures costs { (d : DeclarationValue) (unit : SlotUnit) → UnitFits d.season unit → ForSome d.refuse (λ price. price ≤ 9999) → All (λ times. displacement_of d unit times < 2 ^ 24) (options_of d unit) }
+    ensures few { (d : DeclarationValue) (unit : SlotUnit) → UnitFits d.season unit → length (options_of d unit) ≤ MINUTES_OF_DAY * MINUTES_OF_DAY + 1 }
+    ensures times { (d : DeclarationValue) (unit : SlotUnit) → UnitFits d.season unit → All (TimesFit d.refuse) (options_of d unit) }
+    ensures costs { (d : DeclarationValue) (unit : SlotUnit) → UnitFits d.season unit → ForSome d.refuse (λ price. price ≤ HIGHEST_PRICE) → All (λ times. displacement_of d unit times < 2 ^ 24) (options_of d unit) }
 {}

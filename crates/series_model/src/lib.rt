@@ -23,9 +23,11 @@ pub use fault::ModelFault;
 pub use group::Group;
 pub use movements::movements_of;
 pub use options::options_of;
-pub use submission::{MOST_UNITS, Submission};
+pub use submission::{HIGHEST_PRICE, MOST_UNITS, Submission};
 pub use times::Times;
 pub use unit::Unit;
 
+#[cfg(test)]
+mod submission_tests;
 #[cfg(test)]
 mod tests;

@@ -22,8 +22,8 @@ use std::alloc::Global;
 /// unless they are there; one of L has the requested times, and then the historic ones, unless they are the same.
 ///
 /// A shift moves a movement by a multiple of the step, at most the flexibility, on its own date. Single movements rise; of
-/// a turnaround the arrivals rise, and of one arrival the departures, where the ground time is at least the declared one
-/// or the requested one. One step for each alternative and for each shift of an arrival; the one fault is want of memory.
+/// a turnaround the arrivals rise, and of one arrival the departures, where the ground time is at least the declared one,
+/// or the requested one where that is less. One step for each alternative and for each shift of an arrival; the one fault is want of memory.
 pub fn options_of(
     alloc: Global,
     unit: &Unit,

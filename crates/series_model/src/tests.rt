@@ -1,9 +1,11 @@
 //! Units, alternatives, movements and costs of worked seasons, against lists written by hand. S25 begins on Sunday 30 March
 //! 2025 and has 210 dates.
 
-ghost use Rattle.std.specs.Prelude.{IfOk, IfSome};
+ghost use Rattle.std.specs.Prelude.{◌≤◌, IfOk, IfSome};
+ghost use Rattle.std.specs.Option.{ForSome};
 ghost use Rattle.season_days.specs.Capacity.{capacity_of, IsCapacity};
 ghost use Rattle.series_model.specs.Units.{UnitFits};
+ghost use Rattle.series_model.specs.declared.submission.TheConstants.{HIGHEST_PRICE};
 
 use super::*;
 use crate::laws::read_messages;
@@ -16,12 +18,20 @@ use std::alloc::Global;
 use std::test::Fail;
 
 // A step of five minutes, a ground time of 40 minutes, and no capacity lines.
-fn declaration(alloc: Global, flex: u32, refuse: Option<u32>) -> Result<Declaration, Fail>
-    ensures { IfOk result (λ d. IsCapacity (capacity_of d)) }
+fn declaration(
+    alloc: Global,
+    season: &[u8],
+    flex: u32,
+    refuse: Option<u32>,
+) -> Result<Declaration, Fail>
+    requires price { ForSome refuse (λ price. price ≤ HIGHEST_PRICE) }
+    ensures limits { IfOk result (λ d. IsCapacity (capacity_of d)) }
+    ensures price { IfOk result (λ d. ForSome d.refuse (λ price. price ≤ HIGHEST_PRICE)) }
+    ensures share { IfOk result (λ d. d.share ≤ 100) }
 {
     Ok(Declaration {
         airport: Station(*b"ABC"),
-        season: Season::read(b"S25").ok_or("season")?,
+        season: Season::read(season).ok_or("season")?,
         step: 5,
         flex,
         ground: 40,
@@ -32,19 +42,22 @@ fn declaration(alloc: Global, flex: u32, refuse: Option<u32>) -> Result<Declarat
     })
 }
 
-// The submission of a text, or why it is none.
-fn submission(
+// The submission of a text in a season, or why it is none.
+pub(crate) fn submission(
     alloc: Global,
+    season: &[u8],
     flex: u32,
     refuse: Option<u32>,
     text: &[u8],
-) -> Result<Result<Submission, ModelFault>, Fail> {
+) -> Result<Result<Submission, ModelFault>, Fail>
+    requires price { ForSome refuse (λ price. price ≤ HIGHEST_PRICE) }
+{
     read_lines_fit();
     read_messages();
-    if text.len() > 100_000 {
+    if text.len() > 1_000_000 {
         return Err("too long".into());
     }
-    let declaration = declaration(alloc, flex, refuse)?;
+    let declaration = declaration(alloc, season, flex, refuse)?;
     let messages = read_all(alloc, text)?;
     Ok(Submission::make(alloc, declaration, messages))
 }
@@ -59,23 +72,28 @@ fn first_unit(submission: &Submission) -> Option<&Unit>
     }
 }
 
-// The text of a message with these lines below its header.
-fn text(alloc: Global, lines: &[u8]) -> Result<Vec<u8>, Fail> {
+// The text of a message in a season with these lines below its header.
+pub(crate) fn text(alloc: Global, season: &[u8], lines: &[u8]) -> Result<Vec<u8>, Fail> {
     let mut text = Vec::new(alloc);
-    text.extend_from_slice(b"SCR\nS25\n20NOV\nABC\n")?;
+    text.extend_from_slice(b"SCR\n")?;
+    text.extend_from_slice(season)?;
+    text.extend_from_slice(b"\n20NOV\nABC\n")?;
     text.extend_from_slice(lines)?;
     Ok(text)
 }
 
-// The alternatives of the first unit of some lines, with their costs.
+// The alternatives of the first unit of some lines in a season, with their costs.
 fn priced(
     alloc: Global,
+    season: &[u8],
     flex: u32,
     refuse: Option<u32>,
     lines: &[u8],
-) -> Result<Vec<(Times, u64)>, Fail> {
-    let text = text(alloc, lines)?;
-    let submission = submission(alloc, flex, refuse, &text)??;
+) -> Result<Vec<(Times, u64)>, Fail>
+    requires price { ForSome refuse (λ price. price ≤ HIGHEST_PRICE) }
+{
+    let text = text(alloc, season, lines)?;
+    let submission = submission(alloc, season, flex, refuse, &text)??;
     let mut priced = Vec::new(alloc);
     if let Some(unit) = first_unit(&submission) {
         for times in &options_of(alloc, unit, submission.declaration())? {
@@ -86,28 +104,30 @@ fn priced(
     Ok(priced)
 }
 
-// Whether these are the alternatives of the first unit of some lines.
+// Whether these are the alternatives of the first unit of some lines in S25.
 fn has_options(
     alloc: Global,
     flex: u32,
     refuse: Option<u32>,
     lines: &[u8],
     expected: &[(Times, u64)],
-) -> Result<bool, Fail> {
-    let found = priced(alloc, flex, refuse, lines)?;
+) -> Result<bool, Fail>
+    requires price { ForSome refuse (λ price. price ≤ HIGHEST_PRICE) }
+{
+    let found = priced(alloc, b"S25", flex, refuse, lines)?;
     Ok(found.as_slice() == expected)
 }
 
-// Whether these are the movements of the first unit of some lines at its first alternative.
+// Whether these are the movements of the first unit of some lines at its last alternative.
 fn has_movements(alloc: Global, lines: &[u8], expected: &[Movement]) -> Result<bool, Fail> {
-    let text = text(alloc, lines)?;
-    let submission = submission(alloc, 0, None, &text)??;
+    let text = text(alloc, b"S25", lines)?;
+    let submission = submission(alloc, b"S25", 0, None, &text)??;
     let season = submission.declaration().season;
     if let Some(unit) = first_unit(&submission) {
-        for times in &options_of(alloc, unit, submission.declaration())? {
-            let found = movements_of(alloc, unit, *times, &season)?;
-            return Ok(found.as_slice() == expected);
-        }
+        let options = options_of(alloc, unit, submission.declaration())?;
+        let times = options.last().copied().ok_or("alternative")?;
+        let found = movements_of(alloc, unit, times, &season)?;
+        return Ok(found.as_slice() == expected);
     }
     Ok(false)
 }
@@ -187,6 +207,47 @@ fn turnarounds_keep_their_ground_time(rt: HostRuntime) -> Result<(), Fail> {
     Ok(())
 }
 
+// A turnaround that would leave after an hour, and not the next morning, may leave up to midnight of its date, or as before;
+// and a request that asks for its historic times has these alone.
+#[test]
+fn historic_nights_are_kept(rt: HostRuntime) -> Result<(), Fail> {
+    let alloc = rt.alloc();
+    let earlier =
+        b"CBA001 BA002 30MAR 7 180320 JFK2200 06301JFK JJ\nRBA001 BA002 30MAR 7 180320 JFK2200 2300JFK JJ\n";
+    let mut all = Vec::new(alloc);
+    for step in 0..12_u32 {
+        all.push((turn(1320, 1380 + 5 * step), u64::from(5 * step)))?;
+    }
+    all.push((turn(1320, 1830), 450))?;
+    assert!(rt; has_options(alloc, 60, None, earlier, &all)?);
+    let expected = [movement(Kind::Arr, 0, 1320), movement(Kind::Dep, 1, 390)];
+    assert!(rt; has_movements(alloc, earlier, &expected)?);
+    let same = b"CBA002 30MAR 7 180320 JFK0610 J\nLBA002 30MAR 7 180320 JFK0610 J\n";
+    assert!(rt; has_options(alloc, 60, None, same, &[(arrival(370), 0)])?);
+    Ok(())
+}
+
+// The dates of whole and of broken weeks: 217 dates in the 31 weeks of S01; the Mondays, Wednesdays and Fridays of 1 to 20
+// April 2025; and one date.
+#[test]
+fn costs_count_all_dates(rt: HostRuntime) -> Result<(), Fail> {
+    let alloc = rt.alloc();
+    let daily = b"NBA002 25MAR27OCT 1234567 180320 JFK0630 J\n";
+    let mut all = arrivals(alloc, 360, 420, 390, 217)?;
+    all.push((Times::Refused, 4_340))?;
+    let found = priced(alloc, b"S01", 30, Some(20), daily)?;
+    assert_eq!(rt; found.as_slice(), all.as_slice());
+    assert_eq!(rt; found.first().copied(), Some((arrival(360), 6_510)));
+    let broken = b"NBA002 01APR20APR 135 180320 JFK0630 J\n";
+    let expected = [(arrival(385), 40), (arrival(390), 0), (arrival(395), 40)];
+    assert!(rt; has_options(alloc, 5, None, broken, &expected)?);
+    let morning = b"NBA002 05APR 6 180320 JFK0445 J\n";
+    let once = arrivals(alloc, 225, 345, 285, 1)?;
+    assert!(rt; once.contains(&(arrival(300), 15)));
+    assert!(rt; has_options(alloc, 60, None, morning, &once)?);
+    Ok(())
+}
+
 // F has its times; L these or the requested ones, R all between the two.
 #[test]
 fn historic_times_are_kept(rt: HostRuntime) -> Result<(), Fail> {
@@ -231,57 +292,5 @@ fn movements_are_listed_date_by_date(rt: HostRuntime) -> Result<(), Fail> {
     assert!(rt; has_movements(alloc, last, &expected)?);
     let night = b"F BA002 31MAR 1 180320 0010JFK J\n";
     assert!(rt; has_movements(alloc, night, &[movement(Kind::Dep, 1, 10)])?);
-    Ok(())
-}
-
-// Why a text makes no submission.
-fn refusal(alloc: Global, text: &[u8]) -> Result<Option<ModelFault>, Fail> {
-    match submission(alloc, 0, None, text)? {
-        Ok(_) => Ok(None),
-        Err(fault) => Ok(Some(fault)),
-    }
-}
-
-// The first line that is refused.
-#[test]
-fn submissions_are_refused_by_line(rt: HostRuntime) -> Result<(), Fail> {
-    let alloc = rt.alloc();
-    let faults: [(&[u8], ModelFault); 4] = [
-        (
-            b"SCR\n/ABC\nS25\n20NOV\nXYZ\nQBA001\n".as_slice(),
-            ModelFault::OtherAirport { line: 5 },
-        ),
-        (
-            b"SCR\nS25\n20NOV\nABC\nQBA001\n".as_slice(),
-            ModelFault::NotInitial { line: 5 },
-        ),
-        (
-            b"SCR\nS25\n20NOV\nABC\nFBA001 30MAR 7 180320 JFK0610 J\nDBA001 30MAR 7 180320 JFK0610 J\n".as_slice(),
-            ModelFault::NotInitial { line: 6 },
-        ),
-        (
-            b"SCR\nS25\n20NOV\nABC\n\nSCR\nS26\n20NOV\nXYZ\nQBA001\n".as_slice(),
-            ModelFault::OtherSeason { line: 7 },
-        ),
-    ];
-    for (bytes, fault) in faults {
-        assert_eq!(rt; refusal(alloc, bytes)?, Some(fault));
-    }
-    Ok(())
-}
-
-// Units in the order of the file, a pair as one, on the line of its first.
-#[test]
-fn pairs_are_one_unit(rt: HostRuntime) -> Result<(), Fail> {
-    let alloc = rt.alloc();
-    let lines =
-        b"CBA002 30MAR 7 180320 JFK0610 J\nRBA002 30MAR 7 180320 JFK0630 J\nNBA003 30MAR 7 180320 JFK0610 J\n";
-    let text = text(alloc, lines)?;
-    let made = submission(alloc, 0, None, &text)??;
-    let mut units = Vec::new(alloc);
-    for unit in made.units() {
-        units.push((unit.line, unit.group))?;
-    }
-    assert_eq!(rt; units.as_slice(), [(5, Group::R), (7, Group::N)].as_slice());
     Ok(())
 }

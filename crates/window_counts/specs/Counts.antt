@@ -1,4 +1,4 @@
--- Kept counts: the uses that they count, and what is within the limits.
+-- Kept counts: the uses that they count, and what keeps the limits.
 use Rattle.std.specs.Prelude.{◌≡◌, ℕ, ◌+◌, ◌<◌, ◌≤◌, List, length, slice_index, slice_index_or, sum_by, ℤ, pos, ◌≤ℤ◌, ◌<ℤ◌}
 use Rattle.choice_problem.specs.declared.strips.Strip.{Strip}
 use Rattle.choice_problem.specs.Strips.{part_uses}
@@ -20,12 +20,12 @@ abbrev pub limit_at : List ℤ → ℕ → ℤ
 limit_at limits r = slice_index_or limits r (pos 0)
 
 -- the resource's count and its further uses are together at most its limit
-abbrev pub IsWithin : List ℕ → (ℕ → ℕ) → List ℤ → ℕ → Type 0
-IsWithin counts uses limits r = pos (slice_index counts r + uses r) ≤ℤ limit_at limits r
+abbrev pub KeepsLimit : List ℕ → (ℕ → ℕ) → List ℤ → ℕ → Type 0
+KeepsLimit counts uses limits r = pos (slice_index counts r + uses r) ≤ℤ limit_at limits r
 
 -- so at each resource that is used further
 abbrev pub FitsWith : List ℕ → (ℕ → ℕ) → List ℤ → Type 0
-FitsWith counts uses limits = (r : ℕ) → 0 < uses r → IsWithin counts uses limits r
+FitsWith counts uses limits = (r : ℕ) → 0 < uses r → KeepsLimit counts uses limits r
 
 -- the lowest resource whose count is above its limit
 pub record IsFirstAbove (counts : List ℕ) (limits : List ℤ) (r : ℕ) : Type 0 where

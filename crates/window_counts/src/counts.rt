@@ -5,7 +5,7 @@ ghost use Rattle.choice_problem.specs.Counts.{GrowsBy, HasRoom};
 ghost use Rattle.choice_problem.specs.Strips.{IsPartInRange};
 ghost use Rattle.window_counts.specs.Counts.{listed_uses};
 
-use crate::adding::{add_all, add_part};
+use crate::adding::add_all;
 use crate::fitting::{first_above, part_fits};
 use crate::taking::take_part;
 use choice_problem::Part;
@@ -14,7 +14,7 @@ use std::alloc::Global;
 use std::marker::Model;
 
 /// How often each resource is used by the parts that were added and not taken away: 4 bytes a resource. Contracts see
-/// the counts, resource by resource. Only `of` takes memory.
+/// the counts, resource by resource. Only `of` and `copy` take memory.
 #[derive(Drop)]
 pub struct Counts {
     counts: Vec<u32>,
@@ -50,6 +50,15 @@ impl Counts {
         Ok(Counts { counts })
     }
 
+    /// The same counts again: one step a resource.
+    pub fn copy(&self, alloc: Global) -> Result<Counts, Memory>
+        ensures { IfOk result (λ counts. counts ≡ self.now) }
+    {
+        Ok(Counts {
+            counts: Vec::from_slice(alloc, &self.counts)?,
+        })
+    }
+
     /// Adds the uses of a part: one step a use. No count reaches 2^32.
     pub fn add(&mut self, part: &Part)
         requires there { IsPartInRange (length self.old) part.now }
@@ -58,7 +67,7 @@ impl Counts {
         ensures uses { GrowsBy self.old self.new (λ r. part_uses part.now r) }
         ensures listed { (parts : List (List Strip)) → AreCountsOf parts self.old → AreCountsOf (parts ++ part.now ∷ []) self.new }
     {
-        add_part(&mut self.counts, part.strips());
+        part.add_uses(&mut self.counts);
     }
 
     /// Takes the uses of a part away again, which was added before: one step a use.
@@ -73,15 +82,16 @@ impl Counts {
     }
 
     /// Whether the part fits beside what is counted: whether at each resource that it uses, the count and the part's uses
-    /// are together at most the limit. Resources that it does not use are not asked. One step a use and strip, and none
-    /// after the first resource at which it does not fit.
+    /// are together at most the limit. Resources that it does not use are not asked. The part uses each fewer than 2^32
+    /// times: who made the part knows it, and a part that an alternative of a unit names uses each at most 434 times. One
+    /// step for each use and each of the part's strips, and none after the first resource at which it does not fit.
     pub fn fits(&self, part: &Part, limits: &[i64]) -> bool
         requires there { IsPartInRange (length self.now) part.now }
         requires few { (r : ℕ) → r < length self.now → part_uses part.now r < 2 ^ 32 }
         requires limits { length limits.now ≡ length self.now }
         ensures { IsTrue result ↔ FitsWith self.now (λ r. part_uses part.now r) limits.now }
     {
-        part_fits(&self.counts, part.strips(), limits)
+        part_fits(&self.counts, part, limits)
     }
 
     /// How often a resource is used.

@@ -2,57 +2,56 @@
 
 ghost use Rattle.std.specs.Prelude.{◌≡◌, ◌↔◌, ℕ, ◌+◌, ◌^◌, ◌<◌, ◌≤◌, length, slice_index, IsTrue, IfSome, IfNone, pos, ◌≤ℤ◌};
 ghost use Rattle.choice_problem.specs.Strips.{strip_uses, part_uses, IsStripInRange, IsPartInRange};
-ghost use Rattle.window_counts.specs.Counts.{FitsWith, IsFirstAbove, IsWithin, limit_at};
+ghost use Rattle.window_counts.specs.Counts.{FitsWith, IsFirstAbove, KeepsLimit, limit_at};
 
-use crate::runs::{run_of, uses_of};
-use choice_problem::Strip;
+use choice_problem::{Part, Strip};
 
-// Whether the strips fit at each resource that they use.
-pub(crate) fn part_fits(counts: &[u32], strips: &[Strip], limits: &[i64]) -> bool
-    requires there { IsPartInRange (length counts.now) strips.now }
-    requires few { (r : ℕ) → r < length counts.now → part_uses strips.now r < 2 ^ 32 }
+// Whether the part fits at each resource that it uses.
+pub(crate) fn part_fits(counts: &[u32], part: &Part, limits: &[i64]) -> bool
+    requires there { IsPartInRange (length counts.now) part.now }
+    requires few { (r : ℕ) → r < length counts.now → part_uses part.now r < 2 ^ 32 }
     requires resources { length counts.now < 2 ^ 32 }
     requires limits { length limits.now ≡ length counts.now }
-    ensures { IsTrue result ↔ FitsWith counts.now (λ r. part_uses strips.now r) limits.now }
+    ensures { IsTrue result ↔ FitsWith counts.now (λ r. part_uses part.now r) limits.now }
 {
-    for strip in strips {
-        if !strip_fits(counts, strips, limits, strip) {
+    for strip in part.strips() {
+        if !strip_fits(counts, part, limits, strip) {
             return false;
         }
     }
     true
 }
 
-// Whether the strips fit at each resource that one of them uses.
-fn strip_fits(counts: &[u32], strips: &[Strip], limits: &[i64], strip: &Strip) -> bool
+// Whether the part fits at each resource that one of its strips uses.
+fn strip_fits(counts: &[u32], part: &Part, limits: &[i64], strip: &Strip) -> bool
     requires there { IsStripInRange (length counts.now) strip.now }
-    requires few { (r : ℕ) → r < length counts.now → part_uses strips.now r < 2 ^ 32 }
+    requires few { (r : ℕ) → r < length counts.now → part_uses part.now r < 2 ^ 32 }
     requires resources { length counts.now < 2 ^ 32 }
     requires limits { length limits.now ≡ length counts.now }
     ensures { IsTrue result
-        ↔ ((r : ℕ) → 0 < strip_uses strip.now r → IsWithin counts.now (λ q. part_uses strips.now q) limits.now r) }
+        ↔ ((r : ℕ) → 0 < strip_uses strip.now r → KeepsLimit counts.now (λ q. part_uses part.now q) limits.now r) }
 {
     for i in 0..strip.times {
-        let (start, end) = run_of(strip, i);
-        if !run_fits(counts, strips, limits, start, end) {
+        let (start, end) = strip.run(i);
+        if !run_fits(counts, part, limits, start as usize, end as usize) {
             return false;
         }
     }
     true
 }
 
-// Whether the strips fit at each resource from one place to another.
-fn run_fits(counts: &[u32], strips: &[Strip], limits: &[i64], start: usize, end: usize) -> bool
+// Whether the part fits at each resource from one place to another.
+fn run_fits(counts: &[u32], part: &Part, limits: &[i64], start: usize, end: usize) -> bool
     requires ordered { start ≤ end }
     requires there { end ≤ length counts.now }
-    requires few { (r : ℕ) → r < length counts.now → part_uses strips.now r < 2 ^ 32 }
+    requires few { (r : ℕ) → r < length counts.now → part_uses part.now r < 2 ^ 32 }
     requires resources { length counts.now < 2 ^ 32 }
     requires limits { length limits.now ≡ length counts.now }
     ensures { IsTrue result
-        ↔ ((r : ℕ) → start ≤ r → r < end → IsWithin counts.now (λ q. part_uses strips.now q) limits.now r) }
+        ↔ ((r : ℕ) → start ≤ r → r < end → KeepsLimit counts.now (λ q. part_uses part.now q) limits.now r) }
 {
     for at in start..end {
-        if !is_within(counts[at], uses_of(strips, at as u32), limits[at]) {
+        if !is_within(counts[at], part.uses(at as u32), limits[at]) {
             return false;
         }
     }

@@ -6,7 +6,6 @@ ghost use Rattle.choice_problem.specs.Strips.{strip_uses, part_uses, IsStripInRa
 ghost use Rattle.choice_problem.specs.Loops.{run_uses};
 ghost use Rattle.window_counts.specs.Counts.{HasUses};
 
-use crate::runs::run_of;
 use choice_problem::Strip;
 
 // Takes the uses of a part's strips away.
@@ -27,8 +26,8 @@ fn take_strip(counts: &mut [u32], strip: &Strip)
     ensures { GrowsBy counts.new counts.old (λ r. strip_uses strip.now r) }
 {
     for i in 0..strip.times {
-        let (start, end) = run_of(strip, i);
-        take_run(counts, start, end);
+        let (start, end) = strip.run(i);
+        take_run(counts, start as usize, end as usize);
     }
 }
 

@@ -56,7 +56,7 @@ fn numbers(counts: &Counts) -> [u32; 6]
     ]
 }
 
-// The counts of nothing, then with each of two parts added, then with the first one taken away.
+// The counts of nothing, then with each of two parts added, of which a copy is kept, then with the first one taken away.
 fn steps(alloc: Global, first: &Part, second: &Part) -> Result<[[u32; 6]; 4], Fail>
     requires first { IsPartInRange 6 first.now }
     requires second { IsPartInRange 6 second.now }
@@ -68,9 +68,9 @@ fn steps(alloc: Global, first: &Part, second: &Part) -> Result<[[u32; 6]; 4], Fa
     counts.add(first);
     let one = numbers(&counts);
     counts.add(second);
-    let both = numbers(&counts);
+    let both = counts.copy(alloc)?;
     counts.take(first);
-    Ok([none, one, both, numbers(&counts)])
+    Ok([none, one, numbers(&both), numbers(&counts)])
 }
 
 #[test]

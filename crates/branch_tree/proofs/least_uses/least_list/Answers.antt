@@ -4,9 +4,11 @@ use Rattle.std.proofs.lemmas.Grind.{common_steps}
 use Rattle.std.proofs.lemmas.Bool.{cases_lt}
 use Rattle.choice_problem.specs.Sums.{least_within}
 use Rattle.choice_problem.specs.Problems.{ProblemView, alt_uses}
-use Rattle.choice_problem.proofs.SumLemmas.{least_within-le, least_within-ge}
+use Rattle.choice_problem.proofs.SumLemmas.{least_within-le, least_within-ge, least_within-one}
 use Rattle.branch_tree.specs.Lists.{times_in}
+use Rattle.branch_tree.specs.Rows.{two_uses}
 use Rattle.branch_tree.proofs.ListLemmas.{times-empty}
+use Rattle.branch_tree.proofs.RowLemmas.{least_within-part}
 use Rattle.branch_tree.proofs.least_uses.least_list.Goals as goal
 
 few_least : (p : ProblemView) (u low high : ℕ) → low ≤ high → ((r : ℕ) → alt_uses p u low r ≤ 434) → (r : ℕ) → least_within low high (λ a. alt_uses p u a r) ≤ 434
@@ -15,8 +17,14 @@ few_least p u low high l h = λ r. omega (arith, least_within-le low high low (�
 pub returns-in_err-list-clause-few : goal.returns-in_err-list-clause-few
 returns-in_err-list-clause-few c = few_least c.args.problem.now c.args.unit c.args.low c.args.high c.requires.ordered c.in_err-list.ensures.few
 
-pub returns-in_err-lower-clause-few : goal.returns-in_err-lower-clause-few
-returns-in_err-lower-clause-few c = few_least c.args.problem.now c.args.unit c.args.low c.args.high c.requires.ordered c.in_ok-list.ensures.few
+pub returns-in_err-twos-clause-few : goal.returns-in_err-twos-clause-few
+returns-in_err-twos-clause-few c = few_least c.args.problem.now c.args.unit c.args.low c.args.high c.requires.ordered c.in_ok-list.ensures.few
+
+pub returns-in_err-move_twos-clause-few : goal.returns-in_err-move_twos-clause-few
+returns-in_err-move_twos-clause-few c = few_least c.args.problem.now c.args.unit c.args.low c.args.high c.requires.ordered c.in_ok-list.ensures.few
+
+pub returns-in_err-uses-clause-few : goal.returns-in_err-uses-clause-few
+returns-in_err-uses-clause-few c = few_least c.args.problem.now c.args.unit c.args.low c.args.high c.requires.ordered c.in_ok-list.ensures.few
 
 pub returns-then-is_empty-clause-few : goal.returns-then-is_empty-clause-few
 returns-then-is_empty-clause-few c = few_least c.args.problem.now c.args.unit c.args.low c.args.high c.requires.ordered c.in_ok-list.ensures.few
@@ -24,11 +32,17 @@ returns-then-is_empty-clause-few c = few_least c.args.problem.now c.args.unit c.
 pub returns-clause-few : goal.returns-clause-few
 returns-clause-few c = few_least c.args.problem.now c.args.unit c.args.low c.args.high c.requires.ordered c.in_ok-list.ensures.few
 
-pub loop-back-init : goal.loop-back-init
-loop-back-init c =
+pub loop-done-init : goal.loop-done-init
+loop-done-init c =
     let p = c.args.problem.now in
     let u = c.args.unit in
     record {
+      from = omega arith;
+      to = omega arith;
+      ordered = omega arith;
+      there = c.requires.there;
+      twos_are = λ r. omega (arith, c.in_ok-twos.ensures.listed r, least_within-one c.args.high (λ a. two_uses p u a r));
+      twos_within = c.in_ok-twos.ensures.within;
       above = λ r. omega (arith, least_within-le c.args.low c.args.high c.args.low (λ a. alt_uses p u a r) (omega arith) c.requires.ordered, c.in_ok-list.ensures.listed r);
       first = λ r. omega (arith, c.in_ok-list.ensures.listed r);
       tried = λ a r l m. absurd (omega arith);
@@ -41,42 +55,71 @@ zero_is n b e t = grind (arith, common_steps)
 
 pub returns-then-is_empty-clause-least : goal.returns-then-is_empty-clause-least
 returns-then-is_empty-clause-least c = λ r.
-    let list = c.loop-back.list in
+    let list = c.loop-done.list in
     let none : vec_len list ≡ 0 = zero_is (vec_len list) c.is_empty.result c.is_empty.ensures c.if-is_empty.true in
     let nothing : length list.items ≡ 0 = omega arith in
-    omega (arith, times-empty list.items r nothing, c.loop-back.invariant.above r)
+    omega (arith, times-empty list.items r nothing, c.loop-done.invariant.above r)
 
-pub loop-back-preserved : goal.loop-back-preserved
-loop-back-preserved c =
+pub row_list-requires-clause-within : goal.row_list-requires-clause-within
+row_list-requires-clause-within c = rw c.deref.ensures.value c.in_ok-move_twos.ensures.within
+
+pub lower-requires-clause-within : goal.lower-requires-clause-within
+lower-requires-clause-within c = λ r h. omega (arith, c.loop-done.invariant.within r h)
+
+pub lower-requires-clause-other_within : goal.lower-requires-clause-other_within
+lower-requires-clause-other_within c = rw c.deref-in-loop-done.ensures.value (λ r h. omega (arith, c.in_ok-uses.ensures.within r h))
+
+pub lower-requires-clause-few : goal.lower-requires-clause-few
+lower-requires-clause-few c = rw c.deref-in-loop-done.ensures.value (λ r.
+    let next = c.row_before-next.result in
+    omega (
+      arith,
+      c.in_ok-uses.ensures.least r,
+      least_within-le next.first next.last next.last (λ a. alt_uses c.args.problem.now c.args.unit a r) (omega arith) (omega arith),
+      c.in_ok-uses.ensures.few r,
+    ))
+
+pub loop-done-preserved : goal.loop-done-preserved
+loop-done-preserved c =
     let p = c.args.problem.now in
     let u = c.args.unit in
-    let i = c.loop-back.invariant in
-    let here = c.args.high - c.loop-back.back in
+    let i = c.loop-done.invariant in
+    let next = c.row_before-next.result in
+    let lowered = rw c.deref-in-loop-done.ensures.value at c.lower.ensures.lowered in
     record {
+      from = c.row_before-next.ensures.from;
+      to = omega (arith, i.to, c.row_before-next.ensures.some);
+      ordered = omega (arith, c.row_before-next.ensures.some, c.row_before-next.ensures.last);
+      there = omega (arith, c.row_before-next.ensures.last, i.to, c.requires.there, c.loop-done-test.true);
+      twos_are = c.in_ok-move_twos.ensures.twos;
+      twos_within = c.in_ok-move_twos.ensures.within;
       above = λ r. omega (
         arith,
         i.above r,
-        c.in_ok-lower.ensures.lowered r,
-        least_within-le c.args.low c.args.high here (λ a. alt_uses p u a r) (omega (arith, c.loop-back-test.true)) (omega arith),
+        lowered r,
+        c.in_ok-uses.ensures.least r,
+        least_within-part c.args.low c.args.high next.first next.last (λ a. alt_uses p u a r) (omega arith) (omega arith) (omega arith),
       );
-      first = λ r. omega (arith, i.first r, c.in_ok-lower.ensures.lowered r);
-      tried = λ a r l m. elim (cases_lt here a) [
-        | inl above ↦ omega (arith, i.tried a r above m, c.in_ok-lower.ensures.lowered r)
-        | inr same ↦ let e : a ≡ here = omega (arith, same, l) in rw e (omega (arith, c.in_ok-lower.ensures.lowered r))
+      first = λ r. omega (arith, i.first r, lowered r);
+      tried = λ a r l m. elim (cases_lt a c.loop-done.done) [
+        | inl inside ↦ omega (
+          arith,
+          lowered r,
+          c.in_ok-uses.ensures.least r,
+          least_within-le next.first next.last a (λ b. alt_uses p u b r) l (omega (arith, inside, c.row_before-next.ensures.last)),
+        )
+        | inr after ↦ omega (arith, lowered r, i.tried a r after m)
       ];
-      within = c.in_ok-lower.ensures.within;
-      same = c.in_ok-lower.ensures.same ∙ i.same;
+      within = λ r h. omega (arith, c.lower.ensures.within r h);
+      same = c.lower.ensures.same ∙ (c.in_ok-move_twos.ensures.same ∙ i.same);
     }
 
 pub returns-clause-least : goal.returns-clause-least
 returns-clause-least c = λ r.
     let p = c.args.problem.now in
     let u = c.args.unit in
-    let i = c.loop-back.invariant in
-    let list = c.loop-back.list.items in
+    let i = c.loop-done.invariant in
+    let list = c.loop-done.list.items in
     let below = least_within-ge c.args.low c.args.high (times_in list r) (λ a. alt_uses p u a r) c.requires.ordered
-    (λ a l m. elim (cases_lt c.args.low a) [
-      | inl above ↦ i.tried a r (omega (arith, above, c.loop-back-test.false)) m
-      | inr same ↦ let e : a ≡ c.args.low = omega (arith, same, l) in rw e (i.first r)
-    ]) in
+    (λ a l m. i.tried a r (omega (arith, l, c.loop-done-test.false)) m) in
     omega (arith, below, i.above r)

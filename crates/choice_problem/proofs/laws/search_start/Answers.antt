@@ -1,5 +1,5 @@
 use Rattle.choice_problem.proofs.GreedyLemmas.{IsGreedy-feasible, IsGreedyCost-only}
-use Rattle.choice_problem.proofs.RootLemmas.{IsNodeVector-only}
+use Rattle.choice_problem.proofs.RootLemmas.{IsNodeVector-only, IsNodeVector-IsVector}
 use Rattle.choice_problem.proofs.laws.search_start.Goals as goal
 
 pub returns-clause-feasible : goal.returns-clause-feasible
@@ -10,3 +10,6 @@ returns-clause-one_cost c = IsGreedyCost-only
 
 pub returns-clause-one_vector : goal.returns-clause-one_vector
 returns-clause-one_vector c = IsNodeVector-only
+
+pub returns-clause-prices : goal.returns-clause-prices
+returns-clause-prices c = IsNodeVector-IsVector

@@ -3,7 +3,7 @@ use Rattle.std.specs.Prelude.{slice_index}
 use Rattle.choice_problem.specs.Problems.{resource_count}
 use Rattle.choice_problem.specs.Roots.{vector_of}
 use Rattle.dual_bound.specs.Loops.{vector_in}
-use Rattle.dual_bound.proofs.StepLemmas.{vector_of-IsVector}
+use Rattle.choice_problem.proofs.RootLemmas.{vector_of-IsVector}
 use Rattle.dual_bound.proofs.points.vector_in.Goals as goal
 
 pub returns-clause-valid : goal.returns-clause-valid

@@ -1,7 +1,7 @@
 use Rattle.std.proofs.Common.{ℕ, ◌<◌, ◌≤◌}
 use Rattle.choice_problem.specs.Strips.{part_uses}
-use Rattle.window_counts.specs.Counts.{IsWithin}
+use Rattle.window_counts.specs.Counts.{KeepsLimit}
 use Rattle.window_counts.proofs.fitting.run_fits.Given as goal
 
 abbrev pub invariant-loop-at : goal.invariant-loop-at
-invariant-loop-at l = (r : ℕ) → l.start ≤ r → r < l.at → IsWithin l.counts (λ q. part_uses l.strips q) l.limits r
+invariant-loop-at l = (r : ℕ) → l.start ≤ r → r < l.at → KeepsLimit l.counts (λ q. part_uses l.part q) l.limits r

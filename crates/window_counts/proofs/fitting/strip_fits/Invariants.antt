@@ -1,8 +1,8 @@
 use Rattle.std.proofs.Common.{ℕ, ◌<◌}
 use Rattle.choice_problem.specs.Sums.{count_below}
 use Rattle.choice_problem.specs.Strips.{part_uses, is_in_run}
-use Rattle.window_counts.specs.Counts.{IsWithin}
+use Rattle.window_counts.specs.Counts.{KeepsLimit}
 use Rattle.window_counts.proofs.fitting.strip_fits.Given as goal
 
 abbrev pub invariant-loop-i : goal.invariant-loop-i
-invariant-loop-i l = (r : ℕ) → 0 < count_below l.i (λ i. is_in_run l.strip r i) → IsWithin l.counts (λ q. part_uses l.strips q) l.limits r
+invariant-loop-i l = (r : ℕ) → 0 < count_below l.i (λ i. is_in_run l.strip r i) → KeepsLimit l.counts (λ q. part_uses l.part q) l.limits r

@@ -1,4 +1,3 @@
-use Rattle.std.proofs.Common.{◌≡◌}
 use Rattle.choice_problem.specs.Problems.{chooser_at}
 use Rattle.dual_bound.specs.Loops.{ArePriceable}
 use Rattle.dual_bound.proofs.BoundLemmas.{PricesUnit-priceable}

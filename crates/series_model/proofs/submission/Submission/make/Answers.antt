@@ -13,6 +13,8 @@ invariant_of-result c =
     let fits = units_fit c.args.declaration c.args.messages none c.requires.fits c.requires.pairs in
     record {
       limits = c.requires.limits;
+      price = c.requires.price;
+      share = c.requires.share;
       declared = c.in_ok-windows.ensures.value;
       units = units;
       few = omega (arith, count, c.if-count-gt-MOST_UNITS.false);
