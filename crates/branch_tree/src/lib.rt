@@ -32,8 +32,6 @@ pub use visits::visit;
 pub use walks::Walk;
 
 #[cfg(test)]
-mod improved_tests;
-#[cfg(test)]
 mod plain;
 #[cfg(test)]
 mod tests;

@@ -3,7 +3,7 @@
 ghost use Rattle.std.specs.Prelude.{IfOk, IfSome};
 ghost use Rattle.choice_problem.specs.Choices.{IsFeasible};
 
-use super::*;
+use crate::{greedy, improved_choice};
 use choice_problem::{Alt, Choice, Chooser, Part, Price, Problem, Strip, Vector, cost_of, fits};
 use std::alloc::Global;
 use std::test::Fail;
