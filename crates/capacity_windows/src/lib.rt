@@ -20,4 +20,6 @@ pub use windows::Windows;
 #[cfg(test)]
 mod number_tests;
 #[cfg(test)]
+mod season_tests;
+#[cfg(test)]
 mod tests;

@@ -8,7 +8,6 @@ ghost use Rattle.season_days.specs.declared.declaration.TheConstants.{MINUTES_OF
 ghost use Rattle.capacity_windows.specs.Windows.{IsRule};
 
 use super::*;
-use choice_problem::{Alt, Chooser, Part, Problem};
 use season_days::{Day, Declaration, Kind, MINUTES_OF_DAY, Night, Period, Rule, RuleList, Season};
 use slot_text::Station;
 use std::alloc::Global;
@@ -19,7 +18,7 @@ pub(crate) const DAILY: u8 = 0b111_1111;
 pub(crate) const SATURDAY_AND_SUNDAY: u8 = 0b110_0000;
 
 // A capacity line with one start a day.
-fn line(kind: Kind, length: u32, start: u32, days: u8, limit: u32) -> Rule
+pub(crate) fn line(kind: Kind, length: u32, start: u32, days: u8, limit: u32) -> Rule
     requires length { length ≤ MINUTES_OF_DAY }
     requires start { start < MINUTES_OF_DAY }
     requires limit { limit ≤ 9 }
@@ -37,7 +36,7 @@ fn line(kind: Kind, length: u32, start: u32, days: u8, limit: u32) -> Rule
 }
 
 // The windows of one capacity line with one start a day, and of a quota, in S25 at a step of five minutes.
-fn windows(alloc: Global, rule: Rule, night: Option<Night>) -> Result<Windows, Fail>
+pub(crate) fn windows(alloc: Global, rule: Rule, night: Option<Night>) -> Result<Windows, Fail>
     requires rule { IsRule rule }
     requires one { rule.from ≡ rule.to }
     requires night { ForSome night (λ night. night.limit ≤ HIGHEST_NIGHT_LIMIT) }
@@ -48,7 +47,7 @@ fn windows(alloc: Global, rule: Rule, night: Option<Night>) -> Result<Windows, F
 
 // The same in a season of so many dates.
 #[tactic(auto, using(season_days::proofs::SeasonLemmas::date_count_small))]
-fn windows_in(
+pub(crate) fn windows_in(
     alloc: Global,
     season: &[u8],
     dates: u32,
@@ -105,30 +104,6 @@ pub(crate) fn movement(kind: Kind, day: u32, minute: u32) -> Movement
     Movement { kind, day, minute }
 }
 
-// A problem of one unit with one alternative, which uses the part.
-fn problem(alloc: Global, windows: &Windows, part: Part) -> Result<Problem, Fail> {
-    let mut limits = Vec::new(alloc);
-    for resource in 0..windows.resources() {
-        limits.push(i64::from(windows.limit(resource)))?;
-    }
-    let parts = vec![in alloc; part]?;
-    let alts = vec![in alloc;
-        Alt {
-            cost: 0,
-            one: Some(0),
-            two: None
-        },
-    ]?;
-    if !Chooser::allows(&parts, &alts) {
-        return Err("unit".into());
-    }
-    let units = vec![in alloc; Chooser::new(parts, alts)]?;
-    if !Problem::allows(&units, &limits) {
-        return Err("problem".into());
-    }
-    Ok(Problem::new(units, limits))
-}
-
 // The resources that a stop uses, in rising order, each as often as it does.
 pub(crate) fn used(
     alloc: Global,
@@ -148,16 +123,9 @@ pub(crate) fn used(
         return Err("last".into());
     }
     let part = windows.strips_of(alloc, kind, minute, later, period)?;
-    let problem = problem(alloc, windows, part)?;
     let mut used = Vec::new(alloc);
-    if problem.units() == 0 {
-        return Err("units".into());
-    }
-    if problem.alts(0) == 0 {
-        return Err("alternatives".into());
-    }
-    for resource in 0..problem.resources() {
-        for _ in 0..problem.uses(0, 0, resource) {
+    for resource in 0..windows.resources() {
+        for _ in 0..part.uses(resource) {
             used.push(resource)?;
         }
     }
@@ -294,98 +262,6 @@ fn a_window_of_a_day_holds_both_kinds(rt: HostRuntime) -> Result<(), Fail> {
     for (kind, minute, later) in [(Kind::Arr, 1430, 0), (Kind::Dep, 700, 1)] {
         let used = used(alloc, &windows, kind, minute, later, period(0, 1, DAILY))?;
         assert_eq!(rt; used.as_slice(), [0, 1].as_slice());
-    }
-    Ok(())
-}
-
-#[test]
-fn a_night_reaches_over_midnight(rt: HostRuntime) -> Result<(), Fail> {
-    let alloc = rt.alloc();
-    let night = Night {
-        from: 1380,
-        to: 300,
-        limit: 2,
-    };
-    let windows = windows(alloc, line(Kind::Arr, 60, 360, DAILY, 1), Some(night))?;
-    assert_eq!(rt; windows.resources(), 211);
-    assert_eq!(rt; windows.night(), Some(210));
-    assert_eq!(rt; windows.limit(210), 2);
-    let late = movement(Kind::Arr, 0, 1410);
-    let early = movement(Kind::Arr, 6, 285);
-    let morning = movement(Kind::Arr, 6, 300);
-    assert_eq!(rt; windows.count_listed(&[late, late, late], 210), 3);
-    assert_eq!(rt; windows.count_listed(&[late, early], 210), 2);
-    assert_eq!(rt; windows.count_listed(&[late, morning], 210), 1);
-    let table = [
-        (1379, 0, period(0, 1, DAILY), [].as_slice()),
-        (1380, 0, period(0, 1, DAILY), [210, 210].as_slice()),
-        (0, 0, period(0, 2, DAILY), [210, 210, 210].as_slice()),
-        (
-            299,
-            0,
-            period(0, 6, SATURDAY_AND_SUNDAY),
-            [210, 210].as_slice(),
-        ),
-        (300, 0, period(0, 1, DAILY), [].as_slice()),
-        (1410, 1, period(206, 209, DAILY), [210, 210, 210].as_slice()),
-    ];
-    for (minute, later, period, want) in table {
-        let used = used(alloc, &windows, Kind::Dep, minute, later, period)?;
-        assert_eq!(rt; used.as_slice(), want);
-    }
-    Ok(())
-}
-
-// S01 has 31 weeks, from Sunday 25 March to Saturday 27 October 2001, which is day 216.
-#[test]
-fn the_longest_season_has_its_last_dates(rt: HostRuntime) -> Result<(), Fail> {
-    let alloc = rt.alloc();
-    let windows = windows_in(
-        alloc,
-        b"S01",
-        217,
-        line(Kind::Arr, 60, 1410, DAILY, 1),
-        None,
-    )?;
-    assert_eq!(rt; windows.resources(), 217);
-    assert_eq!(rt; windows.resource_of(0, Day(216), 0), 216);
-    assert_eq!(rt; (windows.limit(216), windows.limit(217)), (1, 0));
-    let last = movement(Kind::Arr, 216, 1420);
-    assert_eq!(rt; windows.count_listed(&[last], 216), 1);
-    let table = [
-        // in the evening and after midnight, on the last four dates
-        (
-            1420,
-            0,
-            period(213, 216, DAILY),
-            [213, 214, 215, 216].as_slice(),
-        ),
-        (
-            10,
-            0,
-            period(213, 216, DAILY),
-            [212, 213, 214, 215].as_slice(),
-        ),
-        // a day later, the last of which is no date of the season
-        (1420, 1, period(213, 216, DAILY), [214, 215, 216].as_slice()),
-        (10, 1, period(216, 216, DAILY), [].as_slice()),
-        // days 209 and 216 are Saturdays
-        (
-            1420,
-            0,
-            period(209, 216, SATURDAY_AND_SUNDAY),
-            [209, 210, 216].as_slice(),
-        ),
-        (
-            10,
-            0,
-            period(209, 216, SATURDAY_AND_SUNDAY),
-            [208, 209, 215].as_slice(),
-        ),
-    ];
-    for (minute, later, period, want) in table {
-        let used = used(alloc, &windows, Kind::Arr, minute, later, period)?;
-        assert_eq!(rt; used.as_slice(), want);
     }
     Ok(())
 }
