@@ -57,10 +57,12 @@ fn answer(alloc: Global, text: &[u8]) -> anyhow::Result<u64> {
     }
     match read_capacity(alloc, text) {
         Ok(declaration) => Ok(declaration.rules.items().len() as u64),
-        Err(CapFault::OverLimit {
-            name: CapLimit::Caps,
-            number,
-        }) => Ok(number),
+        Err(
+            CapFault::OverLimit {
+                name: CapLimit::Caps,
+                number,
+            },
+        ) => Ok(number),
         Err(fault) => Err(fault.into()),
     }
 }

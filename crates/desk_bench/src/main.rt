@@ -31,7 +31,9 @@ fn main(rt: HostRuntime) -> anyhow::Result<()> {
             capacity::run(&rt, rt.alloc(), Size::Short)
         }
         _ => {
-            println!(rt; "desk_bench WORD: bounds, certificates, board, turn, messages, capacity, short")?;
+            println!(rt;
+                "desk_bench WORD: bounds, certificates, board, turn, messages, capacity, short"
+            )?;
             Ok(())
         }
     }
