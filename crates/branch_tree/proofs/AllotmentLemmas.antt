@@ -1,22 +1,18 @@
 -- Partial allotments, and how they change with one unit's alternative.
-use Rattle.std.proofs.Common.{◌≡◌, ℕ, ◌+◌, ◌*◌, ◌<◌, ◌≤◌, sym, ◌∙◌, ap, subst, arith, inl, inr, List, length, Option, Some, None, set}
-use Rattle.std.specs.Prelude.{slice_index, slice_index_or, slice_set}
+use Rattle.std.proofs.Common.{◌≡◌, ◌↔◌, ℕ, ◌+◌, ◌<◌, ◌≤◌, sym, ◌∙◌, ap, subst, arith, inl, inr, List, length, Option, Some, None, set}
+use Rattle.std.specs.Prelude.{slice_index, slice_set}
 use Rattle.std.specs.Option.{ForSome}
 use Rattle.std.proofs.lemmas.Bool.{cases_eq}
-use Rattle.std.proofs.lemmas.List.{get_or-set_same, get_or-set_other, length-set, set-get_or}
+use Rattle.std.proofs.lemmas.List.{get_or-set_same, get_or-set_other, length-set}
 use Rattle.choice_problem.specs.Sums.{sum_below}
 use Rattle.choice_problem.specs.Problems.{ProblemView, unit_count, alt_count, resource_count, alt_uses, limit_of}
-use Rattle.choice_problem.specs.Choices.{IsChoice, IsFeasible, load_of}
+use Rattle.choice_problem.specs.Choices.{IsFeasible, load_of}
 use Rattle.choice_problem.specs.Counts.{GrowsBy}
 use Rattle.choice_problem.specs.Greedy.{FitsOn}
 use Rattle.choice_problem.proofs.SumLemmas.{sum_below-same, sum_below-zero}
 use Rattle.branch_tree.specs.Loops.{KeepsLimits}
 use Rattle.branch_tree.specs.Allotments.{IsAllotted, HasChoice, taken_at, taken_uses, allotted_load}
 use Rattle.branch_tree.proofs.WalkLemmas.{sum_below-change, sum_below-const, term-le}
-
--- a unit with no alternative has none after it is taken away
-pub none-set : (alts : List (Option ℕ)) (u : ℕ) → taken_at alts u ≡ None → slice_set alts u None ≡ alts
-none-set alts u e = subst (λ (x : Option ℕ). set alts u x ≡ alts) e (set-get_or alts u None)
 
 -- where no unit has an alternative, nothing is used
 pub allotted-none : (p : ProblemView) (alts : List (Option ℕ)) (loads : List ℕ) → unit_count p ≤ 4096 → length alts ≡ unit_count p →
@@ -47,6 +43,10 @@ module _ (p : ProblemView) (alts : List (Option ℕ)) (loads : List ℕ) (k : Is
 
   pub allotted-keeps : KeepsLimits p loads
   allotted-keeps = record { length = k.resources; within = k.within }
+
+  -- what fits on the counts fits beside the alternatives that are taken
+  pub allotted-fits : (u a : ℕ) → FitsOn p (λ r. slice_index loads r) u a ↔ FitsOn p (allotted_load p alts) u a
+  allotted-fits u a = (λ h r l. omega (arith, h r l, k.counted r l), λ h r l. omega (arith, h r l, k.counted r l))
 
   module _ (u : ℕ) (l : u < unit_count p) where
     pub allotted-has : (a : ℕ) → taken_at alts u ≡ Some a → (r : ℕ) → r < length loads → alt_uses p u a r ≤ slice_index loads r

@@ -1,5 +1,5 @@
 -- Units with alternatives. Contracts of private functions alone cite them.
-use Rattle.std.specs.Prelude.{ℕ, ◌<◌}
+use Rattle.std.specs.Prelude.{◌<◌}
 use Rattle.choice_problem.specs.Problems.{ProblemView, unit_count, alt_count}
 use Rattle.branch_tree.specs.declared.exchanges.Held.{Held}
 

@@ -31,11 +31,12 @@ impl<'a> Model for Allotment<'a> {
 }
 
 impl<'a> Allotment<'a> {
-    ghost use Rattle.std.specs.Prelude.{◌≡◌, ◌<◌, ◌≤◌, ◌^◌, ℕ, slice_set, false, Some, None, IsTrue, IfOk, IfSome};
+    ghost use Rattle.std.specs.Prelude.{◌↔◌, ◌≡◌, ◌<◌, ◌≤◌, ◌^◌, ℕ, slice_set, false, Some, None, IsTrue, IfOk, IfSome};
     ghost use Rattle.std.specs.Option.{ForSome};
     ghost use Rattle.choice_problem.specs.Problems.{unit_count, alt_count};
     ghost use Rattle.choice_problem.specs.Choices.{IsFeasible};
-    ghost use Rattle.branch_tree.specs.Allotments.{taken_at, allotted_cost, HasChoice};
+    ghost use Rattle.choice_problem.specs.Greedy.{FitsOn};
+    ghost use Rattle.branch_tree.specs.Allotments.{taken_at, allotted_cost, allotted_load, HasChoice};
 
     // No unit has an alternative.
     pub(crate) fn empty(alloc: Global, problem: &'a Problem) -> Result<Allotment<'a>, Memory>
@@ -100,12 +101,13 @@ impl<'a> Allotment<'a> {
         self.alts[unit as usize] = None;
     }
 
-    // Gives a unit that has none an alternative, where it fits.
+    // Gives a unit that has none an alternative, where it fits beside those of the other units.
     pub(crate) fn place(&mut self, unit: u32, alt: u32) -> bool
         requires unit { unit < unit_count self.old.problem }
         requires alt { alt < alt_count self.old.problem unit }
         requires none { taken_at self.old.alts unit ≡ None }
         ensures problem { self.new.problem ≡ self.old.problem }
+        ensures fits { IsTrue result ↔ FitsOn self.old.problem (allotted_load self.old.problem self.old.alts) unit alt }
         ensures placed { IsTrue result → self.new.alts ≡ slice_set self.old.alts unit (Some alt) }
         ensures left { result ≡ false → self.new.alts ≡ self.old.alts }
     {

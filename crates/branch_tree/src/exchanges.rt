@@ -183,7 +183,8 @@ fn place_all(allotment: &mut Allotment<'_>, orders: &[Order], group: &[u32], mos
     true
 }
 
-// Gives units their old alternatives back, which fit as before.
+// Gives units their old alternatives back, which fit as before. (Were one not to fit, its unit would have none, and the
+// descent would lead to no choice.)
 fn put_back(allotment: &mut Allotment<'_>, held: &[Held])
     requires { All (IsThere allotment.old.problem) held.now }
     ensures { allotment.new.problem ≡ allotment.old.problem }

@@ -14,17 +14,18 @@ use slot_text::Memory;
 use std::alloc::Global;
 
 /// A feasible choice that costs at most as much as the start, where there is a start; None only where there is no start and
-/// none was found. How good it is, is not promised, and the prices need not be good ones: they only guide the search.
+/// none was found. How good it is, is not promised, and the prices need not be good ones: they only guide the search. The
+/// same start and vector give the same choice.
 ///
-/// It is a Lagrangian heuristic (Beasley 1993, "Lagrangean relaxation") with a large neighbourhood search (Shaw 1998,
-/// "Using constraint programming and local search methods to solve vehicle routing problems"). The units by falling regret
-/// each take the alternative of least reduced cost at the prices that fits with those already taken. The cheaper of this
-/// choice and the start is then improved: groups of units that use a resource together give up their alternatives and take
-/// the cheapest ones that fit, in a drawn order, and keep them where that costs no more. It ends where the vector's bound
-/// shows that the choice is best, or where thousands of groups in a row have helped nothing.
+/// It is a Lagrangian heuristic (Beasley 1993, "Lagrangean relaxation"): the units by falling regret each take the
+/// alternative of least reduced cost at the prices that fits with those already taken. The cheaper of this choice and the
+/// start is improved by a large neighbourhood search (Shaw 1998, "Using constraint programming and local search methods to
+/// solve vehicle routing problems"): groups of units that use a resource together give up their alternatives and take the
+/// cheapest ones that fit, in a drawn order, and keep them where that costs no more. It ends where the vector's bound shows
+/// that the choice is best, or where thousands of groups in a row have led to nothing cheaper.
 ///
-/// It takes the time of a price table, and for each group some steps for each use of its units' alternatives; 32 bytes an
-/// alternative of all units, and 8 bytes a resource.
+/// Time: a price table, and then for each group some steps for each unit, and for each use of its units' alternatives.
+/// Memory: 32 bytes an alternative of all units, 16 bytes a part and 4 bytes a resource.
 pub fn improved_choice(
     alloc: Global,
     problem: &Problem,

@@ -1,4 +1,4 @@
-use Rattle.std.proofs.Common.{ap, option_copied, ◌∙◌}
+use Rattle.std.proofs.Common.{ap, option_copied}
 use Rattle.branch_tree.proofs.orders.reduced_cost.Goals as goal
 
 pub uses_price-requires-clause-table : goal.uses_price-requires-clause-table

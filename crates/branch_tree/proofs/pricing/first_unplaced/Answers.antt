@@ -1,4 +1,4 @@
-use Rattle.std.proofs.Common.{◌≡◌, ◌<◌, arith}
+use Rattle.std.proofs.Common.{◌<◌}
 use Rattle.std.specs.Prelude.{slice_index_or}
 use Rattle.choice_problem.specs.Problems.{unit_count}
 use Rattle.branch_tree.proofs.OrderListLemmas.{orders-at}

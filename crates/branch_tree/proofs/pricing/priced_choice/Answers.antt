@@ -1,4 +1,4 @@
-use Rattle.std.proofs.Common.{◌≡◌, ◌<◌, ◌∙◌, List, length, IsPermutation, sym}
+use Rattle.std.proofs.Common.{◌≡◌, ◌<◌, ◌∙◌, length, IsPermutation, sym}
 use Rattle.std.proofs.lemmas.List.Sorted.{All-permutation, length_permutation}
 use Rattle.choice_problem.specs.Problems.{unit_count}
 use Rattle.branch_tree.specs.declared.orders.Ranked.{Ranked}

@@ -1,6 +1,6 @@
-use Rattle.std.proofs.Common.{◌≡◌, ℕ, ◌<◌, ◌∙◌, Option, Some, None, sym, arith, length, ap}
+use Rattle.std.proofs.Common.{◌≡◌, ◌<◌, ◌∙◌, None, sym, arith, length, ap}
 use Rattle.std.proofs.lemmas.List.{get_or_read}
-use Rattle.choice_problem.specs.Problems.{ProblemView, unit_count, alt_count}
+use Rattle.choice_problem.specs.Problems.{unit_count}
 use Rattle.branch_tree.specs.Allotments.{AllotmentView, taken_at}
 use Rattle.branch_tree.proofs.allotments.Allotment.alt.Goals as goal
 

@@ -1,4 +1,4 @@
-use Rattle.std.proofs.Common.{◌≡◌, ℕ, ◌<◌, ◌∙◌, List, Some, Option, sym, arith, length, ap}
+use Rattle.std.proofs.Common.{◌≡◌, ℕ, List, Option, sym, arith, length, ap}
 use Rattle.choice_problem.specs.Problems.{unit_count}
 use Rattle.branch_tree.specs.Allotments.{AllotmentView, HasChoice}
 use Rattle.branch_tree.proofs.AllotmentLemmas.{allotted-feasible}

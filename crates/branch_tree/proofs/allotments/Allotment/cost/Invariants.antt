@@ -1,4 +1,4 @@
-use Rattle.std.proofs.Common.{◌≡◌, ℕ, ◌*◌, ◌≤◌}
+use Rattle.std.proofs.Common.{◌≡◌, ◌*◌, ◌≤◌}
 use Rattle.choice_problem.specs.Sums.{sum_below}
 use Rattle.branch_tree.specs.Allotments.{taken_at, taken_cost}
 use Rattle.branch_tree.proofs.allotments.Allotment.cost.Given as goal

@@ -1,4 +1,4 @@
-use Rattle.std.proofs.Common.{◌≡◌, ℕ, ◌<◌, ◌∙◌, length, slice_index, arith, refl}
+use Rattle.std.proofs.Common.{◌≡◌, ℕ, ◌<◌, ◌∙◌, length, slice_index, arith}
 use Rattle.branch_tree.proofs.AllotmentLemmas.{allotted-none}
 use Rattle.branch_tree.proofs.allotments.Allotment.empty.Goals as goal
 

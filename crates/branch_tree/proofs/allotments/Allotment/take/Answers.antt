@@ -1,8 +1,8 @@
-use Rattle.std.proofs.Common.{◌≡◌, ◌<◌, ◌∙◌, Option, Some, None, ℕ, sym, ap, arith, length}
+use Rattle.std.proofs.Common.{◌≡◌, ◌<◌, ◌∙◌, None, sym, ap, arith, length}
 use Rattle.std.proofs.lemmas.List.{get_or_read}
 use Rattle.choice_problem.specs.Problems.{unit_count}
 use Rattle.branch_tree.specs.Allotments.{AllotmentView, taken_at}
-use Rattle.branch_tree.proofs.AllotmentLemmas.{allotted-has, allotted-taken, none-set}
+use Rattle.branch_tree.proofs.AllotmentLemmas.{allotted-has, allotted-taken}
 use Rattle.branch_tree.proofs.allotments.Allotment.take.Goals as goal
 
 pub take_alt-requires-clause-alt : goal.take_alt-requires-clause-alt
