@@ -6,8 +6,11 @@ mod board;
 mod bounds;
 mod capacity;
 mod certificates;
+mod generated;
 mod messages;
+mod prices;
 mod report;
+mod seasons;
 mod turn;
 mod units;
 mod walks;
@@ -25,6 +28,8 @@ fn main(rt: HostRuntime) -> anyhow::Result<()> {
         Some("messages") => messages::run(&rt, rt.alloc(), Size::Full),
         Some("capacity") => capacity::run(&rt, rt.alloc(), Size::Full),
         Some("units") => units::run(&rt, rt.alloc(), Size::Full),
+        Some("prices") => prices::run(&rt, rt.alloc(), Size::Full),
+        Some("seasons") => seasons::run(&rt, rt.alloc(), Size::Full),
         Some("walks") => walks::run(&rt, rt.alloc(), Size::Full),
         Some("short") => {
             bounds::run(&rt, Size::Short)?;
@@ -34,11 +39,13 @@ fn main(rt: HostRuntime) -> anyhow::Result<()> {
             messages::run(&rt, rt.alloc(), Size::Short)?;
             capacity::run(&rt, rt.alloc(), Size::Short)?;
             units::run(&rt, rt.alloc(), Size::Short)?;
+            prices::run(&rt, rt.alloc(), Size::Short)?;
+            seasons::run(&rt, rt.alloc(), Size::Short)?;
             walks::run(&rt, rt.alloc(), Size::Short)
         }
         _ => {
             println!(rt;
-                "desk_bench WORD: bounds, certificates, board, turn, messages, capacity, units, walks, short"
+                "desk_bench WORD: bounds, certificates, board, turn, messages, capacity, units, prices, seasons, walks, short"
             )?;
             Ok(())
         }

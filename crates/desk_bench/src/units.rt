@@ -3,6 +3,7 @@
 ghost use Rattle.std.specs.Prelude.{◌≡◌, ◌+◌, ◌<◌, ◌≤◌, ◌^◌, IfOk, OnOk, length};
 ghost use Rattle.std.specs.Option.{ForSome};
 ghost use Rattle.season_days.specs.Seasons.{date_count};
+ghost use Rattle.choice_problem.specs.Problems.{IsChooser};
 ghost use Rattle.choice_problem.specs.Allowed.{UseAtMost, IsNamedAlt};
 ghost use Rattle.series_model.specs.Units.{UnitFits};
 
@@ -48,17 +49,22 @@ pub fn run(rt: &HostRuntime, alloc: Global, size: Size) -> anyhow::Result<()> {
 
 // The submission of so many units under so many capacity lines, unless a text has a fault.
 fn submission(alloc: Global, units: u32, rules: u32) -> Result<Option<Submission>, Memory> {
-    read_lines_fit();
-    read_messages();
     let capacity = capacity_text(alloc, rules)?;
     let requests = request_text(alloc, units)?;
+    read(alloc, &capacity, &requests)
+}
+
+/// The submission of a capacity file and messages, unless a text has a fault.
+pub fn read(alloc: Global, capacity: &[u8], requests: &[u8]) -> Result<Option<Submission>, Memory> {
+    read_lines_fit();
+    read_messages();
     if capacity.len() > MOST_BYTES || requests.len() > MOST_BYTES {
         return Ok(None);
     }
-    let Ok(declaration) = read_capacity(alloc, &capacity) else {
+    let Ok(declaration) = read_capacity(alloc, capacity) else {
         return Ok(None);
     };
-    let Ok(messages) = read_all(alloc, &requests) else {
+    let Ok(messages) = read_all(alloc, requests) else {
         return Ok(None);
     };
     Ok(Submission::make(alloc, declaration, messages).ok())
@@ -114,14 +120,29 @@ fn build(alloc: Global, made: &Submission) -> Result<Built, Memory> {
         strips: 0,
     };
     for unit in made.units() {
-        add_unit(alloc, &mut built, made, unit)?;
+        let (parts, alts) = pieces(alloc, made, unit)?;
+        built.count(&parts, &alts);
+        built.units.push(Chooser::new(parts, alts))?;
     }
     Ok(built)
 }
 
-// Adds a unit with its parts and alternatives. That it is one of a problem follows from the laws alone.
-fn add_unit(alloc: Global, built: &mut Built, made: &Submission, unit: &Unit) -> Result<(), Memory>
+/// A unit of a problem: its parts and alternatives.
+pub fn chooser(alloc: Global, made: &Submission, unit: &Unit) -> Result<Chooser, Memory>
     requires { UnitFits made.now.declaration.season unit.now }
+{
+    let (parts, alts) = pieces(alloc, made, unit)?;
+    Ok(Chooser::new(parts, alts))
+}
+
+// A unit's parts and alternatives. That they are one of a problem follows from the laws alone.
+fn pieces(
+    alloc: Global,
+    made: &Submission,
+    unit: &Unit,
+) -> Result<(Vec<Part>, Vec<Alt>), Memory>
+    requires { UnitFits made.now.declaration.season unit.now }
+    ensures { IfOk result (λ pieces. IsChooser (record { parts = pieces.0.items; alts = pieces.1.items })) }
 {
     option_bounds();
     few_uses();
@@ -152,9 +173,7 @@ fn add_unit(alloc: Global, built: &mut Built, made: &Submission, unit: &Unit) ->
         let cost = displacement(unit, *times, declaration);
         alts.push(alt_of(cost, times, &arrivals, &departures, &parts))?;
     }
-    built.count(&parts, &alts);
-    built.units.push(Chooser::new(parts, alts))?;
-    Ok(())
+    Ok((parts, alts))
 }
 
 impl Built {

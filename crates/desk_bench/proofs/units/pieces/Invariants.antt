@@ -1,6 +1,6 @@
 use Rattle.std.proofs.Common.{◌≡◌, All, length}
 use Rattle.choice_problem.specs.Allowed.{IsNamedAlt}
-use Rattle.desk_bench.proofs.units.add_unit.Given as goal
+use Rattle.desk_bench.proofs.units.pieces.Given as goal
 
 abbrev pub invariant-loop-times : goal.invariant-loop-times
 invariant-loop-times l = record {
