@@ -174,3 +174,63 @@ fn series_use_windows_line_by_line(rt: HostRuntime) -> Result<(), Fail> {
     }
     Ok(())
 }
+
+// Lines of ten minutes from 0600, 0700 and 0800, whose windows hold one movement each: the windows 0 to 209, 210 to 419 and
+// 420 to 629.
+const SIX_ALONE: Rule = Rule {
+    kind: Kind::Tot,
+    length: 10,
+    from: 360,
+    to: 360,
+    days: DAILY,
+    limit: 1,
+};
+
+const SEVEN_ALONE: Rule = Rule {
+    kind: Kind::Tot,
+    length: 10,
+    from: 420,
+    to: 420,
+    days: DAILY,
+    limit: 1,
+};
+
+const EIGHT_ALONE: Rule = Rule {
+    kind: Kind::Tot,
+    length: 10,
+    from: 480,
+    to: 480,
+    days: DAILY,
+    limit: 1,
+};
+
+// Of three turnarounds on the first day, from 0600 to 0700, from 0700 to 0800 and from 0600 to 0800, each two use one window.
+#[test]
+#[tactic(auto, using(season_days::proofs::SeasonLemmas::date_count_small))]
+fn each_two_of_three_turnarounds_share_a_window(rt: HostRuntime) -> Result<(), Fail> {
+    let alloc = rt.alloc();
+    let season = Season::read(b"S25").ok_or("season")?;
+    let rules = vec![in alloc; SIX_ALONE, SEVEN_ALONE, EIGHT_ALONE]?;
+    let windows = Windows::new(alloc, &declaration(season, rules, None))?;
+    assert_eq!(rt; (windows.resources(), windows.night()), (630, None));
+    for (arrival, departure, want) in [
+        (360, 420, [0, 210]),
+        (420, 480, [210, 420]),
+        (360, 480, [0, 420]),
+    ] {
+        let mut both = used(alloc, &windows, Kind::Arr, arrival, 0, period(0, 0, DAILY))?;
+        both.extend_from_slice(&used(
+            alloc,
+            &windows,
+            Kind::Dep,
+            departure,
+            0,
+            period(0, 0, DAILY),
+        )?)?;
+        assert_eq!(rt; both.as_slice(), want.as_slice());
+    }
+    for resource in [0, 210, 420] {
+        assert_eq!(rt; windows.limit(resource), 1);
+    }
+    Ok(())
+}
