@@ -46,7 +46,13 @@ pub fn request_text(alloc: Global, units: u32) -> Result<Vec<u8>, Memory> {
     text.extend_from_slice(b"SCR\nS25\n20NOV\nABC\n")?;
     for number in 0..units {
         match number % 4 {
-            0 => put_arrival(alloc, &mut text, b"F", number, 360 + 5 * u64::from(number % 192))?,
+            0 => put_arrival(
+                alloc,
+                &mut text,
+                b"F",
+                number,
+                360 + 5 * u64::from(number % 192),
+            )?,
             1 => put_arrival(alloc, &mut text, b"N", number, 420 + 5 * draws.draw(36))?,
             2 => put_arrival(alloc, &mut text, b"B", number, 420 + 5 * draws.draw(36))?,
             _ => put_turnaround(alloc, &mut text, &mut draws, number)?,
@@ -93,7 +99,12 @@ fn put_turnaround(
 }
 
 // Appends an airline's flight of a number.
-fn put_flight(alloc: Global, text: &mut Vec<u8>, airline: &[u8], number: u32) -> Result<(), Memory> {
+fn put_flight(
+    alloc: Global,
+    text: &mut Vec<u8>,
+    airline: &[u8],
+    number: u32,
+) -> Result<(), Memory> {
     text.extend_from_slice(airline)?;
     put_number(alloc, text, 1000 + u64::from(number))
 }

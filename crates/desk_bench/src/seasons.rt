@@ -18,7 +18,7 @@ use slot_text::Memory;
 use std::alloc::Global;
 use std::time::Instant;
 
-// How many steps polished vectors take.
+// How many steps the second of two polished vectors takes; the first takes half of them.
 fn steps_of(size: Size) -> u32 {
     match size {
         Size::Short => 300,
@@ -28,7 +28,7 @@ fn steps_of(size: Size) -> u32 {
 
 /// Prints for the stages of new entrants and of all other new requests of generated seasons, once with a price of refusals
 /// and once without any, how many units there are, the greedy cost and that of an improved choice, the floors that the root
-/// vector and a polished one give, and whether the best floor reaches the cost; or that no choice fits.
+/// vector and two polished ones give, and whether a floor reaches the cost; or that no choice fits.
 pub fn run(rt: &HostRuntime, alloc: Global, size: Size) -> anyhow::Result<()> {
     match size {
         Size::Short => season(rt, alloc, size, 28),
@@ -212,15 +212,50 @@ fn study(
     let start = Instant::now(rt)?;
     let root = root_vector(alloc, problem)?;
     step(rt, size, "root_vector", start)?;
-    judge(rt, alloc, "greedy, root vector", problem, &ranges, first.as_ref(), &root)?;
+    judge(
+        rt,
+        alloc,
+        "greedy, root vector",
+        problem,
+        &ranges,
+        first.as_ref(),
+        &root,
+    )?;
+    let steps = steps_of(size);
+    let better = improve(rt, alloc, size, problem, &ranges, first.as_ref(), steps / 2)?;
+    improve(rt, alloc, size, problem, &ranges, better.as_ref(), steps)
+}
+
+// Polishes a vector by so many steps, and improves a choice by it; answers the choice that was found.
+fn improve(
+    rt: &HostRuntime,
+    alloc: Global,
+    size: Size,
+    problem: &Problem,
+    ranges: &Ranges,
+    first: Option<&Choice>,
+    steps: u32,
+) -> anyhow::Result<Option<Choice>>
+    requires ranges { AreRanges problem.now ranges.now }
+    requires first { ForSome (option_copied first) (IsFeasible problem.now) }
+    ensures { IfOk result (λ found. IfSome found (IsFeasible problem.now)) }
+{
     let start = Instant::now(rt)?;
-    let polished = polished_vector(alloc, problem, &ranges, steps_of(size))?;
+    let polished = polished_vector(alloc, problem, ranges, steps)?;
     step(rt, size, "polished_vector", start)?;
     let start = Instant::now(rt)?;
-    let best = improved_choice(alloc, problem, first.as_ref(), &polished)?;
+    let better = improved_choice(alloc, problem, first, &polished)?;
     step(rt, size, "improved_choice", start)?;
-    judge(rt, alloc, "improved, polished vector", problem, &ranges, best.as_ref(), &polished)?;
-    Ok(best)
+    judge(
+        rt,
+        alloc,
+        "improved, polished vector",
+        problem,
+        ranges,
+        better.as_ref(),
+        &polished,
+    )?;
+    Ok(better)
 }
 
 // Whether an infeasibility vector shows that no choice fits.
@@ -263,7 +298,9 @@ fn judge(
         Some(choice) => {
             let cost = cost_of(problem, choice);
             let closed = floor >= cost;
-            println!(rt; "seasons: {name}: cost {cost}, {prices} prices, floor {floor}, closed: {closed}")?;
+            println!(rt;
+                "seasons: {name}: cost {cost}, {prices} prices, floor {floor}, closed: {closed}"
+            )?;
         }
         None => println!(rt; "seasons: {name}: no choice, {prices} prices, floor {floor}")?,
     }

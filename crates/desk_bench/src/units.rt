@@ -136,11 +136,7 @@ pub fn chooser(alloc: Global, made: &Submission, unit: &Unit) -> Result<Chooser,
 }
 
 // A unit's parts and alternatives. That they are one of a problem follows from the laws alone.
-fn pieces(
-    alloc: Global,
-    made: &Submission,
-    unit: &Unit,
-) -> Result<(Vec<Part>, Vec<Alt>), Memory>
+fn pieces(alloc: Global, made: &Submission, unit: &Unit) -> Result<(Vec<Part>, Vec<Alt>), Memory>
     requires { UnitFits made.now.declaration.season unit.now }
     ensures { IfOk result (λ pieces. IsChooser (record { parts = pieces.0.items; alts = pieces.1.items })) }
 {
