@@ -73,8 +73,11 @@ fn add_users(
     let units = problem.units();
     let mut added = 0;
     for step in 0..units {
+        if added == USERS {
+            break;
+        }
         let other = (unit + step) % units;
-        if added < USERS && uses(allotment, other, resource) && !group.contains(&other) {
+        if uses(allotment, other, resource) && !group.contains(&other) {
             group.push(other)?;
             added += 1;
         }
