@@ -11,8 +11,7 @@ use std::alloc::Global;
 
 /// A vector of prices for the problem: the one with the greatest bound on the ranges at scale 1024 in a subgradient run of
 /// so many steps with momentum, whose lengths fall from 16384 to 1/128 by halves: a step below 1 moves only some of the
-/// prices. Only its form is promised. One or two thousand steps give a bound very near the best that any vector has; a few
-/// hundred are enough for a small problem. A step takes the time of a price table and a bound.
+/// prices. Only its form is promised. A step takes the time of a price table and a bound.
 pub fn polished_vector(
     alloc: Global,
     problem: &Problem,

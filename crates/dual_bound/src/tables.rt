@@ -73,8 +73,9 @@ impl PriceTable {
     }
 }
 
-/// The table of a vector for a problem: in time of one step a strip of each part and one a run of the strips that differ,
-/// and memory of 16 bytes a resource and 2 MB while it is made.
+/// The table of a vector for a problem: in time of one step a strip of each part, and one a run of each strip that is
+/// priced: strips that differ, and those that take turns in one of 65,536 places. Memory of 16 bytes a resource and 2 MB
+/// while it is made.
 pub fn price_table(alloc: Global, problem: &Problem, vector: &Vector) -> Result<PriceTable, Memory>
     requires { IsVector problem.now vector.now }
     ensures vector { IfOk result (λ table. table.prices ≡ vector.now) }
