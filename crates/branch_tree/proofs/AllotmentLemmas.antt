@@ -4,12 +4,12 @@ use Rattle.std.specs.Prelude.{slice_index, slice_set}
 use Rattle.std.specs.Option.{ForSome}
 use Rattle.std.proofs.lemmas.Bool.{cases_eq}
 use Rattle.std.proofs.lemmas.List.{get_or-set_same, get_or-set_other, length-set}
-use Rattle.choice_problem.specs.Sums.{sum_below}
+use Rattle.finite_sums.specs.Sums.{sum_below}
 use Rattle.choice_problem.specs.Problems.{ProblemView, unit_count, alt_count, resource_count, alt_uses, limit_of}
 use Rattle.choice_problem.specs.Choices.{IsFeasible, load_of}
 use Rattle.choice_problem.specs.Counts.{GrowsBy}
 use Rattle.choice_problem.specs.Greedy.{FitsOn}
-use Rattle.choice_problem.proofs.SumLemmas.{sum_below-same, sum_below-zero}
+use Rattle.finite_sums.proofs.SumLemmas.{sum_below-same, sum_below-zero}
 use Rattle.branch_tree.specs.Loops.{KeepsLimits}
 use Rattle.branch_tree.specs.Allotments.{IsAllotted, HasChoice, taken_at, taken_uses, allotted_load}
 use Rattle.branch_tree.proofs.WalkLemmas.{sum_below-change, sum_below-const, term-le}

@@ -5,7 +5,7 @@ use Rattle.std.proofs.lemmas.Bool.{cases_lt}
 use Rattle.std.proofs.lemmas.List.{get_or_append_left, get_or_at}
 use Rattle.choice_problem.specs.Problems.{ProblemView, unit_count, resource_count, alt_count, alt_uses, limit_of}
 use Rattle.choice_problem.specs.Greedy.{FitsOn, IsGreedyAlt, IsGreedy, GreedyStops, load_before}
-use Rattle.choice_problem.proofs.SumLemmas.{sum_below-same, sum_below-more}
+use Rattle.finite_sums.proofs.SumLemmas.{sum_below-same, sum_below-more}
 use Rattle.choice_problem.proofs.GreedyLemmas.{FitsOn-same}
 use Rattle.branch_tree.specs.Loops.{KeepsLimits}
 

@@ -5,7 +5,7 @@ use Rattle.std.specs.Option.{ForSome}
 use Rattle.std.proofs.lemmas.Bool.{cases_lt}
 use Rattle.std.proofs.lemmas.Grind.{common_steps}
 use Rattle.choice_problem.specs.Problems.{ProblemView, alt_count, alt_cost}
-use Rattle.choice_problem.specs.Sums.{count_below}
+use Rattle.finite_sums.specs.Sums.{count_below}
 use Rattle.choice_problem.specs.Greedy.{FitsOn, IsGreedyAlt}
 use Rattle.branch_tree.specs.Loops.{precedes, follows, leads, IsNextBelow, AreFrom, still_to_try}
 

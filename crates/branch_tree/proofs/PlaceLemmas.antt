@@ -12,7 +12,7 @@ use Rattle.choice_problem.specs.Strips.{run_start, is_in_run, strip_uses, part_u
 use Rattle.choice_problem.specs.Problems.{ProblemView, resource_count, chooser_at, alt_at, named_uses, limit_of}
 use Rattle.choice_problem.specs.Counts.{GrowsBy}
 use Rattle.choice_problem.specs.Greedy.{FitsOn}
-use Rattle.choice_problem.proofs.SumLemmas.{count_below-none}
+use Rattle.finite_sums.proofs.SumLemmas.{count_below-none}
 use Rattle.window_counts.specs.Counts.{FitsWith, limit_at}
 use Rattle.branch_tree.specs.Loops.{KeepsLimits, FitsBeside}
 

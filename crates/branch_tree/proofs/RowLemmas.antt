@@ -3,9 +3,9 @@ use Rattle.std.proofs.Common.{◌≡◌, ℕ, ◌+◌, ◌-◌, ◌≤◌, arith
 use Rattle.std.proofs.lemmas.Bool.{cases_lt}
 use Rattle.std.proofs.lemmas.List.Sums.{sum_by-append}
 use Rattle.std.specs.Prelude.{if◌then◌else◌, ◌==◌}
-use Rattle.choice_problem.specs.Sums.{least_within, first_least}
+use Rattle.finite_sums.specs.Sums.{least_within, first_least}
 use Rattle.choice_problem.specs.Problems.{ProblemView, alt_uses}
-use Rattle.choice_problem.proofs.SumLemmas.{least_within-le, least_within-ge, first_least-IsFirstLeast}
+use Rattle.finite_sums.proofs.SumLemmas.{least_within-le, least_within-ge, first_least-IsFirstLeast}
 use Rattle.branch_tree.specs.Lists.{times_in, AreWithin}
 use Rattle.branch_tree.specs.Rows.{one_uses, two_uses, IsRow, EndAlike}
 

@@ -5,12 +5,12 @@ use Rattle.std.specs.Prelude.{slice_index, slice_index_or, slice_set, ℤ, ◌�
 use Rattle.std.proofs.lemmas.Bool.{cases_lt}
 use Rattle.std.proofs.lemmas.Int.{ints}
 use Rattle.std.proofs.lemmas.List.{get_or-map, get_or-set_same, get_or-set_other, length-set}
-use Rattle.choice_problem.specs.Sums.{sum_below, least_within, IsFirstLeast}
+use Rattle.finite_sums.specs.Sums.{sum_below, least_within, IsFirstLeast}
 use Rattle.choice_problem.specs.Problems.{ProblemView, IsChooser, unit_count, alt_count, resource_count, chooser_at, alt_cost, alt_uses, limit_of}
 use Rattle.choice_problem.specs.Choices.{IsChoice, choice_cost, load_of, Fits, IsFirstPassed}
 use Rattle.choice_problem.specs.Bounds.{AreRanges, Closes, low_of, high_of, least_load, least_total, priced_cost}
 use Rattle.choice_problem.specs.Splits.{IsCheapest, IsFirstCheapest, least_uses}
-use Rattle.choice_problem.proofs.SumLemmas.{sum_below-same, least_within-le, least_within-ge}
+use Rattle.finite_sums.proofs.SumLemmas.{sum_below-same, least_within-le, least_within-ge}
 use Rattle.choice_problem.proofs.BoundLemmas.{Closes-from_Some, Closes-Some, Closes-from_None}
 use Rattle.window_counts.specs.Counts.{IsFirstAbove, limit_at}
 use Rattle.choice_problem.proofs.TreeLemmas.{AreRanges-slice_set}

@@ -1,7 +1,7 @@
 -- Forms of loops: contracts of private functions alone cite them.
 use Rattle.std.specs.Prelude.{◌≡◌, ℕ, ◌+◌, ◌<◌, ◌≤◌, Bool, true, nat_lt, ◌==◌, ◌&&◌, ◌||◌, List, length, slice_index, Option, Some, None}
 use Rattle.choice_problem.specs.Problems.{ProblemView, resource_count, alt_count, alt_cost, limit_of}
-use Rattle.choice_problem.specs.Sums.{count_below}
+use Rattle.finite_sums.specs.Sums.{count_below}
 
 -- one count for each resource, none above its limit
 pub record KeepsLimits (p : ProblemView) (counts : List ℕ) : Type 0 where

@@ -1,6 +1,6 @@
 -- Rows of alternatives: those that name the same first part. Contracts of private functions alone cite them.
 use Rattle.std.specs.Prelude.{◌≡◌, ℕ, ◌-◌, ◌≤◌, List}
-use Rattle.choice_problem.specs.Sums.{least_within}
+use Rattle.finite_sums.specs.Sums.{least_within}
 use Rattle.choice_problem.specs.Problems.{ProblemView, chooser_at, alt_at, named_uses}
 use Rattle.branch_tree.specs.Lists.{times_in}
 

@@ -1,7 +1,7 @@
 //! What a walk keeps of its ranges.
 
 ghost use Rattle.std.specs.Prelude.{◌≡◌, ◌↔◌, ℕ, ◌+◌, ◌^◌, ◌<◌, ◌≤◌, length, slice_index, slice_set, IfOk, OnOk, IsTrue};
-ghost use Rattle.choice_problem.specs.Sums.{least_within, IsFirstLeast};
+ghost use Rattle.finite_sums.specs.Sums.{least_within, IsFirstLeast};
 ghost use Rattle.choice_problem.specs.Problems.{IsChooser, unit_count, alt_count, alt_cost, alt_uses, resource_count, chooser_at};
 ghost use Rattle.choice_problem.specs.Choices.{IsChoice, choice_cost, load_of};
 ghost use Rattle.choice_problem.specs.Counts.{GrowsBy, HasRoom};

@@ -1,7 +1,7 @@
 //! The resources that a unit uses whatever it takes of a range.
 
 ghost use Rattle.std.specs.Prelude.{◌≡◌, ℕ, ◌<◌, ◌≤◌, min, length, IfOk};
-ghost use Rattle.choice_problem.specs.Sums.{least_within};
+ghost use Rattle.finite_sums.specs.Sums.{least_within};
 ghost use Rattle.choice_problem.specs.Problems.{unit_count, alt_count, alt_uses, resource_count};
 ghost use Rattle.branch_tree.specs.Lists.{times_in, AreWithin, AreZero};
 

@@ -11,7 +11,7 @@ use Rattle.season_days.specs.declared.declaration.Declaration.{Declaration}
 use Rattle.season_days.specs.declared.declaration.Night.{Night}
 use Rattle.season_days.specs.declared.declaration.Rule.{Rule}
 use Rattle.capacity_file.specs.Values.{is_step, IsNight, IsCapacityLine}
-use Rattle.capacity_file.specs.Entries.{IsAllowed}
+use Rattle.capacity_file.specs.Entries.{IsAllowedEntry}
 use Rattle.capacity_file.specs.Lines.{IsStated, LacksWord, IsClean}
 use Rattle.capacity_file.specs.Declares.{AreRules, Declares, LinesDeclare, HasAllowedValues}
 use Rattle.capacity_file.specs.declared.entry.Entry.{Entry}
@@ -83,7 +83,7 @@ declares_same lines d e clean x y =
 
 -- ---- allowed values
 
-allowed : (lines : List (List ℕ)) (entry : Entry) → IsStated lines entry → IsAllowed entry
+allowed : (lines : List (List ℕ)) (entry : Entry) → IsStated lines entry → IsAllowedEntry entry
 allowed lines entry stated = stated.1.states.allowed
 
 share_allowed : (lines : List (List ℕ)) (n : ℕ) → (IsStated lines (Share n)) ⊎ (LacksWord lines share_word × (n ≡ 50)) → n ≤ 100

@@ -10,7 +10,7 @@ use Rattle.season_days.specs.declared.declaration.Rule.{Rule}
 use Rattle.schedule_text.specs.Days.{IsDays}
 use Rattle.schedule_text.specs.Times.{time_text}
 use Rattle.capacity_file.specs.Values.{kind_text}
-use Rattle.capacity_file.specs.Entries.{word_of, IsAllowed, AreValues}
+use Rattle.capacity_file.specs.Entries.{word_of, IsAllowedEntry, AreValues}
 use Rattle.capacity_file.specs.Readings.{IsValueOf, IsEntryOf}
 use Rattle.capacity_file.specs.declared.entry.Entry.{Entry}
 use Rattle.capacity_file.specs.declared.entry.Entry.TheVariants.{Airport, Cap}
@@ -22,18 +22,18 @@ pub airport_value : (text : List ℕ) (fields : List (List ℕ)) (r : Option Sta
 airport_value text fields None e found only = λ s is same. let t : s.0 ≡ text = cc in none-some s (only s is t)
 airport_value text fields (Some s) e found only = (found.0, e ∙ ap (λ (t : List ℕ). t ∷ []) (sym found.1))
 
-cap_states : (fields : List (List ℕ)) → ((x : Rule) → IsAllowed (Cap x) → AreValues (Cap x) fields → ⊥) → (entry : Entry) → word_of entry ≡ cap_word → IsAllowed entry → AreValues entry fields → ⊥
+cap_states : (fields : List (List ℕ)) → ((x : Rule) → IsAllowedEntry (Cap x) → AreValues (Cap x) fields → ⊥) → (entry : Entry) → word_of entry ≡ cap_word → IsAllowedEntry entry → AreValues entry fields → ⊥
 cap_states fields none (Cap x) w allowed values = none x allowed values
 cap_states fields none entry w allowed values = absurd (cc)
 
-pub no_cap : (word : Word) (fields : List (List ℕ)) (r : Option Entry) → word ≡ cap_word → r ≡ None → ((x : Rule) → IsAllowed (Cap x) → AreValues (Cap x) fields → ⊥) → IsEntryOf word fields r
+pub no_cap : (word : Word) (fields : List (List ℕ)) (r : Option Entry) → word ≡ cap_word → r ≡ None → ((x : Rule) → IsAllowedEntry (Cap x) → AreValues (Cap x) fields → ⊥) → IsEntryOf word fields r
 no_cap word fields None w e none = λ entry same allowed values. cap_states fields none entry (same ∙ w) allowed values
 no_cap word fields (Some x) w e none = absurd (cc)
 
 -- a capacity line that has minutes, a start and a weekday
 pub rule_value : (kind : Kind) (n f t d l : ℕ) (a b c x y z : List ℕ) (fields : List (List ℕ)) → fields ≡ a ∷ b ∷ c ∷ x ∷ y ∷ z ∷ [] → a ≡ kind_text kind → (n ≤ 1440) × (b ≡ decimal n) → (f < 1440) × (c ≡ time_text f) → (t < 1440) × (x ≡ time_text t) → IsDays y d
     → (l ≤ 9999) × (z ≡ decimal l) → (1 ≤ n) × (f ≤ t) × (1 ≤ d)
-    → IsAllowed (Cap (record { kind = kind; length = n; from = f; to = t; days = d; limit = l })) × AreValues (Cap (record { kind = kind; length = n; from = f; to = t; days = d; limit = l })) fields
+    → IsAllowedEntry (Cap (record { kind = kind; length = n; from = f; to = t; days = d; limit = l })) × AreValues (Cap (record { kind = kind; length = n; from = f; to = t; days = d; limit = l })) fields
 rule_value kind n f t d l a b c x y z fields e k len from to days lim usable = (
   record { some_minutes = usable.0; at_most_a_day = len.0; ordered = usable.1; in_day = to.0; some_weekday = usable.2; week = days.week; limit = lim.0 },
   (y, days, rw (e, k, len.1, from.1, to.1, lim.1) refl),
@@ -42,7 +42,7 @@ rule_value kind n f t d l a b c x y z fields e k len from to days lim usable = (
 -- and one that has not
 pub no_rule : (n f t d : ℕ) (a b c x y z : List ℕ) (fields : List (List ℕ)) → fields ≡ a ∷ b ∷ c ∷ x ∷ y ∷ z ∷ [] → ((m : ℕ) → m ≤ 1440 → b ≡ decimal m → Some n ≡ Some m) → ((m : ℕ) → m < 1440 → c ≡ time_text m → Some f ≡ Some m)
     → ((m : ℕ) → m < 1440 → x ≡ time_text m → Some t ≡ Some m) → ((m : ℕ) → IsDays y m → Some d ≡ Some m) → ((1 ≤ n) × (f ≤ t) × (1 ≤ d) → ⊥)
-    → (rule : Rule) → IsAllowed (Cap rule) → AreValues (Cap rule) fields → ⊥
+    → (rule : Rule) → IsAllowedEntry (Cap rule) → AreValues (Cap rule) fields → ⊥
 no_rule n f t d a b c x y z fields e len from to days useless rule allowed values =
     let whole = sym e ∙ values.2 in
     let b-is : b ≡ decimal rule.length = cc in

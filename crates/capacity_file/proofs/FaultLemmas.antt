@@ -5,7 +5,7 @@ use Rattle.std.proofs.lemmas.Bool.{cases_lt}
 use Rattle.season_days.specs.declared.declaration.Declaration.{Declaration}
 use Rattle.capacity_file.specs.Lines.{HasWord, IsBad, IsRepeat, IsSpoiled, IsCleanBefore}
 use Rattle.capacity_file.specs.Declares.{Declares, IsWholeSteps, IsWithinLimits, LinesDeclare}
-use Rattle.capacity_file.specs.Faults.{needed_word, words_before, IsMissing, IsOver, IsBrokenStep, IsOverLimit, LinesHaveFault}
+use Rattle.capacity_file.specs.Faults.{needed_word, words_before, IsMissing, PassesLimitOf, IsBrokenStep, IsOverLimit, LinesHaveFault}
 use Rattle.capacity_file.specs.declared.entry.Entry.TheVariants.{Airport as airport_entry, Season as season_entry, Step as step_entry, Flex as flex_entry, Ground as ground_entry, Refuse as refuse_entry}
 use Rattle.capacity_file.specs.declared.entry.Word.TheVariants.{Airport as airport_word}
 use Rattle.capacity_file.specs.declared.fault.CapWord.{CapWord}
@@ -102,7 +102,7 @@ uneven_even lines number d x says even = x.uneven (rw (declares_same lines x.d d
 uneven_same : (lines : List (List ℕ)) (m n : ℕ) → IsBrokenStep lines m → IsBrokenStep lines n → m ≡ n
 uneven_same lines m n x y = same_line lines m n (flex_entry x.d.flex) (flex_entry y.d.flex) x.clean x.line y.line refl (λ e. cc)
 
-over_same : (d : Declaration) (a b : CapLimit) (m n : ℕ) → IsOver a m d → IsOver b n d → OverLimit a m ≡ OverLimit b n
+over_same : (d : Declaration) (a b : CapLimit) (m n : ℕ) → PassesLimitOf a m d → PassesLimitOf b n d → OverLimit a m ≡ OverLimit b n
 over_same d flex_limit flex_limit m n x y = let same : m ≡ n = x.1 ∙ sym y.1 in ap (λ (k : ℕ). OverLimit flex_limit k) same
 over_same d flex_limit Caps m n x y = absurd (omega (arith, x.0, y.0))
 over_same d flex_limit Windows m n x y = absurd (omega (arith, x.0, y.0))
@@ -113,7 +113,7 @@ over_same d Windows flex_limit m n x y = absurd (omega (arith, x.0, y.0))
 over_same d Windows Caps m n x y = absurd (omega (arith, x.1, y.1))
 over_same d Windows Windows m n x y = let same : m ≡ n = x.3 ∙ sym y.3 in ap (λ (k : ℕ). OverLimit Windows k) same
 
-over_limits : (d : Declaration) (name : CapLimit) (number : ℕ) → IsOver name number d → IsWithinLimits d → ⊥
+over_limits : (d : Declaration) (name : CapLimit) (number : ℕ) → PassesLimitOf name number d → IsWithinLimits d → ⊥
 over_limits d flex_limit number x within = omega (arith, x.0, within.flex)
 over_limits d Caps number x within = omega (arith, x.1, within.caps)
 over_limits d Windows number x within = omega (arith, x.2, within.windows)

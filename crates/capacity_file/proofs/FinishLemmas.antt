@@ -9,7 +9,7 @@ use Rattle.capacity_file.specs.Values.{IsCapacityLine}
 use Rattle.capacity_file.specs.Entries.{word_of}
 use Rattle.capacity_file.specs.Lines.{LineStates, IsStated, HasWord, LacksWord, IsSpoiled, IsClean}
 use Rattle.capacity_file.specs.Declares.{AreRules, Declares, IsWithinLimits, LinesDeclare}
-use Rattle.capacity_file.specs.Faults.{IsOver, LinesHaveFault}
+use Rattle.capacity_file.specs.Faults.{PassesLimitOf, LinesHaveFault}
 use Rattle.capacity_file.specs.Readings.{Unstated, Known, KnownFlex, Collected}
 use Rattle.capacity_file.specs.Needed.{AreNeeded, IsFirstMissing}
 use Rattle.capacity_file.specs.declared.draft.FlexLine.{FlexLine}
@@ -186,7 +186,7 @@ uneven lines s rules n k needed odd =
     })
 
 pub over : (lines : List (List ℕ)) (s : Singles) (rules : List Rule) (n : Needed) (name : CapLimit) (number : ℕ) → AllCollected lines s rules → AreNeeded s n → n.flex.minutes % n.step ≡ 0
-    → IsOver name number (declared n s.night (unwrap_or s.share 50) rules) → LinesHaveFault lines (OverLimit name number)
+    → PassesLimitOf name number (declared n s.night (unwrap_or s.share 50) rules) → LinesHaveFault lines (OverLimit name number)
 over lines s rules n name number k needed even passed =
     record {
       clean = all_clean lines s rules k;

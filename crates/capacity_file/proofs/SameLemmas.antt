@@ -12,9 +12,9 @@ use Rattle.season_days.specs.declared.declaration.Kind.TheVariants.{Arr, Dep, To
 use Rattle.season_days.specs.declared.declaration.Rule.{Rule}
 use Rattle.season_days.specs.declared.declaration.Night.{Night}
 use Rattle.schedule_text.specs.Times.{time_text}
-use Rattle.capacity_file.specs.Values.{is_step, IsPrice, kind_text, price_text}
+use Rattle.capacity_file.specs.Values.{is_step, IsRefusalPrice, kind_text, price_text}
 use Rattle.capacity_file.specs.Words.{word_text}
-use Rattle.capacity_file.specs.Entries.{word_of, IsAllowed, AreValues, IsEmpty, States}
+use Rattle.capacity_file.specs.Entries.{word_of, IsAllowedEntry, AreValues, IsEmpty, States}
 use Rattle.capacity_file.specs.declared.entry.Entry.{Entry}
 use Rattle.capacity_file.specs.declared.entry.Entry.TheVariants.{Airport, Season, Step, Flex, Ground, Share, Refuse, Night as night_entry, Cap}
 use Rattle.capacity_file.specs.declared.entry.Word.{Word}
@@ -92,7 +92,7 @@ none_no_number (b ∷ text) e x = let first : b ≡ 78 = ap (λ (l : List ℕ). 
 number_same : (a b : ℕ) → a < 2 ^ 64 → b < 2 ^ 64 → decimal a ≡ decimal b → a ≡ b
 number_same a b x y e = decimal_injective a b x y e
 
-price_same : (a b : Option ℕ) → ((n : ℕ) → a ≡ Some n → IsPrice n) → ((n : ℕ) → b ≡ Some n → IsPrice n) → price_text a ≡ price_text b → a ≡ b
+price_same : (a b : Option ℕ) → ((n : ℕ) → a ≡ Some n → IsRefusalPrice n) → ((n : ℕ) → b ≡ Some n → IsRefusalPrice n) → price_text a ≡ price_text b → a ≡ b
 price_same None None x y e = refl
 price_same None (Some n) x y e = absurd (none_no_number (decimal n) (sym e) (begins_decimal n (omega (arith, (y n refl).1))))
 price_same (Some n) None x y e = absurd (none_no_number (decimal n) e (begins_decimal n (omega (arith, (x n refl).1))))
@@ -124,7 +124,7 @@ rule_same a b k n f t d l =
 one_same : (x y : List ℕ) (fields : List (List ℕ)) → fields ≡ x ∷ [] → fields ≡ y ∷ [] → x ≡ y
 one_same x y fields e f = cc
 
-pub entry_same : (a b : Entry) (fields : List (List ℕ)) → word_of a ≡ word_of b → IsAllowed a → IsAllowed b → AreValues a fields → AreValues b fields → a ≡ b
+pub entry_same : (a b : Entry) (fields : List (List ℕ)) → word_of a ≡ word_of b → IsAllowedEntry a → IsAllowedEntry b → AreValues a fields → AreValues b fields → a ≡ b
 entry_same (Airport a) (Airport b) fields w x y e f = ap (λ (l : List ℕ). Airport (record { 0 = l })) (one_same a.0 b.0 fields e f)
 entry_same (Season a) (Season b) fields w x y e f = ap (λ (t : Term). Season t) (season_same a b x y (one_same _ _ fields e f))
 entry_same (Step a) (Step b) fields w x y e f = ap (λ (n : ℕ). Step n) (number_same a b (omega (arith, step_small a x)) (omega (arith, step_small b y)) (one_same _ _ fields e f))

@@ -3,11 +3,11 @@ use Rattle.std.specs.Prelude.{◌≡◌, ◌⊎◌, ℕ, ◌%◌, ◌<◌, ◌�
 use Rattle.std.specs.Option.{ForSome}
 use Rattle.slot_text.specs.Lines.{lines_of}
 use Rattle.slot_text.specs.Stations.{IsStation}
-use Rattle.season_days.specs.Capacity.{capacity_of, resource_count}
+use Rattle.season_days.specs.Capacity.{capacity_of, declared_resources}
 use Rattle.season_days.specs.declared.declaration.Declaration.{Declaration}
 use Rattle.season_days.specs.declared.declaration.Rule.{Rule}
 use Rattle.season_days.specs.declared.declaration.TheConstants.{MINUTES_OF_DAY, MOST_RULES, MOST_WINDOWS}
-use Rattle.capacity_file.specs.Values.{is_step, IsPrice, IsNight, IsCapacityLine}
+use Rattle.capacity_file.specs.Values.{is_step, IsRefusalPrice, IsNight, IsCapacityLine}
 use Rattle.capacity_file.specs.Entries.{States}
 use Rattle.capacity_file.specs.Lines.{IsStated, LacksWord, IsClean}
 use Rattle.capacity_file.specs.declared.limits.TheConstants.{MOST_FLEX, USUAL_SHARE}
@@ -45,7 +45,7 @@ pub record AreWithinLimits (minutes lines resources : ℕ) : Type 0 where
   pub windows : resources ≤ MOST_WINDOWS
 
 abbrev pub IsWithinLimits : Declaration → Type 0
-IsWithinLimits d = AreWithinLimits d.flex (length d.rules) (resource_count (capacity_of d))
+IsWithinLimits d = AreWithinLimits d.flex (length d.rules) (declared_resources (capacity_of d))
 
 -- the lines make this declaration
 pub record LinesDeclare (lines : List (List ℕ)) (d : Declaration) : Type 0 where
@@ -67,6 +67,6 @@ pub record HasAllowedValues (d : Declaration) : Type 0 where
   pub flex : d.flex ≤ MOST_FLEX
   pub ground_time : d.ground ≤ MINUTES_OF_DAY
   pub share : d.share ≤ 100
-  pub refuse : ForSome d.refuse IsPrice
+  pub refuse : ForSome d.refuse IsRefusalPrice
   pub night : ForSome d.night IsNight
   pub rules : All IsCapacityLine d.rules

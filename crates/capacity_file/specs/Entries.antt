@@ -8,7 +8,7 @@ use Rattle.season_days.specs.Seasons.{season_text}
 use Rattle.season_days.specs.declared.declaration.TheConstants.{MINUTES_OF_DAY}
 use Rattle.schedule_text.specs.Days.{IsDays}
 use Rattle.schedule_text.specs.Times.{time_text}
-use Rattle.capacity_file.specs.Values.{is_step, IsPrice, IsNight, IsCapacityLine, kind_text, price_text}
+use Rattle.capacity_file.specs.Values.{is_step, IsRefusalPrice, IsNight, IsCapacityLine, kind_text, price_text}
 use Rattle.capacity_file.specs.Words.{word_text}
 use Rattle.capacity_file.specs.declared.limits.TheConstants.{MOST_BYTES}
 use Rattle.capacity_file.specs.declared.entry.Entry.{Entry}
@@ -28,16 +28,16 @@ word_of (Night night) = night_word
 word_of (Cap rule) = cap_word
 
 -- the values that a line may state. Whether a FLEX is a multiple of the STEP, and small, no line shows by itself
-abbrev pub IsAllowed : Entry → Type 0
-IsAllowed (Airport station) = IsStation station.0
-IsAllowed (Season season) = season.year < 100
-IsAllowed (Step n) = is_step n ≡ true
-IsAllowed (Flex n) = n < 2 ^ 64
-IsAllowed (Ground n) = n ≤ MINUTES_OF_DAY
-IsAllowed (Share n) = n ≤ 100
-IsAllowed (Refuse price) = ForSome price IsPrice
-IsAllowed (Night night) = IsNight night
-IsAllowed (Cap rule) = IsCapacityLine rule
+abbrev pub IsAllowedEntry : Entry → Type 0
+IsAllowedEntry (Airport station) = IsStation station.0
+IsAllowedEntry (Season season) = season.year < 100
+IsAllowedEntry (Step n) = is_step n ≡ true
+IsAllowedEntry (Flex n) = n < 2 ^ 64
+IsAllowedEntry (Ground n) = n ≤ MINUTES_OF_DAY
+IsAllowedEntry (Share n) = n ≤ 100
+IsAllowedEntry (Refuse price) = ForSome price IsRefusalPrice
+IsAllowedEntry (Night night) = IsNight night
+IsAllowedEntry (Cap rule) = IsCapacityLine rule
 
 -- the fields behind the word spell these values
 abbrev pub AreValues : Entry → List (List ℕ) → Type 0
@@ -70,5 +70,5 @@ pub record States (line : List ℕ) (entry : Entry) : Type 0 where
   pub tight : IsTight line
   pub values : List (List ℕ)
   pub fields : fields_of line ≡ word_text (word_of entry) ∷ values
-  pub allowed : IsAllowed entry
+  pub allowed : IsAllowedEntry entry
   pub spelled : AreValues entry values

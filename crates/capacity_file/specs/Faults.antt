@@ -1,7 +1,7 @@
 -- Why a text is no capacity file: the first cause in the order that is told here.
 use Rattle.std.specs.Prelude.{◌≡◌, ◌⊎◌, ℕ, ◌<◌, ◌≤◌, List, [], ◌∷◌, length, All}
 use Rattle.slot_text.specs.Lines.{lines_of}
-use Rattle.season_days.specs.Capacity.{capacity_of, resource_count}
+use Rattle.season_days.specs.Capacity.{capacity_of, declared_resources}
 use Rattle.season_days.specs.declared.declaration.Declaration.{Declaration}
 use Rattle.season_days.specs.declared.declaration.TheConstants.{MOST_RULES, MOST_WINDOWS}
 use Rattle.capacity_file.specs.Lines.{LineStates, HasWord, LacksWord, IsBad, IsRepeat, IsCleanBefore, IsClean}
@@ -49,8 +49,8 @@ PassesLimit flex_limit number minutes lines resources = (MOST_FLEX < minutes) ×
 PassesLimit Caps number minutes lines resources = (minutes ≤ MOST_FLEX) × (MOST_RULES < lines) × (number ≡ lines)
 PassesLimit Windows number minutes lines resources = (minutes ≤ MOST_FLEX) × (lines ≤ MOST_RULES) × (MOST_WINDOWS < resources) × (number ≡ resources)
 
-abbrev pub IsOver : CapLimit → ℕ → Declaration → Type 0
-IsOver name number d = PassesLimit name number d.flex (length d.rules) (resource_count (capacity_of d))
+abbrev pub PassesLimitOf : CapLimit → ℕ → Declaration → Type 0
+PassesLimitOf name number d = PassesLimit name number d.flex (length d.rules) (declared_resources (capacity_of d))
 
 -- ---- the causes, in order: the lowest line that is bad or a repetition; a word that is missing; a flexibility that is no
 -- whole number of steps, which is a fault of its line; a limit
@@ -67,7 +67,7 @@ pub record IsOverLimit (lines : List (List ℕ)) (name : CapLimit) (number : ℕ
   pub d : Declaration
   pub declares : Declares lines d
   pub even : IsWholeSteps d
-  pub over : IsOver name number d
+  pub over : PassesLimitOf name number d
 
 abbrev pub LinesHaveFault : List (List ℕ) → CapFault → Type 0
 LinesHaveFault lines (BadLine number) = (IsCleanBefore lines number × IsBad lines number) ⊎ IsBrokenStep lines number
@@ -77,5 +77,5 @@ LinesHaveFault lines (OverLimit name number) = IsOverLimit lines name number
 LinesHaveFault lines Memory = ⊥
 
 -- the fault that the text has
-abbrev pub HasFault : List ℕ → CapFault → Type 0
-HasFault text fault = LinesHaveFault (lines_of text) fault
+abbrev pub HasCapacityFault : List ℕ → CapFault → Type 0
+HasCapacityFault text fault = LinesHaveFault (lines_of text) fault

@@ -2,7 +2,7 @@
 use Rattle.std.specs.Prelude.{◌≡◌, ◌≢◌, ℕ, suc, ◌≤◌, List, ◌++◌, drop, Option, Some, None}
 use Rattle.season_days.specs.declared.declaration.Rule.{Rule}
 use Rattle.capacity_file.specs.Words.{word_text}
-use Rattle.capacity_file.specs.Entries.{word_of, IsAllowed, AreValues, IsEmpty, States}
+use Rattle.capacity_file.specs.Entries.{word_of, IsAllowedEntry, AreValues, IsEmpty, States}
 use Rattle.capacity_file.specs.Lines.{LineStates, IsCleanBefore}
 use Rattle.capacity_file.specs.Declares.{AreRules}
 use Rattle.capacity_file.specs.declared.draft.FlexLine.{FlexLine}
@@ -16,24 +16,24 @@ use Rattle.capacity_file.specs.declared.entry.Word.TheVariants.{Airport as airpo
 
 -- the value that fields spell; where there is none, they spell none that is allowed
 abbrev pub IsValueOf : {X : Type 0} → (X → Entry) → List (List ℕ) → Option X → Type 0
-IsValueOf {X} make fields None = (x : X) → IsAllowed (make x) → AreValues (make x) fields → ⊥
-IsValueOf {X} make fields (Some x) = IsAllowed (make x) × AreValues (make x) fields
+IsValueOf {X} make fields None = (x : X) → IsAllowedEntry (make x) → AreValues (make x) fields → ⊥
+IsValueOf {X} make fields (Some x) = IsAllowedEntry (make x) × AreValues (make x) fields
 
 -- the entry of a word whose values the fields spell
 abbrev pub IsEntryOf : Word → List (List ℕ) → Option Entry → Type 0
-IsEntryOf word fields None = (entry : Entry) → word_of entry ≡ word → IsAllowed entry → AreValues entry fields → ⊥
-IsEntryOf word fields (Some entry) = (word_of entry ≡ word) × IsAllowed entry × AreValues entry fields
+IsEntryOf word fields None = (entry : Entry) → word_of entry ≡ word → IsAllowedEntry entry → AreValues entry fields → ⊥
+IsEntryOf word fields (Some entry) = (word_of entry ≡ word) × IsAllowedEntry entry × AreValues entry fields
 
 -- the entry of a line, by its first field and the others
 abbrev pub IsEntry : List ℕ → List (List ℕ) → Option Entry → Type 0
-IsEntry first fields None = (entry : Entry) → first ≡ word_text (word_of entry) → IsAllowed entry → AreValues entry fields → ⊥
-IsEntry first fields (Some entry) = (first ≡ word_text (word_of entry)) × IsAllowed entry × AreValues entry fields
+IsEntry first fields None = (entry : Entry) → first ≡ word_text (word_of entry) → IsAllowedEntry entry → AreValues entry fields → ⊥
+IsEntry first fields (Some entry) = (first ≡ word_text (word_of entry)) × IsAllowedEntry entry × AreValues entry fields
 
 -- what a line is by itself
-abbrev pub IsReading : List ℕ → Reading → Type 0
-IsReading line Empty = IsEmpty line
-IsReading line Bad = (IsEmpty line → ⊥) × ((entry : Entry) → States line entry → ⊥)
-IsReading line (Stated entry) = States line entry
+abbrev pub IsLineReading : List ℕ → Reading → Type 0
+IsLineReading line Empty = IsEmpty line
+IsLineReading line Bad = (IsEmpty line → ⊥) × ((entry : Entry) → States line entry → ⊥)
+IsLineReading line (Stated entry) = States line entry
 
 -- ---- what the first lines, so many, have stated
 

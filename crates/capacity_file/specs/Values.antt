@@ -5,15 +5,15 @@ use Rattle.season_days.specs.declared.declaration.Kind.{Kind}
 use Rattle.season_days.specs.declared.declaration.Kind.TheVariants.{Arr, Dep, Tot}
 use Rattle.season_days.specs.declared.declaration.Rule.{Rule}
 use Rattle.season_days.specs.declared.declaration.Night.{Night}
-use Rattle.season_days.specs.declared.declaration.TheConstants.{MINUTES_OF_DAY, HIGHEST_LIMIT, HIGHEST_NIGHT_LIMIT}
+use Rattle.season_days.specs.declared.declaration.TheConstants.{MINUTES_OF_DAY, HIGHEST_WINDOW_LIMIT, HIGHEST_NIGHT_LIMIT}
 
 -- the minutes between two times that may be offered
 abbrev pub is_step : ℕ → Bool
 is_step n = (n == 5) || ((n == 10) || ((n == 15) || ((n == 20) || ((n == 30) || (n == 60)))))
 
 -- the price of a refused movement on one date
-abbrev pub IsPrice : ℕ → Type 0
-IsPrice n = (1 ≤ n) × (n ≤ 9999)
+abbrev pub IsRefusalPrice : ℕ → Type 0
+IsRefusalPrice n = (1 ≤ n) × (n ≤ 9999)
 
 -- a night begins and ends at two different times of the day
 pub record IsNight (night : Night) : Type 0 where
@@ -30,7 +30,7 @@ pub record IsCapacityLine (rule : Rule) : Type 0 where
   pub in_day : rule.to < MINUTES_OF_DAY
   pub some_weekday : 1 ≤ rule.days
   pub week : rule.days < 128
-  pub limit : rule.limit ≤ HIGHEST_LIMIT
+  pub limit : rule.limit ≤ HIGHEST_WINDOW_LIMIT
 
 -- ---- as text
 

@@ -8,7 +8,7 @@ use crate::fields::{last_field, night_fields, rule_fields};
 use crate::values::{is_allowed_step, read_kind, read_minute, read_number};
 use crate::words::read_word;
 use schedule_text::read_weekdays;
-use season_days::{HIGHEST_LIMIT, HIGHEST_NIGHT_LIMIT, MINUTES_OF_DAY, Night, Rule, Season};
+use season_days::{HIGHEST_WINDOW_LIMIT, HIGHEST_NIGHT_LIMIT, MINUTES_OF_DAY, Night, Rule, Season};
 use slot_text::{Station, read_u64};
 
 /// The entry whose word this is, with the values in the fields of the rest.
@@ -110,7 +110,7 @@ fn read_rule(rest: &[u8]) -> Option<Rule>
         from: read_minute(fields.from)?,
         to: read_minute(fields.to)?,
         days: read_weekdays(fields.days)?,
-        limit: read_number(fields.limit, HIGHEST_LIMIT)?,
+        limit: read_number(fields.limit, HIGHEST_WINDOW_LIMIT)?,
     };
     if is_usable(&rule) { Some(rule) } else { None }
 }

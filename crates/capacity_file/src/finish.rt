@@ -1,7 +1,7 @@
 ghost use Rattle.std.specs.Prelude.{◌≡◌, ℕ, ◌<◌, List, length, Some, MatchResult, MatchOption, All};
 ghost use Rattle.std.specs.Option.{ForSome};
 ghost use Rattle.slot_text.specs.Reads.{AnswersBy};
-ghost use Rattle.season_days.specs.Capacity.{resource_count};
+ghost use Rattle.season_days.specs.Capacity.{declared_resources};
 ghost use Rattle.capacity_file.specs.Values.{IsCapacityLine};
 ghost use Rattle.capacity_file.specs.Declares.{LinesDeclare, AreWithinLimits};
 ghost use Rattle.capacity_file.specs.Faults.{LinesHaveFault, PassesLimit};
@@ -77,7 +77,7 @@ fn needed_of(singles: &Singles) -> Result<Needed, CapWord>
 fn passed_limit(needed: &Needed, night: &Option<Night>, rules: &[Rule]) -> Option<(CapLimit, u64)>
     requires step { 0 < needed.now.step }
     requires rules { All IsCapacityLine rules.now }
-    ensures { let windows = resource_count (record { season = needed.now.season; step = needed.now.step; night = night.now; rules = rules.now }) in
+    ensures { let windows = declared_resources (record { season = needed.now.season; step = needed.now.step; night = night.now; rules = rules.now }) in
         MatchOption result (AreWithinLimits needed.now.flex.minutes (length rules.now) windows) (λ x. PassesLimit x.0 x.1 needed.now.flex.minutes (length rules.now) windows) }
 {
     if needed.flex.minutes > MOST_FLEX {

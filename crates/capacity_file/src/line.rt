@@ -1,7 +1,7 @@
 ghost use Rattle.std.specs.Prelude.{◌≡◌, ◌↔◌, IsTrue};
 ghost use Rattle.slot_text.specs.Fields.{is_blank};
 ghost use Rattle.capacity_file.specs.Entries.{IsTight};
-ghost use Rattle.capacity_file.specs.Readings.{IsReading};
+ghost use Rattle.capacity_file.specs.Readings.{IsLineReading};
 
 use crate::entries::read_entry;
 use crate::entry::Entry;
@@ -18,7 +18,7 @@ pub(crate) enum Reading {
 
 /// What a line is by itself.
 pub(crate) fn read_line(line: &[u8]) -> Reading
-    ensures { IsReading line.now result }
+    ensures { IsLineReading line.now result }
 {
     let Some((word, rest)) = split_field(line) else {
         return Reading::Empty;

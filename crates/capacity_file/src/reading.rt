@@ -4,7 +4,7 @@ ghost use Rattle.slot_text.specs.Reads.{GivesOr};
 ghost use Rattle.season_days.specs.Capacity.{capacity_of, IsCapacity};
 ghost use Rattle.season_days.specs.declared.declaration.Declaration.{Declaration as DeclarationValue};
 ghost use Rattle.capacity_file.specs.Declares.{IsCapacityFile, HasAllowedValues};
-ghost use Rattle.capacity_file.specs.Faults.{HasFault};
+ghost use Rattle.capacity_file.specs.Faults.{HasCapacityFault};
 ghost use Rattle.capacity_file.specs.Readings.{Collected};
 ghost use Rattle.capacity_file.specs.declared.fault.CapFault.{CapFault as CapFaultValue};
 ghost use Rattle.capacity_file.specs.declared.fault.CapFault.TheVariants.{Memory as NoMemory};
@@ -27,9 +27,9 @@ pub fn read_capacity(alloc: Global, bytes: &[u8]) -> Result<Declaration, CapFaul
     // What the text declares is read, unless memory runs out.
     ensures only { (d : DeclarationValue) → IsCapacityFile bytes.now d → GivesOr NoMemory result (Ok d) }
     // A fault is one that the text has.
-    ensures fault { IfErr result (λ e. HasFault bytes.now e ⊎ (e ≡ NoMemory)) }
+    ensures fault { IfErr result (λ e. HasCapacityFault bytes.now e ⊎ (e ≡ NoMemory)) }
     // The fault that the text has is answered, unless memory runs out.
-    ensures exact { (e : CapFaultValue) → HasFault bytes.now e → GivesOr NoMemory result (Err e) }
+    ensures exact { (e : CapFaultValue) → HasCapacityFault bytes.now e → GivesOr NoMemory result (Err e) }
     // What is read keeps the limits that the windows of a declaration ask for.
     ensures capacity { IfOk result (λ d. IsCapacity (capacity_of d)) }
     // Its values are those that a file may state.
@@ -42,7 +42,7 @@ pub fn read_capacity(alloc: Global, bytes: &[u8]) -> Result<Declaration, CapFaul
 /// What all lines state.
 fn collect(alloc: Global, bytes: &[u8]) -> Result<Draft, CapFault>
     requires { length bytes.now < 2 ^ 32 }
-    ensures { MatchResult result (λ draft. Collected (lines_of bytes.now) (length (lines_of bytes.now)) draft.singles draft.rules.items) (λ e. HasFault bytes.now e ⊎ (e ≡ NoMemory)) }
+    ensures { MatchResult result (λ draft. Collected (lines_of bytes.now) (length (lines_of bytes.now)) draft.singles draft.rules.items) (λ e. HasCapacityFault bytes.now e ⊎ (e ≡ NoMemory)) }
 {
     let mut draft = Draft::new(alloc);
     let mut lines = Lines::new(bytes);

@@ -1,5 +1,5 @@
 ghost use Rattle.std.specs.Prelude.{◌≡◌, ◌≤◌, ◌<◌, ◌*◌, length, All};
-ghost use Rattle.season_days.specs.Capacity.{resource_count, starts_of};
+ghost use Rattle.season_days.specs.Capacity.{declared_resources, starts_of};
 ghost use Rattle.capacity_file.specs.Values.{IsCapacityLine};
 
 use season_days::{Night, Rule, Season};
@@ -14,7 +14,7 @@ pub(crate) fn count_windows(
     requires step { 0 < step }
     requires few { length rules.now ≤ 64 }
     requires rules { All IsCapacityLine rules.now }
-    ensures { result ≡ resource_count (record { season = season.now; step = step; night = night.now; rules = rules.now }) }
+    ensures { result ≡ declared_resources (record { season = season.now; step = step; night = night.now; rules = rules.now }) }
 {
     let days = season.length();
     let mut count: u64 = 0;

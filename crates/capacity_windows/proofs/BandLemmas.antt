@@ -10,9 +10,9 @@ use Rattle.season_days.specs.Seasons.{date_count, is_on}
 use Rattle.season_days.specs.declared.day.Period.{Period}
 use Rattle.season_days.proofs.SeasonLemmas.{is_on-week, is_on-every}
 use Rattle.capacity_windows.specs.declared.band.Band.{Band}
-use Rattle.choice_problem.specs.Sums.{count_below}
+use Rattle.finite_sums.specs.Sums.{count_below}
 use Rattle.capacity_windows.specs.Bands.{is_date, is_in_band, uses_band, weekday_uses, band_uses, first_date, end_date}
-use Rattle.choice_problem.proofs.SumLemmas.{count_below-same, count_below-none}
+use Rattle.finite_sums.proofs.SumLemmas.{count_below-same, count_below-none}
 use Rattle.capacity_windows.proofs.CountLemmas.{one_if, count_below-parts, class_first, class_times, class_test, count_below-class}
 
 -- the test of a resource, for the dates of the weekday of a first date

@@ -2,8 +2,8 @@
 use Rattle.std.proofs.Common.{◌≡◌, ℕ, zero, suc, ◌+◌, ◌-◌, ◌*◌, ◌/◌, ◌%◌, ◌<◌, ◌≤◌, min, Bool, false, ◌&&◌, leb, ltb, eqb, cond, refl, sym, ◌∙◌, ap, arith}
 use Rattle.std.proofs.lemmas.Bool.{lt-ltb, le-ltb, le-leb, lt-leb, eq-eqb, ne_eqb, cases_lt, cases_eq, and_left, and_right}
 use Rattle.std.proofs.Common.{inl, inr}
-use Rattle.choice_problem.proofs.SumLemmas.{sum_below-same, sum_below-add}
-use Rattle.choice_problem.specs.Sums.{count_below}
+use Rattle.finite_sums.proofs.SumLemmas.{sum_below-same, sum_below-add}
+use Rattle.finite_sums.specs.Sums.{count_below}
 
 -- a test counts as 1 where it passes
 abbrev pub one_if : Bool → ℕ

@@ -2,8 +2,8 @@
 use Rattle.std.proofs.Common.{◌≡◌, ℕ, zero, suc, ◌+◌, ◌*◌, ◌≤◌, ◌<◌, Bool, true, false, ◌&&◌, ap, arith, List, [], ◌∷◌, length, take, get_or}
 use Rattle.std.specs.Prelude.{if◌then◌else◌, sum_by}
 use Rattle.std.proofs.lemmas.List.Sums.{sum_by-cons, sum_by_more}
-use Rattle.choice_problem.specs.Sums.{count_below}
-use Rattle.choice_problem.proofs.SumLemmas.{count_below-le}
+use Rattle.finite_sums.specs.Sums.{count_below}
+use Rattle.finite_sums.proofs.SumLemmas.{count_below-le}
 use Rattle.season_days.specs.Seasons.{date_count}
 use Rattle.season_days.specs.declared.day.Period.{Period}
 use Rattle.season_days.specs.declared.declaration.Kind.{Kind}

@@ -7,9 +7,9 @@ use Rattle.std.proofs.lemmas.Bool.Decides.{nat_tests}
 use Rattle.season_days.specs.Seasons.{days_from, is_on, date_count, dates_of}
 use Rattle.season_days.specs.Term.{Term}
 use Rattle.season_days.specs.declared.day.Period.{Period}
-use Rattle.choice_problem.specs.Sums.{count_below}
+use Rattle.finite_sums.specs.Sums.{count_below}
 use Rattle.capacity_windows.specs.Bands.{is_date}
-use Rattle.choice_problem.proofs.SumLemmas.{count_below-same, count_below-none}
+use Rattle.finite_sums.proofs.SumLemmas.{count_below-same, count_below-none}
 use Rattle.capacity_windows.proofs.CountLemmas.{one_if, count_below-parts}
 
 -- one number

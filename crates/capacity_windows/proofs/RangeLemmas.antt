@@ -4,14 +4,14 @@ use Rattle.std.specs.Prelude.{All, sum_by, is_some, if◌then◌else◌}
 use Rattle.std.proofs.lemmas.Bool.{lt-ltb, le-ltb, le-leb, cases_lt, ne_eqb}
 use Rattle.std.proofs.lemmas.List.Sums.{sum_by-cons, get_or-le-sum_by}
 use Rattle.choice_problem.specs.declared.strips.Strip.{Strip}
-use Rattle.choice_problem.proofs.SumLemmas.{sum_below-more_le}
+use Rattle.finite_sums.proofs.SumLemmas.{sum_below-more_le}
 use Rattle.choice_problem.specs.Strips.{run_start, is_in_run, strip_uses, part_uses, IsPartInRange}
 use Rattle.season_days.specs.declared.declaration.Night.{Night}
 use Rattle.season_days.specs.declared.declaration.Rule.{Rule}
 use Rattle.capacity_windows.specs.declared.movement.Movement.{Movement}
 use Rattle.capacity_windows.specs.declared.resource.Resource.{Resource}
 use Rattle.capacity_windows.specs.declared.resource.Resource.TheVariants.{Nothing}
-use Rattle.capacity_windows.specs.Windows.{Capacity, windows_of, quota_from, resource_from, resource_count, holds, resource_load, window_load}
+use Rattle.capacity_windows.specs.Windows.{Capacity, windows_of, quota_from, resource_from, declared_resources, holds, resource_load, window_load}
 use Rattle.capacity_windows.specs.Bands.{IsWide}
 use Rattle.capacity_windows.proofs.CountLemmas.{one_if}
 use Rattle.capacity_windows.proofs.RestLemmas.{count_by-none}
@@ -45,5 +45,5 @@ past_last c (rule ∷ rules) r le =
     let sum = sum_by-cons (windows_of c) rule rules in
     rw (le-ltb r (windows_of c rule) (omega (arith, sum, le))) (past_last c rules (r - windows_of c rule) (omega (arith, sum, le)))
 
-pub load_past : (c : Capacity) (list : List Movement) (r : ℕ) → resource_count c ≤ r → window_load c list r ≡ 0
+pub load_past : (c : Capacity) (list : List Movement) (r : ℕ) → declared_resources c ≤ r → window_load c list r ≡ 0
 load_past c list r le = ap (λ (q : Resource). resource_load c q list) (past_last c c.rules r le) ∙ count_by-none (holds c Nothing) list (λ _. refl)

@@ -17,7 +17,7 @@ use Rattle.capacity_windows.specs.declared.movement.Movement.{Movement}
 use Rattle.capacity_windows.specs.declared.resource.Resource.TheVariants.{Quota, Nothing}
 use Rattle.capacity_windows.specs.Windows.{Capacity, windows_of, holds, window_load, resource_load, resource_from, quota_from, is_at_night, movement_on, stop_movements}
 use Rattle.capacity_windows.specs.Bands.{is_date, listed_dates, rule_load, rest_load}
-use Rattle.choice_problem.proofs.SumLemmas.{count_below-same, count_below-none, count_below-all}
+use Rattle.finite_sums.proofs.SumLemmas.{count_below-same, count_below-none, count_below-all}
 use Rattle.capacity_windows.proofs.CountLemmas.{one_if}
 use Rattle.capacity_windows.proofs.LoadLemmas.{count_dates}
 

@@ -13,7 +13,7 @@ use Rattle.capacity_windows.specs.declared.resource.Resource.TheVariants.{Window
 use Rattle.capacity_windows.specs.Windows.{Capacity, IsRule, starts_of, windows_of, start_of, holds, resource_load, is_of_kind, movement_on, stop_movements}
 use Rattle.capacity_windows.specs.Bands.{starts_until, is_date, is_in_band, uses_band, band_uses, band_of, rule_load, IsBand}
 use Rattle.capacity_windows.proofs.LoadLemmas.{count_dates}
-use Rattle.choice_problem.proofs.SumLemmas.{count_below-none}
+use Rattle.finite_sums.proofs.SumLemmas.{count_below-none}
 use Rattle.capacity_windows.proofs.CountLemmas.{one_if, count_below-parts}
 
 -- the starts up to a minute

@@ -11,7 +11,7 @@ use Rattle.season_days.specs.declared.declaration.TheConstants.{MINUTES_OF_DAY, 
 use Rattle.capacity_windows.specs.declared.movement.Movement.{Movement}
 use Rattle.capacity_windows.specs.declared.series.Series.{Series}
 use Rattle.capacity_windows.specs.declared.resource.Resource.TheVariants.{Window}
-use Rattle.choice_problem.specs.Sums.{count_below}
+use Rattle.finite_sums.specs.Sums.{count_below}
 use Rattle.capacity_windows.specs.Windows.{Capacity, starts_of, windows_of, resource_from, resource_load, stop_movements}
 
 -- a strip with at least one resource a run

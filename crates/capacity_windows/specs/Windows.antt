@@ -12,7 +12,7 @@ use Rattle.capacity_windows.specs.Counts.{numbers_below}
 use Rattle.capacity_windows.specs.declared.movement.Movement.{Movement}
 use Rattle.capacity_windows.specs.declared.resource.Resource.{Resource}
 use Rattle.capacity_windows.specs.declared.resource.Resource.TheVariants.{Window, Quota, Nothing}
-pub use Rattle.season_days.specs.Capacity.{Capacity, capacity_of, start_of, starts_of, windows_of, resource_count, IsRule, IsCapacity}
+pub use Rattle.season_days.specs.Capacity.{Capacity, capacity_of, start_of, starts_of, windows_of, declared_resources, IsRule, IsCapacity}
 
 -- ---- numbers: the windows capacity line by capacity line, day by day and start by start, and then the night quota
 
@@ -94,7 +94,7 @@ window_load c list r = resource_load c (resource_at c r) list
 
 -- no resource holds more than it may
 abbrev pub WindowsFit : Capacity → List Movement → Type 0
-WindowsFit c list = (r : ℕ) → r < resource_count c → window_load c list r ≤ window_limit c r
+WindowsFit c list = (r : ℕ) → r < declared_resources c → window_load c list r ≤ window_limit c r
 
 -- the movements of a stop of one kind and minute: one for each date of a period, some days later
 abbrev pub movement_on : Kind → ℕ → ℕ → ℕ → Movement

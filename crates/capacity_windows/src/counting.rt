@@ -2,7 +2,7 @@
 
 ghost use Rattle.std.specs.Prelude.{◌≡◌, ◌<◌, ◌≤◌, ◌^◌, IfOk, OnOk, length};
 ghost use Rattle.season_days.specs.declared.declaration.TheConstants.{MINUTES_OF_DAY};
-ghost use Rattle.capacity_windows.specs.Windows.{is_of_kind, is_within, is_at_night, holds, window_load, resource_at, resource_count, uses_below};
+ghost use Rattle.capacity_windows.specs.Windows.{is_of_kind, is_within, is_at_night, holds, window_load, resource_at, declared_resources, uses_below};
 ghost use Rattle.capacity_windows.specs.Kept.{IsResource};
 
 use crate::movement::Movement;
@@ -56,7 +56,7 @@ impl Windows {
     /// of memory.
     pub fn uses_of(&self, alloc: Global, movement: Movement) -> Result<Vec<u32>, Memory>
         requires minute { movement.minute < MINUTES_OF_DAY }
-        ensures value { IfOk result (λ uses. uses.items ≡ uses_below self.now movement (resource_count self.now)) }
+        ensures value { IfOk result (λ uses. uses.items ≡ uses_below self.now movement (declared_resources self.now)) }
     {
         let mut uses = Vec::new(alloc);
         if !self.is_listed(movement.day) {

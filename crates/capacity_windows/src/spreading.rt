@@ -7,7 +7,7 @@ ghost use Rattle.choice_problem.specs.Strips.{part_uses, IsPartInRange};
 ghost use Rattle.season_days.specs.Seasons.{date_count};
 ghost use Rattle.season_days.specs.declared.declaration.Kind.{Kind};
 ghost use Rattle.season_days.specs.declared.declaration.TheConstants.{MINUTES_OF_DAY, MOST_WINDOWS};
-ghost use Rattle.capacity_windows.specs.Windows.{IsRule, windows_of, window_load, stop_movements, resource_count, band_strips, rule_strips, most_strips};
+ghost use Rattle.capacity_windows.specs.Windows.{IsRule, windows_of, window_load, stop_movements, declared_resources, band_strips, rule_strips, most_strips};
 ghost use Rattle.capacity_windows.specs.Bands.{Adds, IsBand, IsSeries, series_of, starts_until, band_of, band_uses, weekday_uses, rule_load, rest_load, listed_dates, option_uses, first_date, end_date, IsWide, IsOptionWide};
 
 use crate::band::Band;
@@ -45,7 +45,7 @@ impl Windows {
         requires first { period.first.0 < date_count self.now.season }
         requires last { period.last.0 < date_count self.now.season }
         ensures uses { IfOk result (λ part. (r : ℕ) → part_uses part r ≡ window_load self.now (stop_movements self.now kind minute later period) r) }
-        ensures range { IfOk result (λ part. IsPartInRange (resource_count self.now) part) }
+        ensures range { IfOk result (λ part. IsPartInRange (declared_resources self.now) part) }
         ensures few_uses { IfOk result (λ part. (r : ℕ) → part_uses part r ≤ 217) }
         ensures few { IfOk result (λ part. length part ≤ most_strips self.now kind period) }
         ensures few_ever { IfOk result (λ part. length part ≤ 14 * length self.now.rules + 1) }

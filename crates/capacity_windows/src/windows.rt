@@ -4,7 +4,7 @@ ghost use Rattle.season_days.specs.Seasons.{date_count, is_on};
 ghost use Rattle.season_days.specs.declared.declaration.Night.{Night};
 ghost use Rattle.season_days.specs.declared.declaration.Rule.{Rule};
 ghost use Rattle.season_days.specs.declared.declaration.TheConstants.{MINUTES_OF_DAY, MOST_WINDOWS, HIGHEST_NIGHT_LIMIT};
-ghost use Rattle.capacity_windows.specs.Windows.{Capacity, IsCapacity, IsRule, capacity_of, starts_of, windows_of, first_of, resource_count, resource_at, window_limit, start_of};
+ghost use Rattle.capacity_windows.specs.Windows.{Capacity, IsCapacity, IsRule, capacity_of, starts_of, windows_of, first_of, declared_resources, resource_at, window_limit, start_of};
 ghost use Rattle.capacity_windows.specs.Kept.{IsResource};
 ghost use Rattle.capacity_windows.specs.declared.resource.Resource.TheVariants.{Window, Quota};
 
@@ -66,7 +66,7 @@ impl Windows {
 
     /// How many resources there are, the night quota counted.
     pub fn resources(&self) -> u32
-        ensures count { result ≡ resource_count self.now }
+        ensures count { result ≡ declared_resources self.now }
         ensures few { result ≤ MOST_WINDOWS }
     {
         self.resources

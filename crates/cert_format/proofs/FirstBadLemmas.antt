@@ -10,7 +10,7 @@ use Rattle.cert_format.specs.declared.cert.StageCert.{StageCert}
 use Rattle.cert_format.specs.declared.cert.Certificate.{Certificate}
 use Rattle.cert_format.specs.declared.fault.CertFault.{CertFault}
 use Rattle.cert_format.specs.declared.fault.CertFault.TheVariants.{BadLine, Memory}
-use Rattle.cert_format.specs.Lines.{Word, onto_line, onto_lines, cert_lines_of, line_text, text_of}
+use Rattle.cert_format.specs.Lines.{Word, onto_line, onto_lines, cert_lines_of, spelled_line, text_of}
 use Rattle.cert_format.specs.Spots.{Spot, Gives}
 use Rattle.cert_format.specs.Reading.{cert_at, cert_of, extra_at, extra_of}
 use Rattle.cert_format.specs.Spelling.{cert_lines, IsCert, extra_lines, IsExtra}
@@ -46,19 +46,19 @@ lines_words (b ∷ bytes) =
 
 -- a line with words has the bytes that its words spell
 Spelled : List ℕ → Type 0
-Spelled raw = HasWord (words_of raw) → line_text (words_of raw) ≡ raw
+Spelled raw = HasWord (words_of raw) → spelled_line (words_of raw) ≡ raw
 
-onto_spelled : (b : ℕ) (raw : List ℕ) (ws : Line) → (HasWord ws → line_text ws ≡ raw) → HasWord (onto_line b ws) → line_text (onto_line b ws) ≡ b ∷ raw
-unfolding line_text
+onto_spelled : (b : ℕ) (raw : List ℕ) (ws : Line) → (HasWord ws → spelled_line ws ≡ raw) → HasWord (onto_line b ws) → spelled_line (onto_line b ws) ≡ b ∷ raw
+unfolding spelled_line
 onto_spelled b raw [] h has = absurd (omega (arith, has))
 onto_spelled b raw (w ∷ ws) h has =
-    let so_far : line_text (w ∷ ws) ≡ raw = h (omega arith) in
+    let so_far : spelled_line (w ∷ ws) ≡ raw = h (omega arith) in
     elim (cases_Bool (eqb b 32)) [
       | inl blank ↦ rw blank (ap (λ (t : List ℕ). 32 ∷ t) so_far ∙ ap (λ (x : ℕ). x ∷ raw) (sym (eqb-true b 32 blank)))
       | inr byte ↦ rw byte (longer ws ∙ ap (λ (t : List ℕ). b ∷ t) so_far)
     ]
   where
-    longer : (vs : List Word) → line_text ((b ∷ w) ∷ vs) ≡ b ∷ line_text (w ∷ vs)
+    longer : (vs : List Word) → spelled_line ((b ∷ w) ∷ vs) ≡ b ∷ spelled_line (w ∷ vs)
     longer [] = refl
     longer (v ∷ vs) = refl
 
@@ -68,7 +68,7 @@ onto_all b [] other all = (rw other (λ has. onto_spelled b [] [] (λ none. absu
 onto_all b (raw ∷ raws) other all = (rw other (onto_spelled b raw (words_of raw) all.0), all.1)
 
 all_spelled : (bytes : List ℕ) → AllByRecursion Spelled (ended_lines bytes)
-unfolding ended_lines words_of Spelled line_text
+unfolding ended_lines words_of Spelled spelled_line
 all_spelled [] = tt
 all_spelled (b ∷ bytes) =
     elim (cases_Bool (eqb b 10)) [
@@ -81,17 +81,17 @@ take_all_of P zero xs all = tt
 take_all_of P (suc n) [] all = tt
 take_all_of P (suc n) (x ∷ xs) all = (all.0, take_all_of P n xs all.1)
 
-spelled_again : (raws : List (List ℕ)) → AllByRecursion Spelled raws → AllByRecursion HasWord (map words_of raws) → map line_text (map words_of raws) ≡ raws
+spelled_again : (raws : List (List ℕ)) → AllByRecursion Spelled raws → AllByRecursion HasWord (map words_of raws) → map spelled_line (map words_of raws) ≡ raws
 unfolding Spelled
 spelled_again [] all has = refl
 spelled_again (raw ∷ raws) all has = rw (all.0 has.0, spelled_again raws all.1 has.1) refl
 
 -- the first lines by their words
-front_bytes : (bytes : List ℕ) (k : ℕ) (good : List Line) → take k (cert_lines_of bytes) ≡ good → AllByRecursion HasWord good → take k (ended_lines bytes) ≡ map line_text good
+front_bytes : (bytes : List ℕ) (k : ℕ) (good : List Line) → take k (cert_lines_of bytes) ≡ good → AllByRecursion HasWord good → take k (ended_lines bytes) ≡ map spelled_line good
 front_bytes bytes k good e has =
     let raws : List (List ℕ) = take k (ended_lines bytes) in
     let words : map words_of raws ≡ good = sym (take-map words_of k (ended_lines bytes)) ∙ ap (take k) (sym (lines_words bytes)) ∙ e in
-    sym (spelled_again raws (take_all_of Spelled k (ended_lines bytes) (all_spelled bytes)) (subst (AllByRecursion HasWord) (sym words) has)) ∙ ap (map line_text) words
+    sym (spelled_again raws (take_all_of Spelled k (ended_lines bytes) (all_spelled bytes)) (subst (AllByRecursion HasWord) (sym words) has)) ∙ ap (map spelled_line) words
 
 front_words : (a b : List ℕ) (n : ℕ) → take n (ended_lines a) ≡ take n (ended_lines b) → take n (cert_lines_of a) ≡ take n (cert_lines_of b)
 front_words a b n same =

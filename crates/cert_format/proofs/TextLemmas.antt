@@ -6,7 +6,7 @@ use Rattle.std.specs.List.{AllByRecursion, list_all}
 use Rattle.std.proofs.lemmas.Bool.{cases_Bool, and_parts, eqb-true, eqb-false, ne_eqb}
 use Rattle.std.proofs.lemmas.List.{append-nil}
 use Rattle.std.proofs.lemmas.List.Concat.{flat_map-cons}
-use Rattle.cert_format.specs.Lines.{Word, onto_lines, cert_lines_of, line_text, text_of}
+use Rattle.cert_format.specs.Lines.{Word, onto_lines, cert_lines_of, spelled_line, text_of}
 use Rattle.choice_problem.specs.declared.vectors.Price.{Price}
 use Rattle.choice_problem.specs.declared.nodes.Node.{Node}
 use Rattle.choice_problem.specs.declared.nodes.Node.TheVariants.{Split, Leaf, Over, Undone}
@@ -35,45 +35,45 @@ word_front [] z v vs rest plain e = e
 word_front (b ∷ w) z v vs rest plain e =
     rw (ne_eqb b 10 plain.0.1, word_front w z v vs rest plain.1 e, ne_eqb b 32 plain.0.0) refl
 
-line_front : (ws : List Word) (rest : List ℕ) → IsLine ws → cert_lines_of (line_text ws ++ rest) ≡ ws ∷ cert_lines_of rest
-unfolding cert_lines_of line_text
+line_front : (ws : List Word) (rest : List ℕ) → IsLine ws → cert_lines_of (spelled_line ws ++ rest) ≡ ws ∷ cert_lines_of rest
+unfolding cert_lines_of spelled_line
 line_front [] rest is = absurd (omega (arith, is.0))
 line_front (w ∷ []) rest is =
     let end : cert_lines_of (10 ∷ rest) ≡ ([] ∷ []) ∷ cert_lines_of rest = refl in
     ap cert_lines_of (append_assoc w (10 ∷ []) rest) ∙ word_front w (10 ∷ rest) [] [] (cert_lines_of rest) is.1.0 end ∙ ap (λ (v : Word). (v ∷ []) ∷ cert_lines_of rest) (append-nil w)
 line_front (w ∷ v ∷ ws) rest is =
-    let tail : cert_lines_of (line_text (v ∷ ws) ++ rest) ≡ (v ∷ ws) ∷ cert_lines_of rest = line_front (v ∷ ws) rest (omega arith, is.1.1) in
-    let blank : cert_lines_of (32 ∷ (line_text (v ∷ ws) ++ rest)) ≡ ([] ∷ v ∷ ws) ∷ cert_lines_of rest = ap (onto_lines 32) tail in
-    ap cert_lines_of (append_assoc w (32 ∷ line_text (v ∷ ws)) rest) ∙ word_front w (32 ∷ (line_text (v ∷ ws) ++ rest)) [] (v ∷ ws) (cert_lines_of rest) is.1.0 blank ∙ ap (λ (u : Word). (u ∷ v ∷ ws) ∷ cert_lines_of rest) (append-nil w)
+    let tail : cert_lines_of (spelled_line (v ∷ ws) ++ rest) ≡ (v ∷ ws) ∷ cert_lines_of rest = line_front (v ∷ ws) rest (omega arith, is.1.1) in
+    let blank : cert_lines_of (32 ∷ (spelled_line (v ∷ ws) ++ rest)) ≡ ([] ∷ v ∷ ws) ∷ cert_lines_of rest = ap (onto_lines 32) tail in
+    ap cert_lines_of (append_assoc w (32 ∷ spelled_line (v ∷ ws)) rest) ∙ word_front w (32 ∷ (spelled_line (v ∷ ws) ++ rest)) [] (v ∷ ws) (cert_lines_of rest) is.1.0 blank ∙ ap (λ (u : Word). (u ∷ v ∷ ws) ∷ cert_lines_of rest) (append-nil w)
 
 pub lines_again : (lines : List (List Word)) → AllByRecursion IsLine lines → cert_lines_of (text_of lines) ≡ lines
 unfolding cert_lines_of
 lines_again [] is = refl
 lines_again (ws ∷ lines) is =
-    ap cert_lines_of (flat_map-cons line_text ws lines) ∙ line_front ws (text_of lines) is.0 ∙ ap (λ (ls : List (List Word)). ws ∷ ls) (lines_again lines is.1)
+    ap cert_lines_of (flat_map-cons spelled_line ws lines) ∙ line_front ws (text_of lines) is.0 ∙ ap (λ (ls : List (List Word)). ws ∷ ls) (lines_again lines is.1)
 
 -- each line has a word
 abbrev pub HasWord : List Word → Type 0
 HasWord ws = 0 < length ws
 
 text_onto : (b : ℕ) (bytes : List ℕ) (lines : List (List Word)) → (b ≡ 10 → ⊥) → AllByRecursion HasWord (onto_lines b lines) → (AllByRecursion HasWord lines → text_of lines ≡ bytes) → text_of (onto_lines b lines) ≡ b ∷ bytes
-unfolding line_text
+unfolding spelled_line
 text_onto b bytes [] no_lf whole h = absurd (omega (arith, whole.0))
 text_onto b bytes ([] ∷ lines) no_lf whole h = absurd (omega (arith, whole.0))
 text_onto b bytes ((w ∷ ws) ∷ lines) no_lf whole h =
     let so_far = h (omega arith, whole.1) in
     elim (cases_Bool (eqb b 32)) [
-      | inl blank ↦ rw (blank, flat_map-cons line_text ([] ∷ w ∷ ws) lines) (ap (λ (x : ℕ). x ∷ (line_text (w ∷ ws) ++ text_of lines)) (sym (eqb-true b 32 blank)) ∙ ap (λ (t : List ℕ). b ∷ t) (sym (flat_map-cons line_text (w ∷ ws) lines) ∙ so_far))
-      | inr byte ↦ rw (byte, flat_map-cons line_text ((b ∷ w) ∷ ws) lines) (longer ws ∙ ap (λ (t : List ℕ). b ∷ t) (sym (flat_map-cons line_text (w ∷ ws) lines) ∙ so_far))
+      | inl blank ↦ rw (blank, flat_map-cons spelled_line ([] ∷ w ∷ ws) lines) (ap (λ (x : ℕ). x ∷ (spelled_line (w ∷ ws) ++ text_of lines)) (sym (eqb-true b 32 blank)) ∙ ap (λ (t : List ℕ). b ∷ t) (sym (flat_map-cons spelled_line (w ∷ ws) lines) ∙ so_far))
+      | inr byte ↦ rw (byte, flat_map-cons spelled_line ((b ∷ w) ∷ ws) lines) (longer ws ∙ ap (λ (t : List ℕ). b ∷ t) (sym (flat_map-cons spelled_line (w ∷ ws) lines) ∙ so_far))
     ]
   where
-    longer : (vs : List Word) → line_text ((b ∷ w) ∷ vs) ++ text_of lines ≡ b ∷ (line_text (w ∷ vs) ++ text_of lines)
+    longer : (vs : List Word) → spelled_line ((b ∷ w) ∷ vs) ++ text_of lines ≡ b ∷ (spelled_line (w ∷ vs) ++ text_of lines)
     longer [] = refl
     longer (v ∷ vs) = refl
 
 by_byte : (b : ℕ) (bytes : List ℕ) (lines : List (List Word)) (t : Bool) → eqb b 10 ≡ t → (AllByRecursion HasWord lines → text_of lines ≡ bytes) → AllByRecursion HasWord (cond t (([] ∷ []) ∷ lines) (onto_lines b lines)) → text_of (cond t (([] ∷ []) ∷ lines) (onto_lines b lines)) ≡ b ∷ bytes
-unfolding line_text
-by_byte b bytes lines true is h whole = flat_map-cons line_text ([] ∷ []) lines ∙ ap (λ (t : List ℕ). 10 ∷ t) (h whole.1) ∙ ap (λ (x : ℕ). x ∷ bytes) (sym (eqb-true b 10 is))
+unfolding spelled_line
+by_byte b bytes lines true is h whole = flat_map-cons spelled_line ([] ∷ []) lines ∙ ap (λ (t : List ℕ). 10 ∷ t) (h whole.1) ∙ ap (λ (x : ℕ). x ∷ bytes) (sym (eqb-true b 10 is))
 by_byte b bytes lines false is h whole = text_onto b bytes lines (eqb-false b 10 is) whole h
 
 pub text_again : (bytes : List ℕ) → AllByRecursion HasWord (cert_lines_of bytes) → text_of (cert_lines_of bytes) ≡ bytes

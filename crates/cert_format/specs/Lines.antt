@@ -26,11 +26,11 @@ line_words [] = [] ∷ []
 line_words (b ∷ line) = onto_line b (line_words line)
 
 -- the text of a line, with one blank between two words
-unfoldable pub line_text : List Word → List ℕ
-line_text [] = []
-line_text (w ∷ []) = w ++ 10 ∷ []
-line_text (w ∷ v ∷ ws) = w ++ 32 ∷ line_text (v ∷ ws)
+unfoldable pub spelled_line : List Word → List ℕ
+spelled_line [] = []
+spelled_line (w ∷ []) = w ++ 10 ∷ []
+spelled_line (w ∷ v ∷ ws) = w ++ 32 ∷ spelled_line (v ∷ ws)
 
 -- the text of lines
 abbrev pub text_of : List (List Word) → List ℕ
-text_of lines = flat_map line_text lines
+text_of lines = flat_map spelled_line lines

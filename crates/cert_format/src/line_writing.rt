@@ -2,7 +2,7 @@
 
 ghost use Rattle.std.specs.Prelude.{◌≡◌, ◌++◌, ◌∷◌, ◌<◌, ◌^◌, [], None, true, OnOk, IfSome, codes};
 ghost use Rattle.std.specs.Fmt.{decimal, signed_decimal};
-ghost use Rattle.cert_format.specs.Lines.{line_text};
+ghost use Rattle.cert_format.specs.Lines.{spelled_line};
 ghost use Rattle.cert_format.specs.Spelling.{count_words, choices_words, alternative_words, price_words, seen_word, undone_words, node_words, mark_name, stage_words, is_undone, SeenFits, IsLong, PriceFits, NodeFits, FloorFits};
 
 use crate::cert::{Floor, Mark};
@@ -75,9 +75,9 @@ fn put_last_signed(alloc: Global, out: &mut Vec<u8>, number: i64) -> Result<(), 
 }
 
 /// A word and a number.
-#[tactic(auto, unfolding(crate::specs::Lines::line_text))]
+#[tactic(auto, unfolding(crate::specs::Lines::spelled_line))]
 pub fn put_count(alloc: Global, out: &mut Vec<u8>, tag: &[u8], number: u64) -> Result<(), Memory>
-    ensures text { OnOk result (out.new.items ≡ out.old.items ++ line_text (count_words tag.now number)) }
+    ensures text { OnOk result (out.new.items ≡ out.old.items ++ spelled_line (count_words tag.now number)) }
     ensures range { OnOk result (number < 2 ^ 64) }
 {
     put_word(out, tag)?;
@@ -85,9 +85,9 @@ pub fn put_count(alloc: Global, out: &mut Vec<u8>, tag: &[u8], number: u64) -> R
 }
 
 /// The alternative that the unit takes.
-#[tactic(auto, unfolding(crate::specs::Lines::line_text))]
+#[tactic(auto, unfolding(crate::specs::Lines::spelled_line))]
 pub fn put_alternative(alloc: Global, out: &mut Vec<u8>, unit: u64, alt: u32) -> Result<(), Memory>
-    ensures text { OnOk result (out.new.items ≡ out.old.items ++ line_text (alternative_words unit alt)) }
+    ensures text { OnOk result (out.new.items ≡ out.old.items ++ spelled_line (alternative_words unit alt)) }
     ensures range { OnOk result (alt < 2 ^ 32) }
 {
     put_word(out, b"C")?;
@@ -96,9 +96,9 @@ pub fn put_alternative(alloc: Global, out: &mut Vec<u8>, unit: u64, alt: u32) ->
 }
 
 /// One price of a vector.
-#[tactic(auto, unfolding(crate::specs::Lines::line_text))]
+#[tactic(auto, unfolding(crate::specs::Lines::spelled_line))]
 pub fn put_price(alloc: Global, out: &mut Vec<u8>, price: Price) -> Result<(), Memory>
-    ensures text { OnOk result (out.new.items ≡ out.old.items ++ line_text (price_words price)) }
+    ensures text { OnOk result (out.new.items ≡ out.old.items ++ spelled_line (price_words price)) }
     ensures range { OnOk result (PriceFits price) }
 {
     put_word(out, b"P")?;
@@ -118,14 +118,14 @@ fn put_seen(alloc: Global, out: &mut Vec<u8>, seen: Option<u64>) -> Result<(), M
 }
 
 /// One node, with its floor if it has one.
-#[tactic(auto, unfolding(crate::specs::Lines::line_text))]
+#[tactic(auto, unfolding(crate::specs::Lines::spelled_line))]
 pub fn put_node(
     alloc: Global,
     out: &mut Vec<u8>,
     node: Node,
     floor: Option<Floor>,
 ) -> Result<(), Memory>
-    ensures text { OnOk result (out.new.items ≡ out.old.items ++ line_text (node_words node floor)) }
+    ensures text { OnOk result (out.new.items ≡ out.old.items ++ spelled_line (node_words node floor)) }
     ensures range { OnOk result (NodeFits node) }
     ensures floor { OnOk result (is_undone node ≡ true → IfSome floor FloorFits) }
 {
@@ -155,9 +155,9 @@ pub fn put_node(
 }
 
 // An undone node.
-#[tactic(auto, unfolding(crate::specs::Lines::line_text))]
+#[tactic(auto, unfolding(crate::specs::Lines::spelled_line))]
 fn put_undone(alloc: Global, out: &mut Vec<u8>, floor: Option<Floor>) -> Result<(), Memory>
-    ensures text { OnOk result (out.new.items ≡ out.old.items ++ line_text (undone_words floor)) }
+    ensures text { OnOk result (out.new.items ≡ out.old.items ++ spelled_line (undone_words floor)) }
     ensures range { OnOk result (IfSome floor FloorFits) }
 {
     match floor {
@@ -171,9 +171,9 @@ fn put_undone(alloc: Global, out: &mut Vec<u8>, floor: Option<Floor>) -> Result<
 }
 
 /// The number of a stage and its mark.
-#[tactic(auto, unfolding(crate::specs::Lines::line_text))]
+#[tactic(auto, unfolding(crate::specs::Lines::spelled_line))]
 pub fn put_mark(alloc: Global, out: &mut Vec<u8>, stage: u64, mark: Mark) -> Result<(), Memory>
-    ensures { OnOk result (out.new.items ≡ out.old.items ++ line_text (stage_words stage mark)) }
+    ensures { OnOk result (out.new.items ≡ out.old.items ++ spelled_line (stage_words stage mark)) }
 {
     put_word(out, b"STAGE")?;
     put_number_word(alloc, out, stage)?;
@@ -189,26 +189,26 @@ pub fn put_mark(alloc: Global, out: &mut Vec<u8>, stage: u64, mark: Mark) -> Res
 }
 
 /// No allotment.
-#[tactic(auto, unfolding(crate::specs::Lines::line_text))]
+#[tactic(auto, unfolding(crate::specs::Lines::spelled_line))]
 pub fn put_none(out: &mut Vec<u8>) -> Result<(), Memory>
-    ensures { OnOk result (out.new.items ≡ out.old.items ++ line_text (choices_words None)) }
+    ensures { OnOk result (out.new.items ≡ out.old.items ++ spelled_line (choices_words None)) }
 {
     put_word(out, b"CHOICES")?;
     put_last(out, b"NONE")
 }
 
 /// The last line.
-#[tactic(auto, unfolding(crate::specs::Lines::line_text))]
+#[tactic(auto, unfolding(crate::specs::Lines::spelled_line))]
 pub fn put_end(out: &mut Vec<u8>) -> Result<(), Memory>
-    ensures { OnOk result (out.new.items ≡ out.old.items ++ line_text (codes "END" ∷ [])) }
+    ensures { OnOk result (out.new.items ≡ out.old.items ++ spelled_line (codes "END" ∷ [])) }
 {
     put_last(out, b"END")
 }
 
 /// The first line of one more stage.
-#[tactic(auto, unfolding(crate::specs::Lines::line_text))]
+#[tactic(auto, unfolding(crate::specs::Lines::spelled_line))]
 pub fn put_extra(out: &mut Vec<u8>) -> Result<(), Memory>
-    ensures { OnOk result (out.new.items ≡ out.old.items ++ line_text (codes "EXTRA" ∷ codes "1" ∷ [])) }
+    ensures { OnOk result (out.new.items ≡ out.old.items ++ spelled_line (codes "EXTRA" ∷ codes "1" ∷ [])) }
 {
     put_word(out, b"EXTRA")?;
     put_last(out, b"1")

@@ -5,7 +5,7 @@ use Rattle.std.proofs.lemmas.Bool.{cases_lt}
 use Rattle.choice_problem.specs.Problems.{ProblemView, unit_count, resource_count, alt_cost, alt_uses, limit_of}
 use Rattle.choice_problem.specs.Choices.{IsFeasible, choice_cost}
 use Rattle.choice_problem.specs.Greedy.{load_before, FitsOn, IsBestBelow, IsGreedy, GreedyStops, IsGreedyCost}
-use Rattle.choice_problem.proofs.SumLemmas.{sum_below-same}
+use Rattle.finite_sums.proofs.SumLemmas.{sum_below-same}
 
 -- the loads of the first units stay within the limits
 greedy_loads : (p : ProblemView) (m n : ℕ) (x : List ℕ) → IsGreedy p m x → n ≤ m → (r : ℕ) → r < resource_count p → load_before p x n r ≤ limit_of p r

@@ -1,4 +1,3 @@
-pub mod SumLemmas
 pub mod ProblemLemmas
 pub mod StripLemmas
 pub mod VectorLemmas

@@ -8,11 +8,11 @@ use Rattle.std.proofs.lemmas.List.{length-append, get_or_append_left, get_or_pus
 use Rattle.std.proofs.lemmas.List.Elements.{All-push}
 use Rattle.std.proofs.Math.Nat.{mul-le-mul_left}
 use Rattle.choice_problem.specs.declared.vectors.Price.{Price}
-use Rattle.choice_problem.specs.Sums.{sum_below}
+use Rattle.finite_sums.specs.Sums.{sum_below}
 use Rattle.choice_problem.specs.Problems.{ProblemView, IsChooser, unit_count, resource_count, alt_count, alt_uses}
 use Rattle.choice_problem.specs.Bounds.{AreRanges, IsPrice, IsVector, bound_of, low_of, high_of, priced_cost}
 use Rattle.choice_problem.specs.Roots.{vector_of, priced_alt, priced_load, step_length, price_after, step_vector, IsNodeVector}
-use Rattle.choice_problem.proofs.SumLemmas.{first_least-IsFirstLeast}
+use Rattle.finite_sums.proofs.SumLemmas.{first_least-IsFirstLeast}
 use Rattle.choice_problem.proofs.VectorLemmas.{IsVector-nil}
 
 pub IsNodeVector-only : (p : ProblemView) (ranges : List (ℕ × ℕ)) (one other : List Price) → IsNodeVector p ranges one → IsNodeVector p ranges other →

@@ -8,9 +8,9 @@ use Rattle.std.proofs.lemmas.List.Sums.{sum_by-cons, sum_by-append}
 use Rattle.choice_problem.specs.declared.strips.Strip.{Strip}
 use Rattle.std.specs.Prelude.{◌*◌, ◌/◌, ◌-◌, ◌<◌, ◌↔◌, ◌&&◌, nat_le, nat_lt}
 use Rattle.std.proofs.Common.{◌∙◌}
-use Rattle.choice_problem.proofs.SumLemmas.{sum_below-add, sum_below-same, count_below-all, count_below-none, count_below-same, count_below-le}
+use Rattle.finite_sums.proofs.SumLemmas.{sum_below-add, sum_below-same, count_below-all, count_below-none, count_below-same, count_below-le}
 use Rattle.std.proofs.Math.Nat.{le-div_iff_mul-le}
-use Rattle.choice_problem.specs.Sums.{sum_below, count_below}
+use Rattle.finite_sums.specs.Sums.{sum_below, count_below}
 use Rattle.choice_problem.specs.Loops.{run_uses}
 use Rattle.choice_problem.specs.Strips.{run_start, run_resources, strip_resources, strip_uses, is_in_run, IsStripInRange}
 

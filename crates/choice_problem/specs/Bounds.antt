@@ -1,7 +1,7 @@
 -- Ranges of alternatives, the Lagrangian bound of ranges at a vector of prices, and what closes a leaf.
 use Rattle.std.specs.Prelude.{◌≡◌, ℕ, ◌+◌, ◌-◌, ◌*◌, ◌^◌, ◌<◌, ◌≤◌, List, length, map, slice_index, slice_index_or, sum_by, All, AllPairs, Option, Some, None, ℤ, pos, ◌-ℤ◌, ◌*ℤ◌, ◌<ℤ◌, ◌≤ℤ◌}
 use Rattle.choice_problem.specs.declared.vectors.Price.{Price}
-use Rattle.choice_problem.specs.Sums.{sum_below, least_within}
+use Rattle.finite_sums.specs.Sums.{sum_below, least_within}
 use Rattle.choice_problem.specs.Problems.{ProblemView, ChooserView, unit_count, alt_count, resource_count, alt_cost, alt_uses, limit_of, amount}
 
 -- the least and the greatest alternative of a unit, both in range

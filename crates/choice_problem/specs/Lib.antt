@@ -1,4 +1,3 @@
-pub mod Sums
 pub mod Strips
 pub mod Counts
 pub mod Problems

@@ -2,7 +2,7 @@
 -- which the vector with the greatest bound is kept.
 use Rattle.std.specs.Prelude.{◌≡◌, ℕ, zero, suc, ◌+◌, ◌-◌, ◌*◌, ◌/◌, ◌^◌, ◌<◌, ◌≤◌, ◌==◌, if◌then◌else◌, List, [], ◌∷◌, ◌++◌, pos, ◌<ℤ◌, ◌≤ℤ◌}
 use Rattle.choice_problem.specs.declared.vectors.Price.{Price}
-use Rattle.choice_problem.specs.Sums.{sum_below, first_least}
+use Rattle.finite_sums.specs.Sums.{sum_below, first_least}
 use Rattle.choice_problem.specs.Problems.{ProblemView, unit_count, resource_count, alt_uses, limit_of}
 use Rattle.choice_problem.specs.Bounds.{low_of, high_of, whole_of, priced_cost, bound_of}
 

@@ -1,7 +1,7 @@
 -- Where a search splits ranges, and which ranges it splits.
 use Rattle.std.specs.Prelude.{◌≡◌, ℕ, ◌+◌, ◌<◌, ◌≤◌, List, [], length, slice_index, nat_lt, if◌then◌else◌, Option}
 use Rattle.choice_problem.specs.declared.vectors.Price.{Price}
-use Rattle.choice_problem.specs.Sums.{least_within, IsFirstLeast}
+use Rattle.finite_sums.specs.Sums.{least_within, IsFirstLeast}
 use Rattle.choice_problem.specs.Problems.{ProblemView, unit_count, resource_count, alt_cost, alt_uses}
 use Rattle.choice_problem.specs.Choices.{IsFirstPassed}
 use Rattle.choice_problem.specs.Bounds.{low_of, high_of, Closes, IsOver}

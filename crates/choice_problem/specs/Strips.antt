@@ -3,7 +3,7 @@ use Rattle.std.specs.Prelude.{ℕ, ◌+◌, ◌*◌, ◌<◌, ◌≤◌, Bool, n
 use Rattle.std.specs.List.{range_with_len}
 use Rattle.std.proofs.Common.{zero, suc}
 use Rattle.choice_problem.specs.declared.strips.Strip.{Strip}
-use Rattle.choice_problem.specs.Sums.{count_below}
+use Rattle.finite_sums.specs.Sums.{count_below}
 
 -- the first resource of run i
 abbrev pub run_start : Strip → ℕ → ℕ

@@ -1,7 +1,7 @@
 //! What closes a leaf: the Lagrangian bound, or a resource whose least load passes its limit.
 
 ghost use Rattle.std.specs.Prelude.{◌≡◌, ◌↔◌, ◌<◌, ◌≤◌, ◌^◌, IsTrue, pos, ◌-ℤ◌, ◌*ℤ◌, ◌<ℤ◌};
-ghost use Rattle.choice_problem.specs.Sums.{least_within};
+ghost use Rattle.finite_sums.specs.Sums.{least_within};
 ghost use Rattle.choice_problem.specs.Problems.{unit_count, alt_count, resource_count, alt_uses, limit_of};
 ghost use Rattle.choice_problem.specs.Bounds.{
   AreRanges,

@@ -22,7 +22,7 @@ pub struct Strip {
 
 impl Strip {
     ghost use Rattle.std.specs.Prelude.{◌≡◌, ◌↔◌, ◌+◌, ◌-◌, ◌*◌, ◌<◌, nat_le, IsTrue};
-    ghost use Rattle.choice_problem.specs.Sums.{count_below};
+    ghost use Rattle.finite_sums.specs.Sums.{count_below};
     ghost use Rattle.choice_problem.specs.Strips.{run_start, strip_uses, IsStripInRange};
     ghost use Rattle.choice_problem.specs.Allowed.{strip_most};
     ghost use Rattle.choice_problem.specs.Counts.{GrowsBy, HasRoom};

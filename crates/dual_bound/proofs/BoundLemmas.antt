@@ -1,10 +1,10 @@
 -- Bounds from tables of prices.
 use Rattle.std.proofs.Common.{◌≡◌, ℕ, zero, suc, ◌+◌, ◌-◌, ◌*◌, ◌<◌, ◌≤◌, min, ◌∙◌, ap, arith, List}
 use Rattle.choice_problem.specs.declared.vectors.Price.{Price}
-use Rattle.choice_problem.specs.Sums.{least_from, least_within, first_least, IsFirstLeast}
+use Rattle.finite_sums.specs.Sums.{least_from, least_within, first_least, IsFirstLeast}
 use Rattle.choice_problem.specs.Problems.{ProblemView, IsChooser, alt_count, chooser_at, alt_cost, alt_uses, resource_count}
 use Rattle.choice_problem.specs.Bounds.{priced_cost, IsVector}
-use Rattle.choice_problem.proofs.SumLemmas.{first_least-one, first_least-more, least_within-one, least_within-more, first_least-IsFirstLeast, IsFirstLeast-only}
+use Rattle.finite_sums.proofs.SumLemmas.{first_least-one, first_least-more, least_within-one, least_within-more, first_least-IsFirstLeast, IsFirstLeast-only}
 use Rattle.dual_bound.specs.Tables.{PricesUnit}
 use Rattle.dual_bound.specs.Loops.{unit_cost, ArePriceable}
 use Rattle.dual_bound.proofs.TableLemmas.{priced-le}

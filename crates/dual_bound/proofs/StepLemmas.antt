@@ -5,7 +5,7 @@ use Rattle.std.proofs.lemmas.Int.{ints}
 use Rattle.std.proofs.lemmas.Bool.{cases_lt}
 use Rattle.std.proofs.lemmas.List.Sums.{sum_by_push}
 use Rattle.choice_problem.specs.declared.vectors.Price.{Price}
-use Rattle.choice_problem.specs.Sums.{sum_below}
+use Rattle.finite_sums.specs.Sums.{sum_below}
 use Rattle.choice_problem.specs.Problems.{ProblemView, resource_count, amount, limit_of}
 use Rattle.choice_problem.specs.Bounds.{priced, bound_of}
 use Rattle.choice_problem.specs.Roots.{vector_of, price_after, priced_load, step_length, step_vector, IsNodeVector}
@@ -13,7 +13,7 @@ use Rattle.choice_problem.proofs.RootLemmas.{with_price, with_price-suc, vector_
 use Rattle.dual_bound.specs.Loops.{worth, AreSums, IsPricedBy, vector_in, ArePrices, IsPoint, AreMoved, IsAfter, IsGreatestUpTo}
 use Rattle.std.proofs.Math.Nat.{mul-le-mul_left}
 use Rattle.choice_problem.specs.Problems.{unit_count}
-use Rattle.choice_problem.proofs.SumLemmas.{sum_below-more}
+use Rattle.finite_sums.proofs.SumLemmas.{sum_below-more}
 use Rattle.dual_bound.specs.Loops.{least_alt_load}
 
 priced-with_price : (prices : List Price) (r price : ℕ) (uses : ℕ → ℕ) → priced (with_price prices r price) uses ≡ priced prices uses + price * uses r

@@ -5,10 +5,10 @@ use Rattle.std.proofs.lemmas.Bool.{cases_lt}
 use Rattle.std.proofs.lemmas.Nat.{mul-le}
 use Rattle.std.proofs.lemmas.Grind.{common_steps}
 use Rattle.choice_problem.specs.declared.strips.Strip.{Strip}
-use Rattle.choice_problem.specs.Sums.{sum_below}
+use Rattle.finite_sums.specs.Sums.{sum_below}
 use Rattle.choice_problem.specs.Loops.{run_uses}
 use Rattle.choice_problem.specs.Strips.{run_start, is_in_run, strip_uses, IsStripInRange}
-use Rattle.choice_problem.proofs.SumLemmas.{sum_below-same}
+use Rattle.finite_sums.proofs.SumLemmas.{sum_below-same}
 use Rattle.dual_bound.specs.Loops.{worth, AreSums, run_cost, strip_cost}
 
 pub worth-same : (n : ℕ) (f g uses other : ℕ → ℕ) → ((r : ℕ) → r < n → f r ≡ g r) → ((r : ℕ) → r < n → uses r ≡ other r) → worth n f uses ≡ worth n g other

@@ -4,7 +4,7 @@ use Rattle.std.specs.Option.{ForSome}
 use Rattle.choice_problem.specs.declared.vectors.Price.{Price}
 use Rattle.choice_problem.specs.declared.strips.Strip.{Strip}
 use Rattle.choice_problem.specs.declared.problems.Alt.{Alt}
-use Rattle.choice_problem.specs.Sums.{sum_below, first_least}
+use Rattle.finite_sums.specs.Sums.{sum_below, first_least}
 use Rattle.choice_problem.specs.Strips.{run_start}
 use Rattle.choice_problem.specs.Problems.{ProblemView, unit_count, resource_count, alt_uses, limit_of}
 use Rattle.choice_problem.specs.Bounds.{IsVector, low_of, high_of, priced, priced_cost, bound_of}

@@ -2,7 +2,7 @@
 
 ghost use Rattle.std.specs.Prelude.{◌≡◌, ℕ, ◌+◌, ◌*◌, ◌^◌, ◌<◌, ◌≤◌, length};
 ghost use Rattle.std.specs.Option.{ForSome};
-ghost use Rattle.choice_problem.specs.Sums.{least_within, first_least};
+ghost use Rattle.finite_sums.specs.Sums.{least_within, first_least};
 ghost use Rattle.choice_problem.specs.Problems.{unit_count};
 ghost use Rattle.choice_problem.specs.Bounds.{AreRanges, low_of, high_of, priced_cost, least_total, bound_of};
 ghost use Rattle.dual_bound.specs.Tables.{IsTableFor, named_price};

@@ -1,7 +1,7 @@
 //! The floor of ranges: a cost below which they have no feasible choice.
 
 ghost use Rattle.std.specs.Prelude.{◌≡◌, ◌↔◌, ◌^◌, ◌<◌, ◌≤◌, IsTrue, false, Some, []};
-ghost use Rattle.choice_problem.specs.Sums.{least_within};
+ghost use Rattle.finite_sums.specs.Sums.{least_within};
 ghost use Rattle.choice_problem.specs.Problems.{unit_count, alt_count};
 ghost use Rattle.choice_problem.specs.Bounds.{AreRanges, Closes, priced_cost};
 ghost use Rattle.dual_bound.specs.Tables.{IsTableFor};

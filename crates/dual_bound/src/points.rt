@@ -2,7 +2,7 @@
 
 ghost use Rattle.std.specs.Prelude.{◌≡◌, ℕ, ◌+◌, ◌*◌, ◌^◌, ◌<◌, ◌≤◌, IfOk, List, length, slice_index, pos, ◌-ℤ◌};
 ghost use Rattle.choice_problem.specs.declared.vectors.Price.{Price};
-ghost use Rattle.choice_problem.specs.Sums.{least_within};
+ghost use Rattle.finite_sums.specs.Sums.{least_within};
 ghost use Rattle.choice_problem.specs.Counts.{GrowsBy, HasRoom};
 ghost use Rattle.choice_problem.specs.Problems.{ProblemView, unit_count, resource_count, alt_uses, limit_of};
 ghost use Rattle.choice_problem.specs.Bounds.{AreRanges, IsVector, low_of, high_of, priced, priced_cost, least_total};

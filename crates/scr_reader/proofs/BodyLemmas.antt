@@ -4,7 +4,7 @@ use Rattle.std.specs.Prelude.{Option}
 use Rattle.std.proofs.lemmas.Bool.{both_ways}
 use Rattle.season_days.specs.Term.{Term}
 use Rattle.scr_reader.specs.Rows.{Row, remark, entry, question, most_bytes, is_remark, is_question, line_fields, IsRow, IsRowOrNone, AreRows, IsBadField}
-use Rattle.scr_reader.specs.Readings.{row_read, IsReading, AreReadings}
+use Rattle.scr_reader.specs.Readings.{row_read, IsRowReading, AreReadings}
 use Rattle.scr_reader.specs.Messages.{IsShort, LineIsPaired, IsGoodRow, AreGood, IsLineFault, IsBodyFault}
 use Rattle.scr_reader.specs.Pairing.{rows_read, IsGoodReading, HasFaultAt, AreGoodReadings, IsFirstAt}
 use Rattle.scr_reader.specs.declared.line.Line.{Line}
@@ -26,7 +26,7 @@ none_same : (season : Term) (line : List ℕ) (row : Option Row) → IsRowOrNone
 none_same season line None is none = refl
 none_same season line (Some row) is none = absurd (none row is)
 
-row_same : (season : Term) (line : List ℕ) (reading : Reading) (row : Option Row) → IsReading season line reading → IsRowOrNone season line row → row ≡ row_read reading
+row_same : (season : Term) (line : List ℕ) (reading : Reading) (row : Option Row) → IsRowReading season line reading → IsRowOrNone season line row → row ≡ row_read reading
 row_same season line reading (Some row) is other = sym (is.only row other)
 row_same season line reading None is other = none_same season line (row_read reading) is.row other
 
@@ -43,7 +43,7 @@ rows_same season (line ∷ lines) (r ∷ readings) (row ∷ rows) are read =
 
 -- ---- one line
 
-good_row : (season : Term) (line : List ℕ) (reading : Reading) (before after : List (Option Row)) → IsReading season line reading → IsGoodReading reading before after → IsGoodRow line (row_read reading) before after
+good_row : (season : Term) (line : List ℕ) (reading : Reading) (before after : List (Option Row)) → IsRowReading season line reading → IsGoodReading reading before after → IsGoodRow line (row_read reading) before after
 good_row season line Remark before after is good = (is.own, tt)
 good_row season line LongRemark before after is good = absurd good
 good_row season line OverLong before after is good = absurd good
@@ -51,7 +51,7 @@ good_row season line (Bad field) before after is good = absurd good
 good_row season line (Entry value) before after is good = (is.own, good)
 good_row season line (Question flight) before after is good = (is.own, tt)
 
-good_back : (season : Term) (line : List ℕ) (reading : Reading) (before after : List (Option Row)) → IsReading season line reading → IsGoodRow line (row_read reading) before after → IsGoodReading reading before after
+good_back : (season : Term) (line : List ℕ) (reading : Reading) (before after : List (Option Row)) → IsRowReading season line reading → IsGoodRow line (row_read reading) before after → IsGoodReading reading before after
 good_back season line Remark before after is good = tt
 good_back season line LongRemark before after is good = omega (arith, is.own, good.0)
 good_back season line OverLong before after is good = absurd good
@@ -68,7 +68,7 @@ long_at season number line row before after fault is long = rw is (refl, long)
 unpaired_at : (season : Term) (number : ℕ) (line : List ℕ) (value : Line) (before after : List (Option Row)) (fault : ScrFault) → fault ≡ Unpaired number → IsShort line → (LineIsPaired value.code value before after → ⊥) → IsLineFault season number line (Some (entry value)) before after fault
 unpaired_at season number line value before after fault is short none = rw is (refl, short, none)
 
-line_fault : (season : Term) (number : ℕ) (line : List ℕ) (reading : Reading) (before after : List (Option Row)) (fault : ScrFault) → IsReading season line reading → HasFaultAt number reading before after fault → IsLineFault season number line (row_read reading) before after fault
+line_fault : (season : Term) (number : ℕ) (line : List ℕ) (reading : Reading) (before after : List (Option Row)) (fault : ScrFault) → IsRowReading season line reading → HasFaultAt number reading before after fault → IsLineFault season number line (row_read reading) before after fault
 line_fault season number line Remark before after fault is has = absurd has
 line_fault season number line LongRemark before after fault is has = long_at season number line (Some remark) before after fault has is.own
 line_fault season number line OverLong before after fault is has = long_at season number line None before after fault has is.own
@@ -95,7 +95,7 @@ bad_no_row season line k (entry value) (inr x) is = both_ways (is_question (line
 bad_no_row season line k (question flight) (inl x) is = both_ways (is_question (line_fields line)) x.0.kind is.0.kind
 bad_no_row season line k (question flight) (inr x) is = faulty_no_question (line_fields line) k flight x.1 is.1
 
-fault_back : (season : Term) (number : ℕ) (line : List ℕ) (reading : Reading) (before after : List (Option Row)) (fault : ScrFault) → IsReading season line reading → IsLineFault season number line (row_read reading) before after fault → HasFaultAt number reading before after fault
+fault_back : (season : Term) (number : ℕ) (line : List ℕ) (reading : Reading) (before after : List (Option Row)) (fault : ScrFault) → IsRowReading season line reading → IsLineFault season number line (row_read reading) before after fault → HasFaultAt number reading before after fault
 fault_back season number line Remark before after (TooLong at) is has = omega (arith, is.own, has.1)
 fault_back season number line LongRemark before after (TooLong at) is has = ap TooLong has.0
 fault_back season number line OverLong before after (TooLong at) is has = ap TooLong has.0

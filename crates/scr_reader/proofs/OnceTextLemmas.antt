@@ -11,7 +11,7 @@ use Rattle.slot_text.specs.Stations.{IsStation}
 use Rattle.slot_text.specs.declared.station.Station.{Station}
 use Rattle.scr_reader.specs.Parts.{date_text, IsDayOfMonth}
 use Rattle.scr_reader.specs.Rows.{Row, remark, entry, question, trimmed, is_remark, is_question, line_fields, IsAskedFlight, IsQuestion, IsRow, IsRowOrNone, AreRows, IsBadField}
-use Rattle.scr_reader.specs.Messages.{HeaderPart, address, parts_from_season, has_address, header_parts, header_length, header_of, body_of, IsShort, HeaderAgrees, IsPaired, IsGoodRow, AreGood, IsLineFault, IsBodyFault, items_of, Run, IsMessage, IsFaultBelow, IsMessageFault, AreMessages, IsFirstFault, FirstIs, IsFaultOfFirst, runs_in, ReadsMessage, HasMessageFault, ReadsAll, HasFault}
+use Rattle.scr_reader.specs.Messages.{HeaderPart, address, parts_from_season, has_address, header_parts, header_length, header_of, body_of, IsShort, HeaderAgrees, IsPaired, IsGoodRow, AreGood, IsLineFault, IsBodyFault, items_of, Run, IsMessage, IsFaultBelow, IsMessageFault, AreMessages, IsFirstFault, FirstIs, IsFaultOfFirst, runs_in, ReadsMessage, HasMessageFault, ReadsAll, HasScrFault}
 use Rattle.scr_reader.specs.declared.header.Header.{Header}
 use Rattle.scr_reader.specs.declared.line.Line.{Line}
 use Rattle.scr_reader.specs.declared.line.Flight.{Flight}
@@ -234,10 +234,10 @@ fault_of_first_once times sets number (run ∷ runs) f g x y = message_fault_onc
 pub all_once : OneTime → OneSet → (bytes : List ℕ) (a b : List Message) → ReadsAll bytes a → ReadsAll bytes b → a ≡ b
 all_once times sets bytes a b x y = messages_once times sets (runs_in bytes) a b x y
 
-pub all_no_fault : OneTime → OneSet → (bytes : List ℕ) (a : List Message) (f : ScrFault) → ReadsAll bytes a → HasFault bytes f → ⊥
+pub all_no_fault : OneTime → OneSet → (bytes : List ℕ) (a : List Message) (f : ScrFault) → ReadsAll bytes a → HasScrFault bytes f → ⊥
 all_no_fault times sets bytes a f x y = messages_no_fault times sets (runs_in bytes) a f x y
 
-pub fault_once : OneTime → OneSet → (bytes : List ℕ) (f g : ScrFault) → HasFault bytes f → HasFault bytes g → f ≡ g
+pub fault_once : OneTime → OneSet → (bytes : List ℕ) (f g : ScrFault) → HasScrFault bytes f → HasScrFault bytes g → f ≡ g
 fault_once times sets bytes f g x y = first_fault_once times sets (runs_in bytes) f g x y
 
 pub one_once : OneTime → OneSet → (bytes : List ℕ) (a b : Message) → ReadsMessage bytes a → ReadsMessage bytes b → a ≡ b

@@ -6,7 +6,7 @@ use Rattle.slot_text.specs.Lines.{lines_of}
 use Rattle.season_days.specs.Term.{Term}
 use Rattle.scr_reader.specs.Texts.{text_in, texts_in}
 use Rattle.scr_reader.specs.Rows.{is_empty_line}
-use Rattle.scr_reader.specs.Readings.{IsReading, AreReadings}
+use Rattle.scr_reader.specs.Readings.{IsRowReading, AreReadings}
 use Rattle.scr_reader.specs.Messages.{run_from, begins_in_run, onto_run, runs_of, front_length}
 use Rattle.scr_reader.specs.declared.rows.Reading.{Reading}
 
@@ -86,13 +86,13 @@ runs_cons n line (next ∷ lines) full =
 
 -- ---- readings
 
-pub readings_more : (season : Term) (lines : List (List ℕ)) (readings : List Reading) (line : List ℕ) (reading : Reading) → AreReadings season lines readings → IsReading season line reading → AreReadings season (lines ++ line ∷ []) (readings ++ reading ∷ [])
+pub readings_more : (season : Term) (lines : List (List ℕ)) (readings : List Reading) (line : List ℕ) (reading : Reading) → AreReadings season lines readings → IsRowReading season line reading → AreReadings season (lines ++ line ∷ []) (readings ++ reading ∷ [])
 readings_more season [] [] line reading are is = (is, tt)
 readings_more season [] (r ∷ readings) line reading are is = absurd are
 readings_more season (l ∷ lines) [] line reading are is = absurd are
 readings_more season (l ∷ lines) (r ∷ readings) line reading are is = (are.0, readings_more season lines readings line reading are.1 is)
 
-pub rows_more : (season : Term) (lines : List (Bor (List ℕ))) (i : ℕ) (d : Bor (List ℕ)) (rows more : List Reading) (reading : Reading) → i < length lines → more ≡ rows ++ reading ∷ [] → IsReading season (get_or lines i d).now reading → AreReadings season (texts_in (take i lines)) rows
+pub rows_more : (season : Term) (lines : List (Bor (List ℕ))) (i : ℕ) (d : Bor (List ℕ)) (rows more : List Reading) (reading : Reading) → i < length lines → more ≡ rows ++ reading ∷ [] → IsRowReading season (get_or lines i d).now reading → AreReadings season (texts_in (take i lines)) rows
     → AreReadings season (texts_in (take (i + 1) lines)) more
 rows_more season lines i d rows more reading lt put is are =
     let same : texts_in (take (i + 1) lines) ≡ texts_in (take i lines) ++ (get_or lines i d).now ∷ [] = ap texts_in (take_more lines i d lt) ∙ map-append text_in (take i lines) (get_or lines i d ∷ []) in

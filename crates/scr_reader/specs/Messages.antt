@@ -270,5 +270,5 @@ HasMessageFault bytes fault = IsFaultOfFirst (length (lines_of bytes) + 1) (runs
 abbrev pub ReadsAll : List ℕ → List Message → Type 0
 ReadsAll bytes messages = AreMessages (runs_in bytes) messages
 
-abbrev pub HasFault : List ℕ → ScrFault → Type 0
-HasFault bytes fault = IsFirstFault (runs_in bytes) fault
+abbrev pub HasScrFault : List ℕ → ScrFault → Type 0
+HasScrFault bytes fault = IsFirstFault (runs_in bytes) fault

@@ -25,7 +25,7 @@ HasOwn season line (Entry value) = IsShort line
 HasOwn season line (Question flight) = IsShort line
 
 -- the reading says what the line is by itself
-pub record IsReading (season : Term) (line : List ℕ) (reading : Reading) : Type 0 where
+pub record IsRowReading (season : Term) (line : List ℕ) (reading : Reading) : Type 0 where
   pub row : IsRowOrNone season line (row_read reading)
   pub only : (row : Row) → IsRow season line row → row_read reading ≡ Some row
   pub own : HasOwn season line reading
@@ -35,4 +35,4 @@ abbrev pub AreReadings : Term → List (List ℕ) → List Reading → Type 0
 AreReadings season [] [] = Unit {0}
 AreReadings season [] (reading ∷ readings) = ⊥
 AreReadings season (line ∷ lines) [] = ⊥
-AreReadings season (line ∷ lines) (reading ∷ readings) = IsReading season line reading × AreReadings season lines readings
+AreReadings season (line ∷ lines) (reading ∷ readings) = IsRowReading season line reading × AreReadings season lines readings

@@ -5,7 +5,7 @@ ghost use Rattle.std.specs.List.Sorted.{IsStrictlyIncreasing};
 ghost use Rattle.season_days.specs.Term.{Term};
 ghost use Rattle.slot_text.specs.Lines.{lines_of};
 ghost use Rattle.scr_reader.specs.Rows.{entry, IsRow, is_empty_line};
-ghost use Rattle.scr_reader.specs.Messages.{ReadsMessage, HasMessageFault, ReadsAll, HasFault};
+ghost use Rattle.scr_reader.specs.Messages.{ReadsMessage, HasMessageFault, ReadsAll, HasScrFault};
 ghost use Rattle.scr_reader.specs.Printed.{line_text, message_text, LineFits, ItemsFit, MessagesFit, PrintsBack};
 ghost use Rattle.scr_reader.specs.Again.{IsReadAgain, messages_text, AreReadAgain};
 ghost use Rattle.scr_reader.specs.Rising.{all_named_lines};
@@ -27,8 +27,8 @@ pub fn read_lines_fit()
 /// A text is read in one way at most and has one fault at most, and never both: as all messages of the text, and as its first.
 pub fn one_reading()
     ensures all { (bytes : List ℕ) (a b : List MessageValue) → ReadsAll bytes a → ReadsAll bytes b → a ≡ b }
-    ensures all_fault { (bytes : List ℕ) (e f : ScrFaultValue) → HasFault bytes e → HasFault bytes f → e ≡ f }
-    ensures all_or_fault { (bytes : List ℕ) (a : List MessageValue) (e : ScrFaultValue) → ReadsAll bytes a → HasFault bytes e → ⊥ }
+    ensures all_fault { (bytes : List ℕ) (e f : ScrFaultValue) → HasScrFault bytes e → HasScrFault bytes f → e ≡ f }
+    ensures all_or_fault { (bytes : List ℕ) (a : List MessageValue) (e : ScrFaultValue) → ReadsAll bytes a → HasScrFault bytes e → ⊥ }
     ensures first { (bytes : List ℕ) (a b : MessageValue) → ReadsMessage bytes a → ReadsMessage bytes b → a ≡ b }
     ensures first_fault { (bytes : List ℕ) (e f : ScrFaultValue) → HasMessageFault bytes e → HasMessageFault bytes f → e ≡ f }
     ensures first_or_fault { (bytes : List ℕ) (a : MessageValue) (e : ScrFaultValue) → ReadsMessage bytes a → HasMessageFault bytes e → ⊥ }

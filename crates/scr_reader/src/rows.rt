@@ -1,7 +1,7 @@
 ghost use Rattle.std.specs.Prelude.{◌≡◌, ◌≤◌, length, true, false};
 ghost use Rattle.slot_text.specs.Fields.{is_blank};
 ghost use Rattle.scr_reader.specs.Rows.{is_remark, is_question, is_empty_line, trimmed, most_bytes};
-ghost use Rattle.scr_reader.specs.Readings.{IsReading};
+ghost use Rattle.scr_reader.specs.Readings.{IsRowReading};
 
 use crate::fields::Fields;
 use crate::line::{Flight, Line};
@@ -24,7 +24,7 @@ pub(crate) enum Reading {
 
 /// What a line is by itself.
 pub(crate) fn read_row(season: &Season, line: &[u8]) -> Reading
-    ensures { IsReading season.now line.now result }
+    ensures { IsRowReading season.now line.now result }
 {
     let long = line.len() > MOST_BYTES;
     if is_remark_line(line) {
@@ -43,7 +43,7 @@ pub(crate) fn read_row(season: &Season, line: &[u8]) -> Reading
 fn read_fields(season: &Season, line: &[u8]) -> Reading
     requires fields { is_remark line.now ≡ false }
     requires short { length line.now ≤ most_bytes }
-    ensures { IsReading season.now line.now result }
+    ensures { IsRowReading season.now line.now result }
 {
     let fields = Fields::cut(line);
     if asks(&fields) {

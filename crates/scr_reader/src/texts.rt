@@ -2,7 +2,7 @@ ghost use Rattle.std.specs.Prelude.{◌≡◌, ◌⊎◌, ◌+◌, ◌<◌, ◌�
 ghost use Rattle.slot_text.specs.Reads.{GivesOr};
 ghost use Rattle.scr_reader.specs.Texts.{texts_in};
 ghost use Rattle.scr_reader.specs.Decided.{Decides, Advances, Stops, BeginsFull};
-ghost use Rattle.scr_reader.specs.Messages.{runs_of, runs_in, AreMessages, IsFirstFault, FirstIs, IsFaultOfFirst, ReadsMessage, HasMessageFault, ReadsAll, HasFault, front_length};
+ghost use Rattle.scr_reader.specs.Messages.{runs_of, runs_in, AreMessages, IsFirstFault, FirstIs, IsFaultOfFirst, ReadsMessage, HasMessageFault, ReadsAll, HasScrFault, front_length};
 ghost use Rattle.scr_reader.specs.declared.message.Message.{Message as MessageValue};
 ghost use Rattle.scr_reader.specs.declared.fault.ScrFault.{ScrFault as ScrFaultValue};
 ghost use Rattle.scr_reader.specs.declared.fault.ScrFault.TheVariants.{Memory as NoMemory};
@@ -21,8 +21,8 @@ pub fn read_all(alloc: Global, bytes: &[u8]) -> Result<MessageList, ScrFault>
     requires { length bytes.now + 6 < 2 ^ 32 }
     ensures found { IfOk result (ReadsAll bytes.now) }
     ensures only { (messages : List MessageValue) → ReadsAll bytes.now messages → GivesOr NoMemory result (Ok messages) }
-    ensures fault { IfErr result (λ e. HasFault bytes.now e ⊎ (e ≡ NoMemory)) }
-    ensures exact { (e : ScrFaultValue) → HasFault bytes.now e → GivesOr NoMemory result (Err e) }
+    ensures fault { IfErr result (λ e. HasScrFault bytes.now e ⊎ (e ≡ NoMemory)) }
+    ensures exact { (e : ScrFaultValue) → HasScrFault bytes.now e → GivesOr NoMemory result (Err e) }
 {
     let lines = lines_in(alloc, bytes)?;
     read_runs(alloc, lines.as_slice())

@@ -6,7 +6,7 @@ use Rattle.season_days.specs.Seasons.{date_count}
 use Rattle.season_days.specs.declared.declaration.Declaration.{Declaration}
 use Rattle.season_days.specs.declared.declaration.Rule.{Rule}
 use Rattle.season_days.specs.declared.declaration.Night.{Night}
-use Rattle.season_days.specs.declared.declaration.TheConstants.{MINUTES_OF_DAY, MOST_RULES, MOST_WINDOWS, HIGHEST_LIMIT, HIGHEST_NIGHT_LIMIT}
+use Rattle.season_days.specs.declared.declaration.TheConstants.{MINUTES_OF_DAY, MOST_RULES, MOST_WINDOWS, HIGHEST_WINDOW_LIMIT, HIGHEST_NIGHT_LIMIT}
 
 -- what of a declaration its windows depend on
 pub record Capacity : Type 0 where
@@ -30,19 +30,19 @@ abbrev pub windows_of : Capacity → Rule → ℕ
 windows_of c rule = date_count c.season * starts_of c.step rule
 
 -- how many resources there are: all windows, and the night quota after them
-abbrev pub resource_count : Capacity → ℕ
-resource_count c = sum_by (windows_of c) c.rules + (if is_some c.night then 1 else 0)
+abbrev pub declared_resources : Capacity → ℕ
+declared_resources c = sum_by (windows_of c) c.rules + (if is_some c.night then 1 else 0)
 
 -- the limits of a capacity line, and of all together
 pub record IsRule (rule : Rule) : Type 0 where
   pub ordered : rule.from ≤ rule.to
   pub in_day : rule.to < MINUTES_OF_DAY
   pub short : rule.length ≤ MINUTES_OF_DAY
-  pub limit : rule.limit ≤ HIGHEST_LIMIT
+  pub limit : rule.limit ≤ HIGHEST_WINDOW_LIMIT
 
 pub record IsCapacity (c : Capacity) : Type 0 where
   pub step : 0 < c.step
   pub lines : length c.rules ≤ MOST_RULES
   pub rules : All IsRule c.rules
   pub night : ForSome c.night (λ night. night.limit ≤ HIGHEST_NIGHT_LIMIT)
-  pub few : resource_count c ≤ MOST_WINDOWS
+  pub few : declared_resources c ≤ MOST_WINDOWS

@@ -14,7 +14,7 @@ pub const MOST_RULES: u32 = 64;
 pub const MOST_WINDOWS: u32 = 1_000_000;
 
 /// The highest limit of a window.
-pub const HIGHEST_LIMIT: u32 = 9_999;
+pub const HIGHEST_WINDOW_LIMIT: u32 = 9_999;
 
 /// The highest limit of the night quota.
 pub const HIGHEST_NIGHT_LIMIT: u32 = 999_999;

@@ -10,7 +10,7 @@ mod season;
 
 pub use day::{Day, DayFault, Period};
 pub use declaration::{
-    Declaration, HIGHEST_LIMIT, HIGHEST_NIGHT_LIMIT, Kind, MINUTES_OF_DAY, MOST_RULES,
+    Declaration, HIGHEST_WINDOW_LIMIT, HIGHEST_NIGHT_LIMIT, Kind, MINUTES_OF_DAY, MOST_RULES,
     MOST_WINDOWS, Night, Rule, RuleList,
 };
 pub use season::{Half, Season};

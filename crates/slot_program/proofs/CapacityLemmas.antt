@@ -20,7 +20,7 @@ use Rattle.slot_text.specs.Forms.{IsFirstBadLine}
 use Rattle.slot_program.specs.Cutting.{Lacks, AreFields}
 use Rattle.schedule_text.specs.Days.{IsDays, days_text}
 use Rattle.schedule_text.specs.Times.{time_text}
-use Rattle.slot_program.specs.Capacity.{is_step, IsFlex, IsRule, IsDeclaration, rule_fields, airport_line, season_line, step_line, flex_line, ground_line, refuse_line, rule_line, capacity_lines, IsCapacityText, IsCapacityForm}
+use Rattle.slot_program.specs.Capacity.{is_step, IsFlex, IsServedRule, IsServedDeclaration, rule_fields, airport_line, season_line, step_line, flex_line, ground_line, refuse_line, rule_line, capacity_lines, IsCapacityText, IsCapacityForm}
 use Rattle.slot_program.proofs.CuttingLemmas.{lacks_append, cut_once, lacks_by}
 use Rattle.slot_program.proofs.HighLemmas.{high_lacks, high_decimal, high_clock, high_station, high_season, high_days}
 use Rattle.slot_program.proofs.EndedLemmas.{lines_then, AllLack, begins_with, peel, next_line, no_line}
@@ -48,7 +48,7 @@ step_bound n is = (step_small n is, grind (arith, nat_tests, is))
 
 -- ---- the fields of the capacity line
 
-pub rule_are_fields : (rule : Rule) (days : List ℕ) → IsRule rule → IsDays days rule.days → AreFields (rule_fields rule days) (decimal rule.length) (time_text rule.from) (time_text rule.to) days (decimal rule.limit)
+pub rule_are_fields : (rule : Rule) (days : List ℕ) → IsServedRule rule → IsDays days rule.days → AreFields (rule_fields rule days) (decimal rule.length) (time_text rule.from) (time_text rule.to) days (decimal rule.limit)
 rule_are_fields rule days is named =
     record {
       first = number_lacks 32 rule.length (omega arith) (omega (arith, is.at_most_a_day));
@@ -66,7 +66,7 @@ same_fields text a b c d e v w x y z one two =
     let s = cut_once 32 d y _ _ one.fourth two.fourth r.1 in
     (p.0, q.0, r.0, s.0, s.1)
 
-pub rule_lacks : (rule : Rule) (days : List ℕ) → IsRule rule → IsDays days rule.days → Lacks 10 (rule_fields rule days)
+pub rule_lacks : (rule : Rule) (days : List ℕ) → IsServedRule rule → IsDays days rule.days → Lacks 10 (rule_fields rule days)
 rule_lacks rule days is named =
     let tail4 : Lacks 10 (32 ∷ decimal rule.limit) = ((lacks_by 10 (32 ∷ []) refl).0, number_lacks 10 rule.limit (omega arith) is.small) in
     let tail3 : Lacks 10 (32 ∷ (days ++ (32 ∷ decimal rule.limit))) = ((lacks_by 10 (32 ∷ []) refl).0, lacks_append 10 days (32 ∷ decimal rule.limit) (high_lacks 10 days (omega arith) (high_days days rule.days named)) tail4) in
@@ -79,7 +79,7 @@ rule_lacks rule days is named =
 -- ---- all lines
 
 -- no line of a file in the form holds a line end
-pub all_lack : (d : Declaration) (rule : Rule) (days : List ℕ) → IsDeclaration d rule → IsDays days rule.days → AllLack (capacity_lines d rule days)
+pub all_lack : (d : Declaration) (rule : Rule) (days : List ℕ) → IsServedDeclaration d rule → IsDays days rule.days → AllLack (capacity_lines d rule days)
 all_lack d rule days is named = (
   lacks_append 10 (codes "AIRPORT ") d.airport.0 (lacks_by 10 (codes "AIRPORT ") refl) (station_lacks d.airport.0 is.airport),
   (
@@ -111,10 +111,10 @@ pub record HasValues (airport : Station) (season : Term) (step flex ground : ℕ
   pub step_is : is_step step ≡ true
   pub flex_is : IsFlex step flex
   pub ground_is : ground ≤ 1440
-  pub rule_is : IsRule rule
+  pub rule_is : IsServedRule rule
   pub days_are : IsDays days rule.days
 
-pub declares : (airport : Station) (season : Term) (step flex ground : ℕ) (rule : Rule) (days : List ℕ) → HasValues airport season step flex ground rule days → IsDeclaration (made airport season step flex ground rule) rule
+pub declares : (airport : Station) (season : Term) (step flex ground : ℕ) (rule : Rule) (days : List ℕ) → HasValues airport season step flex ground rule days → IsServedDeclaration (made airport season step flex ground rule) rule
 declares airport season step flex ground rule days v =
     record { airport = v.airport_is; season = v.season_is; step = v.step_is; flex = v.flex_is; ground = v.ground_is; share = refl; refuse = refl; night = refl; rules = refl; is_rule = v.rule_is }
 
@@ -135,7 +135,7 @@ some_season = record { half = Summer; year = 0 }
 abbrev pub some_rule : Rule
 some_rule = record { kind = Arr; length = 1; from = 0; to = 0; days = 1; limit = 1 }
 
-pub some_rule_is : IsRule some_rule
+pub some_rule_is : IsServedRule some_rule
 some_rule_is = record { kind = refl; some_minutes = omega arith; at_most_a_day = omega arith; ordered = omega arith; in_day = omega arith; some_weekday = omega arith; some_arrival = omega arith; small = omega arith }
 
 pub some_days_are : IsDays (days_text 1) 1
@@ -150,7 +150,7 @@ one_less n = omega arith
 -- A line that no file in the form has behind these lines is the first bad one.
 pub bad_line : (airport : Station) (season : Term) (step flex ground : ℕ) (rule : Rule) (days : List ℕ) → HasValues airport season step flex ground rule days
     → (text : List ℕ) (front more : List (List ℕ)) (rest : List ℕ) → front ++ more ≡ value_lines airport season step flex ground rule days → AllLack front → length front ≤ 7 → text ≡ lines_then front rest
-    → ((d : Declaration) (rule : Rule) (days : List ℕ) → IsDeclaration d rule → IsDays days rule.days → front ≡ take (length front) (capacity_lines d rule days)
+    → ((d : Declaration) (rule : Rule) (days : List ℕ) → IsServedDeclaration d rule → IsDays days rule.days → front ≡ take (length front) (capacity_lines d rule days)
     → take 1 (ended_lines rest) ≡ take 1 (ended_lines (ended (drop (length front) (capacity_lines d rule days)))) → ⊥)
     → IsFirstBadLine IsCapacityForm text (suc (length front))
 bad_line airport season step flex ground rule days v text front more rest whole lack few read none =
@@ -234,7 +234,7 @@ bad_6 text rest1 rest2 rest3 rest4 rest5 airport season step flex ground airport
     let next = next_line rest5 (refuse_line) _ (all_lack d r ds fits named).1.1.1.1.1.0 e in
     none next.0 next.1)
 
-pub bad_7 : (text rest1 rest2 rest3 rest4 rest5 rest6 : List ℕ) (airport : Station) (season : Term) (step : ℕ) (flex : ℕ) (ground : ℕ) → IsStation airport.0 → season.year < 100 → is_step step ≡ true → IsFlex step flex → ground ≤ 1440 → text ≡ airport_line airport.0 ++ (10 ∷ rest1) → rest1 ≡ season_line season ++ (10 ∷ rest2) → rest2 ≡ step_line step ++ (10 ∷ rest3) → rest3 ≡ flex_line flex ++ (10 ∷ rest4) → rest4 ≡ ground_line ground ++ (10 ∷ rest5) → rest5 ≡ refuse_line ++ (10 ∷ rest6) → ((other : Rule) (named tail : List ℕ) → IsRule other → IsDays named other.days → rest6 ≡ rule_line other named ++ (10 ∷ tail) → ⊥) → IsFirstBadLine IsCapacityForm text 7
+pub bad_7 : (text rest1 rest2 rest3 rest4 rest5 rest6 : List ℕ) (airport : Station) (season : Term) (step : ℕ) (flex : ℕ) (ground : ℕ) → IsStation airport.0 → season.year < 100 → is_step step ≡ true → IsFlex step flex → ground ≤ 1440 → text ≡ airport_line airport.0 ++ (10 ∷ rest1) → rest1 ≡ season_line season ++ (10 ∷ rest2) → rest2 ≡ step_line step ++ (10 ∷ rest3) → rest3 ≡ flex_line flex ++ (10 ∷ rest4) → rest4 ≡ ground_line ground ++ (10 ∷ rest5) → rest5 ≡ refuse_line ++ (10 ∷ rest6) → ((other : Rule) (named tail : List ℕ) → IsServedRule other → IsDays named other.days → rest6 ≡ rule_line other named ++ (10 ∷ tail) → ⊥) → IsFirstBadLine IsCapacityForm text 7
 bad_7 text rest1 rest2 rest3 rest4 rest5 rest6 airport season step flex ground airport_is season_is step_is flex_is ground_is e1 e2 e3 e4 e5 e6 none =
     let v : HasValues airport season step flex ground some_rule (days_text 1) = record { airport_is = airport_is; season_is = season_is; step_is = step_is; flex_is = flex_is; ground_is = ground_is; rule_is = some_rule_is; days_are = some_days_are } in
     let all = all_lack (made airport season step flex ground some_rule) some_rule (days_text 1) (declares airport season step flex ground some_rule (days_text 1) v) v.days_are in
@@ -243,7 +243,7 @@ bad_7 text rest1 rest2 rest3 rest4 rest5 rest6 airport season step flex ground a
     let next = next_line rest6 (rule_line r ds) _ (all_lack d r ds fits named).1.1.1.1.1.1.0 e in
     none r ds next.0 fits.is_rule named next.1)
 
-pub bad_8 : (text rest1 rest2 rest3 rest4 rest5 rest6 rest7 : List ℕ) (airport : Station) (season : Term) (step : ℕ) (flex : ℕ) (ground : ℕ) (rule : Rule) (days : List ℕ) → IsStation airport.0 → season.year < 100 → is_step step ≡ true → IsFlex step flex → ground ≤ 1440 → IsRule rule → IsDays days rule.days → text ≡ airport_line airport.0 ++ (10 ∷ rest1) → rest1 ≡ season_line season ++ (10 ∷ rest2) → rest2 ≡ step_line step ++ (10 ∷ rest3) → rest3 ≡ flex_line flex ++ (10 ∷ rest4) → rest4 ≡ ground_line ground ++ (10 ∷ rest5) → rest5 ≡ refuse_line ++ (10 ∷ rest6) → rest6 ≡ rule_line rule days ++ (10 ∷ rest7) → (rest7 ≡ [] → ⊥) → IsFirstBadLine IsCapacityForm text 8
+pub bad_8 : (text rest1 rest2 rest3 rest4 rest5 rest6 rest7 : List ℕ) (airport : Station) (season : Term) (step : ℕ) (flex : ℕ) (ground : ℕ) (rule : Rule) (days : List ℕ) → IsStation airport.0 → season.year < 100 → is_step step ≡ true → IsFlex step flex → ground ≤ 1440 → IsServedRule rule → IsDays days rule.days → text ≡ airport_line airport.0 ++ (10 ∷ rest1) → rest1 ≡ season_line season ++ (10 ∷ rest2) → rest2 ≡ step_line step ++ (10 ∷ rest3) → rest3 ≡ flex_line flex ++ (10 ∷ rest4) → rest4 ≡ ground_line ground ++ (10 ∷ rest5) → rest5 ≡ refuse_line ++ (10 ∷ rest6) → rest6 ≡ rule_line rule days ++ (10 ∷ rest7) → (rest7 ≡ [] → ⊥) → IsFirstBadLine IsCapacityForm text 8
 unfolding ended_lines
 bad_8 text rest1 rest2 rest3 rest4 rest5 rest6 rest7 airport season step flex ground rule days airport_is season_is step_is flex_is ground_is rule_is days_are e1 e2 e3 e4 e5 e6 e7 none =
     let v : HasValues airport season step flex ground rule days = record { airport_is = airport_is; season_is = season_is; step_is = step_is; flex_is = flex_is; ground_is = ground_is; rule_is = rule_is; days_are = days_are } in
@@ -252,7 +252,7 @@ bad_8 text rest1 rest2 rest3 rest4 rest5 rest6 rest7 airport season step flex gr
     (λ d r ds fits named same e. none (no_line rest7 e))
 
 -- the seven lines that were read, and nothing behind them
-pub whole_text : (text rest1 rest2 rest3 rest4 rest5 rest6 rest7 : List ℕ) (d : Declaration) (rule : Rule) (days : List ℕ) → IsDeclaration d rule → IsDays days rule.days
+pub whole_text : (text rest1 rest2 rest3 rest4 rest5 rest6 rest7 : List ℕ) (d : Declaration) (rule : Rule) (days : List ℕ) → IsServedDeclaration d rule → IsDays days rule.days
     → text ≡ airport_line d.airport.0 ++ (10 ∷ rest1) → rest1 ≡ season_line d.season ++ (10 ∷ rest2) → rest2 ≡ step_line d.step ++ (10 ∷ rest3) → rest3 ≡ flex_line d.flex ++ (10 ∷ rest4) → rest4 ≡ ground_line d.ground ++ (10 ∷ rest5)
     → rest5 ≡ refuse_line ++ (10 ∷ rest6) → rest6 ≡ rule_line rule days ++ (10 ∷ rest7) → rest7 ≡ [] → IsCapacityText text d
 whole_text text rest1 rest2 rest3 rest4 rest5 rest6 rest7 d rule days fits named e1 e2 e3 e4 e5 e6 e7 e8 =

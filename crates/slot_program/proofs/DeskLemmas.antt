@@ -16,7 +16,7 @@ use Rattle.slot_program.specs.Words.{Word}
 use Rattle.slot_program.specs.Capacity.{IsCapacityText, IsCapacityForm}
 use Rattle.slot_program.specs.Texts.{certificate_text, settled_stages, confirmation}
 use Rattle.slot_program.specs.Reports.{Report, settled, no_command, missing, large, unread, unwritten, unbuilt, status_of}
-use Rattle.slot_program.specs.Order.{most_bytes, Refuses, FirstDue, reads}
+use Rattle.slot_program.specs.Order.{longest_file, Refuses, FirstDue, reads}
 use Rattle.slot_program.specs.declared.job.Job.{Job}
 use Rattle.slot_program.specs.declared.job.Job.TheVariants.{Allocate}
 use Rattle.slot_text.specs.declared.station.Station.{Station}
@@ -43,19 +43,19 @@ second_of_two a b = (1, omega arith, refl)
 
 -- ---- refusals before a write
 
-capacity_stop : (files after : Option Files) (names : FileNames) (before now line : ℕ) (bytes : List ℕ) → after ≡ files → Holds files names.capacity bytes → length bytes ≤ most_bytes → IsFirstBadLine IsCapacityForm bytes line
+capacity_stop : (files after : Option Files) (names : FileNames) (before now line : ℕ) (bytes : List ℕ) → after ≡ files → Holds files names.capacity bytes → length bytes ≤ longest_file → IsFirstBadLine IsCapacityForm bytes line
     → AllocationEnds files names before now (unbuilt names.capacity line) after
 capacity_stop None after names before now line bytes same held short bad = (same, first_of_two names.capacity names.requests, tt)
 capacity_stop (Some files) after names before now line bytes same held short bad = (
   same,
   first_of_two names.capacity names.requests,
   inr (
-    some_and (λ (b : List ℕ). length b ≤ most_bytes) (files names.capacity) bytes held short,
+    some_and (λ (b : List ℕ). length b ≤ longest_file) (files names.capacity) bytes held short,
     inl (some_and (λ (b : List ℕ). (n : ℕ) × IsFirstBadLine IsCapacityForm b n × (unbuilt names.capacity line ≡ unbuilt names.capacity n)) (files names.capacity) bytes held (line, bad, refl)),
   ),
 )
 
-pub stop_capacity : (files after : Option Files) (names : FileNames) (before now : ℕ) (bytes : List ℕ) (stop : Stop) → after ≡ files → Holds files names.capacity bytes → length bytes ≤ most_bytes
+pub stop_capacity : (files after : Option Files) (names : FileNames) (before now : ℕ) (bytes : List ℕ) (stop : Stop) → after ≡ files → Holds files names.capacity bytes → length bytes ≤ longest_file
     → IsFormStop Capacity (IsFirstBadLine IsCapacityForm bytes) stop → IsStopped files names before now after stop
 stop_capacity files after names before now bytes Memory same held short why = tt
 stop_capacity files after names before now bytes (Refused (Missing file)) same held short why = absurd why
@@ -65,18 +65,18 @@ stop_capacity files after names before now bytes (Refused (Unwritten file)) same
 stop_capacity files after names before now bytes (Refused (Unbuilt file line)) same held short why =
     subst (λ (f : File). AllocationEnds files names before now (unbuilt (name_of names f) line) after) (sym why.0) (capacity_stop files after names before now line bytes same held short why.1)
 
-message_stop : (files after : Option Files) (names : FileNames) (before now line : ℕ) (bytes asked : List ℕ) (d : Declaration) → after ≡ files → Holds files names.capacity bytes → length bytes ≤ most_bytes → IsCapacityText bytes d
-    → Holds files names.requests asked → length asked ≤ most_bytes → IsFirstBadLine (IsHistoricText d.season d.airport) asked line → AllocationEnds files names before now (unbuilt names.requests line) after
+message_stop : (files after : Option Files) (names : FileNames) (before now line : ℕ) (bytes asked : List ℕ) (d : Declaration) → after ≡ files → Holds files names.capacity bytes → length bytes ≤ longest_file → IsCapacityText bytes d
+    → Holds files names.requests asked → length asked ≤ longest_file → IsFirstBadLine (IsHistoricText d.season d.airport) asked line → AllocationEnds files names before now (unbuilt names.requests line) after
 message_stop None after names before now line bytes asked d same held short declared there small bad = (same, second_of_two names.capacity names.requests, tt)
 message_stop (Some files) after names before now line bytes asked d same held short declared there small bad = (
   same,
   second_of_two names.capacity names.requests,
   inr (
-    some_and (λ (b : List ℕ). length b ≤ most_bytes) (files names.capacity) bytes held short,
+    some_and (λ (b : List ℕ). length b ≤ longest_file) (files names.capacity) bytes held short,
     inr (
       some_and IsCapacityForm (files names.capacity) bytes held (d, declared),
       inr (
-        some_and (λ (b : List ℕ). length b ≤ most_bytes) (files names.requests) asked there small,
+        some_and (λ (b : List ℕ). length b ≤ longest_file) (files names.requests) asked there small,
         inl (
           d,
           some_and (λ (b : List ℕ). IsCapacityText b d) (files names.capacity) bytes held declared,
@@ -87,8 +87,8 @@ message_stop (Some files) after names before now line bytes asked d same held sh
   ),
 )
 
-pub stop_message : (files after : Option Files) (names : FileNames) (before now : ℕ) (bytes asked : List ℕ) (d : Declaration) (stop : Stop) → after ≡ files → Holds files names.capacity bytes → length bytes ≤ most_bytes → IsCapacityText bytes d
-    → Holds files names.requests asked → length asked ≤ most_bytes → IsFormStop Requests (IsFirstBadLine (IsHistoricText d.season d.airport) asked) stop → IsStopped files names before now after stop
+pub stop_message : (files after : Option Files) (names : FileNames) (before now : ℕ) (bytes asked : List ℕ) (d : Declaration) (stop : Stop) → after ≡ files → Holds files names.capacity bytes → length bytes ≤ longest_file → IsCapacityText bytes d
+    → Holds files names.requests asked → length asked ≤ longest_file → IsFormStop Requests (IsFirstBadLine (IsHistoricText d.season d.airport) asked) stop → IsStopped files names before now after stop
 stop_message files after names before now bytes asked d Memory same held short declared there small why = tt
 stop_message files after names before now bytes asked d (Refused (Missing file)) same held short declared there small why = absurd why
 stop_message files after names before now bytes asked d (Refused (Large file)) same held short declared there small why = absurd why
@@ -193,10 +193,10 @@ report_status (unbuilt name line) = (5, omega arith, refl)
 at_some : {X : Type 0} (P : X → Type 0) (o : Option X) (x : X) → o ≡ Some x → IsSomeAnd o P → P x
 at_some {X} P o x e some = subst (λ (v : Option X). IsSomeAnd v P) e some
 
-read_refuses : (files : Files) (name bytes : List ℕ) (report : Report) → files name ≡ Some bytes → length bytes ≤ most_bytes → Refuses files (reads name) report → ⊥
+read_refuses : (files : Files) (name bytes : List ℕ) (report : Report) → files name ≡ Some bytes → length bytes ≤ longest_file → Refuses files (reads name) report → ⊥
 read_refuses files name bytes report held short (inl none) = none-some bytes (sym none.0 ∙ held)
 read_refuses files name bytes report held short (inr long) =
-    let over : most_bytes < length bytes = at_some (λ (b : List ℕ). most_bytes < length b) (files name) bytes held long.0 in
+    let over : longest_file < length bytes = at_some (λ (b : List ℕ). longest_file < length b) (files name) bytes held long.0 in
     omega (arith, over, short)
 
 -- where both files are in their forms nothing is due
@@ -206,8 +206,8 @@ plan_not_due files names replies report plan (inr (one, inl refused)) =
     let bad = at_some (λ (b : List ℕ). (line : ℕ) × IsFirstBadLine IsCapacityForm b line × (report ≡ unbuilt names.capacity line)) (files names.capacity) plan.capacity_bytes plan.held_capacity refused in
     no_bad_line plan.capacity_bytes plan.declaration bad.0 plan.declared bad.1
 plan_not_due files names replies report plan (inr (one, inr (two, inl refused))) =
-    let short : length plan.requests_bytes ≤ most_bytes =
-    subst (λ (b : List ℕ). length b ≤ most_bytes) (sym plan.spelled) (message_short plan.declaration.season plan.declaration.airport plan.message plan.declared.fits.airport plan.historic) in
+    let short : length plan.requests_bytes ≤ longest_file =
+    subst (λ (b : List ℕ). length b ≤ longest_file) (sym plan.spelled) (message_short plan.declaration.season plan.declaration.airport plan.message plan.declared.fits.airport plan.historic) in
     read_refuses files names.requests plan.requests_bytes report plan.held_requests short refused
 plan_not_due files names replies report plan (inr (one, inr (two, inr (three, inl (d, declared, refused))))) =
     let here : IsCapacityText plan.capacity_bytes d = at_some (λ (b : List ℕ). IsCapacityText b d) (files names.capacity) plan.capacity_bytes plan.held_capacity declared in
@@ -228,7 +228,7 @@ some_status None name IsBad report none = absurd none
 some_status (Some b) name IsBad report found = ap status_of found.2
 
 -- a step that passes refuses nothing
-passed_read_at : (o : Option (List ℕ)) (name : Word) (report : Report) → IsSomeAnd o (λ b. length b ≤ most_bytes) → ((o ≡ None) × (report ≡ missing name)) ⊎ (IsSomeAnd o (λ b. most_bytes < length b) × (report ≡ large name)) → ⊥
+passed_read_at : (o : Option (List ℕ)) (name : Word) (report : Report) → IsSomeAnd o (λ b. length b ≤ longest_file) → ((o ≡ None) × (report ≡ missing name)) ⊎ (IsSomeAnd o (λ b. longest_file < length b) × (report ≡ large name)) → ⊥
 passed_read_at None name report passes refuses = absurd passes
 passed_read_at (Some b) name report passes (inl none) = none-some b (sym none.0)
 passed_read_at (Some b) name report passes (inr long) = omega (arith, long.0, passes)

@@ -24,7 +24,7 @@ pub record IsFlex (step n : ℕ) : Type 0 where
 
 -- ---- lines
 
-pub record IsRule (rule : Rule) : Type 0 where
+pub record IsServedRule (rule : Rule) : Type 0 where
   pub kind : rule.kind ≡ Arr
   pub some_minutes : 1 ≤ rule.length
   pub at_most_a_day : rule.length ≤ 1440
@@ -35,7 +35,7 @@ pub record IsRule (rule : Rule) : Type 0 where
   pub small : rule.limit ≤ 9999
 
 -- what a declaration has that this form spells: one capacity line, and no price for a refusal
-pub record IsDeclaration (d : Declaration) (rule : Rule) : Type 0 where
+pub record IsServedDeclaration (d : Declaration) (rule : Rule) : Type 0 where
   pub airport : IsStation d.airport.0
   pub season : d.season.year < 100
   pub step : is_step d.step ≡ true
@@ -45,7 +45,7 @@ pub record IsDeclaration (d : Declaration) (rule : Rule) : Type 0 where
   pub refuse : d.refuse ≡ None
   pub night : d.night ≡ None
   pub rules : d.rules ≡ rule ∷ []
-  pub is_rule : IsRule rule
+  pub is_rule : IsServedRule rule
 
 abbrev pub airport_line : List ℕ → List ℕ
 airport_line station = codes "AIRPORT " ++ station
@@ -84,7 +84,7 @@ capacity_lines d rule days =
 pub record IsCapacityText (text : List ℕ) (d : Declaration) : Type 0 where
   pub rule : Rule
   pub days : List ℕ
-  pub fits : IsDeclaration d rule
+  pub fits : IsServedDeclaration d rule
   pub spelled : IsDays days rule.days
   pub lines : text ≡ ended (capacity_lines d rule days)
 

@@ -63,14 +63,14 @@ pub record IsPlan (files : Files) (names : FileNames) (replies : List ℕ) : Typ
 
 -- The choice that is certified is feasible: the arrivals of the line, at the time that it asks for, fit under every capacity
 -- line. It costs nothing, so no other choice costs less.
-abbrev pub IsFeasible : Declaration → Line → Type 0
-IsFeasible declaration asked =
+abbrev pub FitsEveryWindow : Declaration → Line → Type 0
+FitsEveryWindow declaration asked =
     IsSomeAnd asked.arrival (λ stop. (rule : Rule) → Contains declaration.rules rule → FitsRule rule stop.minute (dates_of declaration.season asked.period))
 
 -- the certificate and then the replies stand, and what the certificate says is so
 abbrev pub Allocates : Option Files → FileNames → Option Files → Type 0
 Allocates files names after =
-    IfSome files (λ held. (replies : List ℕ) × (plan : IsPlan held names replies) × IsFeasible plan.declaration plan.historic.asked × (after ≡ Some (with_writes held (allocation_writes names replies))))
+    IfSome files (λ held. (replies : List ℕ) × (plan : IsPlan held names replies) × FitsEveryWindow plan.declaration plan.historic.asked × (after ≡ Some (with_writes held (allocation_writes names replies))))
 
 -- the report is the first that is due, where the files are told
 abbrev pub IsDue : Option Files → FileNames → Report → Type 0

@@ -9,8 +9,8 @@ use Rattle.slot_program.specs.Capacity.{IsCapacityText, IsCapacityForm}
 use Rattle.slot_program.specs.Reports.{Report, missing, large, unbuilt}
 
 -- the most bytes that are read of a file: 4 MiB
-abbrev pub most_bytes : ℕ
-most_bytes = 4194304
+abbrev pub longest_file : ℕ
+longest_file = 4194304
 
 -- a file is read, it is judged as a capacity file, or it is judged as a message under the declaration of a capacity file
 pub data Step : Type 0 where
@@ -20,7 +20,7 @@ pub data Step : Type 0 where
 
 -- the step finds nothing to refuse in these files
 abbrev pub Passes : Files → Step → Type 0
-Passes files (reads name) = IsSomeAnd (files name) (λ bytes. length bytes ≤ most_bytes)
+Passes files (reads name) = IsSomeAnd (files name) (λ bytes. length bytes ≤ longest_file)
 Passes files (judges_capacity name) = IsSomeAnd (files name) IsCapacityForm
 Passes files (judges_message capacity name) =
     (d : Declaration) × IsSomeAnd (files capacity) (λ bytes. IsCapacityText bytes d) × IsSomeAnd (files name) (IsHistoricText d.season d.airport)
@@ -28,7 +28,7 @@ Passes files (judges_message capacity name) =
 -- the step refuses with this report
 abbrev pub Refuses : Files → Step → Report → Type 0
 Refuses files (reads name) report =
-    ((files name ≡ None) × (report ≡ missing name)) ⊎ (IsSomeAnd (files name) (λ bytes. most_bytes < length bytes) × (report ≡ large name))
+    ((files name ≡ None) × (report ≡ missing name)) ⊎ (IsSomeAnd (files name) (λ bytes. longest_file < length bytes) × (report ≡ large name))
 Refuses files (judges_capacity name) report =
     IsSomeAnd (files name) (λ bytes. (line : ℕ) × IsFirstBadLine IsCapacityForm bytes line × (report ≡ unbuilt name line))
 Refuses files (judges_message capacity name) report =

@@ -4,7 +4,7 @@ use Rattle.desk_outside.specs.Cause.{Rose}
 use Rattle.desk_outside.specs.Files.{Files}
 use Rattle.slot_program.specs.Words.{Word}
 use Rattle.slot_program.specs.Reports.{Report, missing, large, unread, unwritten, unbuilt}
-use Rattle.slot_program.specs.Order.{most_bytes}
+use Rattle.slot_program.specs.Order.{longest_file}
 use Rattle.slot_program.specs.Desk.{FileNames, AllocationEnds}
 use Rattle.slot_program.specs.declared.refusal.File.{File}
 use Rattle.slot_program.specs.declared.refusal.File.TheVariants.{Capacity, Requests, Certificate, Replies}
@@ -43,7 +43,7 @@ Holds files name bytes = IfSome files (λ held. held name ≡ Some bytes)
 -- why a file was not read
 abbrev pub IsReadRefusal : Option Files → Word → File → ℕ → ℕ → Refusal → Type 0
 IsReadRefusal files name file before now (Missing f) = (f ≡ file) × MatchOption files (Rose before now) (λ held. held name ≡ None)
-IsReadRefusal files name file before now (Large f) = (f ≡ file) × MatchOption files (Rose before now) (λ held. IsSomeAnd (held name) (λ bytes. most_bytes < length bytes))
+IsReadRefusal files name file before now (Large f) = (f ≡ file) × MatchOption files (Rose before now) (λ held. IsSomeAnd (held name) (λ bytes. longest_file < length bytes))
 IsReadRefusal files name file before now (Unread f) = (f ≡ file) × Rose before now
 IsReadRefusal files name file before now (Unwritten f) = ⊥
 IsReadRefusal files name file before now (Unbuilt f line) = ⊥

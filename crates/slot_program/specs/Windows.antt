@@ -8,12 +8,12 @@ abbrev pub stands_in : ℕ → ℕ → ℕ → ℕ → Bool
 stands_in begin length minute date = nat_le begin (1440 * date + minute) && nat_lt (1440 * date + minute) (begin + length)
 
 -- how many of the arrivals on these dates stand in the window
-abbrev pub window_load : ℕ → ℕ → ℕ → List ℕ → ℕ
-window_load begin length minute [] = 0
-window_load begin length minute (date ∷ dates) =
-    if stands_in begin length minute date then window_load begin length minute dates + 1 else window_load begin length minute dates
+abbrev pub arrivals_in : ℕ → ℕ → ℕ → List ℕ → ℕ
+arrivals_in begin length minute [] = 0
+arrivals_in begin length minute (date ∷ dates) =
+    if stands_in begin length minute date then arrivals_in begin length minute dates + 1 else arrivals_in begin length minute dates
 
 -- In no window of the capacity line, on whatever day and from whatever minute of it, stand more of the arrivals on these
 -- dates than the line's limit.
 abbrev pub FitsRule : Rule → ℕ → List ℕ → Type 0
-FitsRule rule minute dates = (day start : ℕ) → window_load (1440 * day + start) rule.length minute dates ≤ rule.limit
+FitsRule rule minute dates = (day start : ℕ) → arrivals_in (1440 * day + start) rule.length minute dates ≤ rule.limit

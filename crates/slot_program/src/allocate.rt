@@ -9,7 +9,7 @@ ghost use Rattle.scr_reader.specs.declared.line.Item.TheVariants.{One};
 ghost use Rattle.slot_program.specs.Capacity.{IsCapacityText, IsCapacityForm};
 ghost use Rattle.slot_program.specs.Texts.{certificate_text, settled_stages, confirmation};
 ghost use Rattle.slot_program.specs.Reports.{settled};
-ghost use Rattle.slot_program.specs.Order.{most_bytes};
+ghost use Rattle.slot_program.specs.Order.{longest_file};
 ghost use Rattle.slot_program.specs.Desk.{AllocationEnds, written_names};
 ghost use Rattle.slot_program.specs.Stops.{names_of, name_of, IsStopped, Holds, IsReadStop, IsFormStop};
 ghost use Rattle.slot_program.specs.Messages.{HasOneLine, Confirms};
@@ -56,7 +56,7 @@ fn read_file<C: Cabinet>(
     file: File,
     cabinet: &mut C,
 ) -> Result<Vec<u8>, Stop>
-    ensures held { IfOk result (λ bytes. Holds (C.files cabinet.old) (name_of (names_of names.now) file) bytes.items × (length bytes.items ≤ most_bytes)) }
+    ensures held { IfOk result (λ bytes. Holds (C.files cabinet.old) (name_of (names_of names.now) file) bytes.items × (length bytes.items ≤ longest_file)) }
     ensures stop { IfErr result (IsReadStop (C.files cabinet.old) (name_of (names_of names.now) file) file (C.fault_count cabinet.old) (C.fault_count cabinet.new)) }
     ensures unchanged { C.files cabinet.new ≡ C.files cabinet.old }
     ensures kept { OnOk result (C.fault_count cabinet.new ≡ C.fault_count cabinet.old) }

@@ -4,7 +4,7 @@ ghost use Rattle.season_days.specs.declared.declaration.Rule.{Rule as RuleValue}
 ghost use Rattle.slot_text.specs.Reads.{AnswersBy};
 ghost use Rattle.slot_text.specs.Stations.{IsStation};
 ghost use Rattle.schedule_text.specs.Days.{IsDays};
-ghost use Rattle.slot_program.specs.Capacity.{is_step, IsFlex, IsRule, airport_line, season_line, step_line, flex_line, ground_line, refuse_line, rule_line, IsCapacityText};
+ghost use Rattle.slot_program.specs.Capacity.{is_step, IsFlex, IsServedRule, airport_line, season_line, step_line, flex_line, ground_line, refuse_line, rule_line, IsCapacityText};
 ghost use Rattle.slot_program.specs.CapacityFaults.{HasCapacityFault};
 
 use crate::cutting::{line_value, strip};
@@ -130,7 +130,7 @@ fn after_refuse(text: &[u8]) -> Option<&[u8]>
 }
 
 fn rule_of(text: &[u8]) -> Option<(Rule, &[u8])>
-    ensures { MatchOption result ((rule : RuleValue) (days rest : List ℕ) → IsRule rule → IsDays days rule.days → text.now ≡ rule_line rule days ++ (10 ∷ rest) → ⊥) (λ x. IsRule x.0 × ((days : List ℕ) × IsDays days x.0.days × (text.now ≡ rule_line x.0 days ++ (10 ∷ x.1.now)))) }
+    ensures { MatchOption result ((rule : RuleValue) (days rest : List ℕ) → IsServedRule rule → IsDays days rule.days → text.now ≡ rule_line rule days ++ (10 ∷ rest) → ⊥) (λ x. IsServedRule x.0 × ((days : List ℕ) × IsDays days x.0.days × (text.now ≡ rule_line x.0 days ++ (10 ∷ x.1.now)))) }
 {
     let (value, rest) = line_value(text, b"CAP ARR ")?;
     Some((read_rule(value)?, rest))

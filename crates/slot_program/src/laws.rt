@@ -7,7 +7,7 @@ ghost use Rattle.season_days.specs.declared.declaration.Rule.{Rule};
 ghost use Rattle.historic_reader.specs.Historic.{IsHistoricMessage};
 ghost use Rattle.scr_reader.specs.declared.message.Message.{Message};
 ghost use Rattle.slot_program.specs.Capacity.{IsCapacityText};
-ghost use Rattle.slot_program.specs.Windows.{window_load};
+ghost use Rattle.slot_program.specs.Windows.{arrivals_in};
 
 /// Under a declaration in the form that is served, the arrivals of the line that a message asks for fit: no window of the
 /// capacity line, on whatever day and from whatever minute, holds more of them than its limit. So the line keeps its times,
@@ -15,5 +15,5 @@ ghost use Rattle.slot_program.specs.Windows.{window_load};
 pub fn one_line_fits()
     ensures { (text : List ℕ) (declaration : Declaration) (message : Message) (historic : IsHistoricMessage declaration.season declaration.airport message) (rule : Rule) (day start minute : ℕ) →
         IsCapacityText text declaration → declaration.rules ≡ rule ∷ [] →
-        window_load (1440 * day + start) rule.length minute (dates_of declaration.season historic.asked.period) ≤ rule.limit }
+        arrivals_in (1440 * day + start) rule.length minute (dates_of declaration.season historic.asked.period) ≤ rule.limit }
 {}

@@ -1,7 +1,7 @@
 ghost use Rattle.std.specs.Prelude.{◌≡◌, ◌≤◌, ◌↔◌, ℕ, List, MatchOption, IsTrue};
 ghost use Rattle.season_days.specs.declared.declaration.Rule.{Rule as RuleValue};
 ghost use Rattle.schedule_text.specs.Days.{IsDays};
-ghost use Rattle.slot_program.specs.Capacity.{IsRule, rule_fields};
+ghost use Rattle.slot_program.specs.Capacity.{IsServedRule, rule_fields};
 ghost use Rattle.slot_program.specs.Cutting.{AreFields};
 
 use crate::cutting::cut_at;
@@ -21,7 +21,7 @@ struct Fields<'a> {
 
 /// The capacity line for arrivals whose fields the text is.
 pub(crate) fn read_rule(text: &[u8]) -> Option<Rule>
-    ensures { MatchOption result ((rule : RuleValue) (days : List ℕ) → IsRule rule → IsDays days rule.days → text.now ≡ rule_fields rule days → ⊥) (λ rule. IsRule rule × ((days : List ℕ) × IsDays days rule.days × (text.now ≡ rule_fields rule days))) }
+    ensures { MatchOption result ((rule : RuleValue) (days : List ℕ) → IsServedRule rule → IsDays days rule.days → text.now ≡ rule_fields rule days → ⊥) (λ rule. IsServedRule rule × ((days : List ℕ) × IsDays days rule.days × (text.now ≡ rule_fields rule days))) }
 {
     let fields = cut_fields(text)?;
     let length = read_number(fields.length, 1440)?;

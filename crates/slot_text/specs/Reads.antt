@@ -7,5 +7,5 @@ GivesOr memory result answer = (result ≡ answer) ⊎ (result ≡ Err memory)
 
 -- the call answered a value that the text spells, a fault that the text has, or that memory ran out
 abbrev pub AnswersBy : {X E : Type 0} → E → (X → Type 0) → (E → Type 0) → Result X E → Type 0
-AnswersBy memory Spells HasFault (Ok x) = Spells x
-AnswersBy memory Spells HasFault (Err e) = HasFault e ⊎ (e ≡ memory)
+AnswersBy memory Spells IsFault (Ok x) = Spells x
+AnswersBy memory Spells IsFault (Err e) = IsFault e ⊎ (e ≡ memory)

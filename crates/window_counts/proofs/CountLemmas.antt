@@ -3,10 +3,10 @@ use Rattle.std.proofs.Common.{ℕ, ◌+◌, ◌<◌, ◌≤◌, arith, List}
 use Rattle.std.specs.Prelude.{slice_index_or, if◌then◌else◌}
 use Rattle.std.proofs.lemmas.Grind.{common_steps}
 use Rattle.choice_problem.specs.declared.strips.Strip.{Strip}
-use Rattle.choice_problem.specs.Sums.{count_below}
+use Rattle.finite_sums.specs.Sums.{count_below}
 use Rattle.choice_problem.specs.Strips.{run_start, is_in_run, strip_uses}
 use Rattle.choice_problem.specs.Loops.{run_uses}
-use Rattle.choice_problem.proofs.SumLemmas.{sum_below-more_le}
+use Rattle.finite_sums.proofs.SumLemmas.{sum_below-more_le}
 
 -- the strip at a place
 abbrev pub strip_at : List Strip → ℕ → Strip

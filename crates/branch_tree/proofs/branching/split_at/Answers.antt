@@ -1,7 +1,7 @@
 use Rattle.std.proofs.Common.{slice_index, arith}
 use Rattle.choice_problem.specs.Problems.{unit_count, alt_uses}
 use Rattle.choice_problem.specs.Splits.{least_uses}
-use Rattle.choice_problem.proofs.SumLemmas.{sum_below-le}
+use Rattle.finite_sums.proofs.SumLemmas.{sum_below-le}
 use Rattle.branch_tree.proofs.branching.split_at.Goals as goal
 
 -- were each unit at its least, the least load would pass the limit

@@ -1,7 +1,7 @@
 use Rattle.std.proofs.Common.{◌<◌, ◌∙◌, arith}
 use Rattle.choice_problem.specs.Problems.{resource_count}
 use Rattle.choice_problem.specs.Splits.{least_uses}
-use Rattle.choice_problem.proofs.SumLemmas.{sum_below-more}
+use Rattle.finite_sums.proofs.SumLemmas.{sum_below-more}
 use Rattle.branch_tree.proofs.kept.count_least.Goals as goal
 
 pub add_list-requires-clause-within : goal.add_list-requires-clause-within

@@ -1,5 +1,5 @@
 use Rattle.std.proofs.Common.{◌≡◌, ℕ, ◌*◌, ◌<◌, ◌≤◌, slice_index}
-use Rattle.choice_problem.specs.Sums.{sum_below}
+use Rattle.finite_sums.specs.Sums.{sum_below}
 use Rattle.choice_problem.specs.Problems.{resource_count}
 use Rattle.choice_problem.specs.Splits.{least_uses}
 use Rattle.branch_tree.proofs.kept.count_least.Given as goal

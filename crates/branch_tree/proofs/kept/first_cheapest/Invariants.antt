@@ -1,4 +1,4 @@
-use Rattle.choice_problem.specs.Sums.{IsFirstLeast}
+use Rattle.finite_sums.specs.Sums.{IsFirstLeast}
 use Rattle.choice_problem.specs.Problems.{alt_cost}
 use Rattle.branch_tree.proofs.kept.first_cheapest.Given as goal
 

@@ -1,5 +1,5 @@
 use Rattle.std.proofs.Common.{◌≡◌, ℕ, ◌*◌, ◌<◌, ◌≤◌, length, slice_index}
-use Rattle.choice_problem.specs.Sums.{sum_below}
+use Rattle.finite_sums.specs.Sums.{sum_below}
 use Rattle.choice_problem.specs.Problems.{IsChooser, chooser_at, alt_cost, alt_uses, resource_count}
 use Rattle.branch_tree.proofs.kept.load_all.Given as goal
 

@@ -2,9 +2,9 @@ use Rattle.std.proofs.Common.{◌≡◌, ℕ, ◌≤◌, ◌∙◌, arith, refl,
 use Rattle.std.specs.Prelude.{vec_len, ◌==◌}
 use Rattle.std.proofs.lemmas.Grind.{common_steps}
 use Rattle.std.proofs.lemmas.Bool.{cases_lt}
-use Rattle.choice_problem.specs.Sums.{least_within}
+use Rattle.finite_sums.specs.Sums.{least_within}
 use Rattle.choice_problem.specs.Problems.{ProblemView, alt_uses}
-use Rattle.choice_problem.proofs.SumLemmas.{least_within-le, least_within-ge, least_within-one}
+use Rattle.finite_sums.proofs.SumLemmas.{least_within-le, least_within-ge, least_within-one}
 use Rattle.branch_tree.specs.Lists.{times_in}
 use Rattle.branch_tree.specs.Rows.{two_uses}
 use Rattle.branch_tree.proofs.ListLemmas.{times-empty}

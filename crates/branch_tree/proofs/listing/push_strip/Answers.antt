@@ -1,6 +1,6 @@
 use Rattle.std.proofs.Common.{◌≡◌, arith}
 use Rattle.choice_problem.specs.Strips.{is_in_run}
-use Rattle.choice_problem.proofs.SumLemmas.{count_below-more}
+use Rattle.finite_sums.proofs.SumLemmas.{count_below-more}
 use Rattle.branch_tree.proofs.listing.push_strip.Goals as goal
 
 pub loop-i-preserved : goal.loop-i-preserved

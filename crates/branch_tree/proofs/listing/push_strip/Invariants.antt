@@ -1,5 +1,5 @@
 use Rattle.std.proofs.Common.{◌≡◌, ℕ, ◌+◌}
-use Rattle.choice_problem.specs.Sums.{count_below}
+use Rattle.finite_sums.specs.Sums.{count_below}
 use Rattle.choice_problem.specs.Strips.{is_in_run}
 use Rattle.branch_tree.specs.Lists.{times_in, AreWithin}
 use Rattle.branch_tree.proofs.listing.push_strip.Given as goal

@@ -2,7 +2,7 @@ use Rattle.std.proofs.Common.{◌≡◌, ℕ, ◌∙◌, refl, arith, inl, inr, 
 use Rattle.std.specs.Prelude.{vec_len, ◌==◌}
 use Rattle.std.proofs.lemmas.Bool.{cases_lt}
 use Rattle.std.proofs.lemmas.Grind.{common_steps}
-use Rattle.choice_problem.proofs.SumLemmas.{least_within-le, least_within-ge}
+use Rattle.finite_sums.proofs.SumLemmas.{least_within-le, least_within-ge}
 use Rattle.branch_tree.specs.Lists.{times_in}
 use Rattle.branch_tree.specs.Rows.{two_uses}
 use Rattle.branch_tree.proofs.ListLemmas.{times-empty}

@@ -1,5 +1,5 @@
 use Rattle.std.proofs.Common.{◌≡◌, ℕ, ◌<◌, ◌≤◌}
-use Rattle.choice_problem.specs.Sums.{least_within}
+use Rattle.finite_sums.specs.Sums.{least_within}
 use Rattle.choice_problem.specs.Problems.{resource_count}
 use Rattle.branch_tree.specs.Lists.{times_in, AreWithin}
 use Rattle.branch_tree.specs.Rows.{two_uses}

@@ -1,7 +1,7 @@
 use Rattle.std.proofs.Common.{◌≡◌, ◌⊎◌, ℕ, length, subst, refl, ap, rules, arith, add-one}
 use Rattle.std.specs.Prelude.{IsErrAnd}
 use Rattle.slot_text.specs.Lines.{lines_of}
-use Rattle.capacity_file.specs.Faults.{HasFault}
+use Rattle.capacity_file.specs.Faults.{HasCapacityFault}
 use Rattle.capacity_file.specs.Readings.{Collected}
 use Rattle.capacity_file.specs.declared.draft.Draft.{Draft}
 use Rattle.capacity_file.specs.declared.fault.CapFault.{CapFault}
@@ -25,7 +25,7 @@ returns-in_err-add_line c =
     let e = c.in_err-add_line.field-0.0 in
     let err : IsErrAnd c.from_residual.result (λ f. f ≡ e) = search rules in
     let on = goes_on lines (lines_of c.loop-line.lines) c.loop-line.count c.in-Some.line.now (lines_of c.next_line.new.self) c.loop-line.invariant.rest c.in-Some.ensures.lines in
-    err_outcome (λ (draft : Draft). Collected lines (length lines) draft.singles draft.rules.items) (λ (f : CapFault). HasFault c.args.bytes.now f ⊎ (f ≡ Memory)) e c.from_residual.result err
+    err_outcome (λ (draft : Draft). Collected lines (length lines) draft.singles draft.rules.items) (λ (f : CapFault). HasCapacityFault c.args.bytes.now f ⊎ (f ≡ Memory)) e c.from_residual.result err
     (c.in_err-add_line.ensures lines on.1 c.loop-line.invariant.known)
 
 pub loop-line-preserved : goal.loop-line-preserved

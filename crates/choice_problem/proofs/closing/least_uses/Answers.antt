@@ -1,6 +1,6 @@
 use Rattle.std.proofs.Common.{arith}
 use Rattle.choice_problem.specs.Problems.{alt_uses}
-use Rattle.choice_problem.proofs.SumLemmas.{least_within-shorter}
+use Rattle.finite_sums.proofs.SumLemmas.{least_within-shorter}
 use Rattle.choice_problem.proofs.closing.least_uses.Goals as goal
 
 pub returns-then-least-eq0-clause-value : goal.returns-then-least-eq0-clause-value

@@ -1,5 +1,5 @@
 use Rattle.std.proofs.Common.{◌≡◌, ◌<◌, ◌≤◌, ◌^◌}
-use Rattle.choice_problem.specs.Sums.{least_within, first_least}
+use Rattle.finite_sums.specs.Sums.{least_within, first_least}
 use Rattle.dual_bound.specs.Loops.{unit_cost}
 use Rattle.dual_bound.proofs.bounds.first_least.Given as goal
 

@@ -1,5 +1,5 @@
 use Rattle.std.proofs.Common.{◌≡◌, ◌<◌, ◌^◌, []}
-use Rattle.choice_problem.specs.Sums.{least_within}
+use Rattle.finite_sums.specs.Sums.{least_within}
 use Rattle.choice_problem.specs.Bounds.{priced_cost}
 use Rattle.dual_bound.proofs.floors.least_cost.Given as goal
 

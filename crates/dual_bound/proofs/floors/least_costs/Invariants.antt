@@ -1,5 +1,5 @@
 use Rattle.std.proofs.Common.{◌≡◌, ◌≤◌, ◌*◌, ◌^◌, []}
-use Rattle.choice_problem.specs.Sums.{sum_below, least_within}
+use Rattle.finite_sums.specs.Sums.{sum_below, least_within}
 use Rattle.choice_problem.specs.Bounds.{low_of, high_of, priced_cost}
 use Rattle.dual_bound.proofs.floors.least_costs.Given as goal
 

@@ -1,8 +1,8 @@
 use Rattle.std.proofs.Common.{◌≡◌, ◌∙◌, ℕ, arith}
-use Rattle.choice_problem.specs.Sums.{least_within}
+use Rattle.finite_sums.specs.Sums.{least_within}
 use Rattle.choice_problem.specs.Problems.{unit_count, alt_uses}
 use Rattle.choice_problem.specs.Bounds.{low_of, high_of, priced_cost}
-use Rattle.choice_problem.proofs.SumLemmas.{sum_below-more}
+use Rattle.finite_sums.proofs.SumLemmas.{sum_below-more}
 use Rattle.dual_bound.specs.Loops.{least_alt}
 use Rattle.dual_bound.proofs.points.take_least.Goals as goal
 

@@ -1,7 +1,7 @@
 use Rattle.std.proofs.Common.{◌≡◌, ℕ, ◌*◌, ◌<◌, ◌≤◌, ◌^◌, List, length}
 use Rattle.std.specs.Prelude.{slice_index}
 use Rattle.choice_problem.specs.declared.vectors.Price.{Price}
-use Rattle.choice_problem.specs.Sums.{sum_below, least_within}
+use Rattle.finite_sums.specs.Sums.{sum_below, least_within}
 use Rattle.choice_problem.specs.Bounds.{low_of, high_of, priced_cost}
 use Rattle.dual_bound.specs.Loops.{IsPricedBy, least_alt_load}
 use Rattle.dual_bound.proofs.points.take_least.Given as goal

@@ -1,6 +1,6 @@
 use Rattle.std.proofs.Common.{◌≡◌, ℕ, ◌*◌, ◌≤◌, ◌^◌}
 use Rattle.std.specs.Prelude.{slice_index}
-use Rattle.choice_problem.specs.Sums.{sum_below}
+use Rattle.finite_sums.specs.Sums.{sum_below}
 use Rattle.dual_bound.proofs.strips.add_up.Given as goal
 
 abbrev pub invariant-loop-place : goal.invariant-loop-place

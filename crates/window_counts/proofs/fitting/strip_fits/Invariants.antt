@@ -1,5 +1,5 @@
 use Rattle.std.proofs.Common.{ℕ, ◌<◌}
-use Rattle.choice_problem.specs.Sums.{count_below}
+use Rattle.finite_sums.specs.Sums.{count_below}
 use Rattle.choice_problem.specs.Strips.{part_uses, is_in_run}
 use Rattle.window_counts.specs.Counts.{KeepsLimit}
 use Rattle.window_counts.proofs.fitting.strip_fits.Given as goal

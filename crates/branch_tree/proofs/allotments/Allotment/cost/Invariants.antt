@@ -1,5 +1,5 @@
 use Rattle.std.proofs.Common.{◌≡◌, ◌*◌, ◌≤◌}
-use Rattle.choice_problem.specs.Sums.{sum_below}
+use Rattle.finite_sums.specs.Sums.{sum_below}
 use Rattle.branch_tree.specs.Allotments.{taken_at, taken_cost}
 use Rattle.branch_tree.proofs.allotments.Allotment.cost.Given as goal
 

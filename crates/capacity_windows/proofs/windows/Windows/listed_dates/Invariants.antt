@@ -1,7 +1,7 @@
 use Rattle.std.proofs.Common.{◌≡◌, ◌≤◌, ◌+◌, ◌&&◌}
 use Rattle.std.specs.Prelude.{nat_lt}
 use Rattle.season_days.specs.Seasons.{date_count}
-use Rattle.choice_problem.specs.Sums.{count_below}
+use Rattle.finite_sums.specs.Sums.{count_below}
 use Rattle.capacity_windows.specs.Bands.{is_date}
 use Rattle.capacity_windows.proofs.windows.Windows.listed_dates.Given as goal
 

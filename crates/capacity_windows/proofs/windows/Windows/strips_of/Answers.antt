@@ -2,7 +2,7 @@ use Rattle.std.proofs.Common.{◌≡◌, ◌≤◌, arith, ap, sym, ◌∙◌, L
 use Rattle.std.proofs.lemmas.Grind.{common_steps}
 use Rattle.choice_problem.specs.declared.strips.Strip.{Strip}
 use Rattle.choice_problem.specs.Strips.{part_uses}
-use Rattle.capacity_windows.specs.Windows.{window_load, stop_movements, resource_count, rule_strips, most_strips}
+use Rattle.capacity_windows.specs.Windows.{window_load, stop_movements, declared_resources, rule_strips, most_strips}
 use Rattle.capacity_windows.proofs.NumberLemmas.{room_for}
 use Rattle.capacity_windows.proofs.RangeLemmas.{in_range, load_past}
 use Rattle.capacity_windows.proofs.RestLemmas.{rest_step, rest_none}
@@ -29,7 +29,7 @@ pub returns-clause-range : goal.returns-clause-range
 returns-clause-range c =
     let self = c.args.self.now in
     rw c.new.ensures
-    (in_range c.add_night.new.strips.items (resource_count self) c.in_ok-add_night.ensures.wide (λ r past.
+    (in_range c.add_night.new.strips.items (declared_resources self) c.in_ok-add_night.ensures.wide (λ r past.
     ap (λ (strips : List Strip). part_uses strips r) (sym c.new.ensures) ∙ returns-clause-uses c r ∙ load_past self (stop_movements self c.args.kind c.args.minute c.args.later c.args.period) r past))
 
 pub returns-clause-few_uses : goal.returns-clause-few_uses

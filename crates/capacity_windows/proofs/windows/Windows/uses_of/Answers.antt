@@ -2,12 +2,12 @@ use Rattle.std.proofs.Common.{arith, sym, ◌∙◌}
 use Rattle.std.proofs.lemmas.Bool.{ltb-true}
 use Rattle.std.proofs.lemmas.Grind.{common_steps}
 use Rattle.season_days.specs.Seasons.{date_count}
-use Rattle.capacity_windows.specs.Windows.{resource_count}
+use Rattle.capacity_windows.specs.Windows.{declared_resources}
 use Rattle.capacity_windows.proofs.UsesLemmas.{uses_none, early_rows, late_rows}
 use Rattle.capacity_windows.proofs.windows.Windows.uses_of.Goals as goal
 
 pub returns-then-not-is_listed : goal.returns-then-not-is_listed
-returns-then-not-is_listed c = record { value = c.new-uses.ensures.items ∙ sym (uses_none c.args.self.now c.args.movement (resource_count c.args.self.now) (sym c.is_listed.ensures.value ∙ c.if-not-is_listed.true)) }
+returns-then-not-is_listed c = record { value = c.new-uses.ensures.items ∙ sym (uses_none c.args.self.now c.args.movement (declared_resources c.args.self.now) (sym c.is_listed.ensures.value ∙ c.if-not-is_listed.true)) }
 
 pub push_uses-requires-clause-before : goal.push_uses-requires-clause-before
 push_uses-requires-clause-before c =

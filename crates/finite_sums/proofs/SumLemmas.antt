@@ -7,7 +7,7 @@ use Rattle.std.proofs.Common.{inl, inr}
 use Rattle.std.proofs.Common.{Bool, true, false}
 use Rattle.std.specs.Prelude.{if◌then◌else◌, nat_lt}
 use Rattle.std.proofs.lemmas.Grind.{common_steps}
-use Rattle.choice_problem.specs.Sums.{sum_below, count_below, least_from, least_within, first_least_from, first_least, IsFirstLeast}
+use Rattle.finite_sums.specs.Sums.{sum_below, count_below, least_from, least_within, first_least_from, first_least, IsFirstLeast}
 
 -- one more term
 pub sum_below-more : (n : ℕ) (f : ℕ → ℕ) → sum_below (n + 1) f ≡ sum_below n f + f n
