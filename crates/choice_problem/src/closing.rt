@@ -34,7 +34,7 @@ pub fn over_closes(problem: &Problem, ranges: &Ranges, resource: u32) -> bool
 
 /// The least number of a unit's uses of a resource from one alternative to another. It stops at the first that does not
 /// use it.
-#[tactic(auto, using(crate::proofs::SumLemmas::least_within_steps))]
+#[tactic(auto, using(finite_sums::proofs::SumLemmas::least_within_steps))]
 pub fn least_uses(problem: &Problem, unit: u32, low: u32, high: u32, resource: u32) -> u32
     requires unit { unit < unit_count problem.now }
     requires ordered { low ≤ high }
@@ -113,7 +113,7 @@ fn least_total(problem: &Problem, ranges: &Ranges, vector: &Vector, scale: u64) 
 }
 
 // The least priced cost of a unit from one alternative to another.
-#[tactic(auto, using(crate::proofs::SumLemmas::least_within_steps))]
+#[tactic(auto, using(finite_sums::proofs::SumLemmas::least_within_steps))]
 fn least_cost(
     problem: &Problem,
     unit: u32,
