@@ -1,20 +1,11 @@
 -- What is spelled as lines and fields is cut into them again.
-use Rattle.std.proofs.Common.{◌≡◌, ℕ, ◌+◌, ◌%◌, ◌^◌, ◌<◌, ◌≤◌, false, true, not, eqb, List, [], ◌∷◌, ◌++◌, refl, ap, arith}
+use Rattle.std.proofs.Common.{◌≡◌, ◌≢◌, ℕ, ◌+◌, ◌%◌, ◌^◌, ◌<◌, ◌≤◌, false, true, not, eqb, List, [], ◌∷◌, ◌++◌, refl, ap, arith}
 use Rattle.std.specs.Fmt.{decimal}
 use Rattle.std.proofs.lemmas.Fmt.{decimal_by_steps}
 use Rattle.std.proofs.lemmas.Bool.{ne_eqb}
 use Rattle.slot_text.specs.Lines.{first_line, after_line, onto_first, lines_of}
 use Rattle.slot_text.specs.Fields.{is_blank, begins_in_field, fields_of}
-
--- bytes from the space on: what one line may hold, without tabs
-abbrev pub IsLineText : List ℕ → Type 0
-IsLineText [] = Unit {0}
-IsLineText (b ∷ text) = (32 ≤ b) × IsLineText text
-
--- bytes above the space: what one field may hold
-abbrev pub IsFieldText : List ℕ → Type 0
-IsFieldText [] = Unit {0}
-IsFieldText (b ∷ text) = (33 ≤ b) × IsFieldText text
+use Rattle.slot_text.specs.Spelled.{IsLineText, IsFieldText}
 
 pub IsLineText-append : (a b : List ℕ) → IsLineText a → IsLineText b → IsLineText (a ++ b)
 IsLineText-append [] b x y = y
@@ -78,3 +69,13 @@ IsFieldText-decimal n small =
     (λ n lt _. (omega arith, tt))
     (λ n digits ge shorter fits. IsFieldText-append digits ((48 + n % 10) ∷ []) (shorter (omega arith)) (omega arith, tt))
     n small small
+
+-- ---- fields of at least one byte
+
+pub spelled_field : (field rest : List ℕ) → IsFieldText field → field ≢ [] → fields_of (field ++ 32 ∷ rest) ≡ field ∷ fields_of rest
+spelled_field [] rest x some = absurd (some refl)
+spelled_field (b ∷ field) rest x some = fields_of-field b field rest x
+
+pub spelled_last : (field : List ℕ) → IsFieldText field → field ≢ [] → fields_of field ≡ field ∷ []
+spelled_last [] x some = absurd (some refl)
+spelled_last (b ∷ field) x some = fields_of-last b field x
