@@ -11,4 +11,5 @@ pub mod Splits
 pub mod Driven
 pub mod Grafts
 pub mod Floors
+pub mod Alike
 pub mod Loops

@@ -1,1 +1,1 @@
-pub mod CountLemmas
+mod CountLemmas

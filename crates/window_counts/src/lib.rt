@@ -7,7 +7,6 @@
 mod adding;
 mod counts;
 mod fitting;
-mod taking;
 
 pub use counts::Counts;
 
