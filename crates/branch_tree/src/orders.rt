@@ -3,7 +3,7 @@
 ghost use Rattle.std.specs.Prelude.{◌≡◌, ◌^◌, ◌<◌, length, IfOk, option_copied};
 ghost use Rattle.std.specs.Option.{ForSome};
 ghost use Rattle.choice_problem.specs.Problems.{unit_count, alt_count};
-ghost use Rattle.dual_bound.specs.Tables.{IsTableFor};
+ghost use Rattle.price_table.specs.Tables.{IsTableFor};
 ghost use Rattle.branch_tree.specs.Orders.{AreBelow, AreOrders};
 
 use choice_problem::Problem;

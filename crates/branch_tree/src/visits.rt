@@ -2,7 +2,7 @@
 
 ghost use Rattle.std.specs.Prelude.{[], IfOk};
 ghost use Rattle.choice_problem.specs.Bounds.{AreRanges};
-ghost use Rattle.dual_bound.specs.Tables.{IsTableFor};
+ghost use Rattle.price_table.specs.Tables.{IsTableFor};
 ghost use Rattle.branch_tree.specs.Visits.{IsVisit};
 
 use crate::answers::Visit;

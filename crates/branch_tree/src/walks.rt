@@ -50,7 +50,7 @@ impl<'a> Walk<'a> {
     ghost use Rattle.std.specs.Prelude.{◌≡◌, ◌<◌, ◌≤◌, ℕ, [], All, length, slice_set, IfOk, OnOk, OnErr};
     ghost use Rattle.choice_problem.specs.Problems.{unit_count, alt_count};
     ghost use Rattle.choice_problem.specs.Bounds.{AreRanges};
-    ghost use Rattle.dual_bound.specs.Tables.{IsTableFor};
+    ghost use Rattle.price_table.specs.Tables.{IsTableFor};
     ghost use Rattle.branch_tree.specs.Visits.{IsVisit, vectors_of};
 
     /// The walk at these ranges. A unit takes some steps a use of each part that its alternatives in range name, and ends

@@ -10,7 +10,8 @@ use Rattle.choice_problem.specs.Problems.{ProblemView, resource_count, amount, l
 use Rattle.choice_problem.specs.Bounds.{priced, bound_of}
 use Rattle.choice_problem.specs.Roots.{vector_of, price_after, priced_load, step_length, step_vector, IsNodeVector}
 use Rattle.choice_problem.proofs.RootLemmas.{with_price, with_price-suc, vector_of-IsVector, step_lengths-le}
-use Rattle.dual_bound.specs.Loops.{worth, AreSums, IsPricedBy, vector_in, ArePrices, IsPoint, AreMoved, IsAfter, IsGreatestUpTo}
+use Rattle.price_table.specs.Strips.{worth, AreSums, IsPricedBy, ArePrices}
+use Rattle.dual_bound.specs.Loops.{vector_in, IsPoint, AreMoved, IsAfter, IsGreatestUpTo}
 use Rattle.std.proofs.Math.Nat.{mul-le-mul_left}
 use Rattle.choice_problem.specs.Problems.{unit_count}
 use Rattle.finite_sums.proofs.SumLemmas.{sum_below-more}

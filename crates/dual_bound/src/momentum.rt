@@ -3,7 +3,7 @@
 
 ghost use Rattle.std.specs.Prelude.{◌≡◌, ◌<◌, ◌^◌, IfOk, length};
 ghost use Rattle.choice_problem.specs.Problems.{resource_count};
-ghost use Rattle.dual_bound.specs.Loops.{ArePrices};
+ghost use Rattle.price_table.specs.Strips.{ArePrices};
 
 use crate::points::{MOST, Point};
 use choice_problem::Problem;

@@ -2,7 +2,8 @@ use Rattle.std.proofs.Common.{◌≡◌, ◌++◌, arith, length, take, drop}
 use Rattle.std.proofs.lemmas.Grind.{common_steps}
 use Rattle.std.proofs.lemmas.Int.{ints}
 use Rattle.choice_problem.specs.Problems.{resource_count}
-use Rattle.dual_bound.specs.Loops.{vector_in, IsPricedBy}
+use Rattle.price_table.specs.Strips.{IsPricedBy}
+use Rattle.dual_bound.specs.Loops.{vector_in}
 use Rattle.dual_bound.proofs.StepLemmas.{vector_in-priced}
 use Rattle.dual_bound.proofs.points.evaluate.Goals as goal
 
