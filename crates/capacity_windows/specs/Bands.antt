@@ -9,7 +9,7 @@ use Rattle.capacity_windows.specs.declared.band.Band.{Band}
 use Rattle.season_days.specs.declared.declaration.Rule.{Rule}
 use Rattle.season_days.specs.declared.declaration.TheConstants.{MINUTES_OF_DAY, MOST_WINDOWS}
 use Rattle.capacity_windows.specs.declared.movement.Movement.{Movement}
-use Rattle.capacity_windows.specs.declared.series.Series.{Series}
+use Rattle.capacity_windows.specs.declared.stop_dates.StopDates.{StopDates}
 use Rattle.capacity_windows.specs.declared.resource.Resource.TheVariants.{Window}
 use Rattle.finite_sums.specs.Sums.{count_below}
 use Rattle.capacity_windows.specs.Windows.{Capacity, starts_of, windows_of, resource_from, resource_load, stop_movements}
@@ -89,14 +89,14 @@ pub record IsBand (season : Term) (band : Band) : Type 0 where
   pub near : band.ago < 2
 
 -- the minute is one of a day, and the period lies in the season
-pub record IsSeries (season : Term) (series : Series) : Type 0 where
-  pub minute : series.minute < MINUTES_OF_DAY
-  pub first : series.period.first.0 < date_count season
-  pub last : series.period.last.0 < date_count season
+pub record AreStopDates (season : Term) (stop : StopDates) : Type 0 where
+  pub minute : stop.minute < MINUTES_OF_DAY
+  pub first : stop.period.first.0 < date_count season
+  pub last : stop.period.last.0 < date_count season
 
--- the movements of a series
-abbrev pub series_of : Capacity → Series → List Movement
-series_of c series = stop_movements c series.kind series.minute series.later series.period
+-- the movements of a stop
+abbrev pub dated_movements : Capacity → StopDates → List Movement
+dated_movements c stop = stop_movements c stop.kind stop.minute stop.later stop.period
 
 -- the uses of a strip, if there is one
 abbrev pub option_uses : Option Strip → ℕ → ℕ

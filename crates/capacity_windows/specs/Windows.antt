@@ -35,8 +35,11 @@ resource_at c r = resource_from c c.rules r
 
 -- ---- limits: on a day whose weekday is not in the line's set a window has limit 0
 
+abbrev pub day_limit : Capacity → Rule → ℕ → ℕ
+day_limit c rule day = if is_on c.season rule.days day then rule.limit else 0
+
 abbrev pub resource_limit : Capacity → Resource → ℕ
-resource_limit c (Window rule day start) = if is_on c.season rule.days day then rule.limit else 0
+resource_limit c (Window rule day start) = day_limit c rule day
 resource_limit c (Quota night) = night.limit
 resource_limit c Nothing = 0
 

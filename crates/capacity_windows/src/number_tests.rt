@@ -46,7 +46,6 @@ const NIGHT: Night = Night {
     limit: 4,
 };
 
-#[tactic(auto, using(season_days::proofs::SeasonLemmas::date_count_small))]
 fn three_lines(alloc: Global) -> Result<Windows, Fail>
     ensures { IfOk result (λ windows. length windows.rules ≡ 3) }
 {
@@ -206,7 +205,6 @@ const EIGHT_ALONE: Rule = Rule {
 
 // Of three turnarounds on the first day, from 0600 to 0700, from 0700 to 0800 and from 0600 to 0800, each two use one window.
 #[test]
-#[tactic(auto, using(season_days::proofs::SeasonLemmas::date_count_small))]
 fn each_two_of_three_turnarounds_share_a_window(rt: HostRuntime) -> Result<(), Fail> {
     let alloc = rt.alloc();
     let season = Season::read(b"S25").ok_or("season")?;

@@ -46,7 +46,6 @@ pub(crate) fn windows(alloc: Global, rule: Rule, night: Option<Night>) -> Result
 }
 
 // The same in a season of so many dates.
-#[tactic(auto, using(season_days::proofs::SeasonLemmas::date_count_small))]
 pub(crate) fn windows_in(
     alloc: Global,
     season: &[u8],

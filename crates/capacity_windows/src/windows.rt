@@ -3,7 +3,7 @@ ghost use Rattle.std.specs.Option.{ForSome};
 ghost use Rattle.season_days.specs.Seasons.{date_count, is_on};
 ghost use Rattle.season_days.specs.declared.declaration.Night.{Night};
 ghost use Rattle.season_days.specs.declared.declaration.Rule.{Rule};
-ghost use Rattle.season_days.specs.declared.declaration.TheConstants.{MINUTES_OF_DAY, MOST_WINDOWS, HIGHEST_NIGHT_LIMIT};
+ghost use Rattle.season_days.specs.declared.declaration.TheConstants.{MINUTES_OF_DAY, MOST_RULES, MOST_WINDOWS, HIGHEST_NIGHT_LIMIT};
 ghost use Rattle.capacity_windows.specs.Windows.{Capacity, IsCapacity, IsRule, capacity_of, starts_of, windows_of, first_of, declared_resources, resource_at, window_limit, start_of};
 ghost use Rattle.capacity_windows.specs.Kept.{IsResource};
 ghost use Rattle.capacity_windows.specs.declared.resource.Resource.TheVariants.{Window, Quota};
@@ -62,6 +62,29 @@ impl Windows {
             rules,
             resources,
         })
+    }
+
+    /// The same windows once more. The capacity lines are copied; the one fault is want of memory.
+    pub fn copy(&self, alloc: Global) -> Result<Windows, Memory>
+        ensures value { IfOk result (λ windows. windows ≡ self.now) }
+    {
+        let rules = Vec::from_slice(alloc, &self.rules)?;
+        Ok(Windows {
+            season: self.season,
+            days: self.days,
+            step: self.step,
+            night: self.night,
+            rules,
+            resources: self.resources,
+        })
+    }
+
+    /// How many capacity lines there are.
+    pub fn lines(&self) -> u32
+        ensures count { result ≡ length self.now.rules }
+        ensures few { result ≤ MOST_RULES }
+    {
+        self.rules.len() as u32
     }
 
     /// How many resources there are, the night quota counted.
@@ -159,6 +182,7 @@ impl Windows {
     pub(crate) fn rules(&self) -> &[Rule]
         ensures items { result.now ≡ self.now.rules }
         ensures limits { IsCapacity self.now }
+        ensures few { date_count self.now.season ≤ 217 }
     {
         &self.rules
     }
@@ -208,13 +232,7 @@ impl Windows {
         ensures bound { result ≤ HIGHEST_NIGHT_LIMIT }
     {
         match self.resource_at(resource) {
-            Resource::Window { rule, day, .. } => {
-                if self.is_on(rule.days, Day(day)) {
-                    rule.limit
-                } else {
-                    0
-                }
-            }
+            Resource::Window { rule, day, .. } => self.day_limit(&rule, Day(day)),
             Resource::Quota(night) => night.limit,
             Resource::Nothing => 0,
         }
