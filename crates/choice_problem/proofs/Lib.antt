@@ -13,3 +13,4 @@ mod GreedyLemmas
 mod RootLemmas
 mod AlikeLemmas
 mod AlikeTreeLemmas
+mod RenumberLemmas

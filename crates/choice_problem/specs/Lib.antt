@@ -12,4 +12,5 @@ pub mod Driven
 pub mod Grafts
 pub mod Floors
 pub mod Alike
+pub mod Renumbered
 pub mod Loops

@@ -1,6 +1,6 @@
 //! Laws of closed ranges, of trees, and of what trees prove. The functions do nothing; their contracts are the laws.
 
-ghost use Rattle.std.specs.Prelude.{◌≡◌, ◌↔◌, ℕ, ◌+◌, ◌*◌, ◌<◌, ◌≤◌, ◌^◌, List, length, slice_set, Option, Some, None, All, [], ◌∷◌, ◌++◌, count_by, ◌==◌};
+ghost use Rattle.std.specs.Prelude.{◌≡◌, ◌↔◌, ℕ, ◌+◌, ◌*◌, ◌<◌, ◌≤◌, ◌^◌, List, length, slice_set, Option, Some, None, All, map, [], ◌∷◌, ◌++◌, count_by, ◌==◌};
 ghost use Rattle.choice_problem.specs.declared.strips.Strip.{Strip};
 ghost use Rattle.finite_sums.specs.Sums.{sum_below};
 ghost use Rattle.choice_problem.specs.Strips.{strip_uses, strip_resources};
@@ -29,6 +29,7 @@ ghost use Rattle.choice_problem.specs.Driven.{IsDriven, AreDriven};
 ghost use Rattle.choice_problem.specs.Grafts.{open_ranges, graft, AreSoundOn, AreDrivenOn};
 ghost use Rattle.choice_problem.specs.Floors.{IsFloored, AreFloors, IsAtMost};
 ghost use Rattle.choice_problem.specs.Alike.{AreAlike};
+ghost use Rattle.choice_problem.specs.Renumbered.{NamesUpTo, HasNumber, KeepsVector, renumbered};
 
 /// A strip uses a resource as often as the resource comes in the list that the strip stands for, and at most once a run.
 pub fn strip_list()
@@ -212,4 +213,49 @@ pub fn alike_problems()
         AreAlike p q → AreDriven p vectors root pending nodes → AreDriven q vectors root pending nodes }
     ensures driven { (p q : ProblemView) (vectors : List (List Price)) (result : Option ℕ) (nodes : List Node) →
         AreAlike p q → IsDriven p vectors result nodes → IsDriven q vectors result nodes }
+{}
+
+/// Trees over a list of vectors hold over its beginning, where no leaf and no floor names a later one.
+pub fn fewer_vectors()
+    ensures sound { (p : ProblemView) (vectors more : List (List Price)) (cost : Option ℕ)
+        (pending : List (List (ℕ × ℕ))) (nodes : List Node) → All (NamesUpTo (length vectors)) nodes →
+        AreSound p (vectors ++ more) cost pending nodes → AreSound p vectors cost pending nodes }
+    ensures driven_nodes { (p : ProblemView) (vectors more : List (List Price)) (root : List Price)
+        (pending : List (List (ℕ × ℕ))) (nodes : List Node) → All (NamesUpTo (length vectors)) nodes →
+        AreDriven p (vectors ++ more) root pending nodes → AreDriven p vectors root pending nodes }
+    ensures driven { (p : ProblemView) (vectors more : List (List Price)) (result : Option ℕ) (nodes : List Node) →
+        All (NamesUpTo (length vectors)) nodes →
+        IsDriven p (vectors ++ more) result nodes → IsDriven p vectors result nodes }
+    ensures floors { (p : ProblemView) (vectors more : List (List Price)) (floor : ℕ) (nodes : List Node)
+        (floors : List (ℕ × ℕ)) → All (λ named. named.0 ≤ length vectors) floors →
+        AreFloors p (vectors ++ more) floor nodes floors → AreFloors p vectors floor nodes floors }
+{}
+
+/// Trees hold over another list of vectors, where each leaf and floor gets the number there of the vector that it named.
+pub fn renumbered_vectors()
+    ensures sound { (p : ProblemView) (vectors others : List (List Price)) (cost : Option ℕ) (number : ℕ → ℕ)
+        (pending : List (List (ℕ × ℕ))) (nodes : List Node) → All (KeepsVector vectors others number) nodes →
+        AreSound p vectors cost pending nodes → AreSound p others cost pending (map (renumbered number) nodes) }
+    ensures driven_nodes { (p : ProblemView) (vectors others : List (List Price)) (root : List Price)
+        (number : ℕ → ℕ) (pending : List (List (ℕ × ℕ))) (nodes : List Node) →
+        All (KeepsVector vectors others number) nodes → AreDriven p vectors root pending nodes →
+        AreDriven p others root pending (map (renumbered number) nodes) }
+    ensures driven { (p : ProblemView) (vectors others : List (List Price)) (result : Option ℕ) (number : ℕ → ℕ)
+        (nodes : List Node) → All (KeepsVector vectors others number) nodes →
+        IsDriven p vectors result nodes → IsDriven p others result (map (renumbered number) nodes) }
+    ensures floors { (p : ProblemView) (vectors others : List (List Price)) (floor : ℕ) (number : ℕ → ℕ)
+        (nodes : List Node) (floors : List (ℕ × ℕ)) →
+        All (λ named. HasNumber vectors others named.0 (number named.0)) floors →
+        AreFloors p vectors floor nodes floors →
+        AreFloors p others floor (map (renumbered number) nodes)
+        (map (λ named. (number named.0, named.1)) floors) }
+    ensures ranges { (number : ℕ → ℕ) (pending : List (List (ℕ × ℕ))) (nodes : List Node) →
+        open_ranges pending (map (renumbered number) nodes) ≡ open_ranges pending nodes }
+    ensures whole { (number : ℕ → ℕ) (nodes : List Node) →
+        IsWhole nodes → IsWhole (map (renumbered number) nodes) }
+{}
+
+/// Each problem and list of spans has a node vector, so a driven tree can be stated where none was computed.
+pub fn node_vector_exists()
+    ensures { (p : ProblemView) (ranges : List (ℕ × ℕ)) → (prices : List Price) × IsNodeVector p ranges prices }
 {}
