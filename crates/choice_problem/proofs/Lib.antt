@@ -11,3 +11,5 @@ mod FloorLemmas
 mod DrivenLemmas
 mod GreedyLemmas
 mod RootLemmas
+mod AlikeLemmas
+mod AlikeTreeLemmas

@@ -10,9 +10,10 @@ ghost use Rattle.choice_problem.specs.declared.vectors.Price.{Price};
 ghost use Rattle.choice_problem.specs.Problems.{ChooserView, ProblemView, IsChooser, unit_count, alt_count, resource_count, limit_of};
 ghost use Rattle.choice_problem.specs.Allowed.{UseAtMost, IsNamedAlt};
 ghost use Rattle.choice_problem.specs.Choices.{IsFeasible, IsBest, HasNone, choice_cost};
-ghost use Rattle.choice_problem.specs.Bounds.{AreRanges, IsWithin, IsVector, Closes, IsOver, whole_of, priced, least_total};
+ghost use Rattle.choice_problem.specs.Bounds.{AreRanges, IsWithin, IsVector, Closes, IsOver, whole_of, priced, least_total, bound_of};
 ghost use Rattle.choice_problem.specs.Trees.{
   AreSound,
+  NodeHolds,
   IsSound,
   IsWhole,
   IsTree,
@@ -27,6 +28,7 @@ ghost use Rattle.choice_problem.specs.Roots.{IsNodeVector, vector_of, step_lengt
 ghost use Rattle.choice_problem.specs.Driven.{IsDriven, AreDriven};
 ghost use Rattle.choice_problem.specs.Grafts.{open_ranges, graft, AreSoundOn, AreDrivenOn};
 ghost use Rattle.choice_problem.specs.Floors.{IsFloored, AreFloors, IsAtMost};
+ghost use Rattle.choice_problem.specs.Alike.{AreAlike};
 
 /// A strip uses a resource as often as the resource comes in the list that the strip stands for, and at most once a run.
 pub fn strip_list()
@@ -173,4 +175,41 @@ pub fn driven_tree()
         IsDriven p vectors result nodes → IsSound p vectors result (whole_of p) nodes }
     ensures more { (p : ProblemView) (vectors more : List (List Price)) (result : Option ℕ) (nodes : List Node) →
         IsDriven p vectors result nodes → IsDriven p (vectors ++ more) result nodes }
+{}
+
+/// What is said of a problem depends on its numbers alone: problems that are alike have the same feasible and best choices,
+/// ranges, vectors and bounds, sound, floored and driven trees, greedy cost and node vectors. Where parts or strips differ,
+/// nothing of this changes.
+pub fn alike_problems()
+    ensures back { (p q : ProblemView) → AreAlike p q → AreAlike q p }
+    ensures whole { (p q : ProblemView) → AreAlike p q → whole_of p ≡ whole_of q }
+    ensures cost { (p q : ProblemView) (x : List ℕ) → AreAlike p q → choice_cost p x ≡ choice_cost q x }
+    ensures feasible { (p q : ProblemView) (x : List ℕ) → AreAlike p q → IsFeasible p x → IsFeasible q x }
+    ensures best { (p q : ProblemView) (x : List ℕ) → AreAlike p q → IsBest p x → IsBest q x }
+    ensures none { (p q : ProblemView) → AreAlike p q → HasNone p → HasNone q }
+    ensures ranges { (p q : ProblemView) (ranges : List (ℕ × ℕ)) →
+        AreAlike p q → AreRanges p ranges → AreRanges q ranges }
+    ensures vector { (p q : ProblemView) (prices : List Price) →
+        AreAlike p q → IsVector p prices → IsVector q prices }
+    ensures bound { (p q : ProblemView) (ranges : List (ℕ × ℕ)) (prices : List Price) (scale : ℕ) →
+        AreAlike p q → bound_of p ranges prices scale ≡ bound_of q ranges prices scale }
+    ensures node { (p q : ProblemView) (vectors : List (List Price)) (cost : Option ℕ) (ranges : List (ℕ × ℕ))
+        (node : Node) → AreAlike p q → NodeHolds p vectors cost ranges node → NodeHolds q vectors cost ranges node }
+    ensures sound { (p q : ProblemView) (vectors : List (List Price)) (cost : Option ℕ)
+        (pending : List (List (ℕ × ℕ))) (nodes : List Node) →
+        AreAlike p q → AreSound p vectors cost pending nodes → AreSound q vectors cost pending nodes }
+    ensures floored { (p q : ProblemView) (vectors : List (List Price)) (floor : ℕ) (nodes : List Node) →
+        AreAlike p q → IsFloored p vectors floor nodes → IsFloored q vectors floor nodes }
+    ensures floors { (p q : ProblemView) (vectors : List (List Price)) (floor : ℕ) (nodes : List Node)
+        (floors : List (ℕ × ℕ)) →
+        AreAlike p q → AreFloors p vectors floor nodes floors → AreFloors q vectors floor nodes floors }
+    ensures greedy { (p q : ProblemView) (cost : Option ℕ) →
+        AreAlike p q → IsGreedyCost p cost → IsGreedyCost q cost }
+    ensures node_vector { (p q : ProblemView) (ranges : List (ℕ × ℕ)) (prices : List Price) →
+        AreAlike p q → IsNodeVector p ranges prices → IsNodeVector q ranges prices }
+    ensures driven_nodes { (p q : ProblemView) (vectors : List (List Price)) (root : List Price)
+        (pending : List (List (ℕ × ℕ))) (nodes : List Node) →
+        AreAlike p q → AreDriven p vectors root pending nodes → AreDriven q vectors root pending nodes }
+    ensures driven { (p q : ProblemView) (vectors : List (List Price)) (result : Option ℕ) (nodes : List Node) →
+        AreAlike p q → IsDriven p vectors result nodes → IsDriven q vectors result nodes }
 {}

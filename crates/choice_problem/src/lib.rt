@@ -20,8 +20,8 @@ mod vectors;
 pub use choices::{Choice, cost_of, first_above, first_above_limit, first_passed, fits};
 pub use closing::{bound_passes, leaf_closes, least_uses, over_closes, priced_limits};
 pub use laws::{
-    closed_ranges, closing_numbers, driven_tree, few_uses, floored_tree, joined_trees, part_ranges,
-    price_vectors, search_start, sound_tree, split_trees, strip_list,
+    alike_problems, closed_ranges, closing_numbers, driven_tree, few_uses, floored_tree,
+    joined_trees, part_ranges, price_vectors, search_start, sound_tree, split_trees, strip_list,
 };
 pub use nodes::{Node, Tree, count_nodes};
 pub use problems::{
