@@ -14,7 +14,7 @@ use crate::kept::cheapest;
 use choice_problem::{
     Choice, Node, Problem, Ranges, Vector, first_passed, leaf_closes, over_closes,
 };
-use dual_bound::PriceTable;
+use price_table::PriceTable;
 use slot_text::Memory;
 use std::alloc::Global;
 

@@ -8,7 +8,7 @@ ghost use Rattle.branch_tree.specs.Visits.{IsVisit};
 use crate::answers::Visit;
 use crate::walks::Walk;
 use choice_problem::{Problem, Ranges};
-use dual_bound::PriceTable;
+use price_table::PriceTable;
 use slot_text::Memory;
 use std::alloc::Global;
 

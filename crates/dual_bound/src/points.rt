@@ -8,13 +8,13 @@ ghost use Rattle.choice_problem.specs.Bounds.{AreRanges, IsVector, priced, least
 ghost use Rattle.price_table.specs.Strips.{ArePrices, IsPricedBy, least_alt, unit_least};
 ghost use Rattle.dual_bound.specs.Loops.{IsPoint, AreMoved, IsAfter, IsGreatestUpTo, vector_in, least_alt_load};
 
-use choice_problem::{Price, Problem, Ranges, Vector};
+use choice_problem::{HIGHEST_PRICE, Price, Problem, Ranges, Vector, price_vectors};
 use price_table::StripPrices;
 use slot_text::Memory;
 use std::alloc::Global;
 
-/// The greatest price that a vector may have.
-pub(crate) const MOST: u64 = (1 << 40) - 1;
+// The highest price, as a number.
+pub(crate) const HIGHEST: u64 = HIGHEST_PRICE as u64;
 
 // Prices of all resources, how often each unit's first least alternative at these prices uses a resource, all units
 // together, and the bound.
@@ -87,6 +87,7 @@ pub(crate) fn evaluate(
     ensures point { IfOk result (λ point. IsPoint problem.now ranges.now scale point.prices.items point.loads.items point.bound) }
     ensures same { IfOk result (λ point. point.prices.items ≡ prices.items) }
 {
+    price_vectors();
     let mut strips = StripPrices::new(alloc, problem, &prices)?;
     let mut loads = vec![in alloc; 0; problem.resources() as usize]?;
     let total = take_least(alloc, problem, ranges, &mut strips, scale, &mut loads)?;
@@ -201,7 +202,7 @@ pub(crate) fn move_prices(
         let at = resource as usize;
         let raised = prices[at] + step * u64::from(loads[at]);
         let lowered = raised.saturating_sub(step * problem.limit(resource) as u64);
-        moved.push(lowered.min(MOST))?;
+        moved.push(lowered.min(HIGHEST))?;
     }
     Ok(moved)
 }
@@ -212,6 +213,7 @@ pub(crate) fn vector_in(alloc: Global, problem: &Problem, prices: &[u64]) -> Res
     ensures value { IfOk result (λ vector. vector ≡ vector_in problem.now prices.now) }
     ensures valid { IfOk result (λ vector. IsVector problem.now vector) }
 {
+    price_vectors();
     let mut entries = Vec::new(alloc);
     for resource in 0..problem.resources() {
         let price = prices[resource as usize];

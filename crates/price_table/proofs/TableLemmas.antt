@@ -14,8 +14,7 @@ use Rattle.choice_problem.specs.declared.strips.Strip.{Strip}
 use Rattle.choice_problem.specs.declared.vectors.Price.{Price}
 use Rattle.choice_problem.specs.Strips.{part_uses, strip_uses, IsStripInRange, IsPartInRange}
 use Rattle.choice_problem.specs.Problems.{ProblemView, ChooserView, IsChooser, ArePartsInRange, resource_count, alt_count, chooser_at, alt_at, part_at, named_uses, chooser_uses, alt_uses, amount}
-use Rattle.choice_problem.specs.Bounds.{priced, IsVector, IsPrice}
-use Rattle.choice_problem.proofs.VectorLemmas.{price_at}
+use Rattle.choice_problem.specs.Bounds.{price_at, priced, IsVector, IsPrice}
 use Rattle.price_table.specs.Tables.{named_price, uses_price, PricesUnit}
 use Rattle.price_table.specs.Strips.{worth, IsSpread, AreSums, AreSumsOf, part_cost, strip_cost, capped_cost}
 use Rattle.price_table.proofs.WorthLemmas.{worth-same, worth-zero, worth-free, worth-set, worth-add, worth-le, strip_cost-is}

@@ -1,14 +1,14 @@
 //! Price tables.
 
-ghost use Rattle.std.specs.Prelude.{◌≡◌, ℕ, ◌<◌, ◌^◌, IfOk, length, slice_index, pos, ◌≤ℤ◌};
-ghost use Rattle.choice_problem.specs.Problems.{resource_count, limit_of, amount};
-ghost use Rattle.choice_problem.specs.Bounds.{IsVector, priced};
+ghost use Rattle.std.specs.Prelude.{◌≡◌, ℕ, ◌<◌, ◌^◌, IfOk, length, slice_index};
+ghost use Rattle.choice_problem.specs.Problems.{resource_count};
+ghost use Rattle.choice_problem.specs.Bounds.{IsVector};
 ghost use Rattle.price_table.specs.Tables.{IsTableFor};
 ghost use Rattle.price_table.specs.Strips.{IsSpread, AreSumsOf};
 
 use crate::bounds::named_prices;
 use crate::strips::{StripPrices, UnitPrices};
-use choice_problem::{Price, Problem, Vector};
+use choice_problem::{Problem, Vector, priced_limits};
 use slot_text::Memory;
 use std::alloc::Global;
 use std::marker::Model;
@@ -113,28 +113,6 @@ fn set_prices(problem: &Problem, vector: &Vector, prices: &mut [u64])
     ensures { IsSpread (resource_count problem.now) vector.now prices.new }
 {
     for entry in vector.items() {
-        prices[entry.resource as usize] = amount(entry);
+        prices[entry.resource as usize] = entry.amount();
     }
-}
-
-// The limits at their prices.
-fn priced_limits(problem: &Problem, vector: &Vector) -> u128
-    requires { IsVector problem.now vector.now }
-    ensures value { result ≡ priced vector.now (λ r. limit_of problem.now r) }
-    ensures small { result < 2 ^ 124 }
-{
-    let mut total = 0;
-    for entry in vector.items() {
-        let limit = problem.limit(entry.resource) as u64;
-        total += u128::from(amount(entry)) * u128::from(limit);
-    }
-    total
-}
-
-// A price as a number.
-fn amount(entry: &Price) -> u64
-    requires { pos 1 ≤ℤ entry.now.price }
-    ensures { result ≡ amount entry.now.price }
-{
-    entry.price as u64
 }
