@@ -23,6 +23,8 @@ ghost use Rattle.series_model.specs.declared.unit.Unit.{Unit as SlotUnit};
 ghost use Rattle.series_model.specs.Allotments.{IsFeasibleAllotment};
 ghost use Rattle.series_model.specs.Stages.{first_states, movements_given, stage_units, stage_limit, after_allotment, states_after, AreFeasibleChoices, GivenFits};
 
+use season_days::laws::lengths;
+
 /// Messages that are read of fewer than 2^31 bytes have what a submission asks of them: each pair is a historic line and
 /// a request to change it, there are fewer than 2^31 items, and each line has a number.
 pub fn read_messages()
@@ -47,7 +49,9 @@ pub fn option_bounds()
     ensures few { (d : DeclarationValue) (unit : SlotUnit) → UnitFits d.season unit → length (options_of d unit) ≤ MINUTES_OF_DAY * MINUTES_OF_DAY + 1 }
     ensures times { (d : DeclarationValue) (unit : SlotUnit) → UnitFits d.season unit → All (TimesFit d.refuse) (options_of d unit) }
     ensures costs { (d : DeclarationValue) (unit : SlotUnit) → UnitFits d.season unit → ForSome d.refuse (λ price. price ≤ HIGHEST_PRICE) → All (λ times. displacement_of d unit times < 2 ^ 24) (options_of d unit) }
-{}
+{
+    lengths();
+}
 
 /// What the stages give fits. Before the first stage nothing is given. Where all that was given fits the declared limits,
 /// and a stage gives a feasible allotment, all that is given after it fits too, since a share of at most 100 per cent is
@@ -55,11 +59,11 @@ pub fn option_bounds()
 pub fn feasible_fits()
     ensures start { (season : Term) (units : List SlotUnit) → movements_given season (first_states units) ≡ [] }
     ensures step { (d : DeclarationValue) (stage : ℕ) (states : List UnitStateValue) (times : List TimesValue) →
-        d.share ≤ HIGHEST_SHARE → GivenFits d states →
+        d.share ≤ 100 → GivenFits d states →
         IsFeasibleAllotment d (stage_units stage states) (stage_limit d stage states) times →
         GivenFits d (after_allotment stage states times) }
     ensures all { (d : DeclarationValue) (units : List SlotUnit) (choices : List (Option (List ℕ))) →
-        d.share ≤ HIGHEST_SHARE → AreFeasibleChoices d units choices → GivenFits d (states_after d units choices) }
+        d.share ≤ 100 → AreFeasibleChoices d units choices → GivenFits d (states_after d units choices) }
 {}
 
 /// A stage leaves the units as they are, in their order.

@@ -9,6 +9,7 @@ use crate::times::Times;
 use crate::unit::Unit;
 use capacity_windows::Movement;
 use scr_reader::{Line, Stop};
+use season_days::laws::lengths;
 use season_days::{Day, Kind, MINUTES_OF_DAY, Season};
 use slot_text::Memory;
 use std::alloc::Global;
@@ -33,7 +34,6 @@ pub fn movements_of(
 }
 
 // Appends the movements of a line, date by date.
-#[tactic(auto, using(season_days::proofs::SeasonLemmas::date_count_small))]
 fn push_movements(
     movements: &mut Vec<Movement>,
     season: &Season,
@@ -44,6 +44,7 @@ fn push_movements(
     requires last { line.now.period.last.0 < date_count season.now }
     ensures { OnOk result (movements.new.items ≡ movements.old.items ++ movements_at season.now line.now (Times.At arrival departure)) }
 {
+    lengths();
     let end = line.period.last.0 + 1;
     for date in line.period.first.0..end {
         push_date(movements, season, line, arrival, departure, date)?;
