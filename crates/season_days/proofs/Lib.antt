@@ -1,3 +1,5 @@
-pub mod SeasonLemmas
-pub mod CivilLemmas
-pub mod PeriodLemmas
+mod SeasonLemmas
+mod CivilLemmas
+mod PeriodLemmas
+mod CountLemmas
+mod CutLemmas

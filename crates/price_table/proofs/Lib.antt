@@ -1,0 +1,4 @@
+mod WorthLemmas
+mod TableLemmas
+mod BoundLemmas
+mod KnownLemmas

@@ -1,0 +1,4 @@
+pub mod Tables
+pub mod Strips
+pub mod Loops
+pub mod Known
