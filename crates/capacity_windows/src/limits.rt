@@ -12,8 +12,9 @@ use slot_text::Memory;
 use std::alloc::Global;
 
 impl Windows {
-    /// The limits of all resources in the order of their numbers, as problems of choice take them: what `limit` says of
-    /// each, in one step, where `limit` looks through the capacity lines. The one fault is want of memory.
+    /// The limits of all resources in the order of their numbers, as problems of choice take them:
+    /// what `limit` says of each, in one step, where `limit` looks through the capacity lines. The
+    /// one fault is want of memory.
     pub fn limits(&self, alloc: Global) -> Result<Vec<i64>, Memory>
         ensures count { IfOk result (λ limits. length limits.items ≡ declared_resources self.now) }
         ensures each { IfOk result (λ limits. (r : ℕ) → r < declared_resources self.now →
@@ -33,7 +34,8 @@ impl Windows {
         requires before { AreLimits self.now limits.old.items }
         requires windows { (day start : ℕ) → day < date_count self.now.season →
             start < starts_of self.now.step rule.now →
-            resource_at self.now (length limits.old.items + day * starts_of self.now.step rule.now + start)
+            resource_at self.now (length limits.old.items + day * starts_of self.now.step rule.now
+            + start)
             ≡ Window rule.now day start }
         ensures limits { OnOk result (AreLimits self.now limits.new.items) }
         ensures count { OnOk result
@@ -75,7 +77,8 @@ impl Windows {
         Ok(())
     }
 
-    // The limit of a capacity line's windows on a day: 0 where the day's weekday is not in the line's set.
+    // The limit of a capacity line's windows on a day: 0 where the day's weekday is not in the
+    // line's set.
     pub(crate) fn day_limit(&self, rule: &Rule, day: Day) -> u32
         ensures { result ≡ day_limit self.now rule.now day.0 }
     {

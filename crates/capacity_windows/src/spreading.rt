@@ -1,6 +1,7 @@
-//! The windows that the movements of a stop use, in strips. A window may reach into the next day, so each capacity line
-//! has two bands of windows that may hold a movement: those of the movement's day and those of the day before. A band
-//! takes one strip where the line and the dates of the stop are daily, and else at most one for each weekday.
+//! The windows that the movements of a stop use, in strips. A window may reach into the next day,
+//! so each capacity line has two bands of windows that may hold a movement: those of the movement's
+//! day and those of the day before. A band takes one strip where the line and the dates of the stop
+//! are daily, and else at most one for each weekday.
 
 ghost use Rattle.std.specs.Prelude.{◌≡◌, ◌+◌, ◌*◌, ◌<◌, ◌≤◌, ℕ, IfOk, OnOk, All, [], length};
 ghost use Rattle.choice_problem.specs.Strips.{part_uses, IsPartInRange};
@@ -24,16 +25,19 @@ use std::alloc::Global;
 const EVERY_DAY: u8 = 0x7f;
 
 impl Windows {
-    /// The resources that hold the movements of one stop, each as often as it holds one: the movements are of this kind, on
-    /// this minute of the day (below 1,440), `later` days after each date of the period, whose first and last day are days
-    /// of the season. Movements after the season's last date are held by none; a period whose first day is after its last
-    /// has no dates.
+    /// The resources that hold the movements of one stop, each as often as it holds one: the
+    /// movements are of this kind, on this minute of the day (below 1,440), `later` days after each
+    /// date of the period, whose first and last day are days of the season. Movements after the
+    /// season's last date are held by none; a period whose first day is after its last has no
+    /// dates.
     ///
-    /// The part uses one resource at most 217 times, so an alternative of two such parts at most 434 times. A capacity line
-    /// that holds the kind takes one strip for its windows of the movement's day and one for those of the day before where
-    /// all weekdays are in its set and in the period's, and else up to seven for each; any other line takes none, and the
-    /// night quota one. So a daily stop under 16 daily lines takes at most 33 strips, however many dates it has, and any
-    /// part at most 897. The time is one step a strip or weekday, and for the quota one step a date. The one fault is want of memory.
+    /// The part uses one resource at most 217 times, so an alternative of two such parts at most
+    /// 434 times. A capacity line that holds the kind takes one strip for its windows of the
+    /// movement's day and one for those of the day before where all weekdays are in its set and in
+    /// the period's, and else up to seven for each; any other line takes none, and the night quota
+    /// one. So a daily stop under 16 daily lines takes at most 33 strips, however many dates it
+    /// has, and any part at most 897. The time is one step a strip or weekday, and for the quota
+    /// one step a date. The one fault is want of memory.
     pub fn strips_of(
         &self,
         alloc: Global,
@@ -45,7 +49,9 @@ impl Windows {
         requires minute { minute < MINUTES_OF_DAY }
         requires first { period.first.0 < date_count self.now.season }
         requires last { period.last.0 < date_count self.now.season }
-        ensures uses { IfOk result (λ part. (r : ℕ) → part_uses part r ≡ window_load self.now (stop_movements self.now kind minute later period) r) }
+        ensures uses { IfOk result (λ part. (r : ℕ) →
+            part_uses part r
+            ≡ window_load self.now (stop_movements self.now kind minute later period) r) }
         ensures range { IfOk result (λ part. IsPartInRange (declared_resources self.now) part) }
         ensures few_uses { IfOk result (λ part. (r : ℕ) → part_uses part r ≤ 217) }
         ensures few { IfOk result (λ part. length part ≤ most_strips self.now kind period) }
@@ -80,9 +86,12 @@ impl Windows {
         requires rule { IsRule rule.now }
         requires room { first + windows_of self.now rule.now ≤ MOST_WINDOWS }
         requires stop { AreStopDates self.now.season stop.now }
-        ensures uses { OnOk result (Adds strips.old.items strips.new.items (λ r. rule_load self.now rule.now first (dated_movements self.now stop.now) r)) }
+        ensures uses { OnOk result
+            (Adds strips.old.items strips.new.items
+            (λ r. rule_load self.now rule.now first (dated_movements self.now stop.now) r)) }
         ensures wide { OnOk result (All IsWide strips.new.items) }
-        ensures few { OnOk result (length strips.new.items ≤ length strips.old.items + rule_strips stop.now.kind stop.now.period rule.now) }
+        ensures few { OnOk result (length strips.new.items ≤ length strips.old.items
+            + rule_strips stop.now.kind stop.now.period rule.now) }
     {
         if !is_of_kind(rule.kind, stop.kind) {
             return Ok(());
@@ -119,9 +128,12 @@ impl Windows {
         requires wide { All IsWide strips.old.items }
         requires band { IsBand self.now.season band.now }
         requires stop { AreStopDates self.now.season stop.now }
-        ensures uses { OnOk result (Adds strips.old.items strips.new.items (λ r. band_uses self.now.season stop.now.period stop.now.later band.now r)) }
+        ensures uses { OnOk result
+            (Adds strips.old.items strips.new.items
+            (λ r. band_uses self.now.season stop.now.period stop.now.later band.now r)) }
         ensures wide { OnOk result (All IsWide strips.new.items) }
-        ensures few { OnOk result (length strips.new.items ≤ length strips.old.items + band_strips band.now.days stop.now.period.days) }
+        ensures few { OnOk result (length strips.new.items ≤ length strips.old.items
+            + band_strips band.now.days stop.now.period.days) }
     {
         if band.low >= band.high {
             return Ok(());
@@ -164,7 +176,8 @@ impl Windows {
         requires band { IsBand self.now.season band.now }
         requires stop { AreStopDates self.now.season stop.now }
         requires some { band.now.low < band.now.high }
-        ensures uses { (r : ℕ) → band_uses self.now.season stop.now.period stop.now.later band.now r ≡ option_uses result r }
+        ensures uses { (r : ℕ) → band_uses self.now.season stop.now.period stop.now.later band.now r
+            ≡ option_uses result r }
         ensures wide { IsOptionWide result }
     {
         weekday_sets();
@@ -188,7 +201,10 @@ impl Windows {
         requires band { IsBand self.now.season band.now }
         requires stop { AreStopDates self.now.season stop.now }
         requires some { band.now.low < band.now.high }
-        ensures uses { (r : ℕ) → weekday_uses self.now.season stop.now.period stop.now.later band.now (weekday + 1) r ≡ weekday_uses self.now.season stop.now.period stop.now.later band.now weekday r + option_uses result r }
+        ensures uses { (r : ℕ) →
+            weekday_uses self.now.season stop.now.period stop.now.later band.now (weekday + 1) r
+            ≡ weekday_uses self.now.season stop.now.period stop.now.later band.now weekday r
+            + option_uses result r }
         ensures wide { IsOptionWide result }
     {
         weekday_sets();
@@ -217,7 +233,9 @@ impl Windows {
     fn add_night(&self, strips: &mut Vec<Strip>, first: u32, stop: &StopDates) -> Result<(), Memory>
         requires wide { All IsWide strips.old.items }
         requires stop { AreStopDates self.now.season stop.now }
-        ensures uses { OnOk result (Adds strips.old.items strips.new.items (λ r. rest_load self.now [] first (dated_movements self.now stop.now) r)) }
+        ensures uses { OnOk result
+            (Adds strips.old.items strips.new.items
+            (λ r. rest_load self.now [] first (dated_movements self.now stop.now) r)) }
         ensures wide { OnOk result (All IsWide strips.new.items) }
         ensures few { OnOk result (length strips.new.items ≤ length strips.old.items + 1) }
     {

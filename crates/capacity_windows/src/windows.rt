@@ -14,9 +14,10 @@ use slot_text::Memory;
 use std::alloc::Global;
 use std::marker::Model;
 
-/// The windows of a declaration, and its night quota. Both are resources: each has a number, from 0, and a limit on the
-/// movements that it may hold. Windows come capacity line by capacity line in the order of the file, then day by day, then
-/// start by start; the night quota comes last. Lines with equal values have windows of their own.
+/// The windows of a declaration, and its night quota. Both are resources: each has a number, from
+/// 0, and a limit on the movements that it may hold. Windows come capacity line by capacity line in
+/// the order of the file, then day by day, then start by start; the night quota comes last. Lines
+/// with equal values have windows of their own.
 #[derive(Drop)]
 pub struct Windows {
     season: Season,
@@ -33,14 +34,26 @@ impl Model for Windows {
 
     ghost Value = { Capacity };
 
-    ghost view = { λ w. record { season = w.season; step = w.step; night = w.night; rules = w.rules.items } };
+    ghost view = { λ w. record {
+      season = w.season;
+      step = w.step;
+      night = w.night;
+      rules = w.rules.items;
+    } };
 
-    ghost invariant = { λ w. IsKept (record { season = w.season; step = w.step; night = w.night; rules = w.rules.items }) w.days w.resources };
+    ghost invariant = { λ w. IsKept
+        (record {
+          season = w.season;
+          step = w.step;
+          night = w.night;
+          rules = w.rules.items;
+        }) w.days w.resources };
 }
 
 impl Windows {
-    /// The windows of a declaration that keeps the limits: a step above 0, at most 64 capacity lines within a day, and at
-    /// most 1,000,000 resources. The capacity lines are copied; the one fault is want of memory.
+    /// The windows of a declaration that keeps the limits: a step above 0, at most 64 capacity
+    /// lines within a day, and at most 1,000,000 resources. The capacity lines are copied; the one
+    /// fault is want of memory.
     pub fn new(alloc: Global, declaration: &Declaration) -> Result<Windows, Memory>
         requires limits { IsCapacity (capacity_of declaration.now) }
         ensures value { IfOk result (λ windows. windows ≡ capacity_of declaration.now) }
@@ -99,7 +112,8 @@ impl Windows {
     pub fn night(&self) -> Option<u32>
         ensures none { IsNone result ↔ IsNone self.now.night }
         ensures number { IfSome result (λ r. r ≡ sum_by (windows_of self.now) self.now.rules) }
-        ensures quota { IfSome result (λ r. (night : Night) → self.now.night ≡ Some night → resource_at self.now r ≡ Quota night) }
+        ensures quota { IfSome result (λ r. (night : Night) → self.now.night ≡ Some night →
+            resource_at self.now r ≡ Quota night) }
     {
         match self.night {
             Some(_) => Some(self.resources - 1),
@@ -107,8 +121,8 @@ impl Windows {
         }
     }
 
-    /// How many windows a capacity line has on a day of the season, at least one and at most 1,440: one for each start, a
-    /// step apart. `rule` is the position of the line in the file, from 0.
+    /// How many windows a capacity line has on a day of the season, at least one and at most 1,440:
+    /// one for each start, a step apart. `rule` is the position of the line in the file, from 0.
     pub fn starts(&self, rule: u32) -> u32
         requires { rule < length self.now.rules }
         ensures starts { IfSome (slice_get self.now.rules rule) (λ of. result ≡ starts_of self.now.step of) }
@@ -117,14 +131,17 @@ impl Windows {
         starts_of(self.step, &self.rules[rule as usize])
     }
 
-    /// The number of a window: `rule` is the position of its capacity line, `day` a day of the season, and `start` counts
-    /// the line's starts from 0, of which `starts` says how many there are. On a day whose weekday is not in the line's set the window is there and has limit 0.
+    /// The number of a window: `rule` is the position of its capacity line, `day` a day of the
+    /// season, and `start` counts the line's starts from 0, of which `starts` says how many there
+    /// are. On a day whose weekday is not in the line's set the window is there and has limit 0.
     pub fn resource_of(&self, rule: u32, day: Day, start: u32) -> u32
         requires rule { rule < length self.now.rules }
         requires day { day.0 < date_count self.now.season }
         requires start { ForSome (slice_get self.now.rules rule) (λ of. start < starts_of self.now.step of) }
-        ensures number { IfSome (slice_get self.now.rules rule) (λ of. result ≡ first_of self.now rule + day.0 * starts_of self.now.step of + start) }
-        ensures window { IfSome (slice_get self.now.rules rule) (λ of. resource_at self.now result ≡ Window of day.0 start) }
+        ensures number { IfSome (slice_get self.now.rules rule)
+            (λ of. result ≡ first_of self.now rule + day.0 * starts_of self.now.step of + start) }
+        ensures window { IfSome (slice_get self.now.rules rule)
+            (λ of. resource_at self.now result ≡ Window of day.0 start) }
     {
         let mut first = 0;
         for earlier in &self.rules[..rule as usize] {
@@ -225,8 +242,9 @@ impl Windows {
         rule.from + start * self.step
     }
 
-    /// How many movements the resource of a number may hold: the capacity line's limit, 0 on a day whose weekday is not in
-    /// the line's set, and 0 for a number past the last. One step for each capacity line.
+    /// How many movements the resource of a number may hold: the capacity line's limit, 0 on a day
+    /// whose weekday is not in the line's set, and 0 for a number past the last. One step for each
+    /// capacity line.
     pub fn limit(&self, resource: u32) -> u32
         ensures value { result ≡ window_limit self.now resource }
         ensures bound { result ≤ HIGHEST_NIGHT_LIMIT }

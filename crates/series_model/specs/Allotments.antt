@@ -1,6 +1,7 @@
--- Allotments: one alternative for each of some units, so that no resource holds more of their movements than a limit that
--- is given for it. Which are feasible, what they displace, which displace least, and what bounds them from below. The
--- units of a stage with the limits of that stage are one case; nothing here depends on how an allotment is found.
+-- Allotments: one alternative for each of some units, so that no resource holds more of their
+-- movements than a limit that is given for it. Which are feasible, what they displace, which
+-- displace least, and what bounds them from below. The units of a stage with the limits of that
+-- stage are one case; nothing here depends on how an allotment is found.
 use Rattle.std.specs.Prelude.{ℕ, ◌+◌, ◌<◌, ◌≤◌, List, [], ◌∷◌, ◌++◌, Contains}
 use Rattle.std.specs.List.{AllZip}
 use Rattle.season_days.specs.Term.{Term}
@@ -18,7 +19,8 @@ use Rattle.series_model.specs.Displacement.{displacement_of}
 
 -- each unit has one of its alternatives
 abbrev pub AreAlternatives : Declaration → List SlotUnit → List Times → Type 0
-AreAlternatives d units times = AllZip (λ unit given. Contains (options_of d unit) given) units times
+AreAlternatives d units times =
+    AllZip (λ unit given. Contains (options_of d unit) given) units times
 
 -- the movements of the units at these times
 abbrev pub allotted_movements : Term → List SlotUnit → List Times → List Movement
@@ -36,17 +38,21 @@ total_displacement d (unit ∷ units) (given ∷ times) =
 
 -- how many of the movements a resource holds
 abbrev pub allotted_load : Declaration → List SlotUnit → List Times → ℕ → ℕ
-allotted_load d units times r = window_load (capacity_of d) (allotted_movements d.season units times) r
+allotted_load d units times r =
+    window_load (capacity_of d) (allotted_movements d.season units times) r
 
 -- ---- which are feasible, and which are best
 
 -- one alternative for each unit, and no resource holds more of their movements than its limit
-pub record IsFeasibleAllotment (d : Declaration) (units : List SlotUnit) (limit : ℕ → ℕ) (times : List Times) : Type 0 where
+pub record IsFeasibleAllotment (d : Declaration) (units : List SlotUnit) (limit : ℕ → ℕ)
+    (times : List Times) : Type 0 where
   pub alternatives : AreAlternatives d units times
-  pub fits : (r : ℕ) → r < declared_resources (capacity_of d) → allotted_load d units times r ≤ limit r
+  pub fits : (r : ℕ) → r < declared_resources (capacity_of d) →
+      allotted_load d units times r ≤ limit r
 
 -- feasible, and no feasible allotment displaces less
-pub record IsLeastAllotment (d : Declaration) (units : List SlotUnit) (limit : ℕ → ℕ) (times : List Times) : Type 0 where
+pub record IsLeastAllotment (d : Declaration) (units : List SlotUnit) (limit : ℕ → ℕ)
+    (times : List Times) : Type 0 where
   pub feasible : IsFeasibleAllotment d units limit times
   pub least : (other : List Times) → IsFeasibleAllotment d units limit other →
       total_displacement d units times ≤ total_displacement d units other
@@ -58,4 +64,5 @@ HasNoAllotment d units limit = (times : List Times) → IsFeasibleAllotment d un
 -- no feasible allotment displaces less than the bound
 abbrev pub IsDisplacementBound : Declaration → List SlotUnit → (ℕ → ℕ) → ℕ → Type 0
 IsDisplacementBound d units limit bound =
-    (times : List Times) → IsFeasibleAllotment d units limit times → bound ≤ total_displacement d units times
+    (times : List Times) → IsFeasibleAllotment d units limit times →
+    bound ≤ total_displacement d units times

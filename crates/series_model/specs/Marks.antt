@@ -10,7 +10,8 @@ abbrev pub HasCost : Declaration → List SlotUnit → List Times → Option ℕ
 HasCost d units times cost = cost ≡ Some (total_displacement d units times)
 
 -- OPTIMAL c: there is an allotment, it displaces c, and no feasible one displaces less
-abbrev pub ClaimsOptimal : Declaration → List SlotUnit → (ℕ → ℕ) → Option (List Times) → Option ℕ → Type 0
+abbrev pub ClaimsOptimal : Declaration → List SlotUnit → (ℕ → ℕ) → Option (List Times) → Option ℕ →
+    Type 0
 ClaimsOptimal d units limit times cost =
     IsSomeAnd times (λ given. IsLeastAllotment d units limit given × HasCost d units given cost)
 
@@ -18,9 +19,10 @@ ClaimsOptimal d units limit times cost =
 abbrev pub ClaimsInfeasible : Declaration → List SlotUnit → (ℕ → ℕ) → Type 0
 ClaimsInfeasible d units limit = HasNoAllotment d units limit
 
--- OPEN c BOUND b, or OPEN NONE BOUND b: the allotment, if any, is feasible and displaces c, and no feasible one displaces
--- less than b
-abbrev pub ClaimsOpen : Declaration → List SlotUnit → (ℕ → ℕ) → Option (List Times) → Option ℕ → Option ℕ → Type 0
+-- OPEN c BOUND b, or OPEN NONE BOUND b: the allotment, if any, is feasible and displaces c, and no
+-- feasible one displaces less than b
+abbrev pub ClaimsOpen : Declaration → List SlotUnit → (ℕ → ℕ) → Option (List Times) → Option ℕ →
+    Option ℕ → Type 0
 ClaimsOpen d units limit times cost bound =
     IfSome times (λ given. IsFeasibleAllotment d units limit given × HasCost d units given cost)
     × IfSome bound (IsDisplacementBound d units limit)

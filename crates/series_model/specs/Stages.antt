@@ -1,6 +1,6 @@
--- The four stages of initial allocation: which units each allots, what it may use of the capacity, and what the units
--- have been given after it. See the Worldwide Airport Slot Guidelines on the order of initial allocation and on the half
--- of the pool that is offered to new entrants.
+-- The four stages of initial allocation: which units each allots, what it may use of the capacity,
+-- and what the units have been given after it. See the Worldwide Airport Slot Guidelines on the
+-- order of initial allocation and on the half of the pool that is offered to new entrants.
 use Rattle.std.specs.Prelude.{ℕ, suc, ◌+◌, ◌-◌, ◌*◌, ◌/◌, ◌<◌, ◌==◌, ◌&&◌, ◌||◌, not, Bool, true, false, if◌then◌else◌, List, [], ◌∷◌, length, map, take, Option, Some, None, is_some, slice_index_or}
 use Rattle.std.specs.List.{AllZip, flat_map, list_all}
 use Rattle.season_days.specs.Term.{Term}
@@ -46,9 +46,10 @@ movements_given season states = flat_map (given_movements season) states
 
 -- ---- which units a stage allots
 
--- Stage 1 allots the historic series, stage 2 the historic series that ask for other times, stage 3 the new entrants, and
--- stage 4 all other requests. A new entrant that has no slots after stage 3, because it was refused there or because
--- stage 3 has no allotment, stands again in stage 4. All is said of the units as they are before the stage.
+-- Stage 1 allots the historic series, stage 2 the historic series that ask for other times, stage 3
+-- the new entrants, and stage 4 all other requests. A new entrant that has no slots after stage 3,
+-- because it was refused there or because stage 3 has no allotment, stands again in stage 4. All is
+-- said of the units as they are before the stage.
 abbrev pub is_due : ℕ → Group → Option Times → Bool
 is_due stage F given = stage == 1
 is_due stage R given = stage == 2
@@ -63,21 +64,24 @@ is_due_state stage state = is_due stage state.unit.group state.given
 abbrev pub stage_units : ℕ → List UnitState → List SlotUnit
 stage_units stage [] = []
 stage_units stage (state ∷ states) =
-    if is_due_state stage state then state.unit ∷ stage_units stage states else stage_units stage states
+    if is_due_state stage state then state.unit ∷ stage_units stage states
+    else stage_units stage states
 
 -- their positions among all units, counted from 0
 abbrev pub positions_from : ℕ → ℕ → List UnitState → List ℕ
 positions_from stage n [] = []
 positions_from stage n (state ∷ states) =
-    if is_due_state stage state then n ∷ positions_from stage (suc n) states else positions_from stage (suc n) states
+    if is_due_state stage state then n ∷ positions_from stage (suc n) states
+    else positions_from stage (suc n) states
 
 abbrev pub stage_positions : ℕ → List UnitState → List ℕ
 stage_positions stage states = positions_from stage 0 states
 
 -- ---- what a stage may use
 
--- what a resource may still hold: its declared limit, less the movements that earlier stages gave it. Where the choices
--- of those are feasible these movements are within the declared limit, so nothing is cut off at 0
+-- what a resource may still hold: its declared limit, less the movements that earlier stages gave
+-- it. Where the choices of those are feasible these movements are within the declared limit, so
+-- nothing is cut off at 0
 abbrev pub limit_left : Declaration → List UnitState → ℕ → ℕ
 limit_left d states r =
     window_limit (capacity_of d) r - window_load (capacity_of d) (movements_given d.season states) r
@@ -86,9 +90,11 @@ limit_left d states r =
 abbrev pub share_of : ℕ → ℕ → ℕ
 share_of share n = (n * share + 99) / 100
 
--- new entrants are offered their share of what is left, the night quota included; all other stages all of it
+-- new entrants are offered their share of what is left, the night quota included; all other stages
+-- all of it
 abbrev pub stage_limit : Declaration → ℕ → List UnitState → ℕ → ℕ
-stage_limit d stage states r = if stage == 3 then share_of d.share (limit_left d states r) else limit_left d states r
+stage_limit d stage states r = if stage == 3 then share_of d.share (limit_left d states r)
+    else limit_left d states r
 
 -- all that was given fits the declared limits
 abbrev pub GivenFits : Declaration → List UnitState → Type 0
@@ -101,7 +107,8 @@ abbrev pub after_allotment : ℕ → List UnitState → List Times → List Unit
 after_allotment stage [] times = []
 after_allotment stage (state ∷ states) [] = state ∷ states
 after_allotment stage (state ∷ states) (given ∷ times) =
-    if is_due_state stage state then record state { given = Some given } ∷ after_allotment stage states times
+    if is_due_state stage state
+    then record state { given = Some given } ∷ after_allotment stage states times
     else state ∷ after_allotment stage states (given ∷ times)
 
 -- a choice has for each unit the number of one of its alternatives
@@ -117,7 +124,8 @@ stage_times d stage states choice = times_named d (stage_units stage states) cho
 -- after a stage, with its choice if it has one
 abbrev pub after_stage : Declaration → ℕ → List UnitState → Option (List ℕ) → List UnitState
 after_stage d stage states None = states
-after_stage d stage states (Some choice) = after_allotment stage states (stage_times d stage states choice)
+after_stage d stage states (Some choice) =
+    after_allotment stage states (stage_times d stage states choice)
 
 -- after the stages from one on
 abbrev pub after_stages : Declaration → ℕ → List UnitState → List (Option (List ℕ)) → List UnitState
@@ -131,20 +139,26 @@ states_after d units choices = after_stages d 1 (first_states units) choices
 
 -- ---- feasible choices of stages, each after those before it
 
--- whether the stage after these choices is tried at all: not where stage 1 or stage 2 has no allotment
+-- whether the stage after these choices is tried at all: not where stage 1 or stage 2 has no
+-- allotment
 abbrev pub may_follow : List (Option (List ℕ)) → Bool
 may_follow choices = list_all is_some (take 2 choices)
 
--- each number is that of an alternative of its unit, and these times are a feasible allotment of the stage
-pub record IsFeasibleChoice (d : Declaration) (stage : ℕ) (states : List UnitState) (choice : List ℕ) : Type 0 where
-  pub numbers : AllZip (λ unit number. number < length (options_of d unit)) (stage_units stage states) choice
-  pub feasible : IsFeasibleAllotment d (stage_units stage states) (stage_limit d stage states) (stage_times d stage states choice)
+-- each number is that of an alternative of its unit, and these times are a feasible allotment of
+-- the stage
+pub record IsFeasibleChoice (d : Declaration) (stage : ℕ) (states : List UnitState)
+    (choice : List ℕ) : Type 0 where
+  pub numbers : AllZip (λ unit number. number < length (options_of d unit))
+      (stage_units stage states) choice
+  pub feasible : IsFeasibleAllotment d (stage_units stage states) (stage_limit d stage states)
+      (stage_times d stage states choice)
 
 abbrev pub AreFeasibleFrom : Declaration → ℕ → List UnitState → List (Option (List ℕ)) → Type 0
 AreFeasibleFrom d stage states [] = Unit {0}
 AreFeasibleFrom d stage states (None ∷ choices) = AreFeasibleFrom d (suc stage) states choices
 AreFeasibleFrom d stage states (Some choice ∷ choices) =
-    IsFeasibleChoice d stage states choice × AreFeasibleFrom d (suc stage) (after_stage d stage states (Some choice)) choices
+    IsFeasibleChoice d stage states choice
+    × AreFeasibleFrom d (suc stage) (after_stage d stage states (Some choice)) choices
 
 -- the choices of the first stages
 abbrev pub AreFeasibleChoices : Declaration → List SlotUnit → List (Option (List ℕ)) → Type 0
