@@ -26,6 +26,10 @@ pub record IsWithin (p : ProblemView) (ranges : List (ℕ × ℕ)) (x : List ℕ
   pub from : (u : ℕ) → u < unit_count p → low_of ranges u ≤ slice_index x u
   pub to : (u : ℕ) → u < unit_count p → slice_index x u ≤ high_of ranges u
 
+-- the price at a place of a vector
+abbrev pub price_at : List Price → ℕ → Price
+price_at prices i = slice_index_or prices i (record { resource = 0; price = pos 0 })
+
 -- uses at the vector's prices, each use counted: a resource that it does not name is free
 abbrev pub priced : List Price → (ℕ → ℕ) → ℕ
 priced prices uses = sum_by (λ e. amount e.price * uses e.resource) prices

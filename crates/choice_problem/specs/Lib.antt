@@ -11,4 +11,6 @@ pub mod Splits
 pub mod Driven
 pub mod Grafts
 pub mod Floors
+pub mod Alike
+pub mod Renumbered
 pub mod Loops

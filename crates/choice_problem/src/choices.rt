@@ -1,6 +1,7 @@
 //! Choices of one alternative for each unit.
 
-ghost use Rattle.std.specs.Prelude.{◌≡◌, ◌↔◌, ℕ, ◌^◌, ◌<◌, ◌≤◌, length, slice_index, IfOk, IfSome, IfNone, IsTrue};
+ghost use Rattle.std.specs.Prelude.{◌≡◌, ◌↔◌, ℕ, ◌^◌, ◌<◌, ◌≤◌, length, slice_index, IfOk, IfSome, IfNone, IsTrue, pos, ◌≤ℤ◌};
+ghost use Rattle.choice_problem.specs.Counts.{IsFirstAbove, limit_at};
 ghost use Rattle.choice_problem.specs.Problems.{resource_count, limit_of};
 ghost use Rattle.choice_problem.specs.Choices.{IsChoice, Fits, IsFirstPassed, choice_cost, load_of};
 
@@ -122,9 +123,20 @@ pub fn first_above(problem: &Problem, counts: &[u32]) -> Option<u32>
     ensures first { IfSome result (λ r. (q : ℕ) → q < r → slice_index counts.now q ≤ limit_of problem.now q) }
     ensures none { IfNone result ((r : ℕ) → r < resource_count problem.now → slice_index counts.now r ≤ limit_of problem.now r) }
 {
-    for resource in 0..problem.resources() {
-        if i64::from(counts[resource as usize]) > problem.limit(resource) {
-            return Some(resource);
+    first_above_limit(counts, problem.limits())
+}
+
+/// The lowest resource whose count is above its limit, for counts and limits of as many resources: one step a resource.
+pub fn first_above_limit(counts: &[u32], limits: &[i64]) -> Option<u32>
+    requires resources { length counts.now < 2 ^ 32 }
+    requires limits { length limits.now ≡ length counts.now }
+    ensures some { IfSome result (IsFirstAbove counts.now limits.now) }
+    ensures none { IfNone result ((r : ℕ) → r < length counts.now →
+        pos (slice_index counts.now r) ≤ℤ limit_at limits.now r) }
+{
+    for at in 0..counts.len() {
+        if i64::from(counts[at]) > limits[at] {
+            return Some(at as u32);
         }
     }
     None

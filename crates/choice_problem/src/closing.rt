@@ -67,13 +67,13 @@ pub fn leaf_closes(
 {
     let bound = bound(problem, ranges, vector, scale);
     match seen {
-        Some(cost) => is_above(bound, scale, cost),
+        Some(cost) => bound_passes(bound, scale, cost),
         None => scale == 0 && bound > 0,
     }
 }
 
-// Whether a scaled bound shows that every cost is at least this one.
-fn is_above(bound: i128, scale: u64, cost: u64) -> bool
+/// Whether a bound at a scale shows that every cost is at least this one.
+pub fn bound_passes(bound: i128, scale: u64, cost: u64) -> bool
     requires { scale < 2 ^ 20 }
     ensures { IsTrue result ↔ ((pos scale *ℤ (pos cost -ℤ pos 1)) <ℤ bound) }
 {
@@ -166,8 +166,8 @@ fn priced_uses(problem: &Problem, unit: u32, alt: u32, vector: &Vector) -> u128
     total
 }
 
-// The limits at their prices.
-fn priced_limits(problem: &Problem, vector: &Vector) -> u128
+/// The limits at the vector's prices: what the bound takes off. One step a price.
+pub fn priced_limits(problem: &Problem, vector: &Vector) -> u128
     requires vector { IsVector problem.now vector.now }
     ensures value { result ≡ priced vector.now (λ r. limit_of problem.now r) }
     ensures small { result < 2 ^ 124 }

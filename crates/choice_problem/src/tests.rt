@@ -246,6 +246,13 @@ fn nodes_and_laws(rt: HostRuntime) -> Result<(), Fail> {
     assert_eq!(rt; tree.items(), nodes.as_slice());
     assert_eq!(rt; count_nodes(&tree), 3);
     strip_list();
+    alike_problems();
+    fewer_vectors();
+    renumbered_vectors();
+    node_vector_exists();
+    closing_numbers();
+    part_ranges();
+    price_vectors();
     closed_ranges();
     sound_tree();
     floored_tree();

@@ -4,6 +4,7 @@ use Rattle.std.specs.Str.{bytes_eq}
 use Rattle.std.specs.Global.{Vec}
 use Rattle.desk_outside.specs.Cause.{one_more}
 use Rattle.desk_outside.specs.Failures.{failure_at, taken_by, sent_bytes}
+use Rattle.desk_outside.specs.Passages.{Passage}
 use Rattle.desk_outside.specs.declared.failures.Failure.{Failure}
 use Rattle.desk_outside.specs.declared.cabinet.CabinetFault.{CabinetFault}
 use Rattle.desk_outside.specs.declared.cabinet.CabinetFault.TheVariants.{Failed, Missing, Larger, Memory}
@@ -15,7 +16,7 @@ pub record HeldFile : Type 0 where
 
 -- What contracts see of a cabinet in memory: its files, each name once, in the order in which they were first put
 -- in; the room that it was made with, a number of files and a number of bytes for each; the calls that are to fail;
--- the number of reads and writes so far, and of those that failed.
+-- the number of reads and writes so far, and of those that failed; and what passed so far.
 pub record CabinetView : Type 0 where
   pub files : List HeldFile
   pub file_limit : ℕ
@@ -23,10 +24,19 @@ pub record CabinetView : Type 0 where
   pub failing : List Failure
   pub made : ℕ
   pub faults : ℕ
+  pub log : List Passage
 
 -- a cabinet just made
 abbrev pub new_cabinet : ℕ → ℕ → List Failure → CabinetView
-new_cabinet file_limit byte_limit failing = record { files = []; file_limit = file_limit; byte_limit = byte_limit; failing = failing; made = 0; faults = 0 }
+new_cabinet file_limit byte_limit failing = record {
+  files = [];
+  file_limit = file_limit;
+  byte_limit = byte_limit;
+  failing = failing;
+  made = 0;
+  faults = 0;
+  log = [];
+}
 
 -- the bytes under a name
 abbrev pub bytes_under : List HeldFile → List ℕ → Option (List ℕ)
@@ -92,17 +102,25 @@ after_write c name bytes =
     if takes_file c name bytes then left else with_fault left
 
 -- What contracts see of a sink in memory: its bytes, the most that it has room for, the calls that are to fail, the
--- number of puts so far, and of those that failed.
+-- number of puts so far, and of those that failed; and what passed so far.
 pub record SinkView : Type 0 where
   pub bytes : List ℕ
   pub byte_limit : ℕ
   pub failing : List Failure
   pub made : ℕ
   pub faults : ℕ
+  pub log : List Passage
 
 -- a sink just made
 abbrev pub new_sink : ℕ → List Failure → SinkView
-new_sink byte_limit failing = record { bytes = []; byte_limit = byte_limit; failing = failing; made = 0; faults = 0 }
+new_sink byte_limit failing = record {
+  bytes = [];
+  byte_limit = byte_limit;
+  failing = failing;
+  made = 0;
+  faults = 0;
+  log = [];
+}
 
 -- how many bytes more it has room for
 abbrev pub free_bytes : SinkView → ℕ

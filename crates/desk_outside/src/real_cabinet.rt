@@ -1,8 +1,9 @@
-ghost use Rattle.std.specs.Prelude.{◌≡◌, ◌<◌, ◌≤◌, None, IfOk, IfErr, IfSome, length, vec_len};
+ghost use Rattle.std.specs.Prelude.{◌≡◌, ◌<◌, ◌≤◌, [], None, IfOk, IfErr, IfSome, length, vec_len};
 ghost use Rattle.std.specs.IoError.{error_kind};
 ghost use Rattle.std.specs.declared.io.ErrorKind.{ErrorKind};
 
 use crate::cabinet::{Cabinet, CabinetFault};
+use crate::log::{Log, Note};
 use std::alloc::Global;
 use std::fs::OpenFile;
 use std::io::{ErrorKind, Read};
@@ -10,7 +11,8 @@ use std::marker::Model;
 use std::rt::Files;
 use std::{fs, io};
 
-/// The files of the system, by their paths. It does not tell what they hold: contracts see the count of its faults.
+/// The files of the system, by their paths. It does not tell what they hold: contracts see the count of its faults and
+/// what passed.
 ///
 /// `Missing` where no file stands under the path, `Larger` where its bytes are more than the caller takes, `Failed`
 /// for everything else that the system refuses, a folder in the place of a file among them. Each of the three
@@ -19,29 +21,36 @@ use std::{fs, io};
 pub struct RealCabinet<'a, R: Files> {
     rt: &'a R,
     faults: u64,
+    log: Log,
 }
 
 impl<'a, R: Files> Model for RealCabinet<'a, R> {
-    ghost use Rattle.std.specs.Prelude.{ℕ};
+    ghost use Rattle.desk_outside.specs.Passages.{Counted};
 
-    ghost Value = { ℕ };
+    ghost Value = { Counted };
 
-    ghost view = { λ cabinet. cabinet.faults };
+    ghost view = { λ cabinet. record { faults = cabinet.faults; log = cabinet.log.passages } };
 }
 
 impl<'a, R: Files> RealCabinet<'a, R> {
     /// The files that the runtime reaches, with no fault so far.
     pub fn new(rt: &'a R) -> RealCabinet<'a, R>
-        ensures { result ≡ 0 }
+        ensures { result ≡ record { faults = 0; log = [] } }
     {
-        RealCabinet { rt, faults: 0 }
+        RealCabinet {
+            rt,
+            faults: 0,
+            log: Log::new(),
+        }
     }
 }
 
 impl<'a, R: Files> Cabinet for RealCabinet<'a, R> {
     ghost files = { λ _. None };
 
-    ghost fault_count = { λ cabinet. cabinet };
+    ghost fault_count = { λ cabinet. cabinet.faults };
+
+    ghost log = { λ cabinet. cabinet.log };
 
     fn faults(&self) -> u64 {
         self.faults
@@ -49,7 +58,10 @@ impl<'a, R: Files> Cabinet for RealCabinet<'a, R> {
 
     fn read(&mut self, alloc: Global, name: &str, most: usize) -> Result<Vec<u8>, CabinetFault> {
         match read_file(self.rt, alloc, name, most) {
-            Ok(bytes) => Ok(bytes),
+            Ok(bytes) => {
+                self.log = self.log.then(&Note::Read(name, &bytes));
+                Ok(bytes)
+            }
             Err(CabinetFault::Memory) => Err(CabinetFault::Memory),
             Err(fault) => {
                 self.faults = self.faults.saturating_add(1);
@@ -60,8 +72,12 @@ impl<'a, R: Files> Cabinet for RealCabinet<'a, R> {
 
     fn write(&mut self, name: &str, bytes: &[u8]) -> Result<(), CabinetFault> {
         match fs::write(self.rt, name, bytes) {
-            Ok(()) => Ok(()),
+            Ok(()) => {
+                self.log = self.log.then(&Note::Wrote(name, bytes));
+                Ok(())
+            }
             Err(_) => {
+                self.log = self.log.then(&Note::WriteFailed(name, bytes));
                 self.faults = self.faults.saturating_add(1);
                 Err(CabinetFault::Failed)
             }

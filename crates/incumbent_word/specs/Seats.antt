@@ -21,6 +21,10 @@ pub record SeatView : Type 0 where
 abbrev pub IsSeatOf : BoardView → SeatView → Type 0
 IsSeatOf b s = (s.board ≡ b.id) × (s.view.terms ≡ b.terms)
 
+-- the seat has the worker that it had, and the same share
+abbrev pub IsSameSeat : View → View → Type 0
+IsSameSeat v w = (w.number ≡ v.number) × (w.share ≡ v.share)
+
 -- A seat that is marked makes no step and stays as it is. Any other makes one, and has the piece, or is marked.
 abbrev pub IsClaim : View → Option ℕ → View → Type 0
 IsClaim v r w =

@@ -1,12 +1,12 @@
 //! A board and its seats.
-ghost use Rattle.std.specs.Prelude.{◌≡◌, ℕ, ◌+◌, ◌-◌, ◌^◌, ◌<◌, ◌≤◌, ◌==◌, min, true, false, Some, None, IfOk, IfSome, IfNone};
+ghost use Rattle.std.specs.Prelude.{◌≡◌, ℕ, ◌+◌, ◌-◌, ◌^◌, ◌<◌, ◌≤◌, ◌==◌, length, min, true, false, Some, None, IfOk, IfSome, IfNone};
 ghost use Rattle.std.specs.List.{count_by};
 ghost use Rattle.std.specs.Option.{ForSome};
 ghost use Rattle.incumbent_word.specs.Core.{AtMost, lesser, EachOnce};
 ghost use Rattle.incumbent_word.specs.Rule.{cost_in_word};
 ghost use Rattle.incumbent_word.specs.Calls.{with_piece, with_number, Posted, Looked, Parted, United};
 ghost use Rattle.incumbent_word.specs.Calls.{first_view, left_half, right_half, both_views};
-ghost use Rattle.incumbent_word.specs.Seats.{IsSeatOf, IsClaim, IsTake, EndsAs};
+ghost use Rattle.incumbent_word.specs.Seats.{IsSeatOf, IsSameSeat, IsClaim, IsTake, EndsAs};
 
 use crate::steps::{
     BoardRule, ClaimStep, JoinStep, PostStep, ReadStep, SeatGuest, SplitStep, TakeGuest, TakeStep,
@@ -141,6 +141,7 @@ impl BoardSeat {
         ensures rising { IfSome result (λ n. (x : ℕ) → n ≤ x
             → count_by (λ y. y == x) self.old.view.worker.pieces ≡ 0) }
         ensures seen { AtMost self.new.view.worker.seen self.old.view.worker.seen }
+        ensures same { IsSameSeat self.old.view self.new.view }
     {
         if self.no_piece_left {
             return None;
@@ -171,6 +172,7 @@ impl BoardSeat {
         ensures rising { IfSome result (λ n. (x : ℕ) → n ≤ x
             → count_by (λ y. y == x) self.old.view.worker.numbers ≡ 0) }
         ensures seen { AtMost self.new.view.worker.seen self.old.view.worker.seen }
+        ensures same { IsSameSeat self.old.view self.new.view }
     {
         if self.no_number_left {
             return None;
@@ -197,6 +199,7 @@ impl BoardSeat {
         ensures best { self.new.view.worker.best ≡ lesser self.old.view.worker.best (Some cost) }
         ensures low { AtMost self.new.view.worker.seen (Some cost) }
         ensures seen { AtMost self.new.view.worker.seen self.old.view.worker.seen }
+        ensures same { IsSameSeat self.old.view self.new.view }
     {
         board
             .table
@@ -213,6 +216,7 @@ impl BoardSeat {
         ensures result { self.new.view.worker.seen ≡ result }
         ensures start { AtMost result self.old.view.terms.start }
         ensures seen { AtMost self.new.view.worker.seen self.old.view.worker.seen }
+        ensures same { IsSameSeat self.old.view self.new.view }
     {
         let found = board.table.shared.load::<ReadStep>(&mut self.seat, LEAST);
         read_cost(found)
@@ -271,6 +275,8 @@ impl Board {
         ensures counts { (result.claimed ≤ self.terms.pieces) × (result.taken ≤ self.terms.budget) }
         ensures pieces { EachOnce (λ x. count_by (λ y. y == x) seat.view.worker.pieces) result.claimed }
         ensures numbers { EachOnce (λ x. count_by (λ y. y == x) seat.view.worker.numbers) result.taken }
+        ensures piece_count { length seat.view.worker.pieces ≡ result.claimed }
+        ensures number_count { length seat.view.worker.numbers ≡ result.taken }
         ensures least { result.least ≡ lesser self.terms.start seat.view.worker.best }
         ensures seen { AtMost result.least seat.view.worker.seen }
         ensures all_pieces { seat.view.no_piece_left ≡ true → result.claimed ≡ self.terms.pieces }

@@ -52,20 +52,24 @@ items_fault (placed ∷ items) = option_or (item_fault placed) (items_fault item
 -- another season, on the season's line; another airport, two lines below; and then the items
 abbrev pub message_fault : Declaration → Message → Option ModelFault
 message_fault declaration message =
-    if is_season message.season declaration.season then (if is_station message.airport declaration.airport then items_fault message.items else Some (OtherAirport (message.line + 2)))
+    if is_season message.season declaration.season
+    then (if is_station message.airport declaration.airport then items_fault message.items
+    else Some (OtherAirport (message.line + 2)))
     else Some (OtherSeason message.line)
 
 -- the fault of the first message that has one; messages stand in the order of their lines
 abbrev pub first_fault : Declaration → List Message → Option ModelFault
 first_fault declaration [] = None
-first_fault declaration (message ∷ messages) = option_or (message_fault declaration message) (first_fault declaration messages)
+first_fault declaration (message ∷ messages) =
+    option_or (message_fault declaration message) (first_fault declaration messages)
 
 -- and where no line is refused, too many units
 abbrev pub too_many : ℕ → Option ModelFault
 too_many units = if nat_lt MOST_UNITS units then Some (TooMany units) else None
 
 abbrev pub refusal : Declaration → List Message → Option ModelFault
-refusal declaration messages = option_or (first_fault declaration messages) (too_many (length (units_of messages)))
+refusal declaration messages =
+    option_or (first_fault declaration messages) (too_many (length (units_of messages)))
 
 -- ---- what messages have that were read
 
@@ -97,7 +101,8 @@ pub record SubmissionView : Type 0 where
 
 -- the units of these messages
 abbrev pub submission_of : Declaration → List Message → SubmissionView
-submission_of declaration messages = record { declaration = declaration; units = units_of messages; messages = messages }
+submission_of declaration messages =
+    record { declaration = declaration; units = units_of messages; messages = messages }
 
 -- the first refusal that is due, or else the submission
 abbrev pub answer_by : Option ModelFault → SubmissionView → Result SubmissionView ModelFault
@@ -105,9 +110,11 @@ answer_by None submission = Ok submission
 answer_by (Some fault) submission = Err fault
 
 abbrev pub submission_answer : Declaration → List Message → Result SubmissionView ModelFault
-submission_answer declaration messages = answer_by (refusal declaration messages) (submission_of declaration messages)
+submission_answer declaration messages =
+    answer_by (refusal declaration messages) (submission_of declaration messages)
 
--- what a submission keeps: limits on the capacity, the price of a refusal, the share of new entrants and the units
+-- what a submission keeps: limits on the capacity, the price of a refusal, the share of new
+-- entrants and the units
 pub record IsSubmission (s : SubmissionView) (windows : Capacity) : Type 0 where
   pub limits : IsCapacity (capacity_of s.declaration)
   pub price : ForSome s.declaration.refuse (λ price. price ≤ HIGHEST_PRICE)

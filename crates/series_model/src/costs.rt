@@ -11,10 +11,10 @@ use crate::unit::Unit;
 use scr_reader::{Line, Stop};
 use season_days::{Day, Declaration, Period, Season};
 
-/// The displacement of a unit at one of its alternatives, in minutes: by how much its movements are moved against the
-/// requested times, times the number of its dates. A movement that falls after the season's last date counts too. A
-/// refusal costs its price for each movement on each date. The dates are counted in at most 13 steps, whatever the period,
-/// and no memory is taken.
+/// The displacement of a unit at one of its alternatives, in minutes: by how much its movements are
+/// moved against the requested times, times the number of its dates. A movement that falls after
+/// the season's last date counts too. A refusal costs its price for each movement on each date. The
+/// dates are counted in at most 13 steps, whatever the period, and no memory is taken.
 pub fn displacement(unit: &Unit, times: Times, declaration: &Declaration) -> u64
     requires { UnitFits declaration.now.season unit.now }
     ensures { result ≡ displacement_of declaration.now unit.now times }
@@ -29,7 +29,8 @@ pub fn displacement(unit: &Unit, times: Times, declaration: &Declaration) -> u64
     }
 }
 
-// How many dates a period has. In whole weeks each weekday comes once a week, so the first week stands for all of them.
+// How many dates a period has. In whole weeks each weekday comes once a week, so the first week
+// stands for all of them.
 #[tactic(auto, using(season_days::proofs::SeasonLemmas::date_count_small))]
 fn count_dates(season: &Season, period: Period) -> u32
     requires last { period.last.0 < date_count season.now }

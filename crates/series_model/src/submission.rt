@@ -20,7 +20,8 @@ pub const MOST_UNITS: u32 = 4_096;
 /// The highest price of a refused movement on one date, in minutes.
 pub const HIGHEST_PRICE: u32 = 9_999;
 
-/// A declaration, the messages that ask for slots in its season at its airport, and their units in the order of the file.
+/// A declaration, the messages that ask for slots in its season at its airport, and their units in
+/// the order of the file.
 #[derive(Drop)]
 pub struct Submission {
     declaration: Declaration,
@@ -34,22 +35,33 @@ impl Model for Submission {
 
     ghost Value = { SubmissionView };
 
-    ghost view = { λ s. record { declaration = s.declaration; units = s.units.items; messages = s.messages } };
+    ghost view = { λ s. record {
+      declaration = s.declaration;
+      units = s.units.items;
+      messages = s.messages;
+    } };
 
-    ghost invariant = { λ s. IsSubmission (record { declaration = s.declaration; units = s.units.items; messages = s.messages }) s.windows };
+    ghost invariant = { λ s. IsSubmission
+        (record {
+          declaration = s.declaration;
+          units = s.units.items;
+          messages = s.messages;
+        }) s.windows };
 }
 
 impl Submission {
     ghost use Rattle.series_model.specs.Units.{units_of, UnitFits};
     ghost use Rattle.series_model.specs.Submissions.{HasNumbers, item_count, MessagePairs, submission_answer};
 
-    /// The submission that messages make under a declaration whose capacity is within the limits, whose price of a refusal
-    /// is at most 9,999 minutes and whose share of new entrants at most 100 per cent. The messages are read ones: their
-    /// lines have a spelling, each pair is a historic line and a request to change it, and there are fewer than 2^31 items.
+    /// The submission that messages make under a declaration whose capacity is within the limits,
+    /// whose price of a refusal is at most 9,999 minutes and whose share of new entrants at most
+    /// 100 per cent. The messages are read ones: their lines have a spelling, each pair is a
+    /// historic line and a request to change it, and there are fewer than 2^31 items.
     ///
-    /// The faults of lines come first, that of the lowest line alone: `OtherSeason` at a message's season line,
-    /// `OtherAirport` two lines below, `NotInitial` at the line of an item. Then comes `TooMany`. The time is
-    /// linear in the items, and memory is taken for the units and the capacity lines.
+    /// The faults of lines come first, that of the lowest line alone: `OtherSeason` at a message's
+    /// season line, `OtherAirport` two lines below, `NotInitial` at the line of an item. Then comes
+    /// `TooMany`. The time is linear in the items, and memory is taken for the units and the
+    /// capacity lines.
     pub fn make(
         alloc: Global,
         declaration: Declaration,

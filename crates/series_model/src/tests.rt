@@ -1,5 +1,5 @@
-//! Units, alternatives, movements and costs of worked seasons, against lists written by hand. S25 begins on Sunday 30 March
-//! 2025 and has 210 dates.
+//! Units, alternatives, movements and costs of worked seasons, against lists written by hand. S25
+//! begins on Sunday 30 March 2025 and has 210 dates.
 
 ghost use Rattle.std.specs.Prelude.{◌≤◌, IfOk, IfSome};
 ghost use Rattle.std.specs.Option.{ForSome};
@@ -143,7 +143,8 @@ fn turn(arrival: u32, departure: u32) -> Times {
     Times::At { arrival, departure }
 }
 
-// Arrivals from one minute to another, five minutes apart, with the costs of a line of so many dates that asked for one.
+// Arrivals from one minute to another, five minutes apart, with the costs of a line of so many
+// dates that asked for one.
 fn arrivals(
     alloc: Global,
     first: u32,
@@ -162,8 +163,9 @@ fn arrivals(
     Ok(priced)
 }
 
-// Pairs of 25 arrivals and 25 departures of a daily turnaround of 45 minutes, without those that are under 40 minutes on
-// the ground: the departure may be shifted at most one step less than the arrival.
+// Pairs of 25 arrivals and 25 departures of a daily turnaround of 45 minutes, without those that
+// are under 40 minutes on the ground: the departure may be shifted at most one step less than the
+// arrival.
 fn pairs(alloc: Global) -> Result<Vec<(Times, u64)>, Fail> {
     let mut priced = Vec::new(alloc);
     for coming in 0..25_u32 {
@@ -177,7 +179,8 @@ fn pairs(alloc: Global) -> Result<Vec<(Times, u64)>, Fail> {
     Ok(priced)
 }
 
-// A daily arrival, also with less flexibility and a price; and one late in the evening, which stays on its date.
+// A daily arrival, also with less flexibility and a price; and one late in the evening, which stays
+// on its date.
 #[test]
 fn single_movements_are_shifted_on_their_date(rt: HostRuntime) -> Result<(), Fail> {
     let alloc = rt.alloc();
@@ -207,8 +210,8 @@ fn turnarounds_keep_their_ground_time(rt: HostRuntime) -> Result<(), Fail> {
     Ok(())
 }
 
-// A turnaround that would leave after an hour, and not the next morning, may leave up to midnight of its date, or as before;
-// and a request that asks for its historic times has these alone.
+// A turnaround that would leave after an hour, and not the next morning, may leave up to midnight
+// of its date, or as before; and a request that asks for its historic times has these alone.
 #[test]
 fn historic_nights_are_kept(rt: HostRuntime) -> Result<(), Fail> {
     let alloc = rt.alloc();
@@ -227,8 +230,8 @@ fn historic_nights_are_kept(rt: HostRuntime) -> Result<(), Fail> {
     Ok(())
 }
 
-// The dates of whole and of broken weeks: 217 dates in the 31 weeks of S01; the Mondays, Wednesdays and Fridays of 1 to 20
-// April 2025; and one date.
+// The dates of whole and of broken weeks: 217 dates in the 31 weeks of S01; the Mondays, Wednesdays
+// and Fridays of 1 to 20 April 2025; and one date.
 #[test]
 fn costs_count_all_dates(rt: HostRuntime) -> Result<(), Fail> {
     let alloc = rt.alloc();

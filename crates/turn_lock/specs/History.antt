@@ -49,3 +49,8 @@ BeginningsChain E = (history middle seen : List E) → StartsWith history middle
 abbrev pub BeginningsNest : (E : Type 0) → Type 0
 BeginningsNest E = (history longer shorter : List E) → StartsWith history longer → StartsWith history shorter
     → length shorter ≤ length longer → StartsWith longer shorter
+
+-- a beginning that is as long as the whole is the whole
+abbrev pub FullBeginningIsWhole : (E : Type 0) → Type 0
+FullBeginningIsWhole E = (history seen : List E) → StartsWith history seen → length seen ≡ length history
+    → seen ≡ history
