@@ -3,7 +3,7 @@
 ghost use Rattle.std.specs.Prelude.{◌≡◌, ◌↔◌, ℕ, ◌+◌, ◌*◌, ◌<◌, ◌≤◌, ◌^◌, List, length, slice_set, Option, Some, None, All, map, [], ◌∷◌, ◌++◌, count_by, ◌==◌};
 ghost use Rattle.choice_problem.specs.declared.strips.Strip.{Strip};
 ghost use Rattle.finite_sums.specs.Sums.{sum_below};
-ghost use Rattle.choice_problem.specs.Strips.{strip_uses, strip_resources};
+ghost use Rattle.choice_problem.specs.Strips.{strip_uses, strip_resources, part_uses, IsPartInRange};
 ghost use Rattle.choice_problem.specs.declared.nodes.Node.{Node};
 ghost use Rattle.choice_problem.specs.declared.nodes.Node.TheVariants as node;
 ghost use Rattle.choice_problem.specs.declared.vectors.Price.{Price};
@@ -32,9 +32,12 @@ ghost use Rattle.choice_problem.specs.Alike.{AreAlike};
 ghost use Rattle.choice_problem.specs.Renumbered.{NamesUpTo, HasNumber, KeepsVector, renumbered};
 
 /// A strip uses a resource as often as the resource comes in the list that the strip stands for, and at most once a run.
+/// Strips that stay within the resources use nothing beyond them.
 pub fn strip_list()
     ensures list { (s : Strip) (r : ℕ) → strip_uses s r ≡ count_by (λ c. c == r) (strip_resources s) }
     ensures few { (s : Strip) (r : ℕ) → strip_uses s r ≤ s.times }
+    ensures beyond { (strips : List Strip) (resources r : ℕ) → IsPartInRange resources strips →
+        resources ≤ r → part_uses strips r ≡ 0 }
 {}
 
 /// Parts that use no resource more than 217 times make units, whatever strips they are in: an alternative names two of them.

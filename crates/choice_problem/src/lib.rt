@@ -16,6 +16,7 @@ mod problems;
 mod spans;
 mod strips;
 mod vectors;
+mod walks;
 
 pub use choices::{Choice, cost_of, first_above, first_above_limit, first_passed, fits};
 pub use closing::{bound_passes, leaf_closes, least_uses, over_closes, priced_limits};
@@ -31,6 +32,7 @@ pub use problems::{
 pub use spans::Ranges;
 pub use strips::{Part, Strip};
 pub use vectors::{HIGHEST_PRICE, Price, Vector, VectorList};
+pub use walks::{RangeWalk, open_pieces};
 
 #[cfg(test)]
 mod closing_tests;

@@ -37,6 +37,13 @@ impl Ranges {
         Ok(Ranges { spans })
     }
 
+    // How many units have a range.
+    pub(crate) fn len(&self) -> usize
+        ensures { result ≡ length self.now }
+    {
+        self.spans.len()
+    }
+
     /// The lowest alternative in a unit's range.
     pub fn low(&self, unit: u32) -> u32
         requires { unit < length self.now }
