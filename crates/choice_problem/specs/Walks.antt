@@ -17,7 +17,8 @@ abbrev pub AreWalkable : List (List (ℕ × ℕ)) → List Node → Type 0
 AreWalkable pending nodes = AreTrees (λ ranges node. CanStand ranges node) pending nodes
 
 -- one node on: it stands on the first of the pending ranges, in whose place its parts are pending next
-pub record IsStep (old : List (List (ℕ × ℕ))) (node : Node) (new : List (List (ℕ × ℕ))) : Type 0 where
+pub record IsStep (old : List (List (ℕ × ℕ))) (node : Node)
+    (new : List (List (ℕ × ℕ))) : Type 0 where
   pub ranges : List (ℕ × ℕ)
   pub rest : List (List (ℕ × ℕ))
   pub before : old ≡ ranges ∷ rest

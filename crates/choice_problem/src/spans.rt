@@ -74,7 +74,8 @@ impl Ranges {
     pub fn set(&mut self, unit: u32, low: u32, high: u32)
         requires { unit < length self.old }
         ensures value { self.new ≡ slice_set self.old unit (low, high) }
-        ensures valid { (p : ProblemView) → AreRanges p self.old → low ≤ high → high < alt_count p unit →
+        ensures valid { (p : ProblemView) → AreRanges p self.old → low ≤ high →
+            high < alt_count p unit →
             AreRanges p self.new }
     {
         self.spans[unit as usize] = (low, high);
