@@ -14,3 +14,4 @@ mod RootLemmas
 mod AlikeLemmas
 mod AlikeTreeLemmas
 mod RenumberLemmas
+mod WalkLemmas

@@ -13,4 +13,5 @@ pub mod Grafts
 pub mod Floors
 pub mod Alike
 pub mod Renumbered
+pub mod Walks
 pub mod Loops

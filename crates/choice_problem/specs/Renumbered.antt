@@ -20,7 +20,8 @@ pub record HasNumber (vectors others : List (List Price)) (vector number : ℕ) 
 -- the vector that a leaf names has its new number in the other list
 abbrev pub KeepsVector : List (List Price) → List (List Price) → (ℕ → ℕ) → Node → Type 0
 KeepsVector vectors others number (Split unit cut seen) = Unit {0}
-KeepsVector vectors others number (Leaf vector scale seen) = HasNumber vectors others vector (number vector)
+KeepsVector vectors others number (Leaf vector scale seen) =
+    HasNumber vectors others vector (number vector)
 KeepsVector vectors others number (Over resource) = Unit {0}
 KeepsVector vectors others number Undone = Unit {0}
 
