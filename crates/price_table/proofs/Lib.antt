@@ -2,3 +2,4 @@ mod WorthLemmas
 mod TableLemmas
 mod BoundLemmas
 mod KnownLemmas
+mod TotalLemmas

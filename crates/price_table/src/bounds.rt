@@ -39,7 +39,7 @@ fn least_total(problem: &Problem, ranges: &Ranges, table: &PriceTable, scale: u6
 }
 
 // A unit's least priced cost in its range.
-fn unit_least(problem: &Problem, ranges: &Ranges, table: &PriceTable, unit: u32, scale: u64) -> u128
+pub(crate) fn unit_least(problem: &Problem, ranges: &Ranges, table: &PriceTable, unit: u32, scale: u64) -> u128
     requires ranges { AreRanges problem.now ranges.now }
     requires table { IsTableFor problem.now table.now }
     requires unit { unit < unit_count problem.now }

@@ -6,9 +6,13 @@
 #![tactic(auto)]
 
 mod bounds;
+mod closing;
 mod strips;
 mod tables;
+mod totals;
 
 pub use bounds::{Least, bound};
+pub use closing::closes;
 pub use strips::StripPrices;
 pub use tables::{PriceTable, price_table};
+pub use totals::Totals;

@@ -1,6 +1,6 @@
 -- The dates of periods beside one another.
-use Rattle.std.proofs.Common.{◌≡◌, ◌≢◌, ℕ, zero, suc, ◌+◌, ◌-◌, ◌/◌, ◌%◌, ◌^◌, ◌<◌, ◌≤◌, min, max, eqb, Bool, true, false, not, ltb, ◌⊎◌, List, [], ◌∷◌, length, Option, Some, None, ◌↔◌, refl, sym, ap, ◌∙◌, arith, inl, inr, subst}
-use Rattle.std.specs.Prelude.{All, Contains, bit_and, bit_xor, nat_lt}
+use Rattle.std.proofs.Common.{◌≡◌, ◌≢◌, ℕ, ◌+◌, ◌-◌, ◌<◌, ◌≤◌, min, max, true, ltb, ◌⊎◌, List, [], ◌∷◌, length, Option, Some, None, ◌↔◌, refl, ap, arith, inl, inr}
+use Rattle.std.specs.Prelude.{All, Contains, bit_and}
 use Rattle.std.specs.Int.{bit_at}
 use Rattle.std.proofs.lemmas.Bool.{cases_Bool, eqb-true, eq-eqb, both_ways, ltb-true, ltb-false}
 use Rattle.std.proofs.lemmas.Nat.Bits.{bit_at_and, bit_at_xor}

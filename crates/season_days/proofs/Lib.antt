@@ -1,5 +1,5 @@
-mod SeasonLemmas
+pub mod SeasonLemmas
 mod CivilLemmas
-mod PeriodLemmas
+pub mod PeriodLemmas
 mod CountLemmas
 mod CutLemmas

@@ -1,4 +1,4 @@
-use Rattle.std.proofs.Common.{◌≡◌, ℕ, ◌≤◌, ◌<◌, true, false, not, sym, ap, ◌∙◌, arith, inl, inr, eqb, refl, subst}
+use Rattle.std.proofs.Common.{◌≡◌, ℕ, true, not, sym, ap, ◌∙◌, arith, inl, inr, eqb, refl, subst}
 use Rattle.std.specs.Prelude.{Contains}
 use Rattle.std.proofs.lemmas.Bool.{false≢true, cases_Bool, eqb-true, eqb-false, both_ways}
 use Rattle.season_days.specs.Seasons.{is_on, dates_of}

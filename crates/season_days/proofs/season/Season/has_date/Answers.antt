@@ -1,4 +1,4 @@
-use Rattle.std.proofs.Common.{sym, ◌∙◌, arith, inl, inr}
+use Rattle.std.proofs.Common.{sym, ◌∙◌, arith}
 use Rattle.std.proofs.lemmas.Bool.{false≢true}
 use Rattle.season_days.proofs.CutLemmas.{date_in, in_dates}
 use Rattle.season_days.proofs.season.Season.has_date.Goals.{then-day-period-via-then-day-period, then-day-period-via-else-day-period+then-period-day}

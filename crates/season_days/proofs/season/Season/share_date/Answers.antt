@@ -1,5 +1,5 @@
-use Rattle.std.proofs.Common.{◌≡◌, ℕ, true, max, min, sym, ap, ◌∙◌, arith}
-use Rattle.std.specs.Prelude.{Contains, bit_and}
+use Rattle.std.proofs.Common.{arith}
+use Rattle.std.specs.Prelude.{bit_and}
 use Rattle.season_days.specs.declared.day.Period.{Period}
 use Rattle.season_days.specs.Seasons.{dates_of}
 use Rattle.season_days.proofs.CutLemmas.{date_in, in_dates, something_in, one_of, on_both, both_on}
