@@ -2,6 +2,7 @@
 -- alone cite them.
 use Rattle.std.specs.Prelude.{◌≡◌, ℕ, ◌<◌, ◌≤◌, List, length, Some, slice_get, ℤ, pos}
 use Rattle.season_days.specs.Seasons.{date_count}
+use Rattle.season_days.specs.declared.season.TheConstants.{MOST_DATES}
 use Rattle.season_days.specs.declared.declaration.TheConstants.{MINUTES_OF_DAY, HIGHEST_WINDOW_LIMIT, HIGHEST_NIGHT_LIMIT}
 use Rattle.capacity_windows.specs.declared.resource.Resource.{Resource}
 use Rattle.capacity_windows.specs.declared.resource.Resource.TheVariants.{Window, Quota, Nothing}
@@ -10,7 +11,7 @@ use Rattle.capacity_windows.specs.Windows.{Capacity, start_of, declared_resource
 -- what a `Windows` keeps beside the declaration: the numbers of dates and of resources
 pub record IsKept (c : Capacity) (days resources : ℕ) : Type 0 where
   pub dates : days ≡ date_count c.season
-  pub few : days ≤ 217
+  pub few : days ≤ MOST_DATES
   pub all : resources ≡ declared_resources c
   pub limits : IsCapacity c
 

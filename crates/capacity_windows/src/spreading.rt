@@ -7,6 +7,7 @@ ghost use Rattle.std.specs.Prelude.{◌≡◌, ◌+◌, ◌*◌, ◌<◌, ◌≤
 ghost use Rattle.choice_problem.specs.Strips.{part_uses, IsPartInRange};
 ghost use Rattle.season_days.specs.Seasons.{date_count};
 ghost use Rattle.season_days.specs.declared.declaration.Kind.{Kind};
+ghost use Rattle.season_days.specs.declared.season.TheConstants.{MOST_DATES};
 ghost use Rattle.season_days.specs.declared.declaration.TheConstants.{MINUTES_OF_DAY, MOST_WINDOWS};
 ghost use Rattle.capacity_windows.specs.Windows.{IsRule, windows_of, window_load, stop_movements, declared_resources, band_strips, rule_strips, most_strips};
 ghost use Rattle.capacity_windows.specs.Bands.{Adds, IsBand, AreStopDates, dated_movements, starts_until, band_of, band_uses, weekday_uses, rule_load, rest_load, listed_dates, option_uses, first_date, end_date, IsWide, IsOptionWide};
@@ -163,7 +164,7 @@ impl Windows {
     fn end_date(&self, stop: &StopDates) -> u32
         requires { stop.now.period.last.0 < date_count self.now.season }
         ensures exact { result ≡ end_date self.now.season stop.now.period stop.now.later }
-        ensures few { date_count self.now.season ≤ 217 }
+        ensures few { date_count self.now.season ≤ MOST_DATES }
     {
         let days = self.days();
         (stop.period.last.0 + 1).min(days.saturating_sub(stop.later))

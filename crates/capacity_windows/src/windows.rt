@@ -3,6 +3,7 @@ ghost use Rattle.std.specs.Option.{ForSome};
 ghost use Rattle.season_days.specs.Seasons.{date_count, is_on};
 ghost use Rattle.season_days.specs.declared.declaration.Night.{Night};
 ghost use Rattle.season_days.specs.declared.declaration.Rule.{Rule};
+ghost use Rattle.season_days.specs.declared.season.TheConstants.{MOST_DATES};
 ghost use Rattle.season_days.specs.declared.declaration.TheConstants.{MINUTES_OF_DAY, MOST_RULES, MOST_WINDOWS, HIGHEST_NIGHT_LIMIT};
 ghost use Rattle.capacity_windows.specs.Windows.{Capacity, IsCapacity, IsRule, capacity_of, starts_of, windows_of, first_of, declared_resources, resource_at, window_limit, start_of};
 ghost use Rattle.capacity_windows.specs.Kept.{IsResource};
@@ -59,17 +60,11 @@ impl Windows {
         ensures value { IfOk result (λ windows. windows ≡ capacity_of declaration.now) }
     {
         let rules = Vec::from_slice(alloc, declaration.rules.items())?;
-        let days = declaration.season.length();
-        let mut resources = 0;
-        for rule in &rules {
-            resources += days * starts_of(declaration.step, rule);
-        }
-        if declaration.night.is_some() {
-            resources += 1;
-        }
+        let season = declaration.season;
+        let resources = season.count_windows(declaration.step, &declaration.night, &rules) as u32;
         Ok(Windows {
-            season: declaration.season,
-            days,
+            season,
+            days: season.length(),
             step: declaration.step,
             night: declaration.night,
             rules,
@@ -177,7 +172,7 @@ impl Windows {
     // Whether a day lies in the season.
     pub(crate) fn is_listed(&self, day: u32) -> bool
         ensures value { result ≡ nat_lt day (date_count self.now.season) }
-        ensures few { date_count self.now.season ≤ 217 }
+        ensures few { date_count self.now.season ≤ MOST_DATES }
     {
         day < self.days
     }
@@ -185,7 +180,7 @@ impl Windows {
     // How many dates the season has.
     pub(crate) fn days(&self) -> u32
         ensures value { result ≡ date_count self.now.season }
-        ensures few { result ≤ 217 }
+        ensures few { result ≤ MOST_DATES }
     {
         self.days
     }
@@ -199,7 +194,7 @@ impl Windows {
     pub(crate) fn rules(&self) -> &[Rule]
         ensures items { result.now ≡ self.now.rules }
         ensures limits { IsCapacity self.now }
-        ensures few { date_count self.now.season ≤ 217 }
+        ensures few { date_count self.now.season ≤ MOST_DATES }
     {
         &self.rules
     }

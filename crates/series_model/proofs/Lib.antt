@@ -1,7 +1,6 @@
 mod RangeLemmas
 mod RestLemmas
 mod DateLemmas
-mod WeekLemmas
 mod SpanLemmas
 mod UnitLemmas
 mod OptionLemmas

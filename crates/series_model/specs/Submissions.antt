@@ -1,9 +1,9 @@
 -- A season's submission: what it is made of, what of the messages is refused, and in which order.
 use Rattle.std.specs.Prelude.{◌≡◌, ℕ, ◌+◌, ◌<◌, ◌≤◌, ◌^◌, ◌==◌, ◌&&◌, Bool, true, false, nat_lt, if◌then◌else◌, is_none, List, [], ◌∷◌, length, All, Option, Some, None, Result, Ok, Err, sum_by}
-use Rattle.std.specs.Option.{option_or, ForSome}
+use Rattle.std.specs.Option.{option_or}
 use Rattle.slot_text.specs.declared.station.Station.{Station}
 use Rattle.season_days.specs.Term.{Term}
-use Rattle.season_days.specs.Capacity.{Capacity, capacity_of, IsCapacity}
+use Rattle.season_days.specs.Capacity.{Capacity, capacity_of, IsDeclaration}
 use Rattle.season_days.specs.declared.season.Half.{Half}
 use Rattle.season_days.specs.declared.season.Half.TheVariants.{Summer, Winter}
 use Rattle.season_days.specs.declared.declaration.Declaration.{Declaration}
@@ -14,7 +14,7 @@ use Rattle.scr_reader.specs.declared.message.Placed.{Placed}
 use Rattle.scr_reader.specs.declared.message.Message.{Message}
 use Rattle.series_model.specs.declared.fault.ModelFault.{ModelFault}
 use Rattle.series_model.specs.declared.fault.ModelFault.TheVariants.{OtherSeason, OtherAirport, NotInitial, TooMany}
-use Rattle.series_model.specs.declared.submission.TheConstants.{MOST_UNITS, HIGHEST_PRICE}
+use Rattle.series_model.specs.declared.submission.TheConstants.{MOST_UNITS}
 use Rattle.series_model.specs.declared.unit.Unit.{Unit as SlotUnit}
 use Rattle.series_model.specs.Units.{placed_unit, units_of, UnitFits}
 
@@ -113,12 +113,10 @@ abbrev pub submission_answer : Declaration → List Message → Result Submissio
 submission_answer declaration messages =
     answer_by (refusal declaration messages) (submission_of declaration messages)
 
--- what a submission keeps: limits on the capacity, the price of a refusal, the share of new
--- entrants and the units
+-- what a submission keeps: the limits of its declaration, the windows of that, and the units of its
+-- messages, which have a spelling
 pub record IsSubmission (s : SubmissionView) (windows : Capacity) : Type 0 where
-  pub limits : IsCapacity (capacity_of s.declaration)
-  pub price : ForSome s.declaration.refuse (λ price. price ≤ HIGHEST_PRICE)
-  pub share : s.declaration.share ≤ 100
+  pub keeps : IsDeclaration s.declaration
   pub declared : windows ≡ capacity_of s.declaration
   pub units : s.units ≡ units_of s.messages
   pub few : length s.units ≤ MOST_UNITS

@@ -5,7 +5,7 @@ ghost use Rattle.std.specs.Option.{ForSome};
 ghost use Rattle.season_days.specs.Term.{Term};
 ghost use Rattle.season_days.specs.declared.declaration.Declaration.{Declaration as DeclarationValue};
 ghost use Rattle.season_days.specs.declared.declaration.Kind.TheVariants.{Arr, Dep};
-ghost use Rattle.season_days.specs.declared.declaration.TheConstants.{MINUTES_OF_DAY};
+ghost use Rattle.season_days.specs.declared.declaration.TheConstants.{MINUTES_OF_DAY, HIGHEST_REFUSAL_PRICE, HIGHEST_SHARE};
 ghost use Rattle.scr_reader.specs.Messages.{ReadsAll};
 ghost use Rattle.scr_reader.specs.declared.line.Line.{Line as LineValue};
 ghost use Rattle.scr_reader.specs.declared.message.Message.{Message as MessageValue};
@@ -15,7 +15,6 @@ ghost use Rattle.series_model.specs.Options.{options_of, TimesFit};
 ghost use Rattle.series_model.specs.Displacement.{displacement_of};
 ghost use Rattle.series_model.specs.Submissions.{HasNumbers, MessagePairs, item_count};
 ghost use Rattle.series_model.specs.Movements.{movements_at, stop_load};
-ghost use Rattle.series_model.specs.declared.submission.TheConstants.{HIGHEST_PRICE};
 ghost use Rattle.series_model.specs.declared.times.Times.TheVariants.{At as at_times};
 ghost use Rattle.series_model.specs.declared.state.UnitState.{UnitState as UnitStateValue};
 ghost use Rattle.series_model.specs.declared.times.Times.{Times as TimesValue};
@@ -59,7 +58,7 @@ pub fn option_bounds()
     ensures times { (d : DeclarationValue) (unit : SlotUnit) → UnitFits d.season unit →
         All (TimesFit d.refuse) (options_of d unit) }
     ensures costs { (d : DeclarationValue) (unit : SlotUnit) → UnitFits d.season unit →
-        ForSome d.refuse (λ price. price ≤ HIGHEST_PRICE) →
+        ForSome d.refuse (λ price. price ≤ HIGHEST_REFUSAL_PRICE) →
         All (λ times. displacement_of d unit times < 2 ^ 24) (options_of d unit) }
 {
     lengths();
@@ -74,12 +73,12 @@ pub fn feasible_fits()
         movements_given season (first_states units) ≡ [] }
     ensures step { (d : DeclarationValue) (stage : ℕ) (states : List UnitStateValue)
         (times : List TimesValue) →
-        d.share ≤ 100 → GivenFits d states →
+        d.share ≤ HIGHEST_SHARE → GivenFits d states →
         IsFeasibleAllotment d (stage_units stage states) (stage_limit d stage states) times →
         GivenFits d (after_allotment stage states times) }
     ensures all { (d : DeclarationValue) (units : List SlotUnit)
         (choices : List (Option (List ℕ))) →
-        d.share ≤ 100 → AreFeasibleChoices d units choices →
+        d.share ≤ HIGHEST_SHARE → AreFeasibleChoices d units choices →
         GivenFits d (states_after d units choices) }
 {}
 

@@ -26,7 +26,7 @@ pub use group::Group;
 pub use movements::movements_of;
 pub use options::options_of;
 pub use state::UnitState;
-pub use submission::{HIGHEST_PRICE, MOST_UNITS, Submission};
+pub use submission::{MOST_UNITS, Submission};
 pub use times::Times;
 pub use unit::Unit;
 

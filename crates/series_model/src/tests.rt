@@ -3,9 +3,9 @@
 
 ghost use Rattle.std.specs.Prelude.{◌≤◌, IfOk, IfSome};
 ghost use Rattle.std.specs.Option.{ForSome};
-ghost use Rattle.season_days.specs.Capacity.{capacity_of, IsCapacity};
+ghost use Rattle.season_days.specs.Capacity.{IsDeclaration};
 ghost use Rattle.series_model.specs.Units.{UnitFits};
-ghost use Rattle.series_model.specs.declared.submission.TheConstants.{HIGHEST_PRICE};
+ghost use Rattle.season_days.specs.declared.declaration.TheConstants.{HIGHEST_REFUSAL_PRICE};
 
 use super::*;
 use crate::laws::read_messages;
@@ -24,10 +24,8 @@ fn declaration(
     flex: u32,
     refuse: Option<u32>,
 ) -> Result<Declaration, Fail>
-    requires price { ForSome refuse (λ price. price ≤ HIGHEST_PRICE) }
-    ensures limits { IfOk result (λ d. IsCapacity (capacity_of d)) }
-    ensures price { IfOk result (λ d. ForSome d.refuse (λ price. price ≤ HIGHEST_PRICE)) }
-    ensures share { IfOk result (λ d. d.share ≤ 100) }
+    requires price { ForSome refuse (λ price. price ≤ HIGHEST_REFUSAL_PRICE) }
+    ensures keeps { IfOk result (λ d. IsDeclaration d) }
 {
     Ok(Declaration {
         airport: Station(*b"ABC"),
@@ -50,7 +48,7 @@ pub(crate) fn submission(
     refuse: Option<u32>,
     text: &[u8],
 ) -> Result<Result<Submission, ModelFault>, Fail>
-    requires price { ForSome refuse (λ price. price ≤ HIGHEST_PRICE) }
+    requires price { ForSome refuse (λ price. price ≤ HIGHEST_REFUSAL_PRICE) }
 {
     read_lines_fit();
     read_messages();
@@ -90,7 +88,7 @@ fn priced(
     refuse: Option<u32>,
     lines: &[u8],
 ) -> Result<Vec<(Times, u64)>, Fail>
-    requires price { ForSome refuse (λ price. price ≤ HIGHEST_PRICE) }
+    requires price { ForSome refuse (λ price. price ≤ HIGHEST_REFUSAL_PRICE) }
 {
     let text = text(alloc, season, lines)?;
     let submission = submission(alloc, season, flex, refuse, &text)??;
@@ -112,7 +110,7 @@ fn has_options(
     lines: &[u8],
     expected: &[(Times, u64)],
 ) -> Result<bool, Fail>
-    requires price { ForSome refuse (λ price. price ≤ HIGHEST_PRICE) }
+    requires price { ForSome refuse (λ price. price ≤ HIGHEST_REFUSAL_PRICE) }
 {
     let found = priced(alloc, b"S25", flex, refuse, lines)?;
     Ok(found.as_slice() == expected)
