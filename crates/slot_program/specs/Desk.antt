@@ -109,12 +109,5 @@ abbrev pub names_written : Option Job → List Word
 names_written None = []
 names_written (Some (Allocate names)) = written_names (file_names names)
 
--- the work ends with a report of this status and text
-pub record IsAnswer (job : Option Job) (files : Option Files) (before now : ℕ) (status : ℕ) (text : List ℕ) (after : Option Files) : Type 0 where
-  pub report : Report
-  pub status_is : status ≡ status_of report
-  pub text_is : text ≡ text_of report
-  pub ends : Ends job files before now report after
-
 abbrev pub IsStatus : ℕ → Type 0
 IsStatus status = Contains (0 ∷ 2 ∷ 5 ∷ 6 ∷ 7 ∷ 12 ∷ []) status

@@ -1,4 +1,5 @@
 ghost use Rattle.std.specs.Prelude.{◌≡◌, ◌≤◌, ◌∷◌, [], ◌++◌, ℕ, List, length, IfOk, IfErr, OnOk, OnErr};
+ghost use Rattle.desk_outside.specs.Passages.{read, wrote, write_failed};
 ghost use Rattle.slot_text.specs.Forms.{IsFirstBadLine};
 ghost use Rattle.slot_text.specs.Stations.{IsStation};
 ghost use Rattle.desk_outside.specs.Files.{Files, Writes, WritesPart, ChangesOnly};
@@ -13,6 +14,8 @@ ghost use Rattle.slot_program.specs.Order.{longest_file};
 ghost use Rattle.slot_program.specs.Desk.{AllocationEnds, written_names};
 ghost use Rattle.slot_program.specs.Stops.{names_of, name_of, IsStopped, Holds, IsReadStop, IsFormStop};
 ghost use Rattle.slot_program.specs.Messages.{HasOneLine, Confirms};
+ghost use Rattle.slot_program.specs.Handed.{LogGrew, PassedWhole};
+ghost use Rattle.slot_program.specs.HandedStops.{StopPassed};
 
 use crate::capacity::{CapacityFault, read_capacity};
 use crate::refusal::{File, Names, Refusal, Stop};
@@ -36,9 +39,16 @@ pub(crate) fn allocate<C: Cabinet>(
     names: &Names<'_>,
     cabinet: &mut C,
 ) -> Result<(), Stop>
-    ensures done { OnOk result (AllocationEnds (C.files cabinet.old) (names_of names.now) (C.fault_count cabinet.old) (C.fault_count cabinet.new) settled (C.files cabinet.new)) }
-    ensures stop { IfErr result (IsStopped (C.files cabinet.old) (names_of names.now) (C.fault_count cabinet.old) (C.fault_count cabinet.new) (C.files cabinet.new)) }
-    ensures others { ChangesOnly (C.files cabinet.old) (written_names (names_of names.now)) (C.files cabinet.new) }
+    ensures done { OnOk result (AllocationEnds (C.files cabinet.old) (names_of names.now)
+        (C.fault_count cabinet.old) (C.fault_count cabinet.new) settled (C.files cabinet.new)) }
+    ensures done_passed { OnOk result (LogGrew (C.log cabinet.old)
+        (PassedWhole (C.files cabinet.old) (names_of names.now)) (C.log cabinet.new)) }
+    ensures stop { IfErr result (IsStopped (C.files cabinet.old) (names_of names.now)
+        (C.fault_count cabinet.old) (C.fault_count cabinet.new) (C.files cabinet.new)) }
+    ensures stop_passed { IfErr result (λ stop. LogGrew (C.log cabinet.old)
+        (StopPassed (C.files cabinet.old) (names_of names.now) stop) (C.log cabinet.new)) }
+    ensures others { ChangesOnly (C.files cabinet.old) (written_names (names_of names.now))
+        (C.files cabinet.new) }
 {
     let capacity = read_file(alloc, names, File::Capacity, cabinet)?;
     let declaration = judge_capacity(alloc, &capacity)?;
@@ -56,8 +66,13 @@ fn read_file<C: Cabinet>(
     file: File,
     cabinet: &mut C,
 ) -> Result<Vec<u8>, Stop>
-    ensures held { IfOk result (λ bytes. Holds (C.files cabinet.old) (name_of (names_of names.now) file) bytes.items × (length bytes.items ≤ longest_file)) }
-    ensures stop { IfErr result (IsReadStop (C.files cabinet.old) (name_of (names_of names.now) file) file (C.fault_count cabinet.old) (C.fault_count cabinet.new)) }
+    ensures held { IfOk result (λ bytes. Holds (C.files cabinet.old)
+        (name_of (names_of names.now) file) bytes.items × (length bytes.items ≤ longest_file)) }
+    ensures stop { IfErr result (IsReadStop (C.files cabinet.old)
+        (name_of (names_of names.now) file) file (C.fault_count cabinet.old) (C.fault_count cabinet.new)) }
+    ensures passed { IfOk result (λ bytes. C.log cabinet.new
+        ≡ C.log cabinet.old ++ read (name_of (names_of names.now) file) bytes.items ∷ []) }
+    ensures none_passed { OnErr result (C.log cabinet.new ≡ C.log cabinet.old) }
     ensures unchanged { C.files cabinet.new ≡ C.files cabinet.old }
     ensures kept { OnOk result (C.fault_count cabinet.new ≡ C.fault_count cabinet.old) }
 {
@@ -76,8 +91,14 @@ fn write_file<C: Cabinet>(
     bytes: &[u8],
     cabinet: &mut C,
 ) -> Result<(), Stop>
-    ensures ok { OnOk result (Writes (C.files cabinet.old) (name_of (names_of names.now) file) bytes.now (C.files cabinet.new)) }
-    ensures part { OnErr result (WritesPart (C.files cabinet.old) (name_of (names_of names.now) file) bytes.now (C.files cabinet.new)) }
+    ensures ok { OnOk result (Writes (C.files cabinet.old)
+        (name_of (names_of names.now) file) bytes.now (C.files cabinet.new)) }
+    ensures part { OnErr result (WritesPart (C.files cabinet.old)
+        (name_of (names_of names.now) file) bytes.now (C.files cabinet.new)) }
+    ensures ok_passed { OnOk result (C.log cabinet.new
+        ≡ C.log cabinet.old ++ wrote (name_of (names_of names.now) file) bytes.now ∷ []) }
+    ensures part_passed { OnErr result (C.log cabinet.new
+        ≡ C.log cabinet.old ++ write_failed (name_of (names_of names.now) file) bytes.now ∷ []) }
     ensures stop { IfErr result (λ stop. stop ≡ Stop.Refused (Refusal.Unwritten file)) }
     ensures rose { OnErr result (Rose (C.fault_count cabinet.old) (C.fault_count cabinet.new)) }
     ensures kept { OnOk result (C.fault_count cabinet.new ≡ C.fault_count cabinet.old) }
@@ -105,8 +126,11 @@ fn judge_capacity(alloc: Global, bytes: &[u8]) -> Result<Declaration, Stop>
 /// The message of the requests, under a declaration.
 fn judge_message(alloc: Global, declaration: &Declaration, bytes: &[u8]) -> Result<Message, Stop>
     requires { IsStation declaration.now.airport.0 }
-    ensures historic { IfOk result (λ message. IsHistoricMessage declaration.now.season declaration.now.airport message × (bytes.now ≡ message_text message)) }
-    ensures stop { IfErr result (IsFormStop File.Requests (IsFirstBadLine (IsHistoricText declaration.now.season declaration.now.airport) bytes.now)) }
+    ensures historic { IfOk result (λ message.
+        IsHistoricMessage declaration.now.season declaration.now.airport message
+        × (bytes.now ≡ message_text message)) }
+    ensures stop { IfErr result (IsFormStop File.Requests
+        (IsFirstBadLine (IsHistoricText declaration.now.season declaration.now.airport) bytes.now)) }
 {
     match read_historic_message(alloc, &declaration.season, declaration.airport, bytes) {
         Ok(message) => Ok(message),
