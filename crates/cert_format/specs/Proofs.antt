@@ -1,5 +1,5 @@
 -- What a proof of one stage is, given the stage's problem, and what it shows.
-use Rattle.std.specs.Prelude.{◌≡◌, ℕ, ◌≤◌, List, map, All, Option, IfSome, IsSome, IsNone, IsSomeAnd, option_map}
+use Rattle.std.specs.Prelude.{◌≡◌, ℕ, ◌≤◌, List, map, All, IfSome, IsSome, IsNone, IsSomeAnd, option_map}
 use Rattle.choice_problem.specs.Problems.{ProblemView}
 use Rattle.choice_problem.specs.Choices.{IsFeasible, IsBest, HasNone, choice_cost}
 use Rattle.choice_problem.specs.Bounds.{IsVector, whole_of}

@@ -1,5 +1,5 @@
 -- Where a reading stands, and what it found.
-use Rattle.std.specs.Prelude.{◌≡◌, ℕ, ◌+◌, List, [], ◌∷◌, Option, Some, None, Result, Ok, Err}
+use Rattle.std.specs.Prelude.{ℕ, ◌+◌, List, [], ◌∷◌, Option, Some, None, Result, Ok, Err}
 use Rattle.cert_format.specs.Lines.{Word}
 use Rattle.cert_format.specs.Private.Cuts.{cert_lines_of}
 use Rattle.cert_format.specs.declared.place.Place.{Place}
