@@ -1,24 +1,22 @@
 -- What is read of a message is what an airline can say: codes that it has, pairs, and a header in its ranges.
-use Rattle.std.proofs.Common.{◌≡◌, ◌≢◌, ◌∙◌, ℕ, ◌+◌, ◌<◌, Bool, true, false, List, [], ◌∷◌, length, take, Option, Some, None, refl, sym, ap, subst, arith}
+use Rattle.std.proofs.Common.{◌≡◌, ◌≢◌, ◌∙◌, ℕ, ◌+◌, Bool, true, false, List, [], ◌∷◌, length, take, Option, Some, None, refl, sym, subst}
 use Rattle.std.specs.Prelude.{◌==◌, ◌||◌, if◌then◌else◌, IsSomeAnd, slice_get, All}
 use Rattle.std.proofs.lemmas.Option.{none-some, same_Some}
 use Rattle.std.proofs.lemmas.List.Elements.{All-cons, All-nil}
 use Rattle.season_days.specs.Term.{Term}
-use Rattle.slot_text.specs.Stations.{IsStation}
 use Rattle.scr_reader.specs.declared.header.Header.{Header}
 use Rattle.scr_reader.specs.declared.line.Line.{Line}
 use Rattle.scr_reader.specs.declared.line.Stop.{Stop}
-use Rattle.scr_reader.specs.declared.line.Flight.{Flight}
 use Rattle.scr_reader.specs.declared.line.Item.{Item}
-use Rattle.scr_reader.specs.declared.line.Item.TheVariants.{One, Pair, Query}
+use Rattle.scr_reader.specs.declared.line.Item.TheVariants.{One}
 use Rattle.scr_reader.specs.declared.line.Code.{Code}
 use Rattle.scr_reader.specs.declared.line.Code.TheVariants.{N, B, F, C, R, L, D, A, Z, K, H, O, U, W, X}
 use Rattle.scr_reader.specs.declared.message.Message.{Message}
 use Rattle.scr_reader.specs.declared.message.Placed.{Placed}
-use Rattle.scr_reader.specs.Parts.{code_of, IsDayOfMonth}
+use Rattle.scr_reader.specs.Parts.{code_of}
 use Rattle.scr_reader.specs.Shapes.{Shape, arrival, departure, turnaround, Part, parts_of, shape_of, IsCodeAndFlight, IsCodeAlone, Agree, IsLine}
 use Rattle.scr_reader.specs.Rows.{Row, remark, entry, question, line_fields, IsRow, IsRowOrNone, AreRows}
-use Rattle.scr_reader.specs.Messages.{address, parts_from_season, has_address, header_parts, header_of, IsShort, HeaderAgrees, RowAsksChange, LineIsPaired, next_row, IsGoodRow, AreGood, pair_item, line_item, row_item, place, items_of, body_of, Run, IsMessage, AreMessages, FirstIs, runs_in, ReadsMessage, ReadsAll}
+use Rattle.scr_reader.specs.Messages.{address, parts_from_season, has_address, header_parts, header_of, HeaderAgrees, RowAsksChange, LineIsPaired, next_row, IsGoodRow, AreGood, pair_item, line_item, row_item, place, items_of, body_of, Run, IsMessage, AreMessages, FirstIs, runs_in, ReadsMessage, ReadsAll}
 use Rattle.scr_reader.specs.Printed.{IsAsked}
 use Rattle.scr_reader.specs.Again.{IsAskedItem, AreAsked, HeaderFits, IsAirlineMessage}
 

@@ -1,14 +1,13 @@
 -- What is printed is read again.
-use Rattle.std.proofs.Common.{◌≡◌, ◌≢◌, ◌↔◌, ℕ, zero, suc, ◌+◌, ◌-◌, ◌*◌, ◌/◌, ◌%◌, ◌<◌, ◌≤◌, Bool, true, false, ltb, leb, List, [], ◌∷◌, ◌++◌, length, length-append, get_or, Some, None, refl, sym, ap, subst, ◌∙◌, arith, inl, inr}
+use Rattle.std.proofs.Common.{◌≡◌, ◌≢◌, ◌↔◌, ℕ, zero, suc, ◌+◌, ◌*◌, ◌/◌, ◌%◌, ◌<◌, ◌≤◌, Bool, true, false, ltb, List, [], ◌∷◌, ◌++◌, length, length-append, Some, None, refl, sym, ap, subst, ◌∙◌, arith, inl, inr}
 use Rattle.schedule_text.specs.Days.{days_text}
 use Rattle.schedule_text.specs.Times.{time_text, digit, two_digits}
 use Rattle.std.specs.Prelude.{Option, ◌==◌}
 use Rattle.std.proofs.Math.Bool.{◌&&◌, ◌||◌}
-use Rattle.std.proofs.lemmas.Bool.{cases_Bool, ne_eqb, and_parts, ltb-true, leb-true}
+use Rattle.std.proofs.lemmas.Bool.{cases_Bool, ne_eqb, and_parts, ltb-true}
 use Rattle.std.proofs.lemmas.Bool.Decides.{nat_tests}
 use Rattle.slot_text.specs.Fields.{is_blank, fields_of}
 use Rattle.slot_text.specs.Lines.{onto_first}
-use Rattle.slot_text.specs.declared.station.Station.{Station}
 use Rattle.season_days.specs.Term.{Term}
 use Rattle.season_days.specs.Seasons.{date_count, date_at, dates_of, IsDayNamed}
 use Rattle.season_days.specs.declared.day.Period.{Period}
@@ -20,7 +19,7 @@ use Rattle.scr_reader.specs.declared.line.Flight.{Flight}
 use Rattle.scr_reader.specs.declared.line.Code.{Code}
 use Rattle.scr_reader.specs.declared.line.Code.TheVariants.{N, B, F, C, R, L, D, A, Z, K, H, O, U, W, X}
 use Rattle.scr_reader.specs.Bytes.{is_letter, is_digit, three_digits, four_digits}
-use Rattle.scr_reader.specs.Parts.{AirlineFits, airline_text, NamesNumber, suffix_text, IsFlight, begins_with_flight, month_names, month_text, SpellsDay, IsPeriod, ThreeLettersOrDigits, StationsFit, stations_text, IsNights}
+use Rattle.scr_reader.specs.Parts.{AirlineFits, airline_text, NamesNumber, suffix_text, IsFlight, begins_with_flight, month_text, SpellsDay, IsPeriod, ThreeLettersOrDigits, stations_text, IsNights}
 use Rattle.scr_reader.specs.Shapes.{arrival, departure, turnaround, shape_of, arrival_service, departure_service, both_services, IsLine}
 use Rattle.scr_reader.specs.Rows.{is_remark, is_question, line_fields, entry, question, IsQuestion, IsRow}
 use Rattle.scr_reader.specs.Printed.{code_letter, number_text, flight_text, nights_text, arrival_group_text, departure_group_text, day_text, dates_text, joined, line_text, FlightFits, StopFits, LineFits, IsAsked, PrintsBack}
@@ -28,7 +27,7 @@ use Rattle.scr_reader.proofs.AgreeLemmas.{whole_line}
 use Rattle.scr_reader.proofs.ShapeLemmas.{arriving, leaving, turning, arrival_6, departure_7, turnaround_8}
 use Rattle.scr_reader.proofs.TrimLemmas.{not_blank}
 use Rattle.scr_reader.proofs.LengthLemmas.{flight_few, arrival_short, departure_short, turnaround_short}
-use Rattle.scr_reader.proofs.CleanLemmas.{Clean, clean_append, clean_one, clean_flight, clean_two, clean_stations, clean_dates, clean_days, clean_seats, clean_group, craft_long, stations_long}
+use Rattle.scr_reader.proofs.CleanLemmas.{Clean, clean_append, clean_one, clean_flight, clean_two, clean_stations, clean_dates, clean_days, clean_seats, clean_group}
 
 -- ---- fields that are joined by blanks
 

@@ -1,6 +1,6 @@
 -- What a line of a message is by itself, below the header.
 use Rattle.std.specs.Prelude.{◌≡◌, ◌≢◌, ◌⊎◌, ℕ, ◌≤◌, Bool, true, false, not, ◌&&◌, ◌||◌, ◌==◌, if◌then◌else◌, List, [], ◌∷◌, length, Option, Some, None}
-use Rattle.slot_text.specs.Fields.{is_blank, begins_in_field, fields_of, is_blank_line}
+use Rattle.slot_text.specs.Fields.{begins_in_field, fields_of, is_blank_line}
 use Rattle.season_days.specs.Term.{Term}
 use Rattle.slot_text.specs.declared.lines.TheConstants.{LONGEST_LINE}
 use Rattle.scr_reader.specs.Parts.{IsFlight}

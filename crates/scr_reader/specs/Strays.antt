@@ -6,7 +6,8 @@ use Rattle.scr_reader.specs.declared.message.Message.{Message}
 use Rattle.scr_reader.specs.declared.stray.StrayLine.{StrayLine}
 use Rattle.scr_reader.specs.declared.stray.StrayLine.TheVariants.{Season, Airport}
 
--- the first line of the header that names another season or airport: none, the season line, or the airport's, two lines below
+-- the first line of the header that names another season or airport: none, the season line, or the
+-- airport's, two lines below
 abbrev pub IsStrayLine : Term → Station → Message → Option StrayLine → Type 0
 IsStrayLine season airport message None = (message.season ≡ season) × (message.airport ≡ airport)
 IsStrayLine season airport message (Some (Season line)) =

@@ -151,11 +151,13 @@ fn pairs_and_their_faults(rt: HostRuntime) -> Result<(), Fail> {
             unpaired(5),
         ),
         (
-            b"CBA001 31MAR 1 180320 JFK0610 J\nRBA001 31MAR 1 180320 JFK2400 J\nRBA001 31MAR 1 180320 JFK0610 J",
+            b"CBA001 31MAR 1 180320 JFK0610 J\nRBA001 31MAR 1 180320 JFK2400 J\n\
+            RBA001 31MAR 1 180320 JFK0610 J",
             unpaired(5),
         ),
         (
-            b"CBA001 31MAR 1 180320 JFK0610 J\nRBA001 31MAR 1 180320 JFK0700 J\nLBA001 31MAR 1 180320 JFK0800 J",
+            b"CBA001 31MAR 1 180320 JFK0610 J\nRBA001 31MAR 1 180320 JFK0700 J\n\
+            LBA001 31MAR 1 180320 JFK0800 J",
             unpaired(7),
         ),
         (

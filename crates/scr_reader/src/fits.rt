@@ -28,7 +28,8 @@ impl Line {
 }
 
 impl Item {
-    /// Whether each part of the item has a printed spelling in the season; `print_item` asks for it.
+    /// Whether each part of the item has a printed spelling in the season; `print_item` asks for
+    /// it.
     pub fn fits(&self, season: &Season) -> bool
         ensures { IsTrue result ↔ ItemFits season.now self.now }
     {

@@ -1,7 +1,6 @@
-use Rattle.std.proofs.Common.{◌≡◌, ◌≤◌, ◌<◌, ◌∙◌, ℕ, arith, pos, refl}
+use Rattle.std.proofs.Common.{◌≡◌, ◌≤◌, ◌∙◌, arith, pos, refl}
 use Rattle.std.proofs.lemmas.Option.{none-some, same_Some}
 use Rattle.jiff_core.specs.Calendar.{days_in_month}
-use Rattle.scr_reader.specs.Parts.{IsDayOfMonth}
 use Rattle.scr_reader.proofs.DayLemmas.{few_days, front_is}
 use Rattle.scr_reader.proofs.header.day_and_month.Goals as goal
 

@@ -1,11 +1,6 @@
-use Rattle.std.proofs.Common.{List, ℕ}
 use Rattle.std.specs.Option.{option_copied}
-use Rattle.slot_text.specs.Lines.{lines_of}
 use Rattle.scr_reader.specs.Rows.{line_fields}
-use Rattle.scr_reader.specs.declared.line.Item.{Item}
-use Rattle.scr_reader.specs.declared.rows.Reading.{Reading}
 use Rattle.scr_reader.specs.declared.rows.Reading.TheVariants.{Remark, LongRemark, TooLong, Bad, Entry, Question}
-use Rattle.scr_reader.specs.Again.{IsItemText}
 use Rattle.scr_reader.proofs.FitsLemmas.{read_fits}
 use Rattle.scr_reader.proofs.ItemLemmas.{question_fits}
 use Rattle.scr_reader.proofs.PrintLemmas.{NamedDays}
