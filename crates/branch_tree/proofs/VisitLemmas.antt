@@ -8,7 +8,7 @@ use Rattle.choice_problem.specs.Choices.{choice_cost}
 use Rattle.choice_problem.specs.Bounds.{AreRanges}
 use Rattle.choice_problem.specs.Trees.{LeafHolds}
 use Rattle.choice_problem.specs.Driven.{IsDrivenNode}
-use Rattle.branch_tree.specs.Visits.{ClosesBy, IsFound, IsSplit, NoneOver, StaysUnclosed, IsZeroLeaf, IsRootLeaf, IsFurtherLeaf}
+use Rattle.branch_tree.specs.Visits.{ClosesBy, IsFound, IsSplit, StaysOpenToAll, IsZeroLeaf, IsRootLeaf, IsFurtherLeaf}
 use Rattle.branch_tree.proofs.WalkLemmas.{zero-closes}
 
 module _ (p : ProblemView) (root : List Price) (further : List (List Price)) (ranges : List (ℕ × ℕ)) (seen : Option ℕ) where
@@ -41,7 +41,7 @@ found-driven p vectors root ranges x leaf r h =
     rw h.leaf_is (record { there = omega arith; small = omega arith; closes = zero-closes p ranges x (choice_cost p x) r h.cheapest (omega arith) })
 
 pub split-driven : (p : ProblemView) (vectors : List (List Price)) (root : List Price) (further : List (List Price)) (ranges : List (ℕ × ℕ))
-    (seen : Option ℕ) (unit cut : ℕ) → NoneOver p ranges → StaysUnclosed p root further ranges seen → IsSplit p ranges unit cut →
+    (seen : Option ℕ) (unit cut : ℕ) → StaysOpenToAll p root further ranges seen → IsSplit p ranges unit cut →
     IsDrivenNode p vectors root ranges (Split unit cut seen)
-split-driven p vectors root further ranges seen unit cut n s h =
-    (record { none_over = n; no_zero = s.no_zero; no_root = s.no_root }, h.within, (h.x, h.resource, (h.cheapest, h.split)))
+split-driven p vectors root further ranges seen unit cut s h =
+    (s.stays_open, h.within, (h.x, h.resource, (h.cheapest, h.split)))

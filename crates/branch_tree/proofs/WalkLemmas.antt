@@ -12,9 +12,7 @@ use Rattle.choice_problem.specs.Bounds.{AreRanges, Closes, low_of, high_of, leas
 use Rattle.choice_problem.specs.Splits.{IsCheapest, IsFirstCheapest, least_uses}
 use Rattle.finite_sums.proofs.SumLemmas.{sum_below-same, least_within-le, least_within-ge}
 use Rattle.finite_sums.proofs.ChangeLemmas.{sum_below-change, sum_below-const, term-le}
-use Rattle.choice_problem.proofs.BoundLemmas.{Closes-from_Some, Closes-Some, Closes-from_None}
 use Rattle.choice_problem.specs.Counts.{IsFirstAbove, limit_at}
-use Rattle.choice_problem.proofs.TreeLemmas.{AreRanges-slice_set}
 use Rattle.branch_tree.specs.Lists.{times_in}
 use Rattle.branch_tree.specs.Walks.{IsKept}
 use Rattle.window_counts.specs.Placed.{AreLoads}
@@ -36,14 +34,14 @@ least_total-cheapest p ranges x r h =
 -- vector 0 closes exactly where they cost as much as what was seen
 pub zero-closes : (p : ProblemView) (ranges : List (ℕ × ℕ)) (x : List ℕ) (seen : ℕ) → AreRanges p ranges → IsCheapest p ranges x →
     seen ≤ choice_cost p x → Closes p ranges [] 1 (Some seen)
-zero-closes p ranges x seen r h l = Closes-Some p ranges [] 1 seen (omega (arith, least_total-cheapest p ranges x r h, l))
+zero-closes p ranges x seen r h l = omega (arith, ints, least_total-cheapest p ranges x r h, l)
 
 pub closes-zero : (p : ProblemView) (ranges : List (ℕ × ℕ)) (x : List ℕ) (seen : ℕ) → AreRanges p ranges → IsCheapest p ranges x →
     Closes p ranges [] 1 (Some seen) → seen ≤ choice_cost p x
-closes-zero p ranges x seen r h c = omega (arith, least_total-cheapest p ranges x r h, Closes-from_Some p ranges [] 1 seen c)
+closes-zero p ranges x seen r h c = omega (arith, ints, least_total-cheapest p ranges x r h, c)
 
 pub closes-none : (p : ProblemView) (ranges : List (ℕ × ℕ)) → Closes p ranges [] 1 None → ⊥
-closes-none p ranges c = let h = (Closes-from_None p ranges [] 1 c).0 in omega (arith, h)
+closes-none p ranges c = let h : 1 ≡ 0 = c.0 in omega (arith, h)
 
 -- counts above limits, as numbers
 limit_at-map : (limits : List ℕ) (r : ℕ) → r < length limits → limit_at (map pos limits) r ≡ pos (slice_index limits r)
@@ -212,14 +210,14 @@ module _ (p : ProblemView) (ranges : List (ℕ × ℕ)) (alts : List ℕ) (cost 
                 (λ v m ne. ap (λ (s : ℕ × ℕ). least_within s.0 s.1 (λ b. alt_uses p v b r)) (span-other v ne)),
           )
 
-      pub IsKept-moved : (more : ℕ) (uses fewest was now : List ℕ) → more + alt_cost p u (slice_index alts u) ≡ cost + alt_cost p u a →
+      pub IsKept-moved : AreRanges p (slice_set ranges u (low, high)) → (more : ℕ) (uses fewest was now : List ℕ) → more + alt_cost p u (slice_index alts u) ≡ cost + alt_cost p u a →
           length uses ≡ length loads → length fewest ≡ length least →
           ((r : ℕ) → r < length loads → slice_index uses r + alt_uses p u (slice_index alts u) r ≡ slice_index loads r + alt_uses p u a r) →
           ((r : ℕ) → r < length least → slice_index fewest r + times_in was r ≡ slice_index least r + times_in now r) →
           ((r : ℕ) → times_in was r ≡ least_uses p ranges u r) → ((r : ℕ) → times_in now r ≡ least_within low high (λ b. alt_uses p u b r)) →
           IsKept p (slice_set ranges u (low, high)) (slice_set alts u a) more uses fewest zeros
-      IsKept-moved more uses fewest was now paid e f g h i j = record {
-        valid = AreRanges-slice_set p ranges u low high (omega (arith, k.valid.length, l)) k.valid ordered there;
+      IsKept-moved valid more uses fewest was now paid e f g h i j = record {
+        valid = valid;
         few_units = k.few_units;
         units = k.units;
         cheapest = cheapest-moved;

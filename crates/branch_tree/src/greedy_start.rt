@@ -9,7 +9,7 @@ ghost use Rattle.choice_problem.specs.Greedy.{FitsOn, IsGreedyAlt, IsGreedy, Gre
 ghost use Rattle.window_counts.specs.Placed.{KeepsLimits};
 
 use crate::cheapest_first::next_cheapest;
-use choice_problem::{Choice, Problem};
+use choice_problem::{Choice, Problem, search_start};
 use slot_text::Memory;
 use std::alloc::Global;
 use window_counts::{Counts, place_alt};
@@ -23,6 +23,7 @@ pub fn greedy(alloc: Global, problem: &Problem) -> Result<Option<Choice>, Memory
     ensures none { IfOk result (λ found. IfNone found ((x : List ℕ) × GreedyStops problem.now x)) }
     ensures cost { IfOk result (λ found. IsGreedyCost problem.now (option_map (choice_cost problem.now) found)) }
 {
+    search_start();
     let mut counts = Counts::of(alloc, &[], problem.resources())?;
     let mut alts = Vec::new(alloc);
     if choose_all(problem, &mut counts, &mut alts)? {

@@ -7,7 +7,7 @@ use crate::bounds;
 use crate::report::{Size, step};
 use branch_tree::{Visit, Walk};
 use choice_problem::{Price, Problem, Ranges, Vector};
-use dual_bound::{PriceTable, price_table};
+use price_table::{PriceTable, price_table};
 use slot_text::Memory;
 use std::alloc::Global;
 use std::time::Instant;

@@ -1,5 +1,6 @@
 -- Vectors of prices in lists, and the prices of subgradient steps.
-use Rattle.std.proofs.Common.{[], ◌∷◌, ◌++◌, ◌≡◌, ℕ, zero, suc, ◌+◌, ◌-◌, ◌*◌, ◌<◌, ◌≤◌, refl, ◌∙◌, ap, arith, add-one, List, pos, ◌<ℤ◌, inl, inr}
+use Rattle.std.proofs.lemmas.Grind.{common_steps}
+use Rattle.std.proofs.Common.{false, [], ◌∷◌, ◌++◌, ◌≡◌, ℕ, zero, suc, ◌+◌, ◌-◌, ◌*◌, ◌<◌, ◌≤◌, refl, ◌∙◌, ap, arith, add-one, List, pos, ◌<ℤ◌, inl, inr}
 use Rattle.std.specs.Prelude.{slice_index, ℤ, ◌≤ℤ◌, if◌then◌else◌, ◌==◌}
 use Rattle.std.proofs.lemmas.Int.{ints}
 use Rattle.std.proofs.lemmas.Bool.{cases_lt}
@@ -17,11 +18,14 @@ use Rattle.finite_sums.proofs.SumLemmas.{sum_below-more}
 use Rattle.dual_bound.specs.Loops.{least_alt_load}
 
 -- a vector with one resource more, which it names where its price is above 0
-with_price : List Price → ℕ → ℕ → List Price
+abbrev with_price : List Price → ℕ → ℕ → List Price
 with_price prices r price = if price == 0 then prices else prices ++ record { resource = r; price = pos price } ∷ []
 
+not_zero : (v : ℕ) → (suc v == 0) ≡ false
+not_zero v = grind (arith, common_steps)
+
 with_price-suc : (prices : List Price) (r v : ℕ) → with_price prices r (suc v) ≡ prices ++ record { resource = r; price = pos (suc v) } ∷ []
-with_price-suc prices r v = refl
+with_price-suc prices r v = ap (λ b. if b then prices else prices ++ record { resource = r; price = pos (suc v) } ∷ []) (not_zero v)
 
 priced-with_price : (prices : List Price) (r price : ℕ) (uses : ℕ → ℕ) → priced (with_price prices r price) uses ≡ priced prices uses + price * uses r
 priced-with_price prices r zero uses = omega arith

@@ -38,13 +38,13 @@ pub fn improved_choice(
     ensures feasible { IfOk result (λ found. IfSome found (IsFeasible problem.now)) }
     ensures cost { IfOk result (λ found. CostsAtMost problem.now (option_copied start.entry) found) }
 {
-    let table = price_table(alloc, problem, vector)?;
-    let priced = priced_choice(alloc, problem, &table)?;
+    let tables = [price_table(alloc, problem, vector)?];
+    let priced = priced_choice(alloc, problem, &tables[0])?;
     let Some(first) = cheaper(alloc, problem, start, priced)? else {
         return Ok(None);
     };
     let ranges = Ranges::whole(alloc, problem)?;
-    let (floor, _) = floor_of(problem, &ranges, &table);
+    let floor = floor_of(problem, &ranges, &tables).cost;
     let found = exchanged(alloc, problem, first, floor)?;
     Ok(Some(found))
 }

@@ -1,5 +1,5 @@
 -- What a price table holds, and when it is the table of its vector for a problem.
-use Rattle.std.specs.Prelude.{◌≡◌, ℕ, ◌+◌, ◌<◌, ◌≤◌, List, [], length, Option, Some, None, slice_index, slice_index_or}
+use Rattle.std.specs.Prelude.{◌≡◌, ℕ, ◌+◌, ◌<◌, ◌≤◌, List, [], length, map, Option, Some, None, slice_index, slice_index_or}
 use Rattle.choice_problem.specs.declared.vectors.Price.{Price}
 use Rattle.choice_problem.specs.declared.problems.Alt.{Alt}
 use Rattle.choice_problem.specs.Problems.{ProblemView, unit_count, alt_count, part_count, resource_count, chooser_at, alt_uses, limit_of}
@@ -10,6 +10,10 @@ pub record TableView : Type 0 where
   pub prices : List Price
   pub units : List (List ℕ)
   pub limits : ℕ
+
+-- the vectors of tables
+abbrev pub vectors_of : List TableView → List (List Price)
+vectors_of tables = map (λ (t : TableView). t.prices) tables
 
 abbrev pub alt_in : List Alt → ℕ → Alt
 alt_in alts a = slice_index_or alts a (record { cost = 0; one = None; two = None })
