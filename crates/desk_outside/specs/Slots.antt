@@ -13,4 +13,6 @@ files_in used slots = map file_in (take used slots)
 
 -- each place has room for a name and for the bytes of a file
 abbrev pub HaveRoom : ℕ → List Slot → Type 0
-HaveRoom room slots = (at : ℕ) (d : Slot) → at < length slots → ((slice_index_or slots at d).name.room ≡ 255) × ((slice_index_or slots at d).bytes.room ≡ room)
+HaveRoom room slots = (at : ℕ) (d : Slot) → at < length slots
+    → ((slice_index_or slots at d).name.room ≡ 255)
+    × ((slice_index_or slots at d).bytes.room ≡ room)

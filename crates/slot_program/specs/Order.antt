@@ -5,12 +5,13 @@ use Rattle.desk_outside.specs.Files.{Files}
 use Rattle.season_days.specs.declared.declaration.Declaration.{Declaration}
 use Rattle.historic_reader.specs.Historic.{IsHistoricText}
 use Rattle.slot_program.specs.Words.{Word}
+use Rattle.slot_program.specs.declared.allocate.TheConstants.{LONGEST_FILE}
 use Rattle.slot_program.specs.Capacity.{IsCapacityText, IsCapacityForm}
 use Rattle.slot_program.specs.Reports.{Report, missing, large, unbuilt}
 
 -- the most bytes that are read of a file: 4 MiB
 abbrev pub longest_file : ℕ
-longest_file = 4194304
+longest_file = LONGEST_FILE
 
 -- a file is read, it is judged as a capacity file, or it is judged as a message under the declaration of a capacity file
 pub data Step : Type 0 where

@@ -31,7 +31,7 @@ const CERTIFICATE: &[u8] =
     b"CERT 1\nSTAGE 1 OPTIMAL\nCHOICES 1\nC 0 0\nCOST 0\nVECTORS 0\nTREE 1\nL 0 1 0\nSTAGE 2 OPTIMAL\nCHOICES 0\nCOST 0\nVECTORS 0\nTREE 1\nL 0 1 0\nSTAGE 3 OPTIMAL\nCHOICES 0\nCOST 0\nVECTORS 0\nTREE 1\nL 0 1 0\nSTAGE 4 OPTIMAL\nCHOICES 0\nCOST 0\nVECTORS 0\nTREE 1\nL 0 1 0\nEND\n";
 
 /// The most bytes that are read of a file: 4 MiB.
-const MOST_BYTES: usize = 4_194_304;
+const LONGEST_FILE: usize = 4_194_304;
 
 /// Reads the capacity file and the requests, and writes the certificate and then the replies.
 pub(crate) fn allocate<C: Cabinet>(
@@ -76,7 +76,7 @@ fn read_file<C: Cabinet>(
     ensures unchanged { C.files cabinet.new ≡ C.files cabinet.old }
     ensures kept { OnOk result (C.fault_count cabinet.new ≡ C.fault_count cabinet.old) }
 {
-    match cabinet.read(alloc, names.name(file), MOST_BYTES) {
+    match cabinet.read(alloc, names.name(file), LONGEST_FILE) {
         Ok(bytes) => Ok(bytes),
         Err(CabinetFault::Failed) => Err(Stop::Refused(Refusal::Unread(file))),
         Err(CabinetFault::Missing) => Err(Stop::Refused(Refusal::Missing(file))),
