@@ -8,6 +8,7 @@ use Rattle.desk_outside.specs.Cause.{one_more}
 use Rattle.desk_outside.specs.Failures.{failure_at, taken_by, sent_bytes}
 use Rattle.desk_outside.specs.Passages.{Passage}
 use Rattle.desk_outside.specs.declared.failures.Failure.{Failure}
+use Rattle.desk_outside.specs.declared.slots.TheConstants.{NAME_ROOM}
 use Rattle.desk_outside.specs.declared.cabinet.CabinetFault.{CabinetFault}
 use Rattle.desk_outside.specs.declared.cabinet.CabinetFault.TheVariants.{Failed, Missing, Larger}
 use Rattle.desk_outside.specs.declared.cabinet.CabinetFault.TheVariants.{Memory}
@@ -61,7 +62,7 @@ put_file (file ∷ files) name bytes =
 abbrev pub has_room : CabinetView → List ℕ → List ℕ → Bool
 has_room c name bytes = nat_le (length bytes) c.byte_limit
     && (is_some (bytes_under c.files name)
-    || (nat_lt (length c.files) c.file_limit && nat_le (length name) 255))
+    || (nat_lt (length c.files) c.file_limit && nat_le (length name) NAME_ROOM))
 
 -- the cabinet with the file in it, or as it was where the file does not fit
 abbrev pub with_loaded : CabinetView → List ℕ → List ℕ → CabinetView

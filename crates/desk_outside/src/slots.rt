@@ -20,7 +20,7 @@ pub(crate) struct Slot {
 }
 
 fn new_slot(alloc: Global, room: usize) -> Result<Slot, Memory>
-    ensures { IfOk result (λ slot. (slot.name.room ≡ 255) × (slot.bytes.room ≡ room)) }
+    ensures { IfOk result (λ slot. (slot.name.room ≡ NAME_ROOM) × (slot.bytes.room ≡ room)) }
 {
     Ok(Slot {
         name: Buffer::new(alloc, NAME_ROOM)?,
