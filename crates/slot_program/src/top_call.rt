@@ -50,7 +50,7 @@ pub fn desk<R, C: Cabinet, S: Sink>(
     // report, which is due by the words and by what was handed out.
     ensures said { result ≢ 6 → result ≢ 7 → (report : Report) × (result ≡ status_of report)
         × WorkEnds (job_of (words_of words.now)) (world_of C.files C.fault_count C.log cabinet.old)
-        report (world_of C.files C.fault_count C.log cabinet.new)
+            report (world_of C.files C.fault_count C.log cabinet.new)
         × Puts (S.contents out.old) (text_of report) (S.contents out.new)
         × (S.log out.new ≡ S.log out.old ++ put (text_of report) ∷ []) }
     ensures statuses { IsStatus result }
@@ -60,7 +60,8 @@ pub fn desk<R, C: Cabinet, S: Sink>(
     // are right of these two, and the four stage lines were put, after all that had passed before.
     ensures handed { (names : List Word) → job_of (words_of words.now) ≡ Some (Allocate names)
         → result ≡ 0 →
-        LogGrew (C.log cabinet.old) (PassedWhole (C.files cabinet.old) (file_names names)) (C.log cabinet.new)
+        LogGrew (C.log cabinet.old) (PassedWhole (C.files cabinet.old) (file_names names))
+            (C.log cabinet.new)
         × (S.log out.new ≡ S.log out.old ++ put (text_of settled) ∷ []) }
 
     // Done: the certificate and then the replies are written, the sink got the four stage lines,
@@ -92,7 +93,7 @@ pub fn desk<R, C: Cabinet, S: Sink>(
     ensures cut { result ≡ 6 → Rose (S.fault_count out.old) (S.fault_count out.new)
         × ((report : Report)
         × WorkEnds (job_of (words_of words.now)) (world_of C.files C.fault_count C.log cabinet.old)
-        report (world_of C.files C.fault_count C.log cabinet.new)
+            report (world_of C.files C.fault_count C.log cabinet.new)
         × PutsPart (S.contents out.old) (text_of report) (S.contents out.new)
         × (S.log out.new ≡ S.log out.old ++ put_failed (text_of report) ∷ [])) }
 
@@ -101,7 +102,8 @@ pub fn desk<R, C: Cabinet, S: Sink>(
     // those that it writes.
     ensures others { ChangesOnly (C.files cabinet.old) (names_written (job_of (words_of words.now)))
         (C.files cabinet.new) }
-    ensures asked { LogGrew (C.log cabinet.old) (OnlyOfJob (job_of (words_of words.now))) (C.log cabinet.new) }
+    ensures asked { LogGrew (C.log cabinet.old) (OnlyOfJob (job_of (words_of words.now)))
+        (C.log cabinet.new) }
 
     // With a command's words, both files in their forms and no rise of a count the work is done, or
     // memory ran out.
@@ -128,7 +130,8 @@ fn carry_out<C: Cabinet>(alloc: Global, words: &[String], cabinet: &mut C) -> Re
         (world_of C.files C.fault_count C.log cabinet.new)) }
     ensures others { ChangesOnly (C.files cabinet.old) (names_written (job_of (words_of words.now)))
         (C.files cabinet.new) }
-    ensures asked { LogGrew (C.log cabinet.old) (OnlyOfJob (job_of (words_of words.now))) (C.log cabinet.new) }
+    ensures asked { LogGrew (C.log cabinet.old) (OnlyOfJob (job_of (words_of words.now)))
+        (C.log cabinet.new) }
     ensures refused { job_of (words_of words.now) ≡ None
         → C.files cabinet.new ≡ C.files cabinet.old }
 {
@@ -154,7 +157,8 @@ fn carry_out_allocation<C: Cabinet>(
         (world_of C.files C.fault_count C.log cabinet.new)) }
     ensures others { ChangesOnly (C.files cabinet.old) (names_written (Some (Allocate names.now)))
         (C.files cabinet.new) }
-    ensures asked { LogGrew (C.log cabinet.old) (OnlyOfJob (Some (Allocate names.now))) (C.log cabinet.new) }
+    ensures asked { LogGrew (C.log cabinet.old) (OnlyOfJob (Some (Allocate names.now)))
+        (C.log cabinet.new) }
 {
     let names = names_in(names);
     match allocate(alloc, &names, cabinet) {
