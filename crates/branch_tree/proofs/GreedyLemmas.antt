@@ -7,7 +7,7 @@ use Rattle.choice_problem.specs.Problems.{ProblemView, unit_count, resource_coun
 use Rattle.choice_problem.specs.Greedy.{FitsOn, IsGreedyAlt, IsGreedy, GreedyStops, load_before}
 use Rattle.finite_sums.proofs.SumLemmas.{sum_below-same, sum_below-more}
 use Rattle.choice_problem.proofs.GreedyLemmas.{FitsOn-same}
-use Rattle.branch_tree.specs.Loops.{KeepsLimits}
+use Rattle.window_counts.specs.Placed.{KeepsLimits}
 
 IsGreedyAlt-same : (p : ProblemView) (f g : ℕ → ℕ) (u a : ℕ) → ((r : ℕ) → r < resource_count p → f r ≡ g r) → IsGreedyAlt p f u a → IsGreedyAlt p g u a
 IsGreedyAlt-same p f g u a same h = record {

@@ -11,11 +11,13 @@ use Rattle.choice_problem.specs.Choices.{IsChoice, choice_cost, load_of, Fits, I
 use Rattle.choice_problem.specs.Bounds.{AreRanges, Closes, low_of, high_of, least_load, least_total, priced_cost}
 use Rattle.choice_problem.specs.Splits.{IsCheapest, IsFirstCheapest, least_uses}
 use Rattle.finite_sums.proofs.SumLemmas.{sum_below-same, least_within-le, least_within-ge}
+use Rattle.finite_sums.proofs.ChangeLemmas.{sum_below-change, sum_below-const, term-le}
 use Rattle.choice_problem.proofs.BoundLemmas.{Closes-from_Some, Closes-Some, Closes-from_None}
-use Rattle.window_counts.specs.Counts.{IsFirstAbove, limit_at}
+use Rattle.choice_problem.specs.Counts.{IsFirstAbove, limit_at}
 use Rattle.choice_problem.proofs.TreeLemmas.{AreRanges-slice_set}
 use Rattle.branch_tree.specs.Lists.{times_in}
-use Rattle.branch_tree.specs.Walks.{AreLoads, IsKept}
+use Rattle.branch_tree.specs.Walks.{IsKept}
+use Rattle.window_counts.specs.Placed.{AreLoads}
 
 -- the first cheapest alternatives cost what is least in range
 least-cheapest : (p : ProblemView) (ranges : List (ℕ × ℕ)) (u a : ℕ) → low_of ranges u ≤ high_of ranges u → IsFirstCheapest p ranges u a →
@@ -80,21 +82,6 @@ pub passed-nothing : (p : ProblemView) (x loads : List ℕ) (found : Option ℕ)
 passed-nothing p x loads None e h f = passed-none p x loads e h f
 passed-nothing p x loads (Some r) e h f = tt
 
--- a sum in which one term changes
-pub sum_below-change : (n k : ℕ) (f g : ℕ → ℕ) → k < n → ((i : ℕ) → i < n → (i ≡ k → ⊥) → f i ≡ g i) → sum_below n f + g k ≡ sum_below n g + f k
-sum_below-change zero k f g l h = absurd (omega arith)
-sum_below-change (suc n) k f g l h =
-    elim (cases_lt k n) [
-      | inl below ↦ omega (arith, sum_below-change n k f g below (λ i m ne. h i (omega arith) ne), h n (omega arith) (λ e. omega arith))
-      | inr last ↦
-          let e : k ≡ n = omega arith in
-          rw e (omega (arith, sum_below-same n f g (λ i m. h i (omega arith) (λ d. omega arith))))
-    ]
-
-pub sum_below-const : (n m : ℕ) (f : ℕ → ℕ) → ((i : ℕ) → i < n → f i ≤ m) → sum_below n f ≤ n * m
-sum_below-const zero m f h = omega arith
-sum_below-const (suc n) m f h = omega (arith, sum_below-const n m f (λ i l. h i (omega arith)), h n (omega arith))
-
 -- loads stay small
 pub load-small : (p : ProblemView) (x : List ℕ) (r : ℕ) → ((u : ℕ) → u < unit_count p → IsChooser (chooser_at p u)) → IsChoice p x → load_of p x r ≤ unit_count p * 434
 load-small p x r units c = sum_below-const (unit_count p) 434 (λ u. alt_uses p u (slice_index x u) r) (λ u l. (units u l).uses (slice_index x u) r (c.there u l))
@@ -110,13 +97,6 @@ least-small p ranges r units v = sum_below-const (unit_count p) 434 (λ u. least
 
 pub cost-small : (p : ProblemView) (x : List ℕ) → ((u : ℕ) → u < unit_count p → IsChooser (chooser_at p u)) → IsChoice p x → choice_cost p x ≤ unit_count p * 16777216
 cost-small p x units c = sum_below-const (unit_count p) 16777216 (λ u. alt_cost p u (slice_index x u)) (λ u l. omega (arith, (units u l).cost (slice_index x u) (c.there u l)))
-
-pub term-le : (n k : ℕ) (f : ℕ → ℕ) → k < n → f k ≤ sum_below n f
-term-le zero k f l = absurd (omega arith)
-term-le (suc n) k f l = elim (cases_lt k n) [
-  | inl below ↦ omega (arith, term-le n k f below)
-  | inr last ↦ let e : k ≡ n = omega arith in rw e (omega arith)
-]
 
 -- what a slice of a vector leaves in it
 pub written-back : {X : Type 0} (new items : List X) (n : ℕ) → length new ≡ n → take n (new ++ drop (length new) items) ≡ new

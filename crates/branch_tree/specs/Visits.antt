@@ -8,7 +8,7 @@ use Rattle.choice_problem.specs.Choices.{IsFeasible, choice_cost}
 use Rattle.choice_problem.specs.Bounds.{Closes, IsOver}
 use Rattle.choice_problem.specs.Trees.{CanSplit}
 use Rattle.choice_problem.specs.Splits.{IsCheapest, IsFirstOver, IsSplitAt}
-use Rattle.dual_bound.specs.Tables.{TableView}
+use Rattle.price_table.specs.Tables.{TableView}
 use Rattle.branch_tree.specs.declared.answers.Visit.{Visit}
 use Rattle.branch_tree.specs.declared.answers.Visit.TheVariants as answer
 

@@ -2,11 +2,11 @@
 
 ghost use Rattle.std.specs.Prelude.{◌≡◌, ◌↔◌, ℕ, ◌<◌, ◌≤◌, length, map, All, IsTrue, IfSome, IfNone, [], Some, pos, ◌-ℤ◌, ◌*ℤ◌, ◌<ℤ◌};
 ghost use Rattle.choice_problem.specs.Bounds.{AreRanges, Closes};
-ghost use Rattle.dual_bound.specs.Tables.{IsTableFor, TableView};
+ghost use Rattle.price_table.specs.Tables.{IsTableFor, TableView};
 ghost use Rattle.branch_tree.specs.Visits.{IsClosingLeaf, StaysUnclosed, IsFirstClosing, AreOpen, vectors_of};
 
 use choice_problem::{Node, Problem, Ranges};
-use dual_bound::{PriceTable, bound};
+use price_table::{PriceTable, bound};
 
 // The scale of all vectors with prices.
 const SCALE: u64 = 1024;

@@ -4,7 +4,7 @@ ghost use Rattle.std.specs.Prelude.{◌<◌, [], IfOk, IfSome, IfNone, ℕ};
 ghost use Rattle.choice_problem.specs.Problems.{resource_count};
 ghost use Rattle.choice_problem.specs.Bounds.{AreRanges, IsOver};
 ghost use Rattle.choice_problem.specs.Splits.{IsFirstOver};
-ghost use Rattle.dual_bound.specs.Tables.{IsTableFor};
+ghost use Rattle.price_table.specs.Tables.{IsTableFor};
 ghost use Rattle.branch_tree.specs.Visits.{IsVisit};
 
 use crate::answers::Visit;
@@ -14,7 +14,7 @@ use crate::kept::cheapest;
 use choice_problem::{
     Choice, Node, Problem, Ranges, Vector, first_passed, leaf_closes, over_closes,
 };
-use dual_bound::PriceTable;
+use price_table::PriceTable;
 use slot_text::Memory;
 use std::alloc::Global;
 

@@ -5,20 +5,20 @@ ghost use Rattle.choice_problem.specs.Problems.{unit_count, resource_count};
 ghost use Rattle.choice_problem.specs.Choices.{IsFirstPassed, Fits, choice_cost};
 ghost use Rattle.choice_problem.specs.Bounds.{AreRanges, Closes, IsOver};
 ghost use Rattle.choice_problem.specs.Splits.{IsCheapest, IsFirstOver};
-ghost use Rattle.branch_tree.specs.Walks.{AreLoads, AreLeast};
+ghost use Rattle.branch_tree.specs.Walks.{AreLeast};
+ghost use Rattle.window_counts.specs.Placed.{AreLoads};
 
 use crate::answers::Visit;
 use crate::branching::found_or_split;
 use crate::closings::closing_leaf;
-use crate::kept::{cheapest, count_least, first_cheapest, load_all, move_least};
+use crate::kept::{cheapest, count_least, first_cheapest, move_least};
 use crate::least_uses::least_list;
-use crate::placing::change_alt;
 use choice_problem::{Node, Problem, Ranges, first_above};
-use dual_bound::PriceTable;
+use price_table::PriceTable;
 use slot_text::Memory;
 use std::alloc::Global;
 use std::marker::Model;
-use window_counts::Counts;
+use window_counts::{Counts, add_choice, change_alt};
 
 /// Ranges of a problem, with what a visit asks of them: the least load of each resource, each unit's first cheapest
 /// alternative, and what these together use and cost. Where a range changes, what changes with it is counted anew, and
@@ -50,7 +50,7 @@ impl<'a> Walk<'a> {
     ghost use Rattle.std.specs.Prelude.{◌≡◌, ◌<◌, ◌≤◌, ℕ, [], All, length, slice_set, IfOk, OnOk, OnErr};
     ghost use Rattle.choice_problem.specs.Problems.{unit_count, alt_count};
     ghost use Rattle.choice_problem.specs.Bounds.{AreRanges};
-    ghost use Rattle.dual_bound.specs.Tables.{IsTableFor};
+    ghost use Rattle.price_table.specs.Tables.{IsTableFor};
     ghost use Rattle.branch_tree.specs.Visits.{IsVisit, vectors_of};
 
     /// The walk at these ranges. A unit takes some steps a use of each part that its alternatives in range name, and ends
@@ -67,7 +67,7 @@ impl<'a> Walk<'a> {
         let mut least = vec![in alloc; 0; resources as usize]?;
         let mut zeros = vec![in alloc; 0; resources as usize]?;
         let cheapest = cheapest(alloc, problem, &ranges)?;
-        let cost = load_all(problem, &cheapest, &mut loads);
+        let cost = add_choice(problem, &cheapest, &mut loads);
         count_least(alloc, problem, &ranges, &mut least, &mut zeros)?;
         Ok(Walk {
             problem,

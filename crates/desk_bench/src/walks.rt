@@ -1,7 +1,7 @@
 //! A walk through ranges: making it, narrowing it, and visiting its ranges.
 
 ghost use Rattle.std.specs.Prelude.{◌≡◌};
-ghost use Rattle.dual_bound.specs.Tables.{IsTableFor};
+ghost use Rattle.price_table.specs.Tables.{IsTableFor};
 
 use crate::bounds;
 use crate::report::{Size, step};

@@ -4,12 +4,11 @@ ghost use Rattle.std.specs.Prelude.{◌≡◌, ◌↔◌, ◌^◌, ◌<◌, ◌�
 ghost use Rattle.finite_sums.specs.Sums.{least_within};
 ghost use Rattle.choice_problem.specs.Problems.{unit_count, alt_count};
 ghost use Rattle.choice_problem.specs.Bounds.{AreRanges, Closes, priced_cost};
-ghost use Rattle.dual_bound.specs.Tables.{IsTableFor};
+ghost use Rattle.price_table.specs.Tables.{IsTableFor};
 ghost use Rattle.dual_bound.specs.Stated.{stated_floor, zero_floor, rounded_up, priced_floor};
 
-use crate::bounds::bound;
-use crate::tables::PriceTable;
 use choice_problem::{Problem, Ranges};
+use price_table::{PriceTable, bound};
 
 /// The floor of ranges, and whether the table's vector gives it: the greater of the sum of the least costs, which is the
 /// bound of the vector without prices at scale 1, and the bound of the table's vector at scale 1024, divided by 1024 and
@@ -56,7 +55,7 @@ fn least_costs(problem: &Problem, ranges: &Ranges) -> u64
 }
 
 // The least cost of a unit's alternatives from one to another.
-#[tactic(auto, using(crate::proofs::BoundLemmas::least_steps))]
+#[tactic(auto, using(crate::proofs::FloorLemmas::least_steps))]
 fn least_cost(problem: &Problem, unit: u32, low: u32, high: u32) -> u64
     requires unit { unit < unit_count problem.now }
     requires ordered { low ≤ high }

@@ -3,7 +3,7 @@
 ghost use Rattle.std.specs.Prelude.{◌^◌, ◌<◌, IfOk};
 ghost use Rattle.choice_problem.specs.Problems.{unit_count};
 ghost use Rattle.choice_problem.specs.Bounds.{AreRanges};
-ghost use Rattle.dual_bound.specs.Tables.{IsTableFor};
+ghost use Rattle.price_table.specs.Tables.{IsTableFor};
 
 use super::*;
 use choice_problem::{Alt, Chooser, Part, Price, Problem, Ranges, Strip, Vector, leaf_closes};

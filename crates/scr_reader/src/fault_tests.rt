@@ -6,7 +6,7 @@ use std::alloc::Global;
 use std::test::Fail;
 
 /// The fault of a text, if it has one.
-pub(crate) fn fault_in(alloc: Global, text: &[u8]) -> Option<ScrFault> {
+fn fault_in(alloc: Global, text: &[u8]) -> Option<ScrFault> {
     if text.len() > 2_000_000 {
         return Some(ScrFault::Memory);
     }
@@ -24,11 +24,11 @@ fn fault_below(alloc: Global, lines: &[u8]) -> Result<Option<ScrFault>, Memory> 
     Ok(fault_in(alloc, &text))
 }
 
-pub(crate) const fn bad(field: u32) -> Option<ScrFault> {
+const fn bad(field: u32) -> Option<ScrFault> {
     Some(ScrFault::BadLine { line: 5, field })
 }
 
-pub(crate) const fn header(line: u32) -> Option<ScrFault> {
+const fn header(line: u32) -> Option<ScrFault> {
     Some(ScrFault::BadHeader { line })
 }
 

@@ -2,6 +2,7 @@
 use Rattle.std.specs.Prelude.{ℕ, ◌+◌, List, [], ◌∷◌, ◌++◌, length, codes}
 use Rattle.std.specs.Fmt.{decimal}
 use Rattle.slot_text.specs.Ended.{ended}
+use Rattle.scr_reader.specs.Messages.{header_of}
 use Rattle.scr_reader.specs.Printed.{header_lines, line_text}
 use Rattle.scr_reader.specs.declared.line.Line.{Line}
 use Rattle.scr_reader.specs.declared.line.Code.TheVariants.{K}
@@ -46,5 +47,5 @@ settled_stages = (0 ∷ []) ∷ [] ∷ [] ∷ [] ∷ []
 
 -- the reply to a message with one line: its header, the line confirmed, and an empty line
 abbrev pub confirmation : Message → Line → List ℕ
-confirmation message asked = ended (header_lines message)
+confirmation message asked = ended (header_lines (header_of message))
     ++ (line_text message.season K asked ++ (10 ∷ 10 ∷ []))

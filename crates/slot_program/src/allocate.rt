@@ -152,7 +152,7 @@ fn confirm(alloc: Global, message: &Message) -> Result<Vec<u8>, Memory>
     ensures { IfOk result (Confirms message.now) }
 {
     let mut text = Vec::new(alloc);
-    print_header(alloc, &mut text, message)?;
+    print_header(alloc, &mut text, &message.header())?;
     print_line(
         alloc,
         &mut text,

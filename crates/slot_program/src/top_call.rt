@@ -50,7 +50,7 @@ pub fn desk<R, C: Cabinet, S: Sink>(
     // report, which is due by the words and by what was handed out.
     ensures said { result ≢ 6 → result ≢ 7 → (report : Report) × (result ≡ status_of report)
         × WorkEnds (job_of (words_of words.now)) (world_of C.files C.fault_count C.log cabinet.old)
-            report (world_of C.files C.fault_count C.log cabinet.new)
+        report (world_of C.files C.fault_count C.log cabinet.new)
         × Puts (S.contents out.old) (text_of report) (S.contents out.new)
         × (S.log out.new ≡ S.log out.old ++ put (text_of report) ∷ []) }
     ensures statuses { IsStatus result }
@@ -61,7 +61,7 @@ pub fn desk<R, C: Cabinet, S: Sink>(
     ensures handed { (names : List Word) → job_of (words_of words.now) ≡ Some (Allocate names)
         → result ≡ 0 →
         LogGrew (C.log cabinet.old) (PassedWhole (C.files cabinet.old) (file_names names))
-            (C.log cabinet.new)
+        (C.log cabinet.new)
         × (S.log out.new ≡ S.log out.old ++ put (text_of settled) ∷ []) }
 
     // Done: the certificate and then the replies are written, the sink got the four stage lines,
@@ -93,7 +93,7 @@ pub fn desk<R, C: Cabinet, S: Sink>(
     ensures cut { result ≡ 6 → Rose (S.fault_count out.old) (S.fault_count out.new)
         × ((report : Report)
         × WorkEnds (job_of (words_of words.now)) (world_of C.files C.fault_count C.log cabinet.old)
-            report (world_of C.files C.fault_count C.log cabinet.new)
+        report (world_of C.files C.fault_count C.log cabinet.new)
         × PutsPart (S.contents out.old) (text_of report) (S.contents out.new)
         × (S.log out.new ≡ S.log out.old ++ put_failed (text_of report) ∷ [])) }
 

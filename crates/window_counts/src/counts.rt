@@ -6,9 +6,8 @@ ghost use Rattle.choice_problem.specs.Strips.{IsPartInRange};
 ghost use Rattle.window_counts.specs.Counts.{listed_uses};
 
 use crate::adding::add_all;
-use crate::fitting::{first_above, part_fits};
-use crate::taking::take_part;
-use choice_problem::Part;
+use crate::fitting::part_fits;
+use choice_problem::{Part, first_above_limit};
 use slot_text::Memory;
 use std::alloc::Global;
 use std::marker::Model;
@@ -34,8 +33,8 @@ impl Counts {
     ghost use Rattle.std.specs.Prelude.{◌≡◌, ◌↔◌, ℕ, ◌+◌, ◌^◌, ◌<◌, ◌≤◌, List, [], ◌++◌, ◌∷◌, length, slice_index, All, IsTrue, IfOk, IfSome, IfNone, pos, ◌≤ℤ◌, ◌<ℤ◌};
     ghost use Rattle.choice_problem.specs.declared.strips.Strip.{Strip};
     ghost use Rattle.choice_problem.specs.Strips.{part_uses, IsPartInRange};
-    ghost use Rattle.choice_problem.specs.Counts.{GrowsBy, HasRoom};
-    ghost use Rattle.window_counts.specs.Counts.{listed_uses, AreCountsOf, HasUses, FitsWith, IsFirstAbove, limit_at};
+    ghost use Rattle.choice_problem.specs.Counts.{GrowsBy, HasRoom, HasUses, IsFirstAbove, limit_at};
+    ghost use Rattle.window_counts.specs.Counts.{listed_uses, AreCountsOf, FitsWith};
 
     /// The counts of these parts: one step a resource and a use. The resources are numbered from 0; the parts stay within
     /// them, and each is used fewer than 2^32 times.
@@ -78,7 +77,7 @@ impl Counts {
         ensures uses { GrowsBy self.new self.old (λ r. part_uses part.now r) }
         ensures listed { (before after : List (List Strip)) → AreCountsOf (before ++ part.now ∷ after) self.old → AreCountsOf (before ++ after) self.new }
     {
-        take_part(&mut self.counts, part.strips());
+        part.take_uses(&mut self.counts);
     }
 
     /// Whether the part fits beside what is counted: whether at each resource that it uses, the count and the part's uses
@@ -108,6 +107,6 @@ impl Counts {
         ensures some { IfSome result (IsFirstAbove self.now limits.now) }
         ensures none { IfNone result ((r : ℕ) → r < length self.now → pos (slice_index self.now r) ≤ℤ limit_at limits.now r) }
     {
-        first_above(&self.counts, limits)
+        first_above_limit(&self.counts, limits)
     }
 }

@@ -1,8 +1,8 @@
-//! Whether a part fits beside what is counted, and which count is above its limit.
+//! Whether a part fits beside what is counted.
 
-ghost use Rattle.std.specs.Prelude.{◌≡◌, ◌↔◌, ℕ, ◌+◌, ◌^◌, ◌<◌, ◌≤◌, length, slice_index, IsTrue, IfSome, IfNone, pos, ◌≤ℤ◌};
+ghost use Rattle.std.specs.Prelude.{◌≡◌, ◌↔◌, ℕ, ◌+◌, ◌^◌, ◌<◌, ◌≤◌, length, slice_index, IsTrue, pos, ◌≤ℤ◌};
 ghost use Rattle.choice_problem.specs.Strips.{strip_uses, part_uses, IsStripInRange, IsPartInRange};
-ghost use Rattle.window_counts.specs.Counts.{FitsWith, IsFirstAbove, KeepsLimit, limit_at};
+ghost use Rattle.window_counts.specs.Counts.{FitsWith, KeepsLimit};
 
 use choice_problem::{Part, Strip};
 
@@ -63,19 +63,4 @@ fn is_within(count: u32, uses: u32, limit: i64) -> bool
     ensures { IsTrue result ↔ (pos (count + uses) ≤ℤ limit) }
 {
     i64::from(count) + i64::from(uses) <= limit
-}
-
-// The lowest resource whose count is above its limit.
-pub(crate) fn first_above(counts: &[u32], limits: &[i64]) -> Option<u32>
-    requires resources { length counts.now < 2 ^ 32 }
-    requires limits { length limits.now ≡ length counts.now }
-    ensures some { IfSome result (IsFirstAbove counts.now limits.now) }
-    ensures none { IfNone result ((r : ℕ) → r < length counts.now → pos (slice_index counts.now r) ≤ℤ limit_at limits.now r) }
-{
-    for at in 0..counts.len() {
-        if !is_within(counts[at], 0, limits[at]) {
-            return Some(at as u32);
-        }
-    }
-    None
 }

@@ -1,7 +1,7 @@
 use Rattle.std.proofs.Common.{arith, List}
 use Rattle.std.proofs.lemmas.List.{length-map}
 use Rattle.choice_problem.specs.declared.vectors.Price.{Price}
-use Rattle.dual_bound.specs.Tables.{TableView}
+use Rattle.price_table.specs.Tables.{TableView}
 use Rattle.branch_tree.proofs.closings.closing_leaf.Goals as goal
 
 pub returns-in_err-found-clause-none : goal.returns-in_err-found-clause-none
