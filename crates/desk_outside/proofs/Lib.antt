@@ -2,4 +2,4 @@ mod Walks
 mod SlotLemmas
 mod CabinetLemmas
 mod WriteLemmas
-pub mod FilesLemmas
+mod FilesLemmas

@@ -1,11 +1,13 @@
-//! The outside of the desk: a cabinet of files and a sink of bytes, in memory and over the real system.
-//! Each says what it holds, where that is told, counts its faults, and keeps a log in proofs alone of what passed through it.
+//! The outside of the desk: a cabinet of files and a sink of bytes, in memory and over the real
+//! system. Each says what it holds, where that is told, counts its faults, and keeps a log in
+//! proofs alone of what passed through it.
 #![tactic(auto)]
 
 mod buffer;
 mod cabinet;
 mod failures;
 mod gate;
+pub mod laws;
 mod log;
 mod memory_cabinet;
 mod memory_sink;

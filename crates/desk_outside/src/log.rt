@@ -5,7 +5,8 @@ ghost use Rattle.desk_outside.specs.Passages.{Passage};
 
 use std::marker::Model;
 
-/// The passages so far, the earliest first. It has no bytes at run time, and its methods do nothing there.
+/// The passages so far, the earliest first. It has no bytes at run time, and its methods do nothing
+/// there.
 #[derive(Drop)]
 pub(crate) struct Log {
     ghost passages: { List Passage },

@@ -1,9 +1,12 @@
-ghost use Rattle.std.specs.Prelude.{is_ok, ◌≡◌, ◌≤◌, ◌++◌, ◌∷◌, [], ℕ, Some, Option, IfOk, IfErr, OnOk, OnErr, if◌then◌else◌};
+ghost use Rattle.std.specs.Prelude.{is_ok, ◌≡◌, ◌≤◌, ◌++◌, ◌∷◌, [], ℕ, Some, Option, IfOk, IfErr};
+ghost use Rattle.std.specs.Prelude.{OnOk, OnErr, if◌then◌else◌};
 ghost use Rattle.std.specs.Option.{option_copied};
 ghost use Rattle.desk_outside.specs.Cause.{HasCause};
 ghost use Rattle.desk_outside.specs.Files.{Files, Reads, Writes, WritesPart};
-ghost use Rattle.desk_outside.specs.InMemory.{new_cabinet, bytes_under, has_room, with_loaded, next_failure, with_call, with_fault};
-ghost use Rattle.desk_outside.specs.InMemory.{found_file, read_answer, GivesFile, after_read, takes_file, with_taken, after_write};
+ghost use Rattle.desk_outside.specs.InMemory.{new_cabinet, bytes_under, has_room, with_loaded};
+ghost use Rattle.desk_outside.specs.InMemory.{next_failure, with_call, with_fault};
+ghost use Rattle.desk_outside.specs.InMemory.{found_file, read_answer, GivesFile, after_read};
+ghost use Rattle.desk_outside.specs.InMemory.{takes_file, with_taken, after_write};
 ghost use Rattle.desk_outside.specs.Noted.{passage_of};
 ghost use Rattle.desk_outside.specs.Passages.{with_read, with_write};
 
@@ -17,9 +20,10 @@ use std::marker::Model;
 
 /// Files in memory, in room that is taken when the cabinet is made.
 ///
-/// Contracts see its files by name, its room, the calls that are to fail, how many calls it has had and how many
-/// of them failed, and what passed. A call is a `read` or a `write`; it fails where its number is listed, and a `write` also where
-/// its file has no room: a name over 255 bytes, more bytes than the room of a file, or no place for one more file.
+/// Contracts see its files by name, its room, the calls that are to fail, how many calls it has had
+/// and how many of them failed, and what passed. A call is a `read` or a `write`; it fails where
+/// its number is listed, and a `write` also where its file has no room: a name over 255 bytes, more
+/// bytes than the room of a file, or no place for one more file.
 #[derive(Drop)]
 pub struct MemoryCabinet {
     slots: Vec<Slot>,
@@ -51,7 +55,8 @@ impl Model for MemoryCabinet {
 }
 
 impl MemoryCabinet {
-    /// An empty cabinet with room for `file_limit` files of at most `byte_limit` bytes each, whose calls named in
+    /// An empty cabinet with room for `file_limit` files of at most `byte_limit` bytes each, whose
+    /// calls named in
     /// `failing` will fail. `Memory` where that room could not be taken; no later call but a read wants memory.
     pub fn new(
         alloc: Global,
@@ -59,7 +64,8 @@ impl MemoryCabinet {
         byte_limit: usize,
         failing: Vec<Failure>,
     ) -> Result<MemoryCabinet, Memory>
-        ensures { IfOk result (λ cabinet. cabinet ≡ new_cabinet file_limit byte_limit failing.items) }
+        ensures { IfOk result (λ cabinet.
+            cabinet ≡ new_cabinet file_limit byte_limit failing.items) }
     {
         let slots = new_slots(alloc, file_limit, byte_limit)?;
         Ok(MemoryCabinet {
@@ -80,8 +86,8 @@ impl MemoryCabinet {
         Some(self.slots[at].bytes.bytes())
     }
 
-    /// Puts a file in, or other bytes under its name, before or between the calls that are counted. False where it
-    /// has no room, and then nothing changes.
+    /// Puts a file in, or other bytes under its name, before or between the calls that are counted.
+    /// False where it has no room, and then nothing changes.
     pub fn load(&mut self, name: &str, bytes: &[u8]) -> bool
         ensures answer { result ≡ has_room self.old name.now bytes.now }
         ensures files { self.new ≡ with_loaded self.old name.now bytes.now }
@@ -214,8 +220,8 @@ impl Cabinet for MemoryCabinet {
     fn write(&mut self, name: &str, bytes: &[u8]) -> Result<(), CabinetFault>
         ensures ok { OnOk result (Writes (Some (bytes_under self.old.files)) name.now bytes.now
             (Some (bytes_under self.new.files))) }
-        ensures part { OnErr result (WritesPart (Some (bytes_under self.old.files)) name.now bytes.now
-            (Some (bytes_under self.new.files))) }
+        ensures part { OnErr result (WritesPart (Some (bytes_under self.old.files))
+            name.now bytes.now (Some (bytes_under self.new.files))) }
         ensures failed { IfErr result (λ e. e ≡ CabinetFault.Failed) }
         ensures cause { HasCause self.old.faults self.new.faults result }
         ensures passed { self.new.log ≡ with_write self.old.log name.now bytes.now result }

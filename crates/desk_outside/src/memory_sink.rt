@@ -1,4 +1,5 @@
-ghost use Rattle.std.specs.Prelude.{is_ok, ◌≡◌, ◌≤◌, ◌++◌, ◌∷◌, [], ℕ, List, Option, Some, IfOk, OnOk, OnErr};
+ghost use Rattle.std.specs.Prelude.{is_ok, ◌≡◌, ◌≤◌, ◌++◌, ◌∷◌, [], ℕ, List, Option, Some, IfOk};
+ghost use Rattle.std.specs.Prelude.{OnOk, OnErr};
 ghost use Rattle.desk_outside.specs.Cause.{HasCause};
 ghost use Rattle.desk_outside.specs.Bytes.{Puts, PutsPart};
 ghost use Rattle.desk_outside.specs.InMemory.{new_sink, takes_bytes, after_put};
@@ -15,9 +16,9 @@ use std::marker::Model;
 
 /// Bytes in memory, in room that is taken when the sink is made.
 ///
-/// Contracts see its bytes, its room, the calls that are to fail, how many calls of `put` it has had and how many
-/// of them failed, and what passed. A put fails where its number is listed, and where its bytes pass the room that is left; in the
-/// second case none of them is appended.
+/// Contracts see its bytes, its room, the calls that are to fail, how many calls of `put` it has
+/// had and how many of them failed, and what passed. A put fails where its number is listed, and
+/// where its bytes pass the room that is left; in the second case none of them is appended.
 #[derive(Drop)]
 pub struct MemorySink {
     buffer: Buffer,
@@ -42,8 +43,8 @@ impl Model for MemorySink {
 }
 
 impl MemorySink {
-    /// An empty sink with room for `byte_limit` bytes, whose calls named in `failing` will fail. `Memory` where that
-    /// room could not be taken; no later call wants memory.
+    /// An empty sink with room for `byte_limit` bytes, whose calls named in `failing` will fail.
+    /// `Memory` where that room could not be taken; no later call wants memory.
     pub fn new(
         alloc: Global,
         byte_limit: usize,
@@ -103,12 +104,14 @@ impl Sink for MemorySink {
 
     fn put(&mut self, bytes: &[u8]) -> Result<(), SinkFault>
         ensures ok { OnOk result (Puts (Some self.old.bytes) bytes.now (Some self.new.bytes)) }
-        ensures part { OnErr result (PutsPart (Some self.old.bytes) bytes.now (Some self.new.bytes)) }
+        ensures part { OnErr result
+            (PutsPart (Some self.old.bytes) bytes.now (Some self.new.bytes)) }
         ensures cause { HasCause self.old.faults self.new.faults result }
         ensures passed { self.new.log ≡ with_put self.old.log bytes.now result }
         ensures gives { is_ok result ≡ takes_bytes self.old bytes.now }
-        ensures after { self.new
-            ≡ record (after_put self.old bytes.now) { log = with_put self.old.log bytes.now result } }
+        ensures after { self.new ≡ record (after_put self.old bytes.now) {
+          log = with_put self.old.log bytes.now result;
+        } }
     {
         if self.put_counted(bytes) {
             self.note(&Note::Put(bytes));

@@ -11,12 +11,12 @@ use std::marker::Model;
 use std::rt::Files;
 use std::{fs, io};
 
-/// The files of the system, by their paths. It does not tell what they hold: contracts see the count of its faults and
-/// what passed.
+/// The files of the system, by their paths. It does not tell what they hold: contracts see the
+/// count of its faults and what passed.
 ///
 /// `Missing` where no file stands under the path, `Larger` where its bytes are more than the caller takes, `Failed`
-/// for everything else that the system refuses, a folder in the place of a file among them. Each of the three
-/// raises the count.
+/// for everything else that the system refuses, a folder in the place of a file among them. Each of
+/// the three raises the count.
 #[derive(Drop)]
 pub struct RealCabinet<'a, R: Files> {
     rt: &'a R,
@@ -104,7 +104,8 @@ fn read_file<R: Files>(
 
 fn open_fault(error: &io::Error) -> CabinetFault
     ensures missing { error_kind error.now ≡ ErrorKind.NotFound → result ≡ CabinetFault.Missing }
-    ensures failed { (error_kind error.now ≡ ErrorKind.NotFound → ⊥) → result ≡ CabinetFault.Failed }
+    ensures failed { (error_kind error.now ≡ ErrorKind.NotFound → ⊥)
+        → result ≡ CabinetFault.Failed }
 {
     match error.kind() {
         ErrorKind::NotFound => CabinetFault::Missing,
@@ -112,7 +113,8 @@ fn open_fault(error: &io::Error) -> CabinetFault
     }
 }
 
-/// All bytes of the reader, if they are no more than `most`; of others no more than `most + 1` are read. Room for
+/// All bytes of the reader, if they are no more than `most`; of others no more than `most + 1` are
+/// read. Room for
 /// `expected` bytes is taken at once, so a file of that length is read into its place and never moved.
 fn read_whole<F: Read + Drop>(
     file: F,
@@ -121,8 +123,10 @@ fn read_whole<F: Read + Drop>(
     most: usize,
 ) -> Result<Vec<u8>, CabinetFault>
     ensures within { IfOk result (λ bytes. vec_len bytes ≤ most) }
-    ensures whole { IfOk result (λ bytes. IfSome (F.remaining file) (λ known. bytes.items ≡ known)) }
-    ensures larger { IfErr result (λ fault. fault ≡ CabinetFault.Larger → IfSome (F.remaining file) (λ known. most < length known)) }
+    ensures whole { IfOk result (λ bytes.
+        IfSome (F.remaining file) (λ known. bytes.items ≡ known)) }
+    ensures larger { IfErr result (λ fault. fault ≡ CabinetFault.Larger
+        → IfSome (F.remaining file) (λ known. most < length known)) }
 {
     let room = usize::try_from(expected).map_or(most, |expected| expected.min(most));
     let Ok(mut bytes) = Vec::with_capacity(alloc, room) else {

@@ -6,8 +6,9 @@ use std::io;
 use std::io::Write;
 use std::marker::Model;
 
-/// The standard output. It does not tell what it was given: contracts see the count of its faults and what
-/// passed. Nothing is held back: what a put was given stands in the output when it returns.
+/// The standard output. It does not tell what it was given: contracts see the count of its faults
+/// and what passed. Nothing is held back: what a put was given stands in the output when it
+/// returns.
 #[derive(Drop)]
 pub struct RealSink<'a, R: Print> {
     rt: &'a R,

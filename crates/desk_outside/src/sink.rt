@@ -9,8 +9,8 @@ pub struct SinkFault;
 
 /// Where bytes go, one after the other.
 ///
-/// Every sink has a log of the bytes of each put, also of one that failed, whether it tells its contents or not. It
-/// stands in proofs alone.
+/// Every sink has a log of the bytes of each put, also of one that failed, whether it tells its
+/// contents or not. It stands in proofs alone.
 pub trait Sink {
     /// What was put so far, where it is told.
     ghost contents: { Self → Option (List ℕ) };

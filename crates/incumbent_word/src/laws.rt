@@ -1,14 +1,15 @@
 //! Laws of the search itself, which no thread has a part in.
 ghost use Rattle.std.specs.Prelude.{◌≡◌, ◌⊎◌, ◌+◌, ◌==◌, ℕ, List, ◌++◌, length, Option, None};
 ghost use Rattle.std.specs.List.{count_by};
-ghost use Rattle.incumbent_word.specs.Core.{Core, opening, Runs, IsLawful, AtMost, lesser, EachOnce};
+ghost use Rattle.incumbent_word.specs.Core.{Core, opening, Runs, IsLawful, AtMost, lesser};
+ghost use Rattle.incumbent_word.specs.Core.{EachOnce};
 ghost use Rattle.incumbent_word.specs.declared.view.Terms.{Terms};
 ghost use Rattle.incumbent_word.specs.declared.view.Event.{Event};
 
-/// Over every list of events: the least cost is the smallest of the start and of all posted costs, and it
-/// never rises. No worker ever saw a cost below the last least one, above the start or above its own best.
-/// Each piece below the claimed count and each number below the taken count, cut at their bounds, is one
-/// worker's, once.
+/// Over every list of events: the least cost is the smallest of the start and of all posted costs,
+/// and it never rises. No worker ever saw a cost below the last least one, above the start or above
+/// its own best. Each piece below the claimed count and each number below the taken count, cut at
+/// their bounds, is one worker's, once.
 pub fn search_core()
     ensures { (t : Terms) (xs ys : List Event) (middle last : Core)
         → Runs t (opening t) xs middle → Runs t middle ys last → IsLawful t xs ys middle last }
@@ -28,9 +29,11 @@ pub fn costs()
     ensures either { (a b : Option ℕ) → (lesser a b ≡ a) ⊎ (lesser a b ≡ b) }
 {}
 
-/// How often a number stands in a list, and how long a list is in which each number below a bound stands once.
+/// How often a number stands in a list, and how long a list is in which each number below a bound
+/// stands once.
 pub fn counts()
     ensures appended { (x : ℕ) (xs ys : List ℕ) → count_by (λ y. y == x) (xs ++ ys)
         ≡ count_by (λ y. y == x) xs + count_by (λ y. y == x) ys }
-    ensures once { (xs : List ℕ) (n : ℕ) → EachOnce (λ x. count_by (λ y. y == x) xs) n → length xs ≡ n }
+    ensures once { (xs : List ℕ) (n : ℕ) → EachOnce (λ x. count_by (λ y. y == x) xs) n
+        → length xs ≡ n }
 {}

@@ -10,9 +10,9 @@ use Rattle.season_days.specs.declared.declaration.Declaration.{Declaration}
 use Rattle.historic_reader.specs.Historic.{IsHistoricText}
 use Rattle.slot_program.specs.Words.{Word}
 use Rattle.slot_program.specs.Capacity.{IsCapacityText, IsCapacityForm}
-use Rattle.slot_program.specs.Reports.{Report, settled, no_command, missing, large, unread, unwritten, unbuilt}
+use Rattle.slot_program.specs.Reports.{Report, settled, no_command, missing, large, unread, unwritten, unbuilt, status_of, text_of}
 use Rattle.slot_program.specs.Desk.{FileNames, file_names, FitsEveryWindow}
-use Rattle.slot_program.specs.Handed.{LogGrew, IsHanded, IsHandedPlan, PassedWhole, PassedBefore, PassedBad, PassedPart, AllocationPassed, IsOfAllocation, JobPassed, OnlyOfJob, certificate_bytes}
+use Rattle.slot_program.specs.Handed.{LogGrew, IsHanded, IsHandedPlan, PassedWhole, PassedBefore, PassedBad, PassedPart, AllocationPassed, IsOfAllocation, JobPassed, OnlyOfJob, World, WorkEnds, certificate_bytes}
 use Rattle.slot_program.specs.HandedStops.{StopPassed}
 use Rattle.slot_program.specs.Stops.{name_of, report_of, IsReadStop, IsFormStop}
 use Rattle.slot_program.specs.declared.job.Job.{Job}
@@ -22,6 +22,7 @@ use Rattle.slot_program.specs.declared.refusal.File.TheVariants.{Capacity, Reque
 use Rattle.slot_program.specs.declared.refusal.Refusal.TheVariants.{Missing, Large, Unread, Unwritten, Unbuilt}
 use Rattle.slot_program.specs.declared.refusal.Stop.{Stop}
 use Rattle.slot_program.specs.declared.refusal.Stop.TheVariants.{Refused, Memory}
+use Rattle.slot_program.proofs.DeskLemmas.{settles}
 use Rattle.slot_program.proofs.WindowLemmas.{arrival_fits}
 
 -- ---- logs that grow
@@ -188,3 +189,22 @@ only_of_job (Some (Allocate names)) files report log after (passed, e, h) = (pas
 pub stop_of : (files : Option Files) (names : FileNames) (stop : Stop) (log after : List Passage) → LogGrew log (StopPassed files names stop) after → LogGrew log (All (IsOfAllocation names)) after
 stop_of files names Memory log after (passed, e, h) = (passed, e, h)
 stop_of files names (Refused refusal) log after (passed, e, h) = (passed, e, passed_of names files (report_of names refusal) passed h)
+
+-- the same by the names that the words give
+module _ (files : Option Files) (n : FileNames) (names : List Word) (is : n ≡ file_names names) (log after : List Passage) where
+  pub whole_asked : LogGrew log (PassedWhole files n) after → LogGrew log (OnlyOfJob (Some (Allocate names))) after
+  whole_asked h = only_of_job (Some (Allocate names)) files settled log after (subst (λ (m : FileNames). LogGrew log (PassedWhole files m) after) is h)
+
+  pub stop_asked : (stop : Stop) → LogGrew log (StopPassed files n stop) after → LogGrew log (OnlyOfJob (Some (Allocate names))) after
+  stop_asked stop h = subst (λ (m : FileNames). LogGrew log (All (IsOfAllocation m)) after) is (stop_of files n stop log after h)
+
+-- status 0 of an allocation
+module _ (job : Option Job) (names : List Word) (before after : World) (report : Report) (is : job ≡ Some (Allocate names)) (zero : status_of report ≡ 0) (work : WorkEnds job before report after) where
+  at_names : WorkEnds (Some (Allocate names)) before report after
+  at_names = subst (λ (o : Option Job). WorkEnds o before report after) is work
+
+  pub zero_settled : report ≡ settled
+  zero_settled = (settles before.files (file_names names) before.faults after.faults report after.files zero at_names.ends).0
+
+  pub zero_passed : LogGrew before.log (PassedWhole before.files (file_names names)) after.log
+  zero_passed = subst (λ (r : Report). LogGrew before.log (AllocationPassed before.files (file_names names) r) after.log) zero_settled at_names.passed

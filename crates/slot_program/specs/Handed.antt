@@ -1,6 +1,7 @@
--- What passes between a command and the cabinet, said of the bytes that were handed out, whoever handed them out. Where the
--- cabinet tells what it holds, they are the bytes of its files.
-use Rattle.std.specs.Prelude.{◌≡◌, ◌⊎◌, ℕ, ◌≤◌, List, [], ◌∷◌, ◌++◌, length, Option, Some, None, All, Contains}
+-- What passes between a command and the cabinet, said of the bytes that were handed out, whoever
+-- handed them out. Where the cabinet tells what it holds, they are the bytes of its files.
+use Rattle.std.specs.Prelude.{◌≡◌, ◌⊎◌, ℕ, ◌≤◌, List, [], ◌∷◌, ◌++◌, length, Option, Some, None}
+use Rattle.std.specs.Prelude.{All, Contains}
 use Rattle.slot_text.specs.Forms.{IsFirstBadLine}
 use Rattle.desk_outside.specs.Files.{Files}
 use Rattle.desk_outside.specs.Passages.{Passage, read, wrote, write_failed, put, put_failed}
@@ -11,9 +12,11 @@ use Rattle.scr_reader.specs.declared.message.Message.{Message}
 use Rattle.slot_program.specs.Words.{Word}
 use Rattle.slot_program.specs.Capacity.{IsCapacityText, IsCapacityForm}
 use Rattle.slot_program.specs.Texts.{certificate_text, settled_stages, confirmation}
-use Rattle.slot_program.specs.Reports.{Report, settled, no_command, missing, large, unread, unwritten, unbuilt, status_of, text_of}
+use Rattle.slot_program.specs.Reports.{Report, settled, no_command, missing, large, unread}
+use Rattle.slot_program.specs.Reports.{unwritten, unbuilt, status_of, text_of}
 use Rattle.slot_program.specs.Order.{longest_file}
-use Rattle.slot_program.specs.Desk.{FileNames, file_names, read_names, written_names, FitsEveryWindow, Ends}
+use Rattle.slot_program.specs.Desk.{FileNames, file_names, read_names, written_names}
+use Rattle.slot_program.specs.Desk.{FitsEveryWindow, Ends}
 use Rattle.slot_program.specs.Stops.{Holds}
 use Rattle.slot_program.specs.declared.job.Job.{Job}
 use Rattle.slot_program.specs.declared.job.Job.TheVariants.{Allocate}
@@ -43,14 +46,17 @@ pub record IsHandedPlan (files : Option Files) (names : FileNames) (capacity req
 abbrev pub certificate_bytes : List ℕ
 certificate_bytes = certificate_text settled_stages
 
--- Done: the capacity file and the requests were read, then the certificate and the replies were written. What the
--- certificate says is so of the two texts that were read, and the replies confirm the one line of the second.
+-- Done: the capacity file and the requests were read, then the certificate and the replies were
+-- written. What the certificate says is so of the two texts that were read, and the replies confirm
+-- the one line of the second.
 abbrev pub PassedWhole : Option Files → FileNames → List Passage → Type 0
 PassedWhole files names passed =
-    (capacity requests replies : List ℕ) × (plan : IsHandedPlan files names capacity requests replies)
+    (capacity requests replies : List ℕ)
+    × (plan : IsHandedPlan files names capacity requests replies)
     × FitsEveryWindow plan.declaration plan.historic.asked
     × (passed
-    ≡ read names.capacity capacity ∷ read names.requests requests ∷ wrote names.certificate certificate_bytes
+    ≡ read names.capacity capacity ∷ read names.requests requests
+    ∷ wrote names.certificate certificate_bytes
     ∷ wrote names.replies replies ∷ [])
 
 -- a file was not handed out: the capacity file, or the requests after a capacity file in its form
@@ -81,7 +87,8 @@ PassedPart files names name passed =
     ≡ read names.capacity capacity ∷ read names.requests requests
     ∷ write_failed names.certificate certificate_bytes ∷ []))
     ⊎ ((name ≡ names.replies) × (passed
-    ≡ read names.capacity capacity ∷ read names.requests requests ∷ wrote names.certificate certificate_bytes
+    ≡ read names.capacity capacity ∷ read names.requests requests
+    ∷ wrote names.certificate certificate_bytes
     ∷ write_failed names.replies replies ∷ [])))
 
 -- what passed in an allocation that ends with this report, from first to last
@@ -107,14 +114,16 @@ IsOfAllocation names (put_failed bytes) = ⊥
 -- what passed where a job ends with this report; words that are no job's let nothing pass
 abbrev pub JobPassed : Option Job → Option Files → Report → List Passage → Type 0
 JobPassed None files report passed = passed ≡ []
-JobPassed (Some (Allocate names)) files report passed = AllocationPassed files (file_names names) report passed
+JobPassed (Some (Allocate names)) files report passed =
+    AllocationPassed files (file_names names) report passed
 
 -- only files of the job passed
 abbrev pub OnlyOfJob : Option Job → List Passage → Type 0
 OnlyOfJob None passed = passed ≡ []
 OnlyOfJob (Some (Allocate names)) passed = All (IsOfAllocation (file_names names)) passed
 
--- what contracts see of a cabinet: its files, where they are told, the count of its faults, and what passed
+-- what contracts see of a cabinet: its files, where they are told, the count of its faults, and
+-- what passed
 pub record World : Type 0 where
   pub files : Option Files
   pub faults : ℕ
@@ -122,7 +131,8 @@ pub record World : Type 0 where
 
 -- the view of a cabinet, from what it tells
 abbrev pub world_of : {C : Type 0} → (C → Option Files) → (C → ℕ) → (C → List Passage) → C → World
-world_of files faults log cabinet = record { files = files cabinet; faults = faults cabinet; log = log cabinet }
+world_of files faults log cabinet =
+    record { files = files cabinet; faults = faults cabinet; log = log cabinet }
 
 -- the work of the job ends with this report
 pub record WorkEnds (job : Option Job) (before : World) (report : Report) (after : World) : Type 0 where

@@ -9,5 +9,6 @@ use Rattle.slot_program.specs.declared.refusal.Stop.{Stop}
 use Rattle.slot_program.specs.declared.refusal.Stop.TheVariants.{Refused, Memory}
 
 abbrev pub StopPassed : Option Files → FileNames → Stop → List Passage → Type 0
-StopPassed files names (Refused refusal) passed = AllocationPassed files names (report_of names refusal) passed
+StopPassed files names (Refused refusal) passed =
+    AllocationPassed files names (report_of names refusal) passed
 StopPassed files names Memory passed = All (IsOfAllocation names) passed

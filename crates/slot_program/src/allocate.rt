@@ -1,4 +1,5 @@
-ghost use Rattle.std.specs.Prelude.{◌≡◌, ◌≤◌, ◌∷◌, [], ◌++◌, ℕ, List, length, IfOk, IfErr, OnOk, OnErr};
+ghost use Rattle.std.specs.Prelude.{◌≡◌, ◌≤◌, ◌∷◌, [], ◌++◌, ℕ, List, length, IfOk, IfErr, OnOk};
+ghost use Rattle.std.specs.Prelude.{OnErr};
 ghost use Rattle.desk_outside.specs.Passages.{read, wrote, write_failed};
 ghost use Rattle.slot_text.specs.Forms.{IsFirstBadLine};
 ghost use Rattle.slot_text.specs.Stations.{IsStation};
@@ -12,13 +13,15 @@ ghost use Rattle.slot_program.specs.Texts.{certificate_text, settled_stages, con
 ghost use Rattle.slot_program.specs.Reports.{settled};
 ghost use Rattle.slot_program.specs.Order.{longest_file};
 ghost use Rattle.slot_program.specs.Desk.{AllocationEnds, written_names};
-ghost use Rattle.slot_program.specs.Stops.{names_of, name_of, IsStopped, Holds, IsReadStop, IsFormStop};
+ghost use Rattle.slot_program.specs.Stops.{names_of, name_of, IsStopped, Holds, IsReadStop};
+ghost use Rattle.slot_program.specs.Stops.{IsFormStop};
 ghost use Rattle.slot_program.specs.Messages.{HasOneLine, Confirms};
 ghost use Rattle.slot_program.specs.Handed.{LogGrew, PassedWhole};
 ghost use Rattle.slot_program.specs.HandedStops.{StopPassed};
 
 use crate::capacity::{CapacityFault, read_capacity};
 use crate::refusal::{File, Names, Refusal, Stop};
+use desk_outside::laws::file_changes;
 use desk_outside::{Cabinet, CabinetFault};
 use historic_reader::{HistoricFault, read_historic_message};
 use scr_reader::{Code, Item, Line, Message, print_header, print_line};
@@ -26,12 +29,13 @@ use season_days::Declaration;
 use slot_text::Memory;
 use std::alloc::Global;
 
-/// The certificate of one historic arrival: four stages that are optimal at cost 0, the first with one unit.
+/// The certificate of one historic arrival: four stages that are optimal at cost 0, the first with
+/// one unit.
 const CERTIFICATE: &[u8] =
     b"CERT 1\nSTAGE 1 OPTIMAL\nCHOICES 1\nC 0 0\nCOST 0\nVECTORS 0\nTREE 1\nL 0 1 0\nSTAGE 2 OPTIMAL\nCHOICES 0\nCOST 0\nVECTORS 0\nTREE 1\nL 0 1 0\nSTAGE 3 OPTIMAL\nCHOICES 0\nCOST 0\nVECTORS 0\nTREE 1\nL 0 1 0\nSTAGE 4 OPTIMAL\nCHOICES 0\nCOST 0\nVECTORS 0\nTREE 1\nL 0 1 0\nEND\n";
 
 /// The most bytes that are read of a file: 4 MiB.
-const MOST_BYTES: usize = 4_194_304;
+const LONGEST_FILE: usize = 4_194_304;
 
 /// Reads the capacity file and the requests, and writes the certificate and then the replies.
 pub(crate) fn allocate<C: Cabinet>(
@@ -50,6 +54,7 @@ pub(crate) fn allocate<C: Cabinet>(
     ensures others { ChangesOnly (C.files cabinet.old) (written_names (names_of names.now))
         (C.files cabinet.new) }
 {
+    file_changes();
     let capacity = read_file(alloc, names, File::Capacity, cabinet)?;
     let declaration = judge_capacity(alloc, &capacity)?;
     let requests = read_file(alloc, names, File::Requests, cabinet)?;
@@ -76,7 +81,7 @@ fn read_file<C: Cabinet>(
     ensures unchanged { C.files cabinet.new ≡ C.files cabinet.old }
     ensures kept { OnOk result (C.fault_count cabinet.new ≡ C.fault_count cabinet.old) }
 {
-    match cabinet.read(alloc, names.name(file), MOST_BYTES) {
+    match cabinet.read(alloc, names.name(file), LONGEST_FILE) {
         Ok(bytes) => Ok(bytes),
         Err(CabinetFault::Failed) => Err(Stop::Refused(Refusal::Unread(file))),
         Err(CabinetFault::Missing) => Err(Stop::Refused(Refusal::Missing(file))),

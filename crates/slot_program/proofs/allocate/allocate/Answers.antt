@@ -4,7 +4,7 @@ use Rattle.slot_program.proofs.TextLemmas.{certificate_is}
 use Rattle.std.proofs.lemmas.Result.{err_from_is_err_and}
 use Rattle.slot_program.specs.Desk.{written_names}
 use Rattle.slot_program.specs.Stops.{names_of}
-use Rattle.slot_program.proofs.DeskLemmas.{stop_capacity, stop_message, unchanged_only, write_only, part_only, then_only, planned, stop_first_write, stop_second_write, both_written, first_written, second_written}
+use Rattle.slot_program.proofs.DeskLemmas.{stop_capacity, stop_message, planned, stop_first_write, stop_second_write, both_written, first_written, second_written}
 use Rattle.desk_outside.specs.Passages.{Passage, read, wrote, write_failed}
 use Rattle.slot_program.specs.Handed.{IsHanded, IsHandedPlan, certificate_bytes}
 use Rattle.slot_program.specs.Capacity.{IsCapacityText}
@@ -20,19 +20,19 @@ returns-in_err-message-clause-stop g c = let files = g.C.Cabinet.files in let co
     (stop_message old (files c.read_file-2.new.cabinet) names (count c.args.cabinet.now) (count c.read_file-2.new.cabinet) c.deref.result.now c.deref-2.result.now c.in_ok-declaration.declaration c.in_err-message.field-0.0 (c.read_file-2.ensures.unchanged ∙ c.read_file.ensures.unchanged) (rw c.deref.ensures.value c.in_ok-capacity.ensures.held.0) (rw c.deref.ensures.value c.in_ok-capacity.ensures.held.1) c.in_ok-declaration.ensures.declared (rw (c.deref-2.ensures.value, ← c.read_file.ensures.unchanged) c.in_ok-requests.ensures.held.0) (rw c.deref-2.ensures.value c.in_ok-requests.ensures.held.1) c.in_err-message.ensures.stop)
 
 pub returns-in_err-message-clause-others : goal.returns-in_err-message-clause-others
-returns-in_err-message-clause-others g c = let files = g.C.Cabinet.files in let count = g.C.Cabinet.fault_count in let names = names_of c.args.names.now in let old = files c.args.cabinet.now in unchanged_only old (files c.read_file-2.new.cabinet) (written_names names) (c.read_file-2.ensures.unchanged ∙ c.read_file.ensures.unchanged)
+returns-in_err-message-clause-others g c = let files = g.C.Cabinet.files in let count = g.C.Cabinet.fault_count in let names = names_of c.args.names.now in let old = files c.args.cabinet.now in c.file_changes.ensures.unchanged old (files c.read_file-2.new.cabinet) (written_names names) (c.read_file-2.ensures.unchanged ∙ c.read_file.ensures.unchanged)
 
 pub returns-in_err-replies-clause-others : goal.returns-in_err-replies-clause-others
-returns-in_err-replies-clause-others g c = let files = g.C.Cabinet.files in let count = g.C.Cabinet.fault_count in let names = names_of c.args.names.now in let old = files c.args.cabinet.now in unchanged_only old (files c.read_file-2.new.cabinet) (written_names names) (c.read_file-2.ensures.unchanged ∙ c.read_file.ensures.unchanged)
+returns-in_err-replies-clause-others g c = let files = g.C.Cabinet.files in let count = g.C.Cabinet.fault_count in let names = names_of c.args.names.now in let old = files c.args.cabinet.now in c.file_changes.ensures.unchanged old (files c.read_file-2.new.cabinet) (written_names names) (c.read_file-2.ensures.unchanged ∙ c.read_file.ensures.unchanged)
 
 pub returns-in_err-write_file-clause-others : goal.returns-in_err-write_file-clause-others
-returns-in_err-write_file-clause-others g c = let files = g.C.Cabinet.files in let count = g.C.Cabinet.fault_count in let names = names_of c.args.names.now in let old = files c.args.cabinet.now in then_only old (files c.read_file-2.new.cabinet) (files c.write_file.new.cabinet) (written_names names) (unchanged_only old (files c.read_file-2.new.cabinet) (written_names names) (c.read_file-2.ensures.unchanged ∙ c.read_file.ensures.unchanged)) (part_only (files c.read_file-2.new.cabinet) (files c.write_file.new.cabinet) (written_names names) names.certificate _ (first_written names) c.in_err-write_file.ensures.part)
+returns-in_err-write_file-clause-others g c = let files = g.C.Cabinet.files in let count = g.C.Cabinet.fault_count in let names = names_of c.args.names.now in let old = files c.args.cabinet.now in c.file_changes.ensures.chained old (files c.read_file-2.new.cabinet) (files c.write_file.new.cabinet) (written_names names) (c.file_changes.ensures.unchanged old (files c.read_file-2.new.cabinet) (written_names names) (c.read_file-2.ensures.unchanged ∙ c.read_file.ensures.unchanged)) (c.file_changes.ensures.part (files c.read_file-2.new.cabinet) (files c.write_file.new.cabinet) (written_names names) names.certificate _ (first_written names) c.in_err-write_file.ensures.part)
 
 pub returns-in_err-write_file-2-clause-others : goal.returns-in_err-write_file-2-clause-others
-returns-in_err-write_file-2-clause-others g c = let files = g.C.Cabinet.files in let count = g.C.Cabinet.fault_count in let names = names_of c.args.names.now in let old = files c.args.cabinet.now in then_only old (files c.write_file.new.cabinet) (files c.write_file-2.new.cabinet) (written_names names) (then_only old (files c.read_file-2.new.cabinet) (files c.write_file.new.cabinet) (written_names names) (unchanged_only old (files c.read_file-2.new.cabinet) (written_names names) (c.read_file-2.ensures.unchanged ∙ c.read_file.ensures.unchanged)) (write_only (files c.read_file-2.new.cabinet) (files c.write_file.new.cabinet) (written_names names) names.certificate _ (first_written names) c.in_ok-write_file.ensures.ok)) (part_only (files c.write_file.new.cabinet) (files c.write_file-2.new.cabinet) (written_names names) names.replies _ (second_written names) c.in_err-write_file-2.ensures.part)
+returns-in_err-write_file-2-clause-others g c = let files = g.C.Cabinet.files in let count = g.C.Cabinet.fault_count in let names = names_of c.args.names.now in let old = files c.args.cabinet.now in c.file_changes.ensures.chained old (files c.write_file.new.cabinet) (files c.write_file-2.new.cabinet) (written_names names) (c.file_changes.ensures.chained old (files c.read_file-2.new.cabinet) (files c.write_file.new.cabinet) (written_names names) (c.file_changes.ensures.unchanged old (files c.read_file-2.new.cabinet) (written_names names) (c.read_file-2.ensures.unchanged ∙ c.read_file.ensures.unchanged)) (c.file_changes.ensures.whole (files c.read_file-2.new.cabinet) (files c.write_file.new.cabinet) (written_names names) names.certificate _ (first_written names) c.in_ok-write_file.ensures.ok)) (c.file_changes.ensures.part (files c.write_file.new.cabinet) (files c.write_file-2.new.cabinet) (written_names names) names.replies _ (second_written names) c.in_err-write_file-2.ensures.part)
 
 pub returns-clause-others : goal.returns-clause-others
-returns-clause-others g c = let files = g.C.Cabinet.files in let count = g.C.Cabinet.fault_count in let names = names_of c.args.names.now in let old = files c.args.cabinet.now in then_only old (files c.write_file.new.cabinet) (files c.write_file-2.new.cabinet) (written_names names) (then_only old (files c.read_file-2.new.cabinet) (files c.write_file.new.cabinet) (written_names names) (unchanged_only old (files c.read_file-2.new.cabinet) (written_names names) (c.read_file-2.ensures.unchanged ∙ c.read_file.ensures.unchanged)) (write_only (files c.read_file-2.new.cabinet) (files c.write_file.new.cabinet) (written_names names) names.certificate _ (first_written names) c.in_ok-write_file.ensures.ok)) (write_only (files c.write_file.new.cabinet) (files c.write_file-2.new.cabinet) (written_names names) names.replies _ (second_written names) c.in_ok-write_file-2.ensures.ok)
+returns-clause-others g c = let files = g.C.Cabinet.files in let count = g.C.Cabinet.fault_count in let names = names_of c.args.names.now in let old = files c.args.cabinet.now in c.file_changes.ensures.chained old (files c.write_file.new.cabinet) (files c.write_file-2.new.cabinet) (written_names names) (c.file_changes.ensures.chained old (files c.read_file-2.new.cabinet) (files c.write_file.new.cabinet) (written_names names) (c.file_changes.ensures.unchanged old (files c.read_file-2.new.cabinet) (written_names names) (c.read_file-2.ensures.unchanged ∙ c.read_file.ensures.unchanged)) (c.file_changes.ensures.whole (files c.read_file-2.new.cabinet) (files c.write_file.new.cabinet) (written_names names) names.certificate _ (first_written names) c.in_ok-write_file.ensures.ok)) (c.file_changes.ensures.whole (files c.write_file.new.cabinet) (files c.write_file-2.new.cabinet) (written_names names) names.replies _ (second_written names) c.in_ok-write_file-2.ensures.ok)
 
 pub returns-in_err-write_file-clause-stop : goal.returns-in_err-write_file-clause-stop
 returns-in_err-write_file-clause-stop g c = let files = g.C.Cabinet.files in let count = g.C.Cabinet.fault_count in let names = names_of c.args.names.now in let old = files c.args.cabinet.now in let p = err_from_is_err_and c.from_residual-in_err-write_file.result c.from_residual-in_err-write_file.ensures.1 in rw (p.1, p.2) (rw c.in_err-write_file.ensures.stop
