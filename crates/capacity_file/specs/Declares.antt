@@ -18,20 +18,23 @@ use Rattle.capacity_file.specs.declared.entry.Word.TheVariants.{Share as share_w
 abbrev pub AreRules : List (List ℕ) → List Rule → Type 0
 AreRules [] rules = rules ≡ []
 AreRules (line ∷ lines) rules =
-    ((rule : Rule) × (others : List Rule) × States line (Cap rule) × (rules ≡ rule ∷ others) × AreRules lines others)
+    ((rule : Rule) × (others : List Rule) × States line (Cap rule) × (rules ≡ rule ∷ others)
+    × AreRules lines others)
     ⊎ (((rule : Rule) → States line (Cap rule) → ⊥) × AreRules lines rules)
 
--- each value is stated on some line. Where no line states the share it is the usual one, and where none states a night
--- there is no quota
+-- each value is stated on some line. Where no line states the share it is the usual one, and where
+-- none states a night there is no quota
 pub record Declares (lines : List (List ℕ)) (d : Declaration) : Type 0 where
   pub airport : IsStated lines (Airport d.airport)
   pub season : IsStated lines (Season d.season)
   pub step : IsStated lines (Step d.step)
   pub flex : IsStated lines (Flex d.flex)
   pub ground_time : IsStated lines (Ground d.ground)
-  pub share : IsStated lines (Share d.share) ⊎ (LacksWord lines share_word × (d.share ≡ USUAL_SHARE))
+  pub share : IsStated lines (Share d.share)
+      ⊎ (LacksWord lines share_word × (d.share ≡ USUAL_SHARE))
   pub refuse : IsStated lines (Refuse d.refuse)
-  pub night : MatchOption d.night (LacksWord lines night_word) (λ night. IsStated lines (Night night))
+  pub night : MatchOption d.night (LacksWord lines night_word)
+      (λ night. IsStated lines (Night night))
   pub rules : AreRules lines d.rules
 
 -- the flexibility is a whole number of steps

@@ -28,7 +28,8 @@ word_of (Refuse price) = refuse_word
 word_of (Night night) = night_word
 word_of (Cap rule) = cap_word
 
--- the values that a line may state. Whether a FLEX is a multiple of the STEP, and small, no line shows by itself
+-- the values that a line may state. Whether a FLEX is a multiple of the STEP, and small, no line
+-- shows by itself
 abbrev pub IsAllowedEntry : Entry → Type 0
 IsAllowedEntry (Airport station) = IsStation station.0
 IsAllowedEntry (Season season) = season.year < 100
@@ -49,10 +50,12 @@ AreValues (Flex n) fields = fields ≡ decimal n ∷ []
 AreValues (Ground n) fields = fields ≡ decimal n ∷ []
 AreValues (Share n) fields = fields ≡ decimal n ∷ []
 AreValues (Refuse price) fields = fields ≡ price_text price ∷ []
-AreValues (Night night) fields = fields ≡ time_text night.from ∷ time_text night.to ∷ decimal night.limit ∷ []
+AreValues (Night night) fields = fields ≡ time_text night.from ∷ time_text night.to
+    ∷ decimal night.limit ∷ []
 AreValues (Cap rule) fields =
     (days : List ℕ) × IsDays days rule.days
-    × (fields ≡ kind_text rule.kind ∷ decimal rule.length ∷ time_text rule.from ∷ time_text rule.to ∷ days ∷ decimal rule.limit ∷ [])
+    × (fields ≡ kind_text rule.kind ∷ decimal rule.length ∷ time_text rule.from
+    ∷ time_text rule.to ∷ days ∷ decimal rule.limit ∷ [])
 
 -- ---- lines
 

@@ -20,7 +20,8 @@ pub record IsNight (night : Night) : Type 0 where
   pub differ : night.from ≢ night.to
   pub limit : night.limit ≤ HIGHEST_NIGHT_LIMIT
 
--- windows of at least a minute and at most a day, from one time of the day to a later or the same, on some weekday
+-- windows of at least a minute and at most a day, from one time of the day to a later or the same,
+-- on some weekday
 pub record IsCapacityLine (rule : Rule) : Type 0 where
   pub some_minutes : 1 ≤ rule.length
   pub at_most_a_day : rule.length ≤ MINUTES_OF_DAY

@@ -120,7 +120,8 @@ fn read_rule(rest: &[u8]) -> Option<Rule>
 
 /// Whether windows have minutes, a start and a weekday.
 fn is_usable(rule: &Rule) -> bool
-    ensures { IsTrue result ↔ ((1 ≤ rule.now.length) × (rule.now.from ≤ rule.now.to) × (1 ≤ rule.now.days)) }
+    ensures { IsTrue result ↔ ((1 ≤ rule.now.length) × (rule.now.from ≤ rule.now.to)
+        × (1 ≤ rule.now.days)) }
 {
     rule.length > 0 && rule.from <= rule.to && rule.days > 0
 }

@@ -19,18 +19,20 @@ use std::alloc::Global;
 
 /// The declaration of a capacity file.
 ///
-/// Its lines stand in any order, and empty ones are passed over. One pass over the bytes; memory is taken for the
-/// capacity lines alone.
+/// Its lines stand in any order, and empty ones are passed over. One pass over the bytes; memory is
+/// taken for the capacity lines alone.
 pub fn read_capacity(alloc: Global, bytes: &[u8]) -> Result<Declaration, CapFault>
     requires { length bytes.now < 2 ^ 32 }
     // What is read is what the text declares.
     ensures found { IfOk result (λ d. IsCapacityFile bytes.now d) }
     // What the text declares is read, unless memory runs out.
-    ensures only { (d : DeclarationValue) → IsCapacityFile bytes.now d → GivesOr NoMemory result (Ok d) }
+    ensures only { (d : DeclarationValue) → IsCapacityFile bytes.now d →
+        GivesOr NoMemory result (Ok d) }
     // A fault is one that the text has.
     ensures fault { IfErr result (λ e. HasCapacityFault bytes.now e ⊎ (e ≡ NoMemory)) }
     // The fault that the text has is answered, unless memory runs out.
-    ensures exact { (e : CapFaultValue) → HasCapacityFault bytes.now e → GivesOr NoMemory result (Err e) }
+    ensures exact { (e : CapFaultValue) → HasCapacityFault bytes.now e →
+        GivesOr NoMemory result (Err e) }
     // What is read keeps the limits that the windows of a declaration ask for.
     ensures capacity { IfOk result (λ d. IsCapacity (capacity_of d)) }
     // It keeps what the layers above ask of a declaration.
@@ -46,7 +48,10 @@ pub fn read_capacity(alloc: Global, bytes: &[u8]) -> Result<Declaration, CapFaul
 /// What all lines state.
 fn collect(alloc: Global, bytes: &[u8]) -> Result<Draft, CapFault>
     requires { length bytes.now < 2 ^ 32 }
-    ensures { MatchResult result (λ draft. Collected (lines_of bytes.now) (length (lines_of bytes.now)) draft.singles draft.rules.items) (λ e. HasCapacityFault bytes.now e ⊎ (e ≡ NoMemory)) }
+    ensures { MatchResult result
+        (λ draft. Collected (lines_of bytes.now) (length (lines_of bytes.now))
+        draft.singles draft.rules.items)
+        (λ e. HasCapacityFault bytes.now e ⊎ (e ≡ NoMemory)) }
 {
     let mut draft = Draft::new(alloc);
     let mut lines = Lines::new(bytes);

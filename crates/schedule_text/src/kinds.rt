@@ -6,7 +6,8 @@ use season_days::Kind;
 
 /// The movements that a word names: `ARR`, `DEP`, or `TOT` for both. None for every other text.
 pub fn read_kind(text: &[u8]) -> Option<Kind>
-    ensures { MatchOption result ((kind : KindValue) → text.now ≡ kind_text kind → ⊥) (λ kind. text.now ≡ kind_text kind) }
+    ensures { MatchOption result ((kind : KindValue) → text.now ≡ kind_text kind → ⊥)
+        (λ kind. text.now ≡ kind_text kind) }
 {
     match text {
         b"ARR" => Some(Kind::Arr),

@@ -1,5 +1,5 @@
-//! The parts of a schedule that several files spell alike: times of the day, days of operation (SSIM), and kinds
-//! of movements.
+//! The parts of a schedule that several files spell alike: times of the day, days of operation
+//! (SSIM), and kinds of movements.
 #![tactic(auto)]
 
 mod days;

@@ -6,11 +6,13 @@ const HOURS_OF_DAY: u8 = 24;
 
 const MINUTES_OF_HOUR: u8 = 60;
 
-/// The minute of the day that the text names: two digits of hours and two of minutes, from `0000` to `2359`. None for every
-/// other text.
+/// The minute of the day that the text names: two digits of hours and two of minutes, from `0000`
+/// to `2359`. None for every other text.
 pub fn read_time(text: &[u8]) -> Option<u16>
-    ensures found { IfSome result (λ minute. (minute < MINUTES_OF_DAY) × (text.now ≡ time_text minute)) }
-    ensures only { (minute : ℕ) → minute < MINUTES_OF_DAY → text.now ≡ time_text minute → result ≡ Some minute }
+    ensures found { IfSome result
+        (λ minute. (minute < MINUTES_OF_DAY) × (text.now ≡ time_text minute)) }
+    ensures only { (minute : ℕ) → minute < MINUTES_OF_DAY → text.now ≡ time_text minute →
+        result ≡ Some minute }
 {
     if text.len() != 4 {
         return None;
