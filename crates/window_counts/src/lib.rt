@@ -7,6 +7,7 @@
 mod adding;
 mod counts;
 mod fitting;
+mod joint;
 
 pub use counts::Counts;
 
