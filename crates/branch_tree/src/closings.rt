@@ -1,12 +1,13 @@
 //! Which vector with prices closes ranges.
 
-ghost use Rattle.std.specs.Prelude.{◌≡◌, ◌≤◌, length, All, IfSome, IfNone};
+ghost use Rattle.std.specs.Prelude.{◌≡◌, ◌≤◌, ◌∷◌, length, All, IfSome, IfNone};
 ghost use Rattle.choice_problem.specs.Bounds.{AreRanges};
 ghost use Rattle.price_table.specs.Tables.{IsTableFor, vectors_of};
+ghost use Rattle.price_table.specs.Totals.{AreKeptFor};
 ghost use Rattle.branch_tree.specs.Visits.{IsClosingLeaf, StaysOpenToAll, NeedsPrices, IsFirstClosing, AreOpen};
 
 use choice_problem::{Node, Problem, Ranges};
-use price_table::{PriceTable, closes};
+use price_table::{PriceTable, Totals, closes};
 
 // The scale of all vectors with prices.
 const SCALE: u64 = 1024;
@@ -32,6 +33,30 @@ pub(crate) fn priced_leaf(
     }
     let found = first_closing(problem, ranges, further, seen)?;
     Some(leaf(found + 2, SCALE, seen))
+}
+
+// The same by totals that are kept for the vectors.
+pub(crate) fn kept_leaf(
+    problem: &Problem,
+    ranges: &Ranges,
+    root: &PriceTable,
+    further: &[PriceTable],
+    totals: &[Totals],
+    seen: Option<u64>,
+) -> Option<Node>
+    requires few { length further.now ≤ 63 }
+    requires kept { AreKeptFor problem.now (root.now.prices ∷ vectors_of further.now) ranges.now totals.now }
+    requires needs { NeedsPrices problem.now ranges.now seen }
+    ensures some { IfSome result (IsClosingLeaf problem.now root.now.prices (vectors_of further.now) ranges.now seen) }
+    ensures none { IfNone result (StaysOpenToAll problem.now root.now.prices (vectors_of further.now) ranges.now seen) }
+{
+    let (_problem, _ranges, _root, _further) = (problem, ranges, root, further);
+    for place in 0..totals.len() {
+        if totals[place].closes(seen) {
+            return Some(leaf(place as u32 + 1, SCALE, seen));
+        }
+    }
+    None
 }
 
 // The leaf that names a vector and a scale, with what was seen.
