@@ -4,9 +4,11 @@ use Rattle.std.specs.Prelude.{IfOk}
 use Rattle.std.specs.List.{AllByRecursion}
 use Rattle.cert_format.specs.declared.cert.Certificate.{Certificate}
 use Rattle.cert_format.specs.declared.fault.CertFault.{CertFault}
-use Rattle.cert_format.specs.Lines.{Word, cert_lines_of, text_of}
-use Rattle.cert_format.specs.Spots.{Spot, Gives}
-use Rattle.cert_format.specs.Reading.{cert_at, cert_of}
+use Rattle.cert_format.specs.Lines.{Word, text_of}
+use Rattle.cert_format.specs.Private.Cuts.{cert_lines_of}
+use Rattle.cert_format.specs.Private.Spots.{Spot}
+use Rattle.cert_format.specs.Forms.{Gives}
+use Rattle.cert_format.specs.Private.Reading.{cert_at, cert_of}
 use Rattle.cert_format.specs.Spelling.{cert_lines, spelling, IsCert}
 use Rattle.cert_format.proofs.StageLemmas.{cert_takes, cert_again}
 use Rattle.cert_format.proofs.TextLemmas.{HasWord, lines_again, text_again, cert_is_lines, with_words}

@@ -6,11 +6,13 @@ use Rattle.cert_format.specs.declared.cert.Mark.{Mark}
 use Rattle.cert_format.specs.declared.cert.Mark.TheVariants.{Optimal, Infeasible, Unsettled, NotTried}
 use Rattle.cert_format.specs.declared.cert.StageCert.{StageCert}
 use Rattle.cert_format.specs.declared.fault.CertFault.{CertFault}
-use Rattle.cert_format.specs.Lines.{Word, cert_lines_of, text_of}
-use Rattle.cert_format.specs.Words.{◌>>=◌ as ◌>>?◌, after_tag, is_end}
-use Rattle.cert_format.specs.Rows.{extra_row, tried_mark, tried_row, mark_row, end_row}
-use Rattle.cert_format.specs.Spots.{Spot, ◌>>=◌, Gives, line_by}
-use Rattle.cert_format.specs.Reading.{proof_at, ended, extra_at, extra_of}
+use Rattle.cert_format.specs.Lines.{Word, text_of}
+use Rattle.cert_format.specs.Private.Cuts.{cert_lines_of}
+use Rattle.cert_format.specs.Private.Words.{◌>>=◌ as ◌>>?◌, after_tag, is_end}
+use Rattle.cert_format.specs.Private.Rows.{extra_row, tried_mark, tried_row, mark_row, end_row}
+use Rattle.cert_format.specs.Private.Spots.{Spot, ◌>>=◌, line_by}
+use Rattle.cert_format.specs.Forms.{Gives}
+use Rattle.cert_format.specs.Private.Reading.{proof_at, ended, extra_at, extra_of}
 use Rattle.cert_format.specs.Spelling.{is_tried, stage_words, proof_lines, extra_lines, extra_spelling, IsExtra}
 use Rattle.cert_format.proofs.WordLemmas.{bind_some, tag_takes, tag_again, end_takes}
 use Rattle.cert_format.proofs.RowLemmas.{mark_takes, mark_again, end_line_takes, end_line_again}

@@ -10,9 +10,11 @@ use Rattle.cert_format.specs.declared.cert.StageCert.{StageCert}
 use Rattle.cert_format.specs.declared.cert.Certificate.{Certificate}
 use Rattle.cert_format.specs.declared.fault.CertFault.{CertFault}
 use Rattle.cert_format.specs.declared.fault.CertFault.TheVariants.{BadLine, Memory}
-use Rattle.cert_format.specs.Lines.{Word, onto_line, onto_lines, cert_lines_of, spelled_line, text_of}
-use Rattle.cert_format.specs.Spots.{Spot, Gives}
-use Rattle.cert_format.specs.Reading.{cert_at, cert_of, extra_at, extra_of}
+use Rattle.cert_format.specs.Lines.{Word, spelled_line, text_of}
+use Rattle.cert_format.specs.Private.Cuts.{onto_line, onto_lines, cert_lines_of}
+use Rattle.cert_format.specs.Private.Spots.{Spot}
+use Rattle.cert_format.specs.Forms.{Gives}
+use Rattle.cert_format.specs.Private.Reading.{cert_at, cert_of, extra_at, extra_of}
 use Rattle.cert_format.specs.Spelling.{cert_lines, IsCert, extra_lines, IsExtra}
 use Rattle.cert_format.specs.Forms.{IsCertText, IsExtraText, IfBadLine}
 use Rattle.cert_format.proofs.BlockLemmas.{Line}

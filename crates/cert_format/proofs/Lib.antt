@@ -1,19 +1,22 @@
-pub mod LineLemmas
-pub mod WordLemmas
-pub mod LoopLemmas
-pub mod RowLemmas
-pub mod NodeRowLemmas
-pub mod BlockLemmas
-pub mod TreeLemmas
-pub mod StageLemmas
-pub mod TextLemmas
-pub mod CertLemmas
-pub mod WriteLemmas
-pub mod ExtraLemmas
-pub mod PrintLemmas
-pub mod RangeLemmas
-pub mod StopLemmas
-pub mod WholeLemmas
-pub mod SteadyLemmas
-pub mod FirstBadLemmas
-pub mod OneBadLineLemmas
+mod LineLemmas
+mod WordLemmas
+mod LoopLemmas
+mod RowLemmas
+mod NodeRowLemmas
+mod BlockLemmas
+mod TreeLemmas
+mod StageLemmas
+mod TextLemmas
+mod CertLemmas
+mod WriteLemmas
+mod ExtraLemmas
+mod PrintLemmas
+mod RangeLemmas
+mod StopLemmas
+mod WholeLemmas
+mod SteadyLemmas
+mod FirstBadLemmas
+mod OneBadLineLemmas
+mod CountLemmas
+mod ProvenLemmas
+mod PrintableLemmas

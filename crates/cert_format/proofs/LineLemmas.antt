@@ -1,7 +1,8 @@
 -- Where a line and a word end.
 use Rattle.std.proofs.Common.{◌≡◌, ℕ, zero, suc, ◌+◌, ◌-◌, ◌<◌, eqb, List, [], ◌∷◌, length, get_or, take, drop, refl, sym, ap, ◌∙◌, arith, add-one, take_all, length-drop, inl, inr}
 use Rattle.std.proofs.lemmas.Bool.{cases_Bool, eq-eqb, ne_eqb}
-use Rattle.cert_format.specs.Lines.{Word, onto_line, cert_lines_of, line_words}
+use Rattle.cert_format.specs.Lines.{Word}
+use Rattle.cert_format.specs.Private.Cuts.{onto_line, cert_lines_of, line_words}
 
 -- the byte doesn't stand below this place
 abbrev pub NoneBelow : ℕ → ℕ → List ℕ → Type 0

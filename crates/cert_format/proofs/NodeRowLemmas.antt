@@ -10,8 +10,8 @@ use Rattle.choice_problem.specs.declared.nodes.Node.{Node}
 use Rattle.choice_problem.specs.declared.nodes.Node.TheVariants.{Split, Leaf, Over, Undone}
 use Rattle.cert_format.specs.declared.cert.Floor.{Floor}
 use Rattle.cert_format.specs.Lines.{Word}
-use Rattle.cert_format.specs.Words.{◌>>=◌, most_small, most_large, number_of, seen_of, next_by, is_end}
-use Rattle.cert_format.specs.Rows.{split_row, leaf_row, over_row, floor_row, with_no_floor, undone_row, node_row}
+use Rattle.cert_format.specs.Private.Words.{◌>>=◌, most_small, most_large, number_of, seen_of, next_by, is_end}
+use Rattle.cert_format.specs.Private.Rows.{split_row, leaf_row, over_row, floor_row, with_no_floor, undone_row, node_row}
 use Rattle.cert_format.specs.Spelling.{seen_word, node_words, undone_words, is_undone, SeenFits, NodeFits, FloorFits}
 use Rattle.cert_format.proofs.WordLemmas.{number_takes, number_again, next_takes, next_again, end_takes, bind_some, seen_takes, seen_again}
 

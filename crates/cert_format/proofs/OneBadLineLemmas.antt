@@ -9,7 +9,7 @@ use Rattle.cert_format.specs.declared.cert.StageCert.{StageCert}
 use Rattle.cert_format.specs.declared.cert.Certificate.{Certificate}
 use Rattle.cert_format.specs.declared.fault.CertFault.{CertFault}
 use Rattle.cert_format.specs.declared.fault.CertFault.TheVariants.{BadLine, Memory}
-use Rattle.cert_format.specs.Spots.{Gives}
+use Rattle.cert_format.specs.Forms.{Gives}
 use Rattle.cert_format.specs.Spelling.{spelling, IsCert, extra_spelling, IsExtra}
 use Rattle.cert_format.specs.Forms.{IsCertText, IsExtraText, IfBadLine}
 

@@ -11,9 +11,10 @@ use Rattle.cert_format.specs.declared.cert.StageCert.{StageCert}
 use Rattle.cert_format.specs.declared.cert.Certificate.{Certificate}
 use Rattle.cert_format.specs.Lines.{Word}
 use Rattle.cert_format.specs.Spelling.{numbered, count_words, alternative_lines, price_lines, vector_lines, is_undone, node_lines, optional_lines, choice_lines, is_tried, proof_lines, stage_lines, IsLong, PriceFits, VectorFits, FloorFits, undone_count, ProofFits, StageFitsAs, StageFits, IsCert, IsExtra}
-use Rattle.cert_format.specs.Printable.{IsPrintableProof, IsPrintableAs, IsPrintableStage, IsPrintable, IsPrintableExtra, HasRanges, RangesAs}
+use Rattle.cert_format.specs.Printable.{IsPrintableProof, IsPrintableAs, IsPrintableStage, IsPrintable, IsPrintableExtra}
+use Rattle.cert_format.specs.Private.Ranges.{HasRanges, RangesAs}
 
-abbrev Line : Type 0
+abbrev pub Line : Type 0
 Line = List Word
 
 pub long_of : (z : ℤ) → SFits w64 z → IsLong z
@@ -44,7 +45,7 @@ numbered_length : {A : Type 0} (lines : ℕ → A → List Line) → ((i : ℕ) 
 numbered_length lines one [] i = omega arith
 numbered_length lines one (x ∷ xs) i = omega (arith, one i x, numbered_length lines one xs (suc i), length-append (lines i x) (numbered lines (suc i) xs))
 
-nodes_length : (nodes : List Node) (floors : List Floor) → length (node_lines nodes floors) ≡ length nodes
+pub nodes_length : (nodes : List Node) (floors : List Floor) → length (node_lines nodes floors) ≡ length nodes
 nodes_length [] floors = refl
 nodes_length (node ∷ nodes) [] = ap suc (nodes_length nodes [])
 nodes_length (node ∷ nodes) (floor ∷ floors) =

@@ -10,8 +10,8 @@ use Rattle.choice_problem.specs.declared.vectors.Price.{Price}
 use Rattle.cert_format.specs.declared.cert.Mark.{Mark}
 use Rattle.cert_format.specs.declared.cert.Mark.TheVariants.{Optimal, Infeasible, Unsettled, NotTried}
 use Rattle.cert_format.specs.Lines.{Word}
-use Rattle.cert_format.specs.Words.{◌>>=◌, most_small, number_of, price_of, choices_word, after_tag, next_by, is_end}
-use Rattle.cert_format.specs.Rows.{count_row, choices_row, alternative_row, price_row, mark_word, mark_words, mark_row, version_row, end_row}
+use Rattle.cert_format.specs.Private.Words.{◌>>=◌, most_small, number_of, price_of, choices_word, after_tag, next_by, is_end}
+use Rattle.cert_format.specs.Private.Rows.{count_row, choices_row, alternative_row, price_row, mark_word, mark_words, mark_row, version_row, end_row}
 use Rattle.cert_format.specs.Spelling.{count_words, choices_words, alternative_words, price_words, mark_name, stage_words, PriceFits, IsVersion}
 use Rattle.cert_format.proofs.WordLemmas.{number_takes, number_again, tag_takes, tag_again, next_takes, next_again, end_takes, bind_some, some_is, optional_small, choices_again_some, choices_again_none, price_takes, price_again}
 

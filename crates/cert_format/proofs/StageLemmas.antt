@@ -5,9 +5,9 @@ use Rattle.std.proofs.lemmas.Bool.{cases_Bool}
 use Rattle.cert_format.specs.declared.cert.Mark.{Mark}
 use Rattle.cert_format.specs.declared.cert.StageCert.{StageCert}
 use Rattle.cert_format.specs.declared.cert.Certificate.{Certificate}
-use Rattle.cert_format.specs.Spots.{Spot, ◌>>=◌, line_by}
-use Rattle.cert_format.specs.Rows.{mark_row, version_row, end_row}
-use Rattle.cert_format.specs.Reading.{many, choice_at, vectors_at, optional_at, tree_at, not_tried, proof_at, stage_at, ended_by, ended, cert_at}
+use Rattle.cert_format.specs.Private.Spots.{Spot, ◌>>=◌, line_by}
+use Rattle.cert_format.specs.Private.Rows.{mark_row, version_row, end_row}
+use Rattle.cert_format.specs.Private.Reading.{many, choice_at, vectors_at, optional_at, tree_at, not_tried, proof_at, stage_at, ended_by, ended, cert_at}
 use Rattle.cert_format.specs.Spelling.{numbered, count_words, optional_lines, choice_lines, stage_words, is_tried, proof_lines, stage_lines, cert_lines, has_bound, ProofFits, HoldsNothing, StageFitsAs, StageFits, IsCert}
 use Rattle.cert_format.proofs.RowLemmas.{mark_takes, mark_again, version_takes, version_again, end_line_takes, end_line_again}
 use Rattle.cert_format.proofs.BlockLemmas.{Line, bind_ok, done, ok_is, line_takes, Again, line_again, OneTakes, many_take, OneAgain, many_again, choice_takes, choice_again, optional_takes, optional_again, vectors_lines, vectors_take, vectors_again}

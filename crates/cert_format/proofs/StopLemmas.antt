@@ -1,7 +1,7 @@
 -- Where a reading stops: what it read before is kept whatever follows, and can be completed.
 use Rattle.std.proofs.Common.{◌≡◌, ℕ, zero, suc, ◌+◌, ◌≤◌, ◌<◌, ◌⊎◌, Bool, true, false, cond, List, [], ◌∷◌, ◌++◌, length, Option, Some, None, refl, sym, ap, subst, ◌∙◌, append_assoc, length-append, Result, Ok, Err, arith, inl, inr}
-use Rattle.cert_format.specs.Spots.{Spot, Read, ◌>>=◌, judged, line_by_lines, line_by}
-use Rattle.cert_format.specs.Reading.{many}
+use Rattle.cert_format.specs.Private.Spots.{Spot, Read, ◌>>=◌, judged, line_by_lines, line_by}
+use Rattle.cert_format.specs.Private.Reading.{many}
 use Rattle.cert_format.proofs.BlockLemmas.{Line, bind_ok, ok_is, Again, line_takes, line_again}
 
 abbrev pub spot : ℕ → List Line → Spot

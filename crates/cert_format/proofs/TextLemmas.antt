@@ -6,7 +6,8 @@ use Rattle.std.specs.List.{AllByRecursion, list_all}
 use Rattle.std.proofs.lemmas.Bool.{cases_Bool, and_parts, eqb-true, eqb-false, ne_eqb}
 use Rattle.std.proofs.lemmas.List.{append-nil}
 use Rattle.std.proofs.lemmas.List.Concat.{flat_map-cons}
-use Rattle.cert_format.specs.Lines.{Word, onto_lines, cert_lines_of, spelled_line, text_of}
+use Rattle.cert_format.specs.Lines.{Word, spelled_line, text_of}
+use Rattle.cert_format.specs.Private.Cuts.{onto_lines, cert_lines_of}
 use Rattle.choice_problem.specs.declared.vectors.Price.{Price}
 use Rattle.choice_problem.specs.declared.nodes.Node.{Node}
 use Rattle.choice_problem.specs.declared.nodes.Node.TheVariants.{Split, Leaf, Over, Undone}

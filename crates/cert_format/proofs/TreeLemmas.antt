@@ -7,10 +7,10 @@ use Rattle.std.proofs.lemmas.List.{nil_from_length}
 use Rattle.choice_problem.specs.declared.nodes.Node.{Node}
 use Rattle.choice_problem.specs.declared.nodes.Node.TheVariants.{Split, Leaf, Over, Undone}
 use Rattle.cert_format.specs.declared.cert.Floor.{Floor}
-use Rattle.cert_format.specs.Words.{most_small}
-use Rattle.cert_format.specs.Spots.{Spot, ◌>>=◌, line_by}
-use Rattle.cert_format.specs.Rows.{count_row, node_row}
-use Rattle.cert_format.specs.Reading.{nodes_at, tree_at}
+use Rattle.cert_format.specs.Private.Words.{most_small}
+use Rattle.cert_format.specs.Private.Spots.{Spot, ◌>>=◌, line_by}
+use Rattle.cert_format.specs.Private.Rows.{count_row, node_row}
+use Rattle.cert_format.specs.Private.Reading.{nodes_at, tree_at}
 use Rattle.cert_format.specs.Spelling.{count_words, node_words, is_undone, node_lines, NodeFits, FloorFits, undone_count, floor_count}
 use Rattle.cert_format.proofs.RowLemmas.{count_takes, count_again}
 use Rattle.cert_format.proofs.NodeRowLemmas.{FloorIs, node_takes, node_again}

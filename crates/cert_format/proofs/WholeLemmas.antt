@@ -1,8 +1,8 @@
 -- Where the reading of a whole text stops.
 use Rattle.std.proofs.Common.{◌≡◌, ℕ, ◌+◌, List, [], ◌∷◌, ◌++◌, length, refl, sym, ap, ◌∙◌, append_assoc, length-append, Result, Ok, Err, arith, inl, inr}
 use Rattle.std.proofs.lemmas.List.{append-nil}
-use Rattle.cert_format.specs.Spots.{Spot, Read, ◌>>=◌}
-use Rattle.cert_format.specs.Reading.{ended_by, ended}
+use Rattle.cert_format.specs.Private.Spots.{Spot, Read, ◌>>=◌}
+use Rattle.cert_format.specs.Private.Reading.{ended_by, ended}
 use Rattle.cert_format.proofs.BlockLemmas.{Line, Again}
 use Rattle.cert_format.proofs.StopLemmas.{spot, SameHead, Steady, bind_err, bind_is}
 

@@ -22,3 +22,13 @@ IfBadFault (BadLine line) P = P line
 abbrev pub IfBadLine : {X : Type 0} → Result X CertFault → (ℕ → Type 0) → Type 0
 IfBadLine (Ok x) P = Unit {0}
 IfBadLine (Err e) P = IfBadFault e P
+
+-- what a call returned, seen by view, is this answer, unless memory ran out; an answer of Err names
+-- the line
+abbrev pub Fails : {Y : Type 0} → CertFault → Result Y ℕ → Type 0
+Fails Memory answer = Unit {0}
+Fails (BadLine line) answer = answer ≡ Err line
+
+abbrev pub Gives : {X Y : Type 0} → (X → Y) → Result X CertFault → Result Y ℕ → Type 0
+Gives view (Ok x) answer = answer ≡ Ok (view x)
+Gives view (Err e) answer = Fails e answer

@@ -1,9 +1,7 @@
 pub mod Lines
-pub mod Left
-pub mod Words
-pub mod Rows
-pub mod Spots
 pub mod Spelling
 pub mod Printable
-pub mod Reading
 pub mod Forms
+pub mod Choices
+pub mod Proofs
+pub mod Private

@@ -10,6 +10,7 @@ use Rattle.cert_format.specs.declared.cert.Mark.{Mark}
 use Rattle.cert_format.specs.declared.cert.Mark.TheVariants.{Optimal, Infeasible, Unsettled, NotTried}
 use Rattle.cert_format.specs.declared.cert.StageCert.{StageCert}
 use Rattle.cert_format.specs.declared.cert.Certificate.{Certificate}
+use Rattle.cert_format.specs.declared.cert.TheConstants.{MOST_VECTORS}
 use Rattle.cert_format.specs.Lines.{Word, text_of}
 
 -- a word and a number
@@ -51,8 +52,10 @@ undone_words (Some f) = codes "U" ∷ decimal f.vector ∷ decimal f.scale ∷ [
 
 -- a node, and the floor of an undone one
 abbrev pub node_words : Node → Option Floor → List Word
-node_words (Split unit cut seen) floor = codes "S" ∷ decimal unit ∷ decimal cut ∷ seen_word seen ∷ []
-node_words (Leaf vector scale seen) floor = codes "L" ∷ decimal vector ∷ decimal scale ∷ seen_word seen ∷ []
+node_words (Split unit cut seen) floor =
+    codes "S" ∷ decimal unit ∷ decimal cut ∷ seen_word seen ∷ []
+node_words (Leaf vector scale seen) floor =
+    codes "L" ∷ decimal vector ∷ decimal scale ∷ seen_word seen ∷ []
 node_words (Over resource) floor = codes "O" ∷ decimal resource ∷ []
 node_words Undone floor = undone_words floor
 
@@ -96,7 +99,8 @@ is_tried NotTried = false
 -- what follows the line of the mark of a stage that was tried
 abbrev pub proof_lines : StageCert → List (List Word)
 proof_lines s =
-    choice_lines s.choice ++ (optional_lines (codes "COST") s.cost ++ (optional_lines (codes "BOUND") s.bound
+    choice_lines s.choice ++ (optional_lines (codes "COST") s.cost
+    ++ (optional_lines (codes "BOUND") s.bound
     ++ (count_words (codes "VECTORS") (length s.vectors) ∷ (numbered vector_lines 0 s.vectors
     ++ (count_words (codes "TREE") (length s.tree) ∷ node_lines s.tree s.floors)))))
 
@@ -104,7 +108,9 @@ abbrev pub stage_lines : ℕ → StageCert → List (List Word)
 stage_lines stage s = stage_words stage s.mark ∷ (if is_tried s.mark then proof_lines s else [])
 
 abbrev pub cert_lines : Certificate → List (List Word)
-cert_lines c = count_words (codes "CERT") c.version ∷ (numbered stage_lines 1 c.stages ++ ((codes "END" ∷ []) ∷ []))
+cert_lines c =
+    count_words (codes "CERT") c.version
+    ∷ (numbered stage_lines 1 c.stages ++ ((codes "END" ∷ []) ∷ []))
 
 -- the one spelling of a certificate
 abbrev pub spelling : Certificate → List ℕ
@@ -137,7 +143,8 @@ VectorFits prices = (length prices < 2 ^ 32) × AllByRecursion PriceFits prices
 
 abbrev pub undone_count : List Node → ℕ
 undone_count [] = 0
-undone_count (node ∷ nodes) = if is_undone node then suc (undone_count nodes) else undone_count nodes
+undone_count (node ∷ nodes) =
+    if is_undone node then suc (undone_count nodes) else undone_count nodes
 
 -- a tree with its floors: version 1 has none, version 2 one for each undone node
 abbrev pub floor_count : ℕ → List Node → ℕ
@@ -152,12 +159,13 @@ has_bound version NotTried = false
 
 -- a stage that was tried has a spelling
 pub record ProofFits (version : ℕ) (s : StageCert) : Type 0 where
-  pub choice : IfSome s.choice (λ alts. (length alts < 2 ^ 32) × AllByRecursion (λ alt. alt < 2 ^ 32) alts)
+  pub choice : IfSome s.choice
+      (λ alts. (length alts < 2 ^ 32) × AllByRecursion (λ alt. alt < 2 ^ 32) alts)
   pub has_cost : is_some s.cost ≡ is_some s.choice
   pub cost : SeenFits s.cost
   pub has_bound : is_some s.bound ≡ has_bound version s.mark
   pub bound : SeenFits s.bound
-  pub vector_count : length s.vectors ≤ 64
+  pub vector_count : length s.vectors ≤ MOST_VECTORS
   pub vectors : AllByRecursion VectorFits s.vectors
   pub node_count : length s.tree < 2 ^ 32
   pub nodes : AllByRecursion NodeFits s.tree
@@ -192,7 +200,9 @@ pub record IsCert (c : Certificate) : Type 0 where
 -- ---- one more stage by itself
 
 abbrev pub extra_lines : StageCert → List (List Word)
-extra_lines s = (codes "EXTRA" ∷ codes "1" ∷ []) ∷ (stage_words 5 s.mark ∷ (proof_lines s ++ ((codes "END" ∷ []) ∷ [])))
+extra_lines s =
+    (codes "EXTRA" ∷ codes "1" ∷ [])
+    ∷ (stage_words 5 s.mark ∷ (proof_lines s ++ ((codes "END" ∷ []) ∷ [])))
 
 -- the one spelling of one more stage
 abbrev pub extra_spelling : StageCert → List ℕ

@@ -1,17 +1,18 @@
 //! The parts of a certificate, line after line.
 
 ghost use Rattle.std.specs.Prelude.{◌≡◌, ◌^◌, ◌+◌, ◌<◌, ◌≤◌, ◌∷◌, ◌++◌, List, OnOk, IfErr, codes, option_to_list};
-ghost use Rattle.cert_format.specs.Words.{most_small, most_large};
-ghost use Rattle.cert_format.specs.Rows.{count_row, choices_row, node_row, mark_row};
+ghost use Rattle.cert_format.specs.Private.Words.{most_small, most_large};
+ghost use Rattle.cert_format.specs.Private.Rows.{count_row, choices_row, node_row, mark_row};
 ghost use Rattle.cert_format.specs.Spelling.{has_bound};
-ghost use Rattle.cert_format.specs.Spots.{spot_of, line_by, Gives};
-ghost use Rattle.cert_format.specs.Reading.{many, alternative_at, alternatives_at, choice_at, price_at, one_vector, vector_at, vectors_at, not_tried, optional_at, nodes_at, tree_at, proof_at, stage_at};
+ghost use Rattle.cert_format.specs.Private.Spots.{spot_of, line_by};
+ghost use Rattle.cert_format.specs.Forms.{Gives};
+ghost use Rattle.cert_format.specs.Private.Reading.{many, alternative_at, alternatives_at, choice_at, price_at, one_vector, vector_at, vectors_at, not_tried, optional_at, nodes_at, tree_at, proof_at, stage_at};
 
-use crate::cert::{Floor, FloorList, Mark, StageCert};
+use crate::cert::{Floor, FloorList, MOST_VECTORS, Mark, StageCert};
 use crate::fault::CertFault;
-use crate::lines::Place;
-use crate::places::{
-    alternative_at, choices_at, count_at, mark_at, node_at, price_at, small_count_at,
+use crate::place::Place;
+use crate::rows::{
+    AlternativeRow, ChoicesRow, CountRow, MarkRow, NodeRow, PriceRow, SmallCountRow,
 };
 use choice_problem::{Choice, Node, Price, Tree, Vector, VectorList};
 use std::alloc::Global;
@@ -22,12 +23,13 @@ fn some_alternatives(
     count: u32,
     place: Place<'_>,
 ) -> Result<(Vec<u32>, Place<'_>), CertFault>
-    ensures { Gives (λ x. (x.0.items, spot_of x.1)) result (many alternative_at 0 count (spot_of place.entry)) }
+    ensures { Gives (λ x. (x.0.items, spot_of x.1)) result
+        (many alternative_at 0 count (spot_of place.entry)) }
 {
     let mut alts = Vec::new(alloc);
     let mut next = place;
     for unit in 0..count {
-        let (alt, after) = alternative_at(unit, next)?;
+        let (alt, after) = next.read(&AlternativeRow { unit })?;
         alts.push(alt)?;
         next = after;
     }
@@ -35,11 +37,11 @@ fn some_alternatives(
 }
 
 // How many units have a choice, and the alternative of each.
-#[tactic(auto, unfolding(crate::specs::Reading::choice_at, crate::specs::Reading::alternatives_at))]
+#[tactic(auto, unfolding(crate::specs::Private::Reading::choice_at, crate::specs::Private::Reading::alternatives_at))]
 fn choice_at(alloc: Global, place: Place<'_>) -> Result<(Option<Choice>, Place<'_>), CertFault>
     ensures { Gives (λ x. (x.0, spot_of x.1)) result (choice_at (spot_of place.entry)) }
 {
-    let (count, place) = choices_at(place)?;
+    let (count, place) = place.read(&ChoicesRow)?;
     match count {
         None => Ok((None, place)),
         Some(count) => {
@@ -55,12 +57,13 @@ fn some_prices(
     count: u32,
     place: Place<'_>,
 ) -> Result<(Vec<Price>, Place<'_>), CertFault>
-    ensures { Gives (λ x. (x.0.items, spot_of x.1)) result (many price_at 0 count (spot_of place.entry)) }
+    ensures { Gives (λ x. (x.0.items, spot_of x.1)) result
+        (many price_at 0 count (spot_of place.entry)) }
 {
     let mut prices = Vec::new(alloc);
     let mut next = place;
     for _ in 0..count {
-        let (price, after) = price_at(next)?;
+        let (price, after) = next.read(&PriceRow)?;
         prices.push(price)?;
         next = after;
     }
@@ -68,11 +71,11 @@ fn some_prices(
 }
 
 // How many prices a vector has, and each of them.
-#[tactic(auto, unfolding(crate::specs::Reading::one_vector))]
+#[tactic(auto, unfolding(crate::specs::Private::Reading::one_vector))]
 fn vector_at(alloc: Global, place: Place<'_>) -> Result<(Vector, Place<'_>), CertFault>
     ensures { Gives (λ x. (x.0, spot_of x.1)) result (one_vector (spot_of place.entry)) }
 {
-    let (count, place) = small_count_at(b"VECTOR", place)?;
+    let (count, place) = place.read(&SmallCountRow { tag: b"VECTOR" })?;
     let (prices, place) = some_prices(alloc, count, place)?;
     Ok((Vector::new(prices), place))
 }
@@ -83,7 +86,8 @@ fn some_vectors(
     count: u64,
     place: Place<'_>,
 ) -> Result<(Vec<Vector>, Place<'_>), CertFault>
-    ensures { Gives (λ x. (x.0.items, spot_of x.1)) result (many vector_at 0 count (spot_of place.entry)) }
+    ensures { Gives (λ x. (x.0.items, spot_of x.1)) result
+        (many vector_at 0 count (spot_of place.entry)) }
 {
     let mut vectors = Vec::new(alloc);
     let mut next = place;
@@ -96,28 +100,35 @@ fn some_vectors(
 }
 
 // How many vectors there are, and each of them.
-#[tactic(auto, unfolding(crate::specs::Reading::vectors_at))]
+#[tactic(auto, unfolding(crate::specs::Private::Reading::vectors_at))]
 fn vectors_at(alloc: Global, place: Place<'_>) -> Result<(VectorList, Place<'_>), CertFault>
     ensures { Gives (λ x. (x.0, spot_of x.1)) result (vectors_at (spot_of place.entry)) }
 {
-    let (count, place) = count_at(b"VECTORS", 64, place)?;
+    let (count, place) = place.read(&CountRow {
+        tag: b"VECTORS",
+        most: MOST_VECTORS as u64,
+    })?;
     let (vectors, place) = some_vectors(alloc, count, place)?;
     Ok((VectorList::new(vectors), place))
 }
 
 // A line with a number, where it is wanted.
-#[tactic(auto, unfolding(crate::specs::Reading::optional_at))]
+#[tactic(auto, unfolding(crate::specs::Private::Reading::optional_at))]
 fn optional_at<'a>(
     tag: &[u8],
     wanted: bool,
     place: Place<'a>,
 ) -> Result<(Option<u64>, Place<'a>), CertFault>
-    ensures { Gives (λ x. (x.0, spot_of x.1)) result (optional_at tag.now wanted (spot_of place.entry)) }
+    ensures { Gives (λ x. (x.0, spot_of x.1)) result
+        (optional_at tag.now wanted (spot_of place.entry)) }
 {
     if !wanted {
         return Ok((None, place));
     }
-    let (number, place) = count_at(tag, u64::MAX, place)?;
+    let (number, place) = place.read(&CountRow {
+        tag,
+        most: u64::MAX,
+    })?;
     Ok((Some(number), place))
 }
 
@@ -128,13 +139,14 @@ fn some_nodes(
     count: u32,
     place: Place<'_>,
 ) -> Result<(Vec<Node>, Vec<Floor>, Place<'_>), CertFault>
-    ensures { Gives (λ x. ((x.0.items, x.1.items), spot_of x.2)) result (nodes_at version count (spot_of place.entry)) }
+    ensures { Gives (λ x. ((x.0.items, x.1.items), spot_of x.2)) result
+        (nodes_at version count (spot_of place.entry)) }
 {
     let mut nodes = Vec::new(alloc);
     let mut floors = Vec::new(alloc);
     let mut next = place;
     for _ in 0..count {
-        let ((node, floor), after) = node_at(version, next)?;
+        let ((node, floor), after) = next.read(&NodeRow { version })?;
         nodes.push(node)?;
         push_some(&mut floors, floor)?;
         next = after;
@@ -154,21 +166,22 @@ fn push_some(floors: &mut Vec<Floor>, floor: Option<Floor>) -> Result<(), CertFa
 }
 
 // How many nodes a tree has, and each of them.
-#[tactic(auto, unfolding(crate::specs::Reading::tree_at))]
+#[tactic(auto, unfolding(crate::specs::Private::Reading::tree_at))]
 fn tree_at(
     alloc: Global,
     version: u32,
     place: Place<'_>,
 ) -> Result<(Tree, FloorList, Place<'_>), CertFault>
-    ensures { Gives (λ x. ((x.0, x.1), spot_of x.2)) result (tree_at version (spot_of place.entry)) }
+    ensures { Gives (λ x. ((x.0, x.1), spot_of x.2)) result
+        (tree_at version (spot_of place.entry)) }
 {
-    let (count, place) = small_count_at(b"TREE", place)?;
+    let (count, place) = place.read(&SmallCountRow { tag: b"TREE" })?;
     let (nodes, floors, place) = some_nodes(alloc, version, count, place)?;
     Ok((Tree::new(nodes), FloorList::new(floors), place))
 }
 
-// Whether a stage has a line with its bound.
-fn has_bound(version: u32, mark: Mark) -> bool
+/// Whether a stage has a line with its bound.
+pub fn has_bound(version: u32, mark: Mark) -> bool
     ensures { result ≡ has_bound version mark }
 {
     match mark {
@@ -178,7 +191,7 @@ fn has_bound(version: u32, mark: Mark) -> bool
 }
 
 /// What follows the line of the mark of a stage that was tried.
-#[tactic(auto, unfolding(crate::specs::Reading::proof_at))]
+#[tactic(auto, unfolding(crate::specs::Private::Reading::proof_at))]
 pub fn proof_at(
     alloc: Global,
     version: u32,
@@ -220,16 +233,17 @@ fn not_tried(alloc: Global) -> StageCert
 }
 
 /// A stage, by its number.
-#[tactic(auto, unfolding(crate::specs::Reading::stage_at))]
+#[tactic(auto, unfolding(crate::specs::Private::Reading::stage_at))]
 pub fn stage_at(
     alloc: Global,
     version: u32,
     stage: u32,
     place: Place<'_>,
 ) -> Result<(StageCert, Place<'_>), CertFault>
-    ensures { Gives (λ x. (x.0, spot_of x.1)) result (stage_at version stage (spot_of place.entry)) }
+    ensures { Gives (λ x. (x.0, spot_of x.1)) result
+        (stage_at version stage (spot_of place.entry)) }
 {
-    let (mark, place) = mark_at(stage, place)?;
+    let (mark, place) = place.read(&MarkRow { stage })?;
     match mark {
         Mark::NotTried => Ok((not_tried(alloc), place)),
         Mark::Optimal | Mark::Infeasible | Mark::Unsettled => proof_at(alloc, version, mark, place),

@@ -5,6 +5,23 @@ ghost use Rattle.std.specs.Prelude.{◌≡◌};
 use choice_problem::{Choice, Tree, VectorList};
 use std::marker::Model;
 
+/// The most vectors of a stage; vector 0, which has no prices, is not counted.
+pub const MOST_VECTORS: usize = 64;
+
+/// The most prices of the first vector of a stage of a season, and the most of its other vectors
+/// together.
+pub const MOST_PRICES: usize = 1_000_000;
+
+/// The most nodes of the tree of a stage of a season: 1,000,000 splits and closed leaves, and what
+/// they leave undone.
+pub const MOST_NODES: usize = 2_000_001;
+
+/// The most lines of a certificate.
+pub const MOST_LINES: u64 = (1 << 32) - 1;
+
+/// The most bytes of a certificate that is read.
+pub const LONGEST_CERT: usize = (1 << 31) - 1;
+
 /// What a stage claims of its allotment.
 #[derive(Clone, Copy, Debug, PartialEq, Eq)]
 pub enum Mark {
@@ -18,7 +35,8 @@ pub enum Mark {
     NotTried,
 }
 
-/// The vector and the scale whose Lagrangian bound is the floor of an undone node. Vector 0 has no prices.
+/// The vector and the scale whose Lagrangian bound is the floor of an undone node. Vector 0 has no
+/// prices.
 #[derive(Clone, Copy, Debug, PartialEq, Eq)]
 pub struct Floor {
     pub vector: u32,
@@ -56,9 +74,9 @@ impl FloorList {
     }
 }
 
-/// A stage with its proof: its allotment, if any, with the displacement in minutes; under OPEN in version 2 a cost below
-/// which no feasible allotment lies; the vectors that its tree names, number 1 first; the search tree; and in version 2
-/// one floor for each undone node, in preorder.
+/// A stage with its proof: its allotment, if any, with the displacement in minutes; under OPEN in
+/// version 2 a cost below which no feasible allotment lies; the vectors that its tree names, number
+/// 1 first; the search tree; and in version 2 one floor for each undone node, in preorder.
 #[derive(Drop)]
 pub struct StageCert {
     pub mark: Mark,

@@ -5,19 +5,25 @@ mod blocks;
 mod cert;
 mod extra;
 mod fault;
-mod line_writing;
-mod lines;
-mod places;
+mod laws;
+mod place;
+mod printable;
+mod printed_lines;
+mod printing;
 mod reading;
 mod rows;
 mod tokens;
-mod writing;
 
-pub use cert::{Certificate, Floor, FloorList, Mark, StageCert, StageList};
+pub use cert::{
+    Certificate, Floor, FloorList, LONGEST_CERT, MOST_LINES, MOST_NODES, MOST_PRICES, MOST_VECTORS,
+    Mark, StageCert, StageList,
+};
 pub use extra::{print_extra, read_extra};
 pub use fault::CertFault;
+pub use laws::{line_counts, proven_stage};
+pub use printable::{is_printable, is_printable_extra};
+pub use printing::print_cert;
 pub use reading::read_cert;
-pub use writing::print_cert;
 
 #[cfg(test)]
 mod tests;

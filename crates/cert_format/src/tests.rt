@@ -11,11 +11,13 @@ use slot_text::Lines;
 use std::alloc::Global;
 use std::test::Fail;
 
-// One stage 1 series at 06:10; one new request at 06:30, which 07:00 serves at a displacement of 30 minutes.
+// One stage 1 series at 06:10; one new request at 06:30, which 07:00 serves at a displacement of 30
+// minutes.
 const TEXT: &[u8] =
     b"CERT 1\nSTAGE 1 OPTIMAL\nCHOICES 1\nC 0 0\nCOST 0\nVECTORS 0\nTREE 1\nL 0 1 0\nSTAGE 2 OPTIMAL\nCHOICES 0\nCOST 0\nVECTORS 0\nTREE 1\nL 0 1 0\nSTAGE 3 OPTIMAL\nCHOICES 0\nCOST 0\nVECTORS 0\nTREE 1\nL 0 1 0\nSTAGE 4 OPTIMAL\nCHOICES 1\nC 0 18\nCOST 30\nVECTORS 1\nVECTOR 1\nP 0 32768\nTREE 1\nL 1 1024 30\nEND\n";
 
-// Every kind of line: an infeasible stage, stages that were not tried, and an open one with its bound and floors.
+// Every kind of line: an infeasible stage, stages that were not tried, and an open one with its
+// bound and floors.
 const OPEN: &[u8] =
     b"CERT 2\nSTAGE 1 OPEN\nCHOICES 3\nC 0 4\nC 1 0\nC 2 24\nCOST 40\nBOUND 30\nVECTORS 2\nVECTOR 3\nP 0 10240\nP 210 10240\nP 420 10240\nVECTOR 1\nP 7 -5\nTREE 5\nS 0 13 -\nU 1 1024\nS 1 2 40\nU 0 1\nL 2 1 40\nSTAGE 2 INFEASIBLE\nCHOICES NONE\nVECTORS 0\nTREE 1\nO 6\nSTAGE 3 NOT TRIED\nSTAGE 4 NOT TRIED\nEND\n";
 
@@ -25,11 +27,15 @@ const EXTRA: &[u8] =
 #[test]
 fn certificates_are_printed_as_they_were_read(rt: HostRuntime) -> Result<(), Fail> {
     let second = changed(rt.alloc(), TEXT, 1, "CERT 2")?;
-    for text in [TEXT, second.as_slice(), OPEN] {
-        let cert = read(rt.alloc(), text).ok().ok_or("a certificate")?;
-        assert_eq!(rt; cert.stages.items().len(), 4);
+    let bare = changed(rt.alloc(), TEXT, 29, "")?;
+    let bare = changed(rt.alloc(), &bare, 28, "TREE 0")?;
+    for text in [TEXT, second.as_slice(), bare.as_slice(), OPEN] {
+        let mut cert = read(rt.alloc(), text).ok().ok_or("a certificate")?;
+        assert!(rt; is_printable(&cert));
         let printed = print_cert(rt.alloc(), &cert)?;
         assert!(rt; printed.as_slice() == text);
+        cert.version = 3;
+        assert!(rt; !is_printable(&cert));
     }
     Ok(())
 }
@@ -37,23 +43,9 @@ fn certificates_are_printed_as_they_were_read(rt: HostRuntime) -> Result<(), Fai
 #[test]
 fn one_more_stage_is_printed_as_it_was_read(rt: HostRuntime) -> Result<(), Fail> {
     let stage = read_one(rt.alloc(), EXTRA).ok().ok_or("a stage")?;
-    assert_eq!(rt; stage.bound, Some(0));
+    assert!(rt; is_printable_extra(&stage));
     let printed = print_extra(rt.alloc(), &stage)?;
     assert!(rt; printed.as_slice() == EXTRA);
-    Ok(())
-}
-
-#[test]
-fn a_prefix_is_bad_in_the_line_after_its_last_whole_one(rt: HostRuntime) -> Result<(), Fail> {
-    for text in [TEXT, OPEN] {
-        let mut line: u32 = 1;
-        for (at, byte) in text.iter().enumerate() {
-            assert_eq!(rt; bad_line(rt.alloc(), &text[..at]), Some(line));
-            if *byte == b'\n' {
-                line = line.wrapping_add(1);
-            }
-        }
-    }
     Ok(())
 }
 
@@ -77,7 +69,7 @@ fn changed(alloc: Global, text: &[u8], number: u32, line: &str) -> Result<Vec<u8
 fn read(alloc: Global, text: &[u8]) -> Result<Certificate, CertFault>
     ensures { IfOk result (λ cert. IsPrintable cert) }
 {
-    if text.len() >= 1 << 31 {
+    if text.len() > LONGEST_CERT {
         return Err(CertFault::Memory);
     }
     read_cert(alloc, text)
@@ -86,7 +78,7 @@ fn read(alloc: Global, text: &[u8]) -> Result<Certificate, CertFault>
 fn read_one(alloc: Global, text: &[u8]) -> Result<StageCert, CertFault>
     ensures { IfOk result (λ stage. IsPrintableExtra stage) }
 {
-    if text.len() >= 1 << 31 {
+    if text.len() > LONGEST_CERT {
         return Err(CertFault::Memory);
     }
     read_extra(alloc, text)

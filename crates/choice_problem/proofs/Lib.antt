@@ -13,3 +13,5 @@ mod GreedyLemmas
 mod RootLemmas
 mod AlikeLemmas
 mod AlikeTreeLemmas
+mod RenumberLemmas
+mod WalkLemmas

@@ -41,20 +41,26 @@ priced_cost p prices scale u a = scale * alt_cost p u a + priced prices (λ r. a
 -- the sum over units of the least priced cost in range
 abbrev pub least_total : ProblemView → List (ℕ × ℕ) → List Price → ℕ → ℕ
 least_total p ranges prices scale =
-    sum_below (unit_count p) (λ u. least_within (low_of ranges u) (high_of ranges u) (λ a. priced_cost p prices scale u a))
+    sum_below (unit_count p)
+    (λ u. least_within (low_of ranges u) (high_of ranges u)
+    (λ a. priced_cost p prices scale u a))
 
 -- the Lagrangian bound, scaled: the least total less the limits at their prices
 abbrev pub bound_of : ProblemView → List (ℕ × ℕ) → List Price → ℕ → ℤ
-bound_of p ranges prices scale = pos (least_total p ranges prices scale) -ℤ pos (priced prices (λ r. limit_of p r))
+bound_of p ranges prices scale =
+    pos (least_total p ranges prices scale) -ℤ pos (priced prices (λ r. limit_of p r))
 
 -- the bound closes the ranges for a cost, or for none
 abbrev pub Closes : ProblemView → List (ℕ × ℕ) → List Price → ℕ → Option ℕ → Type 0
-Closes p ranges prices scale (Some cost) = (pos scale *ℤ (pos cost -ℤ pos 1)) <ℤ bound_of p ranges prices scale
+Closes p ranges prices scale (Some cost) =
+    (pos scale *ℤ (pos cost -ℤ pos 1)) <ℤ bound_of p ranges prices scale
 Closes p ranges prices scale None = (scale ≡ 0) × (pos 0 <ℤ bound_of p ranges prices scale)
 
 -- the sum over units of the least number of uses of the resource in range
 abbrev pub least_load : ProblemView → List (ℕ × ℕ) → ℕ → ℕ
-least_load p ranges r = sum_below (unit_count p) (λ u. least_within (low_of ranges u) (high_of ranges u) (λ a. alt_uses p u a r))
+least_load p ranges r =
+    sum_below (unit_count p)
+    (λ u. least_within (low_of ranges u) (high_of ranges u) (λ a. alt_uses p u a r))
 
 -- even the least load passes the limit
 abbrev pub IsOver : ProblemView → List (ℕ × ℕ) → ℕ → Type 0

@@ -12,4 +12,6 @@ pub mod Driven
 pub mod Grafts
 pub mod Floors
 pub mod Alike
+pub mod Renumbered
+pub mod Walks
 pub mod Loops

@@ -108,7 +108,8 @@ fn count_uses(problem: &Problem, choice: &Choice, counts: &mut [u32])
     requires choice { IsChoice problem.now choice.now }
     requires counts { length counts.old ≡ resource_count problem.now }
     requires empty { (r : ℕ) → r < length counts.old → slice_index counts.old r ≡ 0 }
-    ensures { (r : ℕ) → r < length counts.old → slice_index counts.new r ≡ load_of problem.now choice.now r }
+    ensures { (r : ℕ) → r < length counts.old → slice_index counts.new r
+        ≡ load_of problem.now choice.now r }
 {
     for unit in 0..problem.units() {
         problem.add_uses(unit, choice.alt(unit), counts);
@@ -120,8 +121,10 @@ pub fn first_above(problem: &Problem, counts: &[u32]) -> Option<u32>
     requires { length counts.now ≡ resource_count problem.now }
     ensures there { IfSome result (λ r. r < resource_count problem.now) }
     ensures above { IfSome result (λ r. limit_of problem.now r < slice_index counts.now r) }
-    ensures first { IfSome result (λ r. (q : ℕ) → q < r → slice_index counts.now q ≤ limit_of problem.now q) }
-    ensures none { IfNone result ((r : ℕ) → r < resource_count problem.now → slice_index counts.now r ≤ limit_of problem.now r) }
+    ensures first { IfSome result (λ r. (q : ℕ) → q < r →
+        slice_index counts.now q ≤ limit_of problem.now q) }
+    ensures none { IfNone result ((r : ℕ) → r < resource_count problem.now →
+        slice_index counts.now r ≤ limit_of problem.now r) }
 {
     first_above_limit(counts, problem.limits())
 }

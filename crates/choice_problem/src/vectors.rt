@@ -20,6 +20,7 @@ pub struct Price {
 
 impl Price {
     ghost use Rattle.std.specs.Prelude.{◌≡◌, ◌↔◌, ◌<◌, IsTrue, pos, ◌≤ℤ◌};
+    ghost use Rattle.choice_problem.specs.declared.problems.TheConstants.{MOST_RESOURCES};
     ghost use Rattle.choice_problem.specs.Problems.{amount};
     ghost use Rattle.choice_problem.specs.Bounds.{IsPrice};
     ghost use Rattle.choice_problem.specs.Loops.{PriceFollows};
@@ -35,7 +36,7 @@ impl Price {
     /// Whether the resource is the problem's and the price from 1 to 2^40 - 1, in one step.
     pub fn is_for(&self, problem: &Problem) -> bool
         ensures exact { IsTrue result ↔ IsPrice problem.now self.now }
-        ensures few { IsTrue result → self.now.resource < 1000000 }
+        ensures few { IsTrue result → self.now.resource < MOST_RESOURCES }
     {
         self.resource < problem.resources() && self.price >= 1 && self.price <= HIGHEST_PRICE
     }
@@ -43,7 +44,7 @@ impl Price {
     // Whether the resource is at least the next one, and the price is one for the problem.
     fn follows(&self, problem: &Problem, next: u32) -> bool
         ensures exact { IsTrue result ↔ PriceFollows problem.now next self.now }
-        ensures few { IsTrue result → self.now.resource < 1000000 }
+        ensures few { IsTrue result → self.now.resource < MOST_RESOURCES }
     {
         next <= self.resource && self.is_for(problem)
     }

@@ -95,14 +95,6 @@ fn one_changed_line_is_bad_or_is_read(rt: HostRuntime) -> Result<(), Fail> {
 }
 
 #[test]
-fn a_tree_of_no_nodes_is_read(rt: HostRuntime) -> Result<(), Fail> {
-    let text = changed(rt.alloc(), TEXT, 28, "TREE 0")?;
-    let text = changed(rt.alloc(), &text, 29, "")?;
-    assert_eq!(rt; bad_line(rt.alloc(), &text), None);
-    Ok(())
-}
-
-#[test]
 fn one_changed_line_of_version_two_is_bad_or_is_read(rt: HostRuntime) -> Result<(), Fail> {
     for (number, line, bad) in [
         (1, "CERT 1", Some(8)),
@@ -156,19 +148,6 @@ fn one_changed_line_of_one_more_stage_is_bad(rt: HostRuntime) -> Result<(), Fail
         let text = changed(rt.alloc(), EXTRA, number, line)?;
         let fault = read_one(rt.alloc(), &text).err();
         assert_eq!(rt; fault, Some(CertFault::BadLine { line: bad }), "at {line}");
-    }
-    Ok(())
-}
-
-#[test]
-fn a_prefix_of_one_more_stage_is_bad(rt: HostRuntime) -> Result<(), Fail> {
-    let mut line: u32 = 1;
-    for (at, byte) in EXTRA.iter().enumerate() {
-        let fault = read_one(rt.alloc(), &EXTRA[..at]).err();
-        assert_eq!(rt; fault, Some(CertFault::BadLine { line }));
-        if *byte == b'\n' {
-            line = line.wrapping_add(1);
-        }
     }
     Ok(())
 }

@@ -1,6 +1,6 @@
 use Rattle.std.proofs.Common.{subst, Result, ℕ}
 use Rattle.cert_format.specs.declared.cert.StageCert.{StageCert}
-use Rattle.cert_format.specs.Spots.{Gives}
+use Rattle.cert_format.specs.Forms.{Gives}
 use Rattle.cert_format.proofs.ExtraLemmas.{extra_is_found, extra_is_read}
 use Rattle.cert_format.proofs.FirstBadLemmas.{first_bad_extra_line}
 use Rattle.cert_format.proofs.OneBadLineLemmas.{bad_extra_is_named}

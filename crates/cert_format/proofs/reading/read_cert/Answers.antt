@@ -1,6 +1,6 @@
 use Rattle.std.proofs.Common.{subst, Result, ℕ}
 use Rattle.cert_format.specs.declared.cert.Certificate.{Certificate}
-use Rattle.cert_format.specs.Spots.{Gives}
+use Rattle.cert_format.specs.Forms.{Gives}
 use Rattle.cert_format.proofs.CertLemmas.{is_found, is_read}
 use Rattle.cert_format.proofs.FirstBadLemmas.{first_bad_line}
 use Rattle.cert_format.proofs.OneBadLineLemmas.{bad_is_named}
