@@ -53,14 +53,17 @@ module _ (p : ProblemView) (root : List Price) (further : List (List Price)) (ra
   pub first-leaf : (place : ℕ) → place < length (root ∷ further) → AreOpen p (root ∷ further) place ranges seen →
       Closes p ranges (slice_index_or (root ∷ further) place []) 1024 seen → IsClosingLeaf p root further ranges seen (Leaf (place + 1) 1024 seen)
   first-leaf zero l before closes = (refl, inr (inl (record { vector_is = refl; scale_is = refl; no_zero = needs.no_zero; closes = closes })))
-  first-leaf (suc k) l before closes = (refl, inr (inr (record {
-    place = k;
-    vector_is = omega arith;
-    scale_is = refl;
-    no_zero = needs.no_zero;
-    no_root = before 0 (omega arith);
-    closes = record { there = omega (arith, l); closes = closes; first = λ j m. before (suc j) (omega (arith, m)) };
-  })))
+  first-leaf (suc k) l before closes = (
+    refl,
+    inr (inr (record {
+      place = k;
+      vector_is = omega arith;
+      scale_is = refl;
+      no_zero = needs.no_zero;
+      no_root = before 0 (omega arith);
+      closes = record { there = omega (arith, l); closes = closes; first = λ j m. before (suc j) (omega (arith, m)) };
+    })),
+  )
 
   pub none-open : AreOpen p (root ∷ further) (length (root ∷ further)) ranges seen → StaysOpenToAll p root further ranges seen
   none-open none = record {

@@ -25,8 +25,10 @@ pub(crate) fn priced_leaf(
     requires further { All (IsTableFor problem.now) further.now }
     requires few { length further.now ≤ 63 }
     requires needs { NeedsPrices problem.now ranges.now seen }
-    ensures some { IfSome result (IsClosingLeaf problem.now root.now.prices (vectors_of further.now) ranges.now seen) }
-    ensures none { IfNone result (StaysOpenToAll problem.now root.now.prices (vectors_of further.now) ranges.now seen) }
+    ensures some { IfSome result (IsClosingLeaf problem.now root.now.prices (vectors_of further.now)
+        ranges.now seen) }
+    ensures none { IfNone result (StaysOpenToAll problem.now root.now.prices
+        (vectors_of further.now) ranges.now seen) }
 {
     if closes(problem, ranges, root, SCALE, seen) {
         return Some(leaf(1, SCALE, seen));
@@ -45,10 +47,13 @@ pub(crate) fn kept_leaf(
     seen: Option<u64>,
 ) -> Option<Node>
     requires few { length further.now ≤ 63 }
-    requires kept { AreKeptFor problem.now (root.now.prices ∷ vectors_of further.now) ranges.now totals.now }
+    requires kept { AreKeptFor problem.now (root.now.prices ∷ vectors_of further.now) ranges.now
+        totals.now }
     requires needs { NeedsPrices problem.now ranges.now seen }
-    ensures some { IfSome result (IsClosingLeaf problem.now root.now.prices (vectors_of further.now) ranges.now seen) }
-    ensures none { IfNone result (StaysOpenToAll problem.now root.now.prices (vectors_of further.now) ranges.now seen) }
+    ensures some { IfSome result (IsClosingLeaf problem.now root.now.prices (vectors_of further.now)
+        ranges.now seen) }
+    ensures none { IfNone result (StaysOpenToAll problem.now root.now.prices
+        (vectors_of further.now) ranges.now seen) }
 {
     let (_problem, _ranges, _root, _further) = (problem, ranges, root, further);
     for place in 0..totals.len() {
@@ -80,8 +85,10 @@ fn first_closing(
     requires ranges { AreRanges problem.now ranges.now }
     requires tables { All (IsTableFor problem.now) tables.now }
     requires few { length tables.now ≤ 63 }
-    ensures some { IfSome result (IsFirstClosing problem.now (vectors_of tables.now) ranges.now seen) }
-    ensures none { IfNone result (AreOpen problem.now (vectors_of tables.now) (length tables.now) ranges.now seen) }
+    ensures some { IfSome result (IsFirstClosing problem.now (vectors_of tables.now) ranges.now
+        seen) }
+    ensures none { IfNone result (AreOpen problem.now (vectors_of tables.now) (length tables.now)
+        ranges.now seen) }
 {
     for place in 0..tables.len() {
         if closes(problem, ranges, &tables[place], SCALE, seen) {

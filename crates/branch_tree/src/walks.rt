@@ -119,7 +119,8 @@ impl<'a> Walk<'a> {
         requires root { IsTableFor problem.now root.now }
         requires further { All (IsTableFor problem.now) further.now }
         requires few { length further.now ≤ 63 }
-        ensures { IfOk result (IsVisit problem.now root.now.prices (vectors_of further.now) self.now.ranges seen) }
+        ensures { IfOk result (IsVisit problem.now root.now.prices (vectors_of further.now)
+            self.now.ranges seen) }
     {
         if let Some(leaf) = self.unpriced_leaf(problem, seen) {
             return Ok(Visit::Close(leaf));
@@ -160,7 +161,8 @@ impl<'a> Walk<'a> {
         requires further { All (IsTableFor problem.now) further.now }
         requires few { length further.now ≤ 63 }
         requires needs { NeedsPrices problem.now self.now.ranges seen }
-        ensures { IfOk result (IsVisit problem.now root.now.prices (vectors_of further.now) self.now.ranges seen) }
+        ensures { IfOk result (IsVisit problem.now root.now.prices (vectors_of further.now)
+            self.now.ranges seen) }
     {
         if let Some(leaf) = priced_leaf(problem, &self.ranges, root, further, seen) {
             return Ok(Visit::Close(leaf));
@@ -185,7 +187,8 @@ impl<'a> Walk<'a> {
         requires few { length further.now ≤ 63 }
         requires kept { AreKeptFor problem.now (root.now.prices ∷ vectors_of further.now)
             self.now.ranges totals.now }
-        ensures { IfOk result (IsVisit problem.now root.now.prices (vectors_of further.now) self.now.ranges seen) }
+        ensures { IfOk result (IsVisit problem.now root.now.prices (vectors_of further.now)
+            self.now.ranges seen) }
     {
         if let Some(leaf) = self.unpriced_leaf(problem, seen) {
             return Ok(Visit::Close(leaf));
@@ -235,7 +238,8 @@ fn first_over(problem: &Problem, ranges: &Ranges, least: &[u32]) -> Option<u32>
     requires count { length least.now ≡ resource_count problem.now }
     requires least { AreLeast problem.now ranges.now least.now }
     ensures some { IfSome result (IsFirstOver problem.now ranges.now) }
-    ensures none { IfNone result ((r : ℕ) → r < resource_count problem.now → IsOver problem.now ranges.now r → ⊥) }
+    ensures none { IfNone result ((r : ℕ) → r < resource_count problem.now →
+        IsOver problem.now ranges.now r → ⊥) }
 {
     let _ranges = ranges;
     first_above(problem, least)
