@@ -6,8 +6,11 @@ use Rattle.std.proofs.lemmas.List.{get_or_append_left, get_or_at}
 use Rattle.choice_problem.specs.Problems.{ProblemView, unit_count, resource_count, alt_count, alt_uses, limit_of}
 use Rattle.choice_problem.specs.Greedy.{FitsOn, IsGreedyAlt, IsGreedy, GreedyStops, load_before}
 use Rattle.finite_sums.proofs.SumLemmas.{sum_below-same, sum_below-more}
-use Rattle.choice_problem.proofs.GreedyLemmas.{FitsOn-same}
-use Rattle.branch_tree.specs.Loops.{KeepsLimits}
+use Rattle.window_counts.specs.Placed.{KeepsLimits}
+
+-- what fits on some loads fits on the same loads
+FitsOn-same : (p : ProblemView) (f g : ℕ → ℕ) (u a : ℕ) → ((r : ℕ) → r < resource_count p → f r ≡ g r) → FitsOn p f u a → FitsOn p g u a
+FitsOn-same p f g u a same h = λ r l. omega (arith, h r l, same r l)
 
 IsGreedyAlt-same : (p : ProblemView) (f g : ℕ → ℕ) (u a : ℕ) → ((r : ℕ) → r < resource_count p → f r ≡ g r) → IsGreedyAlt p f u a → IsGreedyAlt p g u a
 IsGreedyAlt-same p f g u a same h = record {

@@ -1,9 +1,6 @@
-pub mod PlaceLemmas
-pub mod OrderLemmas
-pub mod GreedyLemmas
-pub mod ListLemmas
-pub mod WalkLemmas
-pub mod RowLemmas
-pub mod VisitLemmas
-pub mod AllotmentLemmas
-pub mod OrderListLemmas
+mod OrderLemmas
+mod GreedyLemmas
+mod ListLemmas
+mod WalkLemmas
+mod RowLemmas
+mod VisitLemmas

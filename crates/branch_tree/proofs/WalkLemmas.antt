@@ -11,11 +11,11 @@ use Rattle.choice_problem.specs.Choices.{IsChoice, choice_cost, load_of, Fits, I
 use Rattle.choice_problem.specs.Bounds.{AreRanges, Closes, low_of, high_of, least_load, least_total, priced_cost}
 use Rattle.choice_problem.specs.Splits.{IsCheapest, IsFirstCheapest, least_uses}
 use Rattle.finite_sums.proofs.SumLemmas.{sum_below-same, least_within-le, least_within-ge}
-use Rattle.choice_problem.proofs.BoundLemmas.{Closes-from_Some, Closes-Some, Closes-from_None}
-use Rattle.window_counts.specs.Counts.{IsFirstAbove, limit_at}
-use Rattle.choice_problem.proofs.TreeLemmas.{AreRanges-slice_set}
+use Rattle.finite_sums.proofs.ChangeLemmas.{sum_below-change, sum_below-const, term-le}
+use Rattle.choice_problem.specs.Counts.{IsFirstAbove, limit_at}
 use Rattle.branch_tree.specs.Lists.{times_in}
-use Rattle.branch_tree.specs.Walks.{AreLoads, IsKept}
+use Rattle.branch_tree.specs.Walks.{IsKept}
+use Rattle.window_counts.specs.Placed.{AreLoads}
 
 -- the first cheapest alternatives cost what is least in range
 least-cheapest : (p : ProblemView) (ranges : List (ℕ × ℕ)) (u a : ℕ) → low_of ranges u ≤ high_of ranges u → IsFirstCheapest p ranges u a →
@@ -34,14 +34,14 @@ least_total-cheapest p ranges x r h =
 -- vector 0 closes exactly where they cost as much as what was seen
 pub zero-closes : (p : ProblemView) (ranges : List (ℕ × ℕ)) (x : List ℕ) (seen : ℕ) → AreRanges p ranges → IsCheapest p ranges x →
     seen ≤ choice_cost p x → Closes p ranges [] 1 (Some seen)
-zero-closes p ranges x seen r h l = Closes-Some p ranges [] 1 seen (omega (arith, least_total-cheapest p ranges x r h, l))
+zero-closes p ranges x seen r h l = omega (arith, ints, least_total-cheapest p ranges x r h, l)
 
 pub closes-zero : (p : ProblemView) (ranges : List (ℕ × ℕ)) (x : List ℕ) (seen : ℕ) → AreRanges p ranges → IsCheapest p ranges x →
     Closes p ranges [] 1 (Some seen) → seen ≤ choice_cost p x
-closes-zero p ranges x seen r h c = omega (arith, least_total-cheapest p ranges x r h, Closes-from_Some p ranges [] 1 seen c)
+closes-zero p ranges x seen r h c = omega (arith, ints, least_total-cheapest p ranges x r h, c)
 
 pub closes-none : (p : ProblemView) (ranges : List (ℕ × ℕ)) → Closes p ranges [] 1 None → ⊥
-closes-none p ranges c = let h = (Closes-from_None p ranges [] 1 c).0 in omega (arith, h)
+closes-none p ranges c = let h : 1 ≡ 0 = c.0 in omega (arith, h)
 
 -- counts above limits, as numbers
 limit_at-map : (limits : List ℕ) (r : ℕ) → r < length limits → limit_at (map pos limits) r ≡ pos (slice_index limits r)
@@ -80,21 +80,6 @@ pub passed-nothing : (p : ProblemView) (x loads : List ℕ) (found : Option ℕ)
 passed-nothing p x loads None e h f = passed-none p x loads e h f
 passed-nothing p x loads (Some r) e h f = tt
 
--- a sum in which one term changes
-pub sum_below-change : (n k : ℕ) (f g : ℕ → ℕ) → k < n → ((i : ℕ) → i < n → (i ≡ k → ⊥) → f i ≡ g i) → sum_below n f + g k ≡ sum_below n g + f k
-sum_below-change zero k f g l h = absurd (omega arith)
-sum_below-change (suc n) k f g l h =
-    elim (cases_lt k n) [
-      | inl below ↦ omega (arith, sum_below-change n k f g below (λ i m ne. h i (omega arith) ne), h n (omega arith) (λ e. omega arith))
-      | inr last ↦
-          let e : k ≡ n = omega arith in
-          rw e (omega (arith, sum_below-same n f g (λ i m. h i (omega arith) (λ d. omega arith))))
-    ]
-
-pub sum_below-const : (n m : ℕ) (f : ℕ → ℕ) → ((i : ℕ) → i < n → f i ≤ m) → sum_below n f ≤ n * m
-sum_below-const zero m f h = omega arith
-sum_below-const (suc n) m f h = omega (arith, sum_below-const n m f (λ i l. h i (omega arith)), h n (omega arith))
-
 -- loads stay small
 pub load-small : (p : ProblemView) (x : List ℕ) (r : ℕ) → ((u : ℕ) → u < unit_count p → IsChooser (chooser_at p u)) → IsChoice p x → load_of p x r ≤ unit_count p * 434
 load-small p x r units c = sum_below-const (unit_count p) 434 (λ u. alt_uses p u (slice_index x u) r) (λ u l. (units u l).uses (slice_index x u) r (c.there u l))
@@ -110,13 +95,6 @@ least-small p ranges r units v = sum_below-const (unit_count p) 434 (λ u. least
 
 pub cost-small : (p : ProblemView) (x : List ℕ) → ((u : ℕ) → u < unit_count p → IsChooser (chooser_at p u)) → IsChoice p x → choice_cost p x ≤ unit_count p * 16777216
 cost-small p x units c = sum_below-const (unit_count p) 16777216 (λ u. alt_cost p u (slice_index x u)) (λ u l. omega (arith, (units u l).cost (slice_index x u) (c.there u l)))
-
-pub term-le : (n k : ℕ) (f : ℕ → ℕ) → k < n → f k ≤ sum_below n f
-term-le zero k f l = absurd (omega arith)
-term-le (suc n) k f l = elim (cases_lt k n) [
-  | inl below ↦ omega (arith, term-le n k f below)
-  | inr last ↦ let e : k ≡ n = omega arith in rw e (omega arith)
-]
 
 -- what a slice of a vector leaves in it
 pub written-back : {X : Type 0} (new items : List X) (n : ℕ) → length new ≡ n → take n (new ++ drop (length new) items) ≡ new
@@ -232,14 +210,14 @@ module _ (p : ProblemView) (ranges : List (ℕ × ℕ)) (alts : List ℕ) (cost 
                 (λ v m ne. ap (λ (s : ℕ × ℕ). least_within s.0 s.1 (λ b. alt_uses p v b r)) (span-other v ne)),
           )
 
-      pub IsKept-moved : (more : ℕ) (uses fewest was now : List ℕ) → more + alt_cost p u (slice_index alts u) ≡ cost + alt_cost p u a →
+      pub IsKept-moved : AreRanges p (slice_set ranges u (low, high)) → (more : ℕ) (uses fewest was now : List ℕ) → more + alt_cost p u (slice_index alts u) ≡ cost + alt_cost p u a →
           length uses ≡ length loads → length fewest ≡ length least →
           ((r : ℕ) → r < length loads → slice_index uses r + alt_uses p u (slice_index alts u) r ≡ slice_index loads r + alt_uses p u a r) →
           ((r : ℕ) → r < length least → slice_index fewest r + times_in was r ≡ slice_index least r + times_in now r) →
           ((r : ℕ) → times_in was r ≡ least_uses p ranges u r) → ((r : ℕ) → times_in now r ≡ least_within low high (λ b. alt_uses p u b r)) →
           IsKept p (slice_set ranges u (low, high)) (slice_set alts u a) more uses fewest zeros
-      IsKept-moved more uses fewest was now paid e f g h i j = record {
-        valid = AreRanges-slice_set p ranges u low high (omega (arith, k.valid.length, l)) k.valid ordered there;
+      IsKept-moved valid more uses fewest was now paid e f g h i j = record {
+        valid = valid;
         few_units = k.few_units;
         units = k.units;
         cheapest = cheapest-moved;

@@ -1,9 +1,5 @@
 pub mod Visits
-pub mod Lists
 pub mod Walks
+pub mod Lists
 pub mod Rows
 pub mod Loops
-pub mod Improved
-pub mod Allotments
-pub mod Orders
-pub mod Held

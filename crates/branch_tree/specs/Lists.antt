@@ -16,7 +16,3 @@ AreWithin resources list = (r : ℕ) → 0 < times_in list r → r < resources
 -- each count is at least what is listed
 abbrev pub HasListed : List ℕ → List ℕ → Type 0
 HasListed counts list = (r : ℕ) → r < length counts → times_in list r ≤ slice_index counts r
-
--- all counts are 0
-abbrev pub AreZero : List ℕ → Type 0
-AreZero counts = (r : ℕ) → r < length counts → slice_index counts r ≡ 0

@@ -1,16 +1,7 @@
 -- Forms of loops: contracts of private functions alone cite them.
-use Rattle.std.specs.Prelude.{◌≡◌, ℕ, ◌+◌, ◌<◌, ◌≤◌, Bool, true, nat_lt, ◌==◌, ◌&&◌, ◌||◌, List, length, slice_index, Option, Some, None}
-use Rattle.choice_problem.specs.Problems.{ProblemView, resource_count, alt_count, alt_cost, limit_of}
+use Rattle.std.specs.Prelude.{◌≡◌, ℕ, ◌+◌, ◌<◌, Bool, true, nat_lt, ◌==◌, ◌&&◌, ◌||◌, Option, Some, None}
+use Rattle.choice_problem.specs.Problems.{ProblemView, alt_count, alt_cost}
 use Rattle.finite_sums.specs.Sums.{count_below}
-
--- one count for each resource, none above its limit
-pub record KeepsLimits (p : ProblemView) (counts : List ℕ) : Type 0 where
-  pub length : length counts ≡ resource_count p
-  pub within : (r : ℕ) → r < resource_count p → slice_index counts r ≤ limit_of p r
-
--- at each resource that is used further, count and further uses are together at most the limit
-abbrev pub FitsBeside : ProblemView → List ℕ → (ℕ → ℕ) → Type 0
-FitsBeside p counts uses = (r : ℕ) → r < resource_count p → 0 < uses r → slice_index counts r + uses r ≤ limit_of p r
 
 -- alternative a comes before alternative b: it costs less, or as much and has the lower number
 abbrev pub precedes : ProblemView → ℕ → ℕ → ℕ → Bool

@@ -1,5 +1,5 @@
 -- What a visit of ranges answers: the first of its cases that applies.
-use Rattle.std.specs.Prelude.{◌≡◌, ℕ, ◌+◌, ◌<◌, List, [], length, map, slice_index_or, Option, Some, ◌⊎◌}
+use Rattle.std.specs.Prelude.{◌≡◌, ℕ, ◌+◌, ◌<◌, List, [], length, slice_index_or, Option, Some, ◌⊎◌}
 use Rattle.choice_problem.specs.declared.vectors.Price.{Price}
 use Rattle.choice_problem.specs.declared.nodes.Node.{Node}
 use Rattle.choice_problem.specs.declared.nodes.Node.TheVariants as node
@@ -7,14 +7,9 @@ use Rattle.choice_problem.specs.Problems.{ProblemView, resource_count}
 use Rattle.choice_problem.specs.Choices.{IsFeasible, choice_cost}
 use Rattle.choice_problem.specs.Bounds.{Closes, IsOver}
 use Rattle.choice_problem.specs.Trees.{CanSplit}
-use Rattle.choice_problem.specs.Splits.{IsCheapest, IsFirstOver, IsSplitAt}
-use Rattle.dual_bound.specs.Tables.{TableView}
+use Rattle.choice_problem.specs.Splits.{StaysOpen, IsCheapest, IsFirstOver, IsSplitAt}
 use Rattle.branch_tree.specs.declared.answers.Visit.{Visit}
 use Rattle.branch_tree.specs.declared.answers.Visit.TheVariants as answer
-
--- the vectors of tables
-abbrev pub vectors_of : List TableView → List (List Price)
-vectors_of tables = map (λ (t : TableView). t.prices) tables
 
 -- the first n of these vectors do not close the ranges at scale 1024
 abbrev pub AreOpen : ProblemView → List (List Price) → ℕ → List (ℕ × ℕ) → Option ℕ → Type 0
@@ -26,10 +21,10 @@ pub record IsFirstClosing (p : ProblemView) (vectors : List (List Price)) (range
   pub closes : Closes p ranges (slice_index_or vectors k []) 1024 seen
   pub first : AreOpen p vectors k ranges seen
 
--- no vector closes the ranges: neither vector 0, without prices, at scale 1, nor the root vector, nor a further one
-pub record StaysUnclosed (p : ProblemView) (root : List Price) (further : List (List Price)) (ranges : List (ℕ × ℕ)) (seen : Option ℕ) : Type 0 where
-  pub no_zero : Closes p ranges [] 1 seen → ⊥
-  pub no_root : Closes p ranges root 1024 seen → ⊥
+-- the ranges stay open at a visit, and no further vector closes them
+pub record StaysOpenToAll (p : ProblemView) (root : List Price) (further : List (List Price))
+    (ranges : List (ℕ × ℕ)) (seen : Option ℕ) : Type 0 where
+  pub stays_open : StaysOpen p root ranges seen
   pub no_further : AreOpen p further (length further) ranges seen
 
 -- vector 0 closes
@@ -67,6 +62,11 @@ IsClosingLeaf p root further ranges seen node.Undone = ⊥
 abbrev pub NoneOver : ProblemView → List (ℕ × ℕ) → Type 0
 NoneOver p ranges = (r : ℕ) → r < resource_count p → IsOver p ranges r → ⊥
 
+-- nothing that goes without prices closes the ranges: no resource is over, and vector 0 does not close
+pub record NeedsPrices (p : ProblemView) (ranges : List (ℕ × ℕ)) (seen : Option ℕ) : Type 0 where
+  pub none_over : NoneOver p ranges
+  pub no_zero : Closes p ranges [] 1 seen → ⊥
+
 -- the closing leaf: of the lowest resource that is over, where there is one, and else of the first vector that closes
 abbrev pub ClosesBy : ProblemView → List Price → List (List Price) → List (ℕ × ℕ) → Option ℕ → Node → Type 0
 ClosesBy p root further ranges seen (node.Over r) = IsFirstOver p ranges r
@@ -98,6 +98,6 @@ IsFoundOrSplit p ranges (answer.Split unit cut) = IsSplit p ranges unit cut
 abbrev pub IsVisit : ProblemView → List Price → List (List Price) → List (ℕ × ℕ) → Option ℕ → Visit → Type 0
 IsVisit p root further ranges seen (answer.Close leaf) = ClosesBy p root further ranges seen leaf
 IsVisit p root further ranges seen (answer.Found x leaf) =
-    NoneOver p ranges × StaysUnclosed p root further ranges seen × IsFound p ranges x leaf
+    StaysOpenToAll p root further ranges seen × IsFound p ranges x leaf
 IsVisit p root further ranges seen (answer.Split unit cut) =
-    NoneOver p ranges × StaysUnclosed p root further ranges seen × IsSplit p ranges unit cut
+    StaysOpenToAll p root further ranges seen × IsSplit p ranges unit cut

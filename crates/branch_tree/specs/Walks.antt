@@ -1,19 +1,15 @@
 -- What a walk shows, and what it keeps.
 use Rattle.std.specs.Prelude.{◌≡◌, ℕ, ◌<◌, ◌≤◌, List, length, slice_index}
 use Rattle.choice_problem.specs.Problems.{ProblemView, IsChooser, unit_count, resource_count, chooser_at}
-use Rattle.choice_problem.specs.Choices.{IsChoice, choice_cost, load_of}
+use Rattle.choice_problem.specs.Choices.{IsChoice, choice_cost}
 use Rattle.choice_problem.specs.Bounds.{AreRanges, least_load}
 use Rattle.choice_problem.specs.Splits.{IsCheapest}
-use Rattle.branch_tree.specs.Lists.{AreZero}
+use Rattle.window_counts.specs.Placed.{AreZero, AreLoads}
 
 -- a problem, and ranges of it
 pub record WalkView : Type 0 where
   pub problem : ProblemView
   pub ranges : List (ℕ × ℕ)
-
--- the counts are what a choice uses
-abbrev pub AreLoads : ProblemView → List ℕ → List ℕ → Type 0
-AreLoads p x counts = (r : ℕ) → r < resource_count p → slice_index counts r ≡ load_of p x r
 
 -- the counts are the least loads
 abbrev pub AreLeast : ProblemView → List (ℕ × ℕ) → List ℕ → Type 0

@@ -1,44 +1,66 @@
-//! Which vector closes ranges.
+//! Which vector with prices closes ranges.
 
-ghost use Rattle.std.specs.Prelude.{◌≡◌, ◌↔◌, ℕ, ◌<◌, ◌≤◌, length, map, All, IsTrue, IfSome, IfNone, [], Some, pos, ◌-ℤ◌, ◌*ℤ◌, ◌<ℤ◌};
-ghost use Rattle.choice_problem.specs.Bounds.{AreRanges, Closes};
-ghost use Rattle.dual_bound.specs.Tables.{IsTableFor, TableView};
-ghost use Rattle.branch_tree.specs.Visits.{IsClosingLeaf, StaysUnclosed, IsFirstClosing, AreOpen, vectors_of};
+ghost use Rattle.std.specs.Prelude.{◌≡◌, ◌≤◌, ◌∷◌, length, All, IfSome, IfNone};
+ghost use Rattle.choice_problem.specs.Bounds.{AreRanges};
+ghost use Rattle.price_table.specs.Tables.{IsTableFor, vectors_of};
+ghost use Rattle.price_table.specs.Totals.{AreKeptFor};
+ghost use Rattle.branch_tree.specs.Visits.{IsClosingLeaf, StaysOpenToAll, NeedsPrices, IsFirstClosing, AreOpen};
 
 use choice_problem::{Node, Problem, Ranges};
-use dual_bound::{PriceTable, bound};
+use price_table::{PriceTable, Totals, closes};
 
 // The scale of all vectors with prices.
 const SCALE: u64 = 1024;
 
-// The leaf of the first vector that closes ranges; whether vector 0 does is known.
-pub(crate) fn closing_leaf(
+// The leaf of the first vector with prices that closes ranges which nothing else closes.
+pub(crate) fn priced_leaf(
     problem: &Problem,
     ranges: &Ranges,
     root: &PriceTable,
     further: &[PriceTable],
     seen: Option<u64>,
-    zero_closes: bool,
 ) -> Option<Node>
     requires ranges { AreRanges problem.now ranges.now }
     requires root { IsTableFor problem.now root.now }
     requires further { All (IsTableFor problem.now) further.now }
     requires few { length further.now ≤ 63 }
-    requires zero { IsTrue zero_closes ↔ Closes problem.now ranges.now [] 1 seen }
+    requires needs { NeedsPrices problem.now ranges.now seen }
     ensures some { IfSome result (IsClosingLeaf problem.now root.now.prices (vectors_of further.now) ranges.now seen) }
-    ensures none { IfNone result (StaysUnclosed problem.now root.now.prices (vectors_of further.now) ranges.now seen) }
+    ensures none { IfNone result (StaysOpenToAll problem.now root.now.prices (vectors_of further.now) ranges.now seen) }
 {
-    if zero_closes {
-        return Some(leaf(0, 1, seen));
-    }
-    if closes(problem, ranges, root, seen) {
+    if closes(problem, ranges, root, SCALE, seen) {
         return Some(leaf(1, SCALE, seen));
     }
     let found = first_closing(problem, ranges, further, seen)?;
     Some(leaf(found + 2, SCALE, seen))
 }
 
-fn leaf(vector: u32, scale: u64, seen: Option<u64>) -> Node
+// The same by totals that are kept for the vectors.
+pub(crate) fn kept_leaf(
+    problem: &Problem,
+    ranges: &Ranges,
+    root: &PriceTable,
+    further: &[PriceTable],
+    totals: &[Totals],
+    seen: Option<u64>,
+) -> Option<Node>
+    requires few { length further.now ≤ 63 }
+    requires kept { AreKeptFor problem.now (root.now.prices ∷ vectors_of further.now) ranges.now totals.now }
+    requires needs { NeedsPrices problem.now ranges.now seen }
+    ensures some { IfSome result (IsClosingLeaf problem.now root.now.prices (vectors_of further.now) ranges.now seen) }
+    ensures none { IfNone result (StaysOpenToAll problem.now root.now.prices (vectors_of further.now) ranges.now seen) }
+{
+    let (_problem, _ranges, _root, _further) = (problem, ranges, root, further);
+    for place in 0..totals.len() {
+        if totals[place].closes(seen) {
+            return Some(leaf(place as u32 + 1, SCALE, seen));
+        }
+    }
+    None
+}
+
+// The leaf that names a vector and a scale, with what was seen.
+pub(crate) fn leaf(vector: u32, scale: u64, seen: Option<u64>) -> Node
     ensures { result ≡ Node.Leaf vector scale seen }
 {
     Node::Leaf {
@@ -62,28 +84,9 @@ fn first_closing(
     ensures none { IfNone result (AreOpen problem.now (vectors_of tables.now) (length tables.now) ranges.now seen) }
 {
     for place in 0..tables.len() {
-        if closes(problem, ranges, &tables[place], seen) {
+        if closes(problem, ranges, &tables[place], SCALE, seen) {
             return Some(place as u32);
         }
     }
     None
-}
-
-// Whether the table's vector closes ranges. At this scale no vector closes where no cost is known.
-fn closes(problem: &Problem, ranges: &Ranges, table: &PriceTable, seen: Option<u64>) -> bool
-    requires ranges { AreRanges problem.now ranges.now }
-    requires table { IsTableFor problem.now table.now }
-    ensures { IsTrue result ↔ Closes problem.now ranges.now table.now.prices 1024 seen }
-{
-    match seen {
-        Some(cost) => is_above(bound(problem, ranges, table, SCALE), cost),
-        None => false,
-    }
-}
-
-// Whether a scaled bound shows that every cost is at least this one.
-fn is_above(bound: i128, cost: u64) -> bool
-    ensures { IsTrue result ↔ ((pos 1024 *ℤ (pos cost -ℤ pos 1)) <ℤ bound) }
-{
-    bound > i128::from(SCALE) * (i128::from(cost) - 1)
 }

@@ -6,14 +6,13 @@ ghost use Rattle.choice_problem.specs.Problems.{unit_count, alt_count, alt_uses,
 ghost use Rattle.choice_problem.specs.Choices.{IsFeasible, choice_cost};
 ghost use Rattle.choice_problem.specs.Counts.{GrowsBy, HasRoom};
 ghost use Rattle.choice_problem.specs.Greedy.{FitsOn, IsGreedyAlt, IsGreedy, GreedyStops, IsGreedyCost};
-ghost use Rattle.branch_tree.specs.Loops.{KeepsLimits};
+ghost use Rattle.window_counts.specs.Placed.{KeepsLimits};
 
-use crate::order::next_cheapest;
-use crate::placing::place_alt;
-use choice_problem::{Choice, Problem};
+use crate::cheapest_first::next_cheapest;
+use choice_problem::{Choice, Problem, search_start};
 use slot_text::Memory;
 use std::alloc::Global;
-use window_counts::Counts;
+use window_counts::{Counts, place_alt};
 
 /// The units in order each take the cheapest alternative that fits with those already taken, the lowest number on ties.
 /// None exactly where some unit in order finds no alternative. It counts in an array of one number a resource; a unit
@@ -24,6 +23,7 @@ pub fn greedy(alloc: Global, problem: &Problem) -> Result<Option<Choice>, Memory
     ensures none { IfOk result (λ found. IfNone found ((x : List ℕ) × GreedyStops problem.now x)) }
     ensures cost { IfOk result (λ found. IsGreedyCost problem.now (option_map (choice_cost problem.now) found)) }
 {
+    search_start();
     let mut counts = Counts::of(alloc, &[], problem.resources())?;
     let mut alts = Vec::new(alloc);
     if choose_all(problem, &mut counts, &mut alts)? {

@@ -7,37 +7,17 @@ ghost use Rattle.choice_problem.specs.Choices.{IsChoice, choice_cost, load_of};
 ghost use Rattle.choice_problem.specs.Counts.{GrowsBy, HasRoom};
 ghost use Rattle.choice_problem.specs.Bounds.{AreRanges, Closes, least_load, low_of, high_of};
 ghost use Rattle.choice_problem.specs.Splits.{IsCheapest, least_uses};
-ghost use Rattle.window_counts.specs.Counts.{HasUses};
-ghost use Rattle.branch_tree.specs.Lists.{times_in, AreWithin, AreZero};
-ghost use Rattle.branch_tree.specs.Walks.{AreLoads, AreLeast};
+ghost use Rattle.choice_problem.specs.Counts.{HasUses};
+ghost use Rattle.branch_tree.specs.Lists.{times_in, AreWithin};
+ghost use Rattle.window_counts.specs.Placed.{AreZero};
+ghost use Rattle.branch_tree.specs.Walks.{AreLeast};
+ghost use Rattle.window_counts.specs.Placed.{AreLoads};
 
 use crate::least_uses::least_list;
-use crate::placing::{add_alt, change_alt};
 use crate::tallies::{add_list, take_list};
 use choice_problem::{Problem, Ranges};
 use slot_text::Memory;
 use std::alloc::Global;
-use window_counts::Counts;
-
-// Counts the uses of a choice on counts of 0, and adds its costs.
-pub(crate) fn load_all(problem: &Problem, alts: &[u32], loads: &mut Counts) -> u64
-    requires alts { IsChoice problem.now alts.now }
-    requires count { length loads.old ≡ resource_count problem.now }
-    requires zeros { AreZero loads.old }
-    ensures cost { result ≡ choice_cost problem.now alts.now }
-    ensures count { length loads.new ≡ resource_count problem.now }
-    ensures loads { AreLoads problem.now alts.now loads.new }
-    ensures units { (u : ℕ) → u < unit_count problem.now → IsChooser (chooser_at problem.now u) }
-    ensures few { unit_count problem.now ≤ 4096 }
-{
-    let mut cost = 0;
-    for unit in 0..problem.units() {
-        let alt = alts[unit as usize];
-        add_alt(problem, unit, alt, loads);
-        cost += problem.alt_cost(unit, alt);
-    }
-    cost
-}
 
 // Counts the least loads of ranges on counts of 0.
 pub(crate) fn count_least(

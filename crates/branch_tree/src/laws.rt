@@ -7,7 +7,7 @@ ghost use Rattle.choice_problem.specs.declared.vectors.Price.{Price};
 ghost use Rattle.choice_problem.specs.Problems.{ProblemView};
 ghost use Rattle.choice_problem.specs.Bounds.{AreRanges};
 ghost use Rattle.choice_problem.specs.Driven.{IsDrivenNode};
-ghost use Rattle.branch_tree.specs.Visits.{ClosesBy, IsFound, IsSplit, NoneOver, StaysUnclosed};
+ghost use Rattle.branch_tree.specs.Visits.{ClosesBy, IsFound, IsSplit, StaysOpenToAll};
 
 /// What a visit answers is a node of a driven tree: the leaf of closed ranges, the leaf of a choice that was found, and the
 /// split with what was seen. The root vector is the first of the tree's vectors, and the further ones follow.
@@ -20,6 +20,6 @@ pub fn visited_nodes()
         AreRanges p ranges → IsFound p ranges x leaf → IsDrivenNode p vectors root ranges leaf }
     ensures split { (p : ProblemView) (vectors : List (List Price)) (root : List Price) (further : List (List Price))
         (ranges : List (ℕ × ℕ)) (seen : Option ℕ) (unit cut : ℕ) →
-        NoneOver p ranges → StaysUnclosed p root further ranges seen → IsSplit p ranges unit cut →
+        StaysOpenToAll p root further ranges seen → IsSplit p ranges unit cut →
         IsDrivenNode p vectors root ranges (node.Split unit cut seen) }
 {}

@@ -3,7 +3,8 @@
 ghost use Rattle.std.specs.Prelude.{◌≡◌, ℕ, ◌<◌, ◌≤◌, min, length, IfOk};
 ghost use Rattle.finite_sums.specs.Sums.{least_within};
 ghost use Rattle.choice_problem.specs.Problems.{unit_count, alt_count, alt_uses, resource_count};
-ghost use Rattle.branch_tree.specs.Lists.{times_in, AreWithin, AreZero};
+ghost use Rattle.branch_tree.specs.Lists.{times_in, AreWithin};
+ghost use Rattle.window_counts.specs.Placed.{AreZero};
 
 use crate::listing::{second_list, uses_list};
 use crate::rows::{Row, move_twos, row_before, row_list};

@@ -2,23 +2,15 @@
 //! ranges of alternatives, which closes them, finds a choice, or says where to split them.
 #![tactic(auto)]
 
-mod allotments;
 mod answers;
 mod branching;
+mod cheapest_first;
 mod closings;
-mod draws;
-mod exchanges;
 mod greedy_start;
-mod groups;
-mod improved;
 mod kept;
 mod laws;
 mod least_uses;
 mod listing;
-mod order;
-mod orders;
-mod placing;
-mod pricing;
 mod rows;
 mod tallies;
 mod visits;
@@ -26,7 +18,6 @@ mod walks;
 
 pub use answers::Visit;
 pub use greedy_start::greedy;
-pub use improved::improved_choice;
 pub use laws::visited_nodes;
 pub use visits::visit;
 pub use walks::Walk;

@@ -4,17 +4,17 @@ ghost use Rattle.std.specs.Prelude.{◌<◌, [], IfOk, IfSome, IfNone, ℕ};
 ghost use Rattle.choice_problem.specs.Problems.{resource_count};
 ghost use Rattle.choice_problem.specs.Bounds.{AreRanges, IsOver};
 ghost use Rattle.choice_problem.specs.Splits.{IsFirstOver};
-ghost use Rattle.dual_bound.specs.Tables.{IsTableFor};
+ghost use Rattle.price_table.specs.Tables.{IsTableFor};
 ghost use Rattle.branch_tree.specs.Visits.{IsVisit};
 
 use crate::answers::Visit;
 use crate::branching::found_or_split;
-use crate::closings::closing_leaf;
+use crate::closings::{leaf, priced_leaf};
 use crate::kept::cheapest;
 use choice_problem::{
     Choice, Node, Problem, Ranges, Vector, first_passed, leaf_closes, over_closes,
 };
-use dual_bound::PriceTable;
+use price_table::PriceTable;
 use slot_text::Memory;
 use std::alloc::Global;
 
@@ -34,8 +34,10 @@ pub(crate) fn plain_visit(
         return Ok(Visit::Close(Node::Over { resource }));
     }
     let zero = Vector::new(Vec::new(alloc));
-    let closes = leaf_closes(problem, ranges, &zero, 1, seen);
-    if let Some(leaf) = closing_leaf(problem, ranges, root, &[], seen, closes) {
+    if leaf_closes(problem, ranges, &zero, 1, seen) {
+        return Ok(Visit::Close(leaf(0, 1, seen)));
+    }
+    if let Some(leaf) = priced_leaf(problem, ranges, root, &[], seen) {
         return Ok(Visit::Close(leaf));
     }
     let choice = Choice::new(cheapest(alloc, problem, ranges)?);

@@ -3,7 +3,8 @@
 ghost use Rattle.std.specs.Prelude.{◌≡◌, ℕ, ◌-◌, ◌<◌, ◌≤◌, length, IfOk, OnOk, IsTrue};
 ghost use Rattle.finite_sums.specs.Sums.{least_within};
 ghost use Rattle.choice_problem.specs.Problems.{unit_count, alt_count, alt_uses, resource_count};
-ghost use Rattle.branch_tree.specs.Lists.{times_in, AreWithin, AreZero};
+ghost use Rattle.branch_tree.specs.Lists.{times_in, AreWithin};
+ghost use Rattle.window_counts.specs.Placed.{AreZero};
 ghost use Rattle.branch_tree.specs.Rows.{IsRow, EndAlike, AreLeastTwos};
 
 use crate::listing::{first_list, second_list};

@@ -2,7 +2,8 @@
 
 ghost use Rattle.std.specs.Prelude.{◌≡◌, ℕ, ◌+◌, ◌^◌, ◌<◌, ◌≤◌, min, take, length, slice_index};
 ghost use Rattle.choice_problem.specs.Counts.{GrowsBy, HasRoom};
-ghost use Rattle.branch_tree.specs.Lists.{times_in, AreWithin, AreZero, HasListed};
+ghost use Rattle.branch_tree.specs.Lists.{times_in, AreWithin, HasListed};
+ghost use Rattle.window_counts.specs.Placed.{AreZero};
 
 // Adds one to the count of each listed resource.
 pub(crate) fn add_list(counts: &mut [u32], list: &[u32])

@@ -4,12 +4,11 @@ ghost use Rattle.std.specs.Prelude.{◌≡◌, ◌<◌, IfOk};
 ghost use Rattle.choice_problem.specs.Problems.{unit_count};
 ghost use Rattle.choice_problem.specs.Bounds.{AreRanges};
 
-mod improved;
 mod side_by_side;
 
 use super::*;
 use choice_problem::{Alt, Chooser, Part, Price, Problem, Ranges, Strip, Vector};
-use dual_bound::price_table;
+use price_table::price_table;
 use std::alloc::Global;
 use std::test::Fail;
 

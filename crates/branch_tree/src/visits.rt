@@ -2,13 +2,13 @@
 
 ghost use Rattle.std.specs.Prelude.{[], IfOk};
 ghost use Rattle.choice_problem.specs.Bounds.{AreRanges};
-ghost use Rattle.dual_bound.specs.Tables.{IsTableFor};
+ghost use Rattle.price_table.specs.Tables.{IsTableFor};
 ghost use Rattle.branch_tree.specs.Visits.{IsVisit};
 
 use crate::answers::Visit;
 use crate::walks::Walk;
 use choice_problem::{Problem, Ranges};
-use dual_bound::PriceTable;
+use price_table::PriceTable;
 use slot_text::Memory;
 use std::alloc::Global;
 

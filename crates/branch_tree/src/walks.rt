@@ -5,20 +5,20 @@ ghost use Rattle.choice_problem.specs.Problems.{unit_count, resource_count};
 ghost use Rattle.choice_problem.specs.Choices.{IsFirstPassed, Fits, choice_cost};
 ghost use Rattle.choice_problem.specs.Bounds.{AreRanges, Closes, IsOver};
 ghost use Rattle.choice_problem.specs.Splits.{IsCheapest, IsFirstOver};
-ghost use Rattle.branch_tree.specs.Walks.{AreLoads, AreLeast};
+ghost use Rattle.branch_tree.specs.Walks.{AreLeast};
+ghost use Rattle.window_counts.specs.Placed.{AreLoads};
 
 use crate::answers::Visit;
 use crate::branching::found_or_split;
-use crate::closings::closing_leaf;
-use crate::kept::{cheapest, count_least, first_cheapest, load_all, move_least};
+use crate::closings::{kept_leaf, leaf, priced_leaf};
+use crate::kept::{cheapest, count_least, first_cheapest, move_least};
 use crate::least_uses::least_list;
-use crate::placing::change_alt;
 use choice_problem::{Node, Problem, Ranges, first_above};
-use dual_bound::PriceTable;
+use price_table::{PriceTable, Totals};
 use slot_text::Memory;
 use std::alloc::Global;
 use std::marker::Model;
-use window_counts::Counts;
+use window_counts::{Counts, add_choice, change_alt};
 
 /// Ranges of a problem, with what a visit asks of them: the least load of each resource, each unit's first cheapest
 /// alternative, and what these together use and cost. Where a range changes, what changes with it is counted anew, and
@@ -47,11 +47,13 @@ impl<'a> Model for Walk<'a> {
 }
 
 impl<'a> Walk<'a> {
-    ghost use Rattle.std.specs.Prelude.{◌≡◌, ◌<◌, ◌≤◌, ℕ, [], All, length, slice_set, IfOk, OnOk, OnErr};
+    ghost use Rattle.std.specs.Prelude.{◌≡◌, ◌<◌, ◌≤◌, ℕ, List, [], ◌∷◌, All, length, slice_set, IfOk, IfSome, IfNone, OnOk, OnErr};
     ghost use Rattle.choice_problem.specs.Problems.{unit_count, alt_count};
     ghost use Rattle.choice_problem.specs.Bounds.{AreRanges};
-    ghost use Rattle.dual_bound.specs.Tables.{IsTableFor};
-    ghost use Rattle.branch_tree.specs.Visits.{IsVisit, vectors_of};
+    ghost use Rattle.price_table.specs.Tables.{IsTableFor, vectors_of};
+    ghost use Rattle.price_table.specs.Totals.{AreKeptFor};
+    ghost use Rattle.choice_problem.specs.declared.vectors.Price.{Price};
+    ghost use Rattle.branch_tree.specs.Visits.{IsVisit, ClosesBy, NeedsPrices};
 
     /// The walk at these ranges. A unit takes some steps a use of each part that its alternatives in range name, and ends
     /// early where nothing is left that all of them use. This counts on alternatives that name the same first part
@@ -67,7 +69,7 @@ impl<'a> Walk<'a> {
         let mut least = vec![in alloc; 0; resources as usize]?;
         let mut zeros = vec![in alloc; 0; resources as usize]?;
         let cheapest = cheapest(alloc, problem, &ranges)?;
-        let cost = load_all(problem, &cheapest, &mut loads);
+        let cost = add_choice(problem, &cheapest, &mut loads);
         count_least(alloc, problem, &ranges, &mut least, &mut zeros)?;
         Ok(Walk {
             problem,
@@ -119,11 +121,76 @@ impl<'a> Walk<'a> {
         requires few { length further.now ≤ 63 }
         ensures { IfOk result (IsVisit problem.now root.now.prices (vectors_of further.now) self.now.ranges seen) }
     {
-        if let Some(resource) = first_over(problem, &self.ranges, &self.least) {
-            return Ok(Visit::Close(Node::Over { resource }));
+        if let Some(leaf) = self.unpriced_leaf(problem, seen) {
+            return Ok(Visit::Close(leaf));
         }
-        let closes = zero_closes(problem, &self.ranges, &self.cheapest, self.cost, seen);
-        if let Some(leaf) = closing_leaf(problem, &self.ranges, root, further, seen, closes) {
+        self.visit_priced(alloc, problem, root, further, seen)
+    }
+
+    /// The leaf that closes the walk's ranges without prices, and so at each visit, whatever the vectors are: of the lowest
+    /// resource whose least load is above its limit, or of vector 0. Where there is none, `visit_priced` gives the visit's
+    /// answer: the root vector is wanted only there. `problem` is the one of `of`. One step a resource.
+    pub fn unpriced_leaf(&self, problem: &Problem, seen: Option<u64>) -> Option<Node>
+        requires problem { problem.now ≡ self.now.problem }
+        ensures some { IfSome result (λ leaf. (root : List Price) (further : List (List Price)) →
+            ClosesBy problem.now root further self.now.ranges seen leaf) }
+        ensures none { IfNone result (NeedsPrices problem.now self.now.ranges seen) }
+    {
+        if let Some(resource) = first_over(problem, &self.ranges, &self.least) {
+            return Some(Node::Over { resource });
+        }
+        if zero_closes(problem, &self.ranges, &self.cheapest, self.cost, seen) {
+            return Some(leaf(0, 1, seen));
+        }
+        None
+    }
+
+    /// The answer of `visit_with` where `unpriced_leaf` has none: one step an alternative in range for each vector with
+    /// prices, and one a resource where none of them closes.
+    pub fn visit_priced(
+        &self,
+        alloc: Global,
+        problem: &Problem,
+        root: &PriceTable,
+        further: &[PriceTable],
+        seen: Option<u64>,
+    ) -> Result<Visit, Memory>
+        requires problem { problem.now ≡ self.now.problem }
+        requires root { IsTableFor problem.now root.now }
+        requires further { All (IsTableFor problem.now) further.now }
+        requires few { length further.now ≤ 63 }
+        requires needs { NeedsPrices problem.now self.now.ranges seen }
+        ensures { IfOk result (IsVisit problem.now root.now.prices (vectors_of further.now) self.now.ranges seen) }
+    {
+        if let Some(leaf) = priced_leaf(problem, &self.ranges, root, further, seen) {
+            return Ok(Visit::Close(leaf));
+        }
+        let passed = first_passed(problem, &self.cheapest, &self.loads);
+        found_or_split(alloc, problem, &self.ranges, &self.cheapest, passed)
+    }
+
+    /// The answer of `visit_with` by totals that are kept for the vectors at scale 1024, those of the root vector first,
+    /// while the walk's ranges change: one step a resource and a vector, and none an alternative. Both tables are those
+    /// for which the totals are.
+    pub fn visit_kept(
+        &self,
+        alloc: Global,
+        problem: &Problem,
+        root: &PriceTable,
+        further: &[PriceTable],
+        totals: &[Totals],
+        seen: Option<u64>,
+    ) -> Result<Visit, Memory>
+        requires problem { problem.now ≡ self.now.problem }
+        requires few { length further.now ≤ 63 }
+        requires kept { AreKeptFor problem.now (root.now.prices ∷ vectors_of further.now)
+            self.now.ranges totals.now }
+        ensures { IfOk result (IsVisit problem.now root.now.prices (vectors_of further.now) self.now.ranges seen) }
+    {
+        if let Some(leaf) = self.unpriced_leaf(problem, seen) {
+            return Ok(Visit::Close(leaf));
+        }
+        if let Some(leaf) = kept_leaf(problem, &self.ranges, root, further, totals, seen) {
             return Ok(Visit::Close(leaf));
         }
         let passed = first_passed(problem, &self.cheapest, &self.loads);

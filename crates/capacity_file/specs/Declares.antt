@@ -6,7 +6,7 @@ use Rattle.slot_text.specs.Stations.{IsStation}
 use Rattle.season_days.specs.Capacity.{capacity_of, declared_resources}
 use Rattle.season_days.specs.declared.declaration.Declaration.{Declaration}
 use Rattle.season_days.specs.declared.declaration.Rule.{Rule}
-use Rattle.season_days.specs.declared.declaration.TheConstants.{MINUTES_OF_DAY, MOST_RULES, MOST_WINDOWS}
+use Rattle.season_days.specs.declared.declaration.TheConstants.{MINUTES_OF_DAY, MOST_RULES, MOST_WINDOWS, HIGHEST_SHARE}
 use Rattle.capacity_file.specs.Values.{is_step, IsRefusalPrice, IsNight, IsCapacityLine}
 use Rattle.capacity_file.specs.Entries.{States}
 use Rattle.capacity_file.specs.Lines.{IsStated, LacksWord, IsClean}
@@ -66,7 +66,7 @@ pub record HasAllowedValues (d : Declaration) : Type 0 where
   pub even : d.flex % d.step ≡ 0
   pub flex : d.flex ≤ MOST_FLEX
   pub ground_time : d.ground ≤ MINUTES_OF_DAY
-  pub share : d.share ≤ 100
+  pub share : d.share ≤ HIGHEST_SHARE
   pub refuse : ForSome d.refuse IsRefusalPrice
   pub night : ForSome d.night IsNight
   pub rules : All IsCapacityLine d.rules

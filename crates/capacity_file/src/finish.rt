@@ -12,7 +12,6 @@ ghost use Rattle.capacity_file.specs.declared.fault.CapFault.TheVariants.{Memory
 use crate::draft::{Draft, FlexLine, Singles};
 use crate::fault::{CapFault, CapLimit, CapWord};
 use crate::limits::{MOST_FLEX, USUAL_SHARE};
-use crate::windows::count_windows;
 use season_days::{Declaration, MOST_RULES, MOST_WINDOWS, Night, Rule, RuleList, Season};
 use slot_text::Station;
 
@@ -86,7 +85,7 @@ fn passed_limit(needed: &Needed, night: &Option<Night>, rules: &[Rule]) -> Optio
     if rules.len() > MOST_RULES as usize {
         return Some((CapLimit::Caps, rules.len() as u64));
     }
-    let windows = count_windows(&needed.season, needed.step, night, rules);
+    let windows = needed.season.count_windows(needed.step, night, rules);
     if windows > u64::from(MOST_WINDOWS) {
         return Some((CapLimit::Windows, windows));
     }

@@ -1,7 +1,7 @@
 ghost use Rattle.std.specs.Prelude.{◌≡◌, ◌⊎◌, ℕ, ◌<◌, ◌^◌, length, Ok, Err, IfOk, IfErr, MatchResult};
 ghost use Rattle.slot_text.specs.Lines.{lines_of};
 ghost use Rattle.slot_text.specs.Reads.{GivesOr};
-ghost use Rattle.season_days.specs.Capacity.{capacity_of, IsCapacity};
+ghost use Rattle.season_days.specs.Capacity.{capacity_of, IsCapacity, IsDeclaration};
 ghost use Rattle.season_days.specs.declared.declaration.Declaration.{Declaration as DeclarationValue};
 ghost use Rattle.capacity_file.specs.Declares.{IsCapacityFile, HasAllowedValues};
 ghost use Rattle.capacity_file.specs.Faults.{HasCapacityFault};
@@ -12,6 +12,7 @@ ghost use Rattle.capacity_file.specs.declared.fault.CapFault.TheVariants.{Memory
 use crate::draft::Draft;
 use crate::fault::CapFault;
 use crate::finish::finish;
+use schedule_text::laws::one_value;
 use season_days::Declaration;
 use slot_text::Lines;
 use std::alloc::Global;
@@ -32,9 +33,12 @@ pub fn read_capacity(alloc: Global, bytes: &[u8]) -> Result<Declaration, CapFaul
     ensures exact { (e : CapFaultValue) → HasCapacityFault bytes.now e → GivesOr NoMemory result (Err e) }
     // What is read keeps the limits that the windows of a declaration ask for.
     ensures capacity { IfOk result (λ d. IsCapacity (capacity_of d)) }
+    // It keeps what the layers above ask of a declaration.
+    ensures keeps { IfOk result (λ d. IsDeclaration d) }
     // Its values are those that a file may state.
     ensures allowed { IfOk result (λ d. HasAllowedValues d) }
 {
+    one_value();
     let draft = collect(alloc, bytes)?;
     finish(draft)
 }

@@ -8,18 +8,17 @@ use Rattle.season_days.specs.Seasons.{date_count}
 use Rattle.season_days.specs.declared.day.Period.{Period}
 use Rattle.season_days.specs.declared.declaration.Kind.{Kind}
 use Rattle.season_days.specs.declared.declaration.Rule.{Rule}
-use Rattle.season_days.proofs.SeasonLemmas.{date_count_small}
 use Rattle.capacity_windows.specs.Windows.{Capacity, holds, resource_at, window_load, movement_on, stop_movements, is_of_kind, is_daily, band_strips, rule_strips, most_strips}
 use Rattle.capacity_windows.specs.Bands.{is_date}
 use Rattle.capacity_windows.proofs.LoadLemmas.{count_dates}
 
 -- at most once a date
-pub few_listed : (c : Capacity) (kind : Kind) (minute later : ℕ) (period : Period) (r : ℕ) → period.last.0 < date_count c.season → window_load c (stop_movements c kind minute later period) r ≤ 217
-few_listed c kind minute later period r within =
+pub few_listed : (c : Capacity) (kind : Kind) (minute later : ℕ) (period : Period) (r : ℕ) → period.last.0 < date_count c.season → date_count c.season ≤ 217 → window_load c (stop_movements c kind minute later period) r ≤ 217
+few_listed c kind minute later period r within short =
     let test : ℕ → Bool = λ (x : ℕ). is_date c.season period x && holds c (resource_at c r) (movement_on kind minute later x) in
     let counted : window_load c (stop_movements c kind minute later period) r ≡ count_below (date_count c.season) test = count_dates c.season period (movement_on kind minute later) (holds c (resource_at c r)) within in
     let few : count_below (date_count c.season) test ≤ date_count c.season = count_below-le (date_count c.season) test in
-    omega (arith, counted, few, date_count_small c.season)
+    omega (arith, counted, few, short)
 
 -- after one line more
 pub few_more : (f : Rule → ℕ) (n m i : ℕ) (xs : List Rule) (d : Rule) → i < length xs → n ≤ sum_by f (take i xs) → m ≤ n + f (get_or xs i d) → m ≤ sum_by f (take (i + 1) xs)

@@ -1,9 +1,10 @@
-pub mod CountLemmas
-pub mod BandLemmas
-pub mod LoadLemmas
-pub mod RuleLemmas
-pub mod RestLemmas
-pub mod NumberLemmas
-pub mod UsesLemmas
-pub mod RangeLemmas
-pub mod FewLemmas
+mod CountLemmas
+mod BandLemmas
+mod LoadLemmas
+mod RuleLemmas
+mod RestLemmas
+mod NumberLemmas
+mod UsesLemmas
+mod RangeLemmas
+mod FewLemmas
+mod LimitLemmas

@@ -1,5 +1,5 @@
--- The windows of a declaration and its night quota: how they are numbered, how much they may hold, what they hold, and
--- the load of a list of movements on them.
+-- The windows of a declaration and its night quota: how they are numbered, how much they may hold,
+-- what they hold, and the load of a list of movements on them.
 use Rattle.std.specs.Prelude.{ℕ, ◌+◌, ◌*◌, ◌-◌, ◌/◌, ◌%◌, ◌<◌, ◌≤◌, ◌==◌, Bool, true, false, ◌&&◌, ◌||◌, nat_le, nat_lt, if◌then◌else◌, List, [], ◌∷◌, take, map, sum_by, count_by, filter, Option, Some, None}
 use Rattle.season_days.specs.Seasons.{date_count, is_on, dates_of}
 use Rattle.season_days.specs.declared.day.Period.{Period}
@@ -14,7 +14,7 @@ use Rattle.capacity_windows.specs.declared.resource.Resource.{Resource}
 use Rattle.capacity_windows.specs.declared.resource.Resource.TheVariants.{Window, Quota, Nothing}
 pub use Rattle.season_days.specs.Capacity.{Capacity, capacity_of, start_of, starts_of, windows_of, declared_resources, IsRule, IsCapacity}
 
--- ---- numbers: the windows capacity line by capacity line, day by day and start by start, and then the night quota
+-- ---- numbers: the windows line by line, day by day and start by start, then the night quota
 
 -- the number of a line's first window
 abbrev pub first_of : Capacity → ℕ → ℕ
@@ -28,15 +28,20 @@ quota_from (Some night) r = if r == 0 then Quota night else Nothing
 abbrev pub resource_from : Capacity → List Rule → ℕ → Resource
 resource_from c [] r = quota_from c.night r
 resource_from c (rule ∷ rules) r =
-    if nat_lt r (windows_of c rule) then Window rule (r / starts_of c.step rule) (r % starts_of c.step rule) else resource_from c rules (r - windows_of c rule)
+    if nat_lt r (windows_of c rule)
+    then Window rule (r / starts_of c.step rule) (r % starts_of c.step rule)
+    else resource_from c rules (r - windows_of c rule)
 
 abbrev pub resource_at : Capacity → ℕ → Resource
 resource_at c r = resource_from c c.rules r
 
 -- ---- limits: on a day whose weekday is not in the line's set a window has limit 0
 
+abbrev pub day_limit : Capacity → Rule → ℕ → ℕ
+day_limit c rule day = if is_on c.season rule.days day then rule.limit else 0
+
 abbrev pub resource_limit : Capacity → Resource → ℕ
-resource_limit c (Window rule day start) = if is_on c.season rule.days day then rule.limit else 0
+resource_limit c (Window rule day start) = day_limit c rule day
 resource_limit c (Quota night) = night.limit
 resource_limit c Nothing = 0
 
@@ -70,12 +75,17 @@ is_within begin length minute = nat_le begin minute && nat_lt minute (begin + le
 -- from the night's first minute on and before its end; a night may reach over midnight
 abbrev pub is_at_night : Night → ℕ → Bool
 is_at_night night minute =
-    if nat_lt night.to night.from then nat_le night.from minute || nat_lt minute night.to else nat_le night.from minute && nat_lt minute night.to
+    if nat_lt night.to night.from then nat_le night.from minute || nat_lt minute night.to
+    else nat_le night.from minute && nat_lt minute night.to
 
 -- whether a resource holds a movement
 abbrev pub holds : Capacity → Resource → Movement → Bool
 holds c (Window rule day start) m =
-    is_listed c m && (is_on c.season rule.days day && (is_of_kind rule.kind m.kind && is_within (absolute_minute day (start_of c.step rule start)) rule.length (absolute_minute m.day m.minute)))
+    is_listed c m
+    && (is_on c.season rule.days day
+    && (is_of_kind rule.kind m.kind
+    && is_within (absolute_minute day (start_of c.step rule start)) rule.length
+    (absolute_minute m.day m.minute)))
 holds c (Quota night) m = is_listed c m && is_at_night night m.minute
 holds c Nothing m = false
 
@@ -101,7 +111,8 @@ abbrev pub movement_on : Kind → ℕ → ℕ → ℕ → Movement
 movement_on kind minute later date = record { kind = kind; day = date + later; minute = minute }
 
 abbrev pub stop_movements : Capacity → Kind → ℕ → ℕ → Period → List Movement
-stop_movements c kind minute later period = map (movement_on kind minute later) (dates_of c.season period)
+stop_movements c kind minute later period =
+    map (movement_on kind minute later) (dates_of c.season period)
 
 -- ---- how many strips the windows of a stop take
 
@@ -109,14 +120,15 @@ stop_movements c kind minute later period = map (movement_on kind minute later) 
 abbrev pub is_daily : ℕ → ℕ → Bool
 is_daily days dates = days == 127 && dates == 127
 
--- the windows of a line that begin on the movement's day, or on the day before: one strip where all is daily, else one
--- for each weekday
+-- the windows of a line that begin on the movement's day, or on the day before: one strip where all
+-- is daily, else one for each weekday
 abbrev pub band_strips : ℕ → ℕ → ℕ
 band_strips days dates = if is_daily days dates then 1 else 7
 
 -- both, where the line's windows hold the kind
 abbrev pub rule_strips : Kind → Period → Rule → ℕ
-rule_strips kind period rule = if is_of_kind rule.kind kind then 2 * band_strips rule.days period.days else 0
+rule_strips kind period rule =
+    if is_of_kind rule.kind kind then 2 * band_strips rule.days period.days else 0
 
 -- all lines together, and one strip for the night quota
 abbrev pub most_strips : Capacity → Kind → Period → ℕ

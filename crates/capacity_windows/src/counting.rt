@@ -35,8 +35,9 @@ impl Windows {
         }
     }
 
-    /// How many movements of a list, of fewer than 2^32, the resource of a number holds: one step for each movement and
-    /// for each capacity line. A movement after the season's last date is held by none.
+    /// How many movements of a list, of fewer than 2^32, the resource of a number holds: one step
+    /// for each movement and for each capacity line. A movement after the season's last date is
+    /// held by none.
     pub fn count_listed(&self, list: &[Movement], resource: u32) -> u32
         requires few { length list.now < 2 ^ 32 }
         ensures count { result ≡ window_load self.now list.now resource }
@@ -51,12 +52,13 @@ impl Windows {
         count
     }
 
-    /// The resources that hold a movement, whose minute of the day is below 1,440, in rising order. Only windows of the
-    /// movement's day and of the day before are looked at, each in one step for each capacity line. The one fault is want
-    /// of memory.
+    /// The resources that hold a movement, whose minute of the day is below 1,440, in rising order.
+    /// Only windows of the movement's day and of the day before are looked at, each in one step for
+    /// each capacity line. The one fault is want of memory.
     pub fn uses_of(&self, alloc: Global, movement: Movement) -> Result<Vec<u32>, Memory>
         requires minute { movement.minute < MINUTES_OF_DAY }
-        ensures value { IfOk result (λ uses. uses.items ≡ uses_below self.now movement (declared_resources self.now)) }
+        ensures value { IfOk result
+            (λ uses. uses.items ≡ uses_below self.now movement (declared_resources self.now)) }
     {
         let mut uses = Vec::new(alloc);
         if !self.is_listed(movement.day) {

@@ -1,17 +1,19 @@
-//! The capacity windows of a declaration: their numbers and limits, which of them hold a movement, and the windows that
-//! the movements of a series use, in strips.
+//! The capacity windows of a declaration: their numbers and limits, which of them hold a movement,
+//! and the windows that the movements of one stop of a series use, in strips.
 //!
-//! A capacity line declares rolling windows: on each day of the season one of `length` minutes for each start from `from`
-//! to `to`, a step apart. No window may hold more than `limit` movements of the line's kind. See WASG on declared
-//! capacity, and Zografos, Salouras and Madas 2012 on rolling windows.
+//! A capacity line declares rolling windows: on each day of the season one of `length` minutes for
+//! each start from `from` to `to`, a step apart. No window may hold more than `limit` movements of
+//! the line's kind. See WASG on declared capacity, and Zografos, Salouras and Madas 2012 on rolling
+//! windows.
 #![tactic(auto)]
 
 mod band;
 mod counting;
+mod limits;
 mod movement;
 mod resource;
-mod series;
 mod spreading;
+mod stop_dates;
 mod windows;
 
 pub use movement::Movement;

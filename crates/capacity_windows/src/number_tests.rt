@@ -1,6 +1,7 @@
-//! Numbers and uses of the windows of three capacity lines and a night quota, against lists written by hand. In S25, which
-//! has 210 dates, the first line has three starts a day, the windows 0 to 629; the second has one, 630 to 839, and the third,
-//! of Saturdays and Sundays, one, 840 to 1049; the quota is 1050. Day 0 is a Sunday and day 209 a Saturday.
+//! Numbers and uses of the windows of three capacity lines and a night quota, against lists written
+//! by hand. In S25, which has 210 dates, the first line has three starts a day, the windows 0 to
+//! 629; the second has one, 630 to 839, and the third, of Saturdays and Sundays, one, 840 to 1049;
+//! the quota is 1050. Day 0 is a Sunday and day 209 a Saturday.
 
 ghost use Rattle.std.specs.Prelude.{◌≡◌, ◌<◌, IfOk, length};
 ghost use Rattle.season_days.specs.Seasons.{date_count};
@@ -46,7 +47,6 @@ const NIGHT: Night = Night {
     limit: 4,
 };
 
-#[tactic(auto, using(season_days::proofs::SeasonLemmas::date_count_small))]
 fn three_lines(alloc: Global) -> Result<Windows, Fail>
     ensures { IfOk result (λ windows. length windows.rules ≡ 3) }
 {
@@ -175,8 +175,8 @@ fn series_use_windows_line_by_line(rt: HostRuntime) -> Result<(), Fail> {
     Ok(())
 }
 
-// Lines of ten minutes from 0600, 0700 and 0800, whose windows hold one movement each: the windows 0 to 209, 210 to 419 and
-// 420 to 629.
+// Lines of ten minutes from 0600, 0700 and 0800, whose windows hold one movement each: the windows
+// 0 to 209, 210 to 419 and 420 to 629.
 const SIX_ALONE: Rule = Rule {
     kind: Kind::Tot,
     length: 10,
@@ -204,9 +204,9 @@ const EIGHT_ALONE: Rule = Rule {
     limit: 1,
 };
 
-// Of three turnarounds on the first day, from 0600 to 0700, from 0700 to 0800 and from 0600 to 0800, each two use one window.
+// Of three turnarounds on the first day, from 0600 to 0700, from 0700 to 0800 and from 0600 to
+// 0800, each two use one window.
 #[test]
-#[tactic(auto, using(season_days::proofs::SeasonLemmas::date_count_small))]
 fn each_two_of_three_turnarounds_share_a_window(rt: HostRuntime) -> Result<(), Fail> {
     let alloc = rt.alloc();
     let season = Season::read(b"S25").ok_or("season")?;

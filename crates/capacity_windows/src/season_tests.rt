@@ -1,4 +1,5 @@
-//! The night quota, and the longest season, under one capacity line with one start a day, against lists written by hand.
+//! The night quota, and the longest season, under one capacity line with one start a day, against
+//! lists written by hand.
 
 use super::*;
 use crate::tests::{DAILY, SATURDAY_AND_SUNDAY, line, movement, period, used, windows, windows_in};

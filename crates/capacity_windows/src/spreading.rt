@@ -1,20 +1,23 @@
-//! The windows that a series of movements uses, in strips. A window may reach into the next day, so each capacity line
-//! has two bands of windows that may hold a movement: those of the movement's day and those of the day before. A band
-//! takes one strip where line and series are daily, and else at most one for each weekday.
+//! The windows that the movements of a stop use, in strips. A window may reach into the next day,
+//! so each capacity line has two bands of windows that may hold a movement: those of the movement's
+//! day and those of the day before. A band takes one strip where the line and the dates of the stop
+//! are daily, and else at most one for each weekday.
 
 ghost use Rattle.std.specs.Prelude.{◌≡◌, ◌+◌, ◌*◌, ◌<◌, ◌≤◌, ℕ, IfOk, OnOk, All, [], length};
 ghost use Rattle.choice_problem.specs.Strips.{part_uses, IsPartInRange};
 ghost use Rattle.season_days.specs.Seasons.{date_count};
 ghost use Rattle.season_days.specs.declared.declaration.Kind.{Kind};
+ghost use Rattle.season_days.specs.declared.season.TheConstants.{MOST_DATES};
 ghost use Rattle.season_days.specs.declared.declaration.TheConstants.{MINUTES_OF_DAY, MOST_WINDOWS};
 ghost use Rattle.capacity_windows.specs.Windows.{IsRule, windows_of, window_load, stop_movements, declared_resources, band_strips, rule_strips, most_strips};
-ghost use Rattle.capacity_windows.specs.Bands.{Adds, IsBand, IsSeries, series_of, starts_until, band_of, band_uses, weekday_uses, rule_load, rest_load, listed_dates, option_uses, first_date, end_date, IsWide, IsOptionWide};
+ghost use Rattle.capacity_windows.specs.Bands.{Adds, IsBand, AreStopDates, dated_movements, starts_until, band_of, band_uses, weekday_uses, rule_load, rest_load, listed_dates, option_uses, first_date, end_date, IsWide, IsOptionWide};
 
 use crate::band::Band;
 use crate::counting::{is_at_night, is_of_kind};
-use crate::series::Series;
+use crate::stop_dates::StopDates;
 use crate::windows::Windows;
 use choice_problem::{Part, Strip};
+use season_days::laws::weekday_sets;
 use season_days::{Day, Kind, MINUTES_OF_DAY, Period, Rule};
 use slot_text::Memory;
 use std::alloc::Global;
@@ -23,16 +26,19 @@ use std::alloc::Global;
 const EVERY_DAY: u8 = 0x7f;
 
 impl Windows {
-    /// The resources that hold the movements of one stop, each as often as it holds one: the movements are of this kind, on
-    /// this minute of the day (below 1,440), `later` days after each date of the period, whose first and last day are days
-    /// of the season. Movements after the season's last date are held by none; a period whose first day is after its last
-    /// has no dates.
+    /// The resources that hold the movements of one stop, each as often as it holds one: the
+    /// movements are of this kind, on this minute of the day (below 1,440), `later` days after each
+    /// date of the period, whose first and last day are days of the season. Movements after the
+    /// season's last date are held by none; a period whose first day is after its last has no
+    /// dates.
     ///
-    /// The part uses one resource at most 217 times, so an alternative of two such parts at most 434 times. A capacity line
-    /// that holds the kind takes one strip for its windows of the movement's day and one for those of the day before where
-    /// all weekdays are in its set and in the period's, and else up to seven for each; any other line takes none, and the
-    /// night quota one. So a daily stop under 16 daily lines takes at most 33 strips, however many dates it has, and any
-    /// part at most 897. The time is one step a strip or weekday, and for the quota one step a date. The one fault is want of memory.
+    /// The part uses one resource at most 217 times, so an alternative of two such parts at most
+    /// 434 times. A capacity line that holds the kind takes one strip for its windows of the
+    /// movement's day and one for those of the day before where all weekdays are in its set and in
+    /// the period's, and else up to seven for each; any other line takes none, and the night quota
+    /// one. So a daily stop under 16 daily lines takes at most 33 strips, however many dates it
+    /// has, and any part at most 897. The time is one step a strip or weekday, and for the quota
+    /// one step a date. The one fault is want of memory.
     pub fn strips_of(
         &self,
         alloc: Global,
@@ -44,13 +50,15 @@ impl Windows {
         requires minute { minute < MINUTES_OF_DAY }
         requires first { period.first.0 < date_count self.now.season }
         requires last { period.last.0 < date_count self.now.season }
-        ensures uses { IfOk result (λ part. (r : ℕ) → part_uses part r ≡ window_load self.now (stop_movements self.now kind minute later period) r) }
+        ensures uses { IfOk result (λ part. (r : ℕ) →
+            part_uses part r
+            ≡ window_load self.now (stop_movements self.now kind minute later period) r) }
         ensures range { IfOk result (λ part. IsPartInRange (declared_resources self.now) part) }
         ensures few_uses { IfOk result (λ part. (r : ℕ) → part_uses part r ≤ 217) }
         ensures few { IfOk result (λ part. length part ≤ most_strips self.now kind period) }
         ensures few_ever { IfOk result (λ part. length part ≤ 14 * length self.now.rules + 1) }
     {
-        let series = Series {
+        let stop = StopDates {
             kind,
             minute,
             later,
@@ -59,10 +67,10 @@ impl Windows {
         let mut strips = Vec::new(alloc);
         let mut first = 0;
         for rule in self.rules() {
-            self.add_rule(&mut strips, rule, first, &series)?;
+            self.add_rule(&mut strips, rule, first, &stop)?;
             first += self.windows_of(rule);
         }
-        self.add_night(&mut strips, first, &series)?;
+        self.add_night(&mut strips, first, &stop)?;
         Ok(Part::new(strips))
     }
 
@@ -72,24 +80,27 @@ impl Windows {
         strips: &mut Vec<Strip>,
         rule: &Rule,
         first: u32,
-        series: &Series,
+        stop: &StopDates,
     ) -> Result<(), Memory>
         requires wide { All IsWide strips.old.items }
         requires step { 0 < self.now.step }
         requires rule { IsRule rule.now }
         requires room { first + windows_of self.now rule.now ≤ MOST_WINDOWS }
-        requires series { IsSeries self.now.season series.now }
-        ensures uses { OnOk result (Adds strips.old.items strips.new.items (λ r. rule_load self.now rule.now first (series_of self.now series.now) r)) }
+        requires stop { AreStopDates self.now.season stop.now }
+        ensures uses { OnOk result
+            (Adds strips.old.items strips.new.items
+            (λ r. rule_load self.now rule.now first (dated_movements self.now stop.now) r)) }
         ensures wide { OnOk result (All IsWide strips.new.items) }
-        ensures few { OnOk result (length strips.new.items ≤ length strips.old.items + rule_strips series.now.kind series.now.period rule.now) }
+        ensures few { OnOk result (length strips.new.items ≤ length strips.old.items
+            + rule_strips stop.now.kind stop.now.period rule.now) }
     {
-        if !is_of_kind(rule.kind, series.kind) {
+        if !is_of_kind(rule.kind, stop.kind) {
             return Ok(());
         }
-        let same_day = self.band_of(rule, first, series.minute, 0);
-        self.add_band(strips, &same_day, series)?;
-        let day_before = self.band_of(rule, first, series.minute, 1);
-        self.add_band(strips, &day_before, series)?;
+        let same_day = self.band_of(rule, first, stop.minute, 0);
+        self.add_band(strips, &same_day, stop)?;
+        let day_before = self.band_of(rule, first, stop.minute, 1);
+        self.add_band(strips, &day_before, stop)?;
         Ok(())
     }
 
@@ -114,25 +125,28 @@ impl Windows {
     }
 
     // Adds the strips of a band: one for all days, or one for each weekday.
-    fn add_band(&self, strips: &mut Vec<Strip>, band: &Band, series: &Series) -> Result<(), Memory>
+    fn add_band(&self, strips: &mut Vec<Strip>, band: &Band, stop: &StopDates) -> Result<(), Memory>
         requires wide { All IsWide strips.old.items }
         requires band { IsBand self.now.season band.now }
-        requires series { IsSeries self.now.season series.now }
-        ensures uses { OnOk result (Adds strips.old.items strips.new.items (λ r. band_uses self.now.season series.now.period series.now.later band.now r)) }
+        requires stop { AreStopDates self.now.season stop.now }
+        ensures uses { OnOk result
+            (Adds strips.old.items strips.new.items
+            (λ r. band_uses self.now.season stop.now.period stop.now.later band.now r)) }
         ensures wide { OnOk result (All IsWide strips.new.items) }
-        ensures few { OnOk result (length strips.new.items ≤ length strips.old.items + band_strips band.now.days series.now.period.days) }
+        ensures few { OnOk result (length strips.new.items ≤ length strips.old.items
+            + band_strips band.now.days stop.now.period.days) }
     {
         if band.low >= band.high {
             return Ok(());
         }
-        if band.days == EVERY_DAY && series.period.days == EVERY_DAY {
-            if let Some(strip) = self.daily_strip(band, series) {
+        if band.days == EVERY_DAY && stop.period.days == EVERY_DAY {
+            if let Some(strip) = self.daily_strip(band, stop) {
                 strips.push(strip)?;
             }
             return Ok(());
         }
         for weekday in 0..7 {
-            if let Some(strip) = self.weekday_strip(band, series, weekday) {
+            if let Some(strip) = self.weekday_strip(band, stop, weekday) {
                 strips.push(strip)?;
             }
         }
@@ -140,42 +154,40 @@ impl Windows {
     }
 
     // The first date on which a movement can be in a band.
-    fn first_date(band: &Band, series: &Series) -> u32
-        ensures { result ≡ first_date series.now.period series.now.later band.now }
+    fn first_date(band: &Band, stop: &StopDates) -> u32
+        ensures { result ≡ first_date stop.now.period stop.now.later band.now }
     {
-        series
-            .period
-            .first
-            .0
-            .max(band.ago.saturating_sub(series.later))
+        stop.period.first.0.max(band.ago.saturating_sub(stop.later))
     }
 
     // The end of the dates on which a movement is listed.
-    fn end_date(&self, series: &Series) -> u32
-        requires { series.now.period.last.0 < date_count self.now.season }
-        ensures exact { result ≡ end_date self.now.season series.now.period series.now.later }
-        ensures few { date_count self.now.season ≤ 217 }
+    fn end_date(&self, stop: &StopDates) -> u32
+        requires { stop.now.period.last.0 < date_count self.now.season }
+        ensures exact { result ≡ end_date self.now.season stop.now.period stop.now.later }
+        ensures few { date_count self.now.season ≤ MOST_DATES }
     {
         let days = self.days();
-        (series.period.last.0 + 1).min(days.saturating_sub(series.later))
+        (stop.period.last.0 + 1).min(days.saturating_sub(stop.later))
     }
 
-    // The strip of a band and a series of every day.
-    fn daily_strip(&self, band: &Band, series: &Series) -> Option<Strip>
-        requires dates { series.now.period.days ≡ 127 }
+    // The strip of a band and a stop of every day.
+    fn daily_strip(&self, band: &Band, stop: &StopDates) -> Option<Strip>
+        requires dates { stop.now.period.days ≡ 127 }
         requires days { band.now.days ≡ 127 }
         requires band { IsBand self.now.season band.now }
-        requires series { IsSeries self.now.season series.now }
+        requires stop { AreStopDates self.now.season stop.now }
         requires some { band.now.low < band.now.high }
-        ensures uses { (r : ℕ) → band_uses self.now.season series.now.period series.now.later band.now r ≡ option_uses result r }
+        ensures uses { (r : ℕ) → band_uses self.now.season stop.now.period stop.now.later band.now r
+            ≡ option_uses result r }
         ensures wide { IsOptionWide result }
     {
-        let first = Windows::first_date(band, series);
-        let end = self.end_date(series);
+        weekday_sets();
+        let first = Windows::first_date(band, stop);
+        let end = self.end_date(stop);
         if first >= end {
             return None;
         }
-        let day = first + series.later - band.ago;
+        let day = first + stop.later - band.ago;
         Some(Strip {
             first: band.first + day * band.starts + band.low,
             width: band.high - band.low,
@@ -185,24 +197,28 @@ impl Windows {
     }
 
     // The strip of the dates of one weekday, where 0 is the weekday of the season's first date.
-    fn weekday_strip(&self, band: &Band, series: &Series, weekday: u32) -> Option<Strip>
+    fn weekday_strip(&self, band: &Band, stop: &StopDates, weekday: u32) -> Option<Strip>
         requires weekday { weekday < 7 }
         requires band { IsBand self.now.season band.now }
-        requires series { IsSeries self.now.season series.now }
+        requires stop { AreStopDates self.now.season stop.now }
         requires some { band.now.low < band.now.high }
-        ensures uses { (r : ℕ) → weekday_uses self.now.season series.now.period series.now.later band.now (weekday + 1) r ≡ weekday_uses self.now.season series.now.period series.now.later band.now weekday r + option_uses result r }
+        ensures uses { (r : ℕ) →
+            weekday_uses self.now.season stop.now.period stop.now.later band.now (weekday + 1) r
+            ≡ weekday_uses self.now.season stop.now.period stop.now.later band.now weekday r
+            + option_uses result r }
         ensures wide { IsOptionWide result }
     {
-        let low = Windows::first_date(band, series);
-        let end = self.end_date(series);
+        weekday_sets();
+        let low = Windows::first_date(band, stop);
+        let end = self.end_date(stop);
         let first = low + (weekday + 7 - low % 7) % 7;
         if first >= end {
             return None;
         }
-        if !self.is_on(series.period.days, Day(first)) {
+        if !self.is_on(stop.period.days, Day(first)) {
             return None;
         }
-        let day = first + series.later - band.ago;
+        let day = first + stop.later - band.ago;
         if !self.is_on(band.days, Day(day)) {
             return None;
         }
@@ -215,24 +231,26 @@ impl Windows {
     }
 
     // Adds the strip of the night quota, which has a number.
-    fn add_night(&self, strips: &mut Vec<Strip>, first: u32, series: &Series) -> Result<(), Memory>
+    fn add_night(&self, strips: &mut Vec<Strip>, first: u32, stop: &StopDates) -> Result<(), Memory>
         requires wide { All IsWide strips.old.items }
-        requires series { IsSeries self.now.season series.now }
-        ensures uses { OnOk result (Adds strips.old.items strips.new.items (λ r. rest_load self.now [] first (series_of self.now series.now) r)) }
+        requires stop { AreStopDates self.now.season stop.now }
+        ensures uses { OnOk result
+            (Adds strips.old.items strips.new.items
+            (λ r. rest_load self.now [] first (dated_movements self.now stop.now) r)) }
         ensures wide { OnOk result (All IsWide strips.new.items) }
         ensures few { OnOk result (length strips.new.items ≤ length strips.old.items + 1) }
     {
         let Some(night) = self.quota() else {
             return Ok(());
         };
-        if !is_at_night(&night, series.minute) {
+        if !is_at_night(&night, stop.minute) {
             return Ok(());
         }
         strips.push(Strip {
             first,
             width: 1,
             gap: 0,
-            times: self.listed_dates(series.period, series.later),
+            times: self.listed_dates(stop.period, stop.later),
         })?;
         Ok(())
     }

@@ -1,5 +1,6 @@
-//! Windows of one capacity line, against lists of resources written by hand. In S25, which begins on Sunday 30 March 2025
-//! and has 210 dates, a line with one start a day has the windows 0 to 209, one a day.
+//! Windows of one capacity line, against lists of resources written by hand. In S25, which begins
+//! on Sunday 30 March 2025 and has 210 dates, a line with one start a day has the windows 0 to 209,
+//! one a day.
 
 ghost use Rattle.std.specs.Prelude.{◌≡◌, ◌<◌, ◌≤◌, IfOk};
 ghost use Rattle.std.specs.Option.{ForSome};
@@ -35,7 +36,8 @@ pub(crate) fn line(kind: Kind, length: u32, start: u32, days: u8, limit: u32) ->
     }
 }
 
-// The windows of one capacity line with one start a day, and of a quota, in S25 at a step of five minutes.
+// The windows of one capacity line with one start a day, and of a quota, in S25 at a step of five
+// minutes.
 pub(crate) fn windows(alloc: Global, rule: Rule, night: Option<Night>) -> Result<Windows, Fail>
     requires rule { IsRule rule }
     requires one { rule.from ≡ rule.to }
@@ -46,7 +48,6 @@ pub(crate) fn windows(alloc: Global, rule: Rule, night: Option<Night>) -> Result
 }
 
 // The same in a season of so many dates.
-#[tactic(auto, using(season_days::proofs::SeasonLemmas::date_count_small))]
 pub(crate) fn windows_in(
     alloc: Global,
     season: &[u8],

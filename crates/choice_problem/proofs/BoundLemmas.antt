@@ -10,8 +10,7 @@ use Rattle.choice_problem.specs.declared.vectors.Price.{Price}
 use Rattle.finite_sums.specs.Sums.{sum_below, least_within}
 use Rattle.choice_problem.specs.Problems.{ProblemView, unit_count, alt_cost, alt_uses, limit_of, resource_count, amount}
 use Rattle.choice_problem.specs.Choices.{IsFeasible, choice_cost, load_of, Fits}
-use Rattle.choice_problem.specs.Bounds.{low_of, high_of, IsWithin, IsVector, Closes, IsOver, priced, priced_cost, least_total}
-use Rattle.choice_problem.proofs.VectorLemmas.{price_at}
+use Rattle.choice_problem.specs.Bounds.{price_at, low_of, high_of, IsWithin, IsVector, Closes, IsOver, priced, priced_cost, least_total}
 use Rattle.finite_sums.proofs.SumLemmas.{sum_below-le, sum_below-add, sum_below-scale, sum_below-sum_by, least_within-le, sum_by-same}
 
 -- closing for a cost, without integers

@@ -53,7 +53,7 @@ pub IsDriven-sound : (p : ProblemView) (vectors : List (List Price)) (result : O
 IsDriven-sound p vectors result nodes d = IsDrivenFrom-sound p vectors d.root d.greedy result nodes d.tree
 
 -- a vector keeps its number where more follow
-vector_at-append : (vectors more : List (List Price)) (k : ℕ) → k ≤ length vectors → vector_at (vectors ++ more) k ≡ vector_at vectors k
+pub vector_at-append : (vectors more : List (List Price)) (k : ℕ) → k ≤ length vectors → vector_at (vectors ++ more) k ≡ vector_at vectors k
 vector_at-append vectors more zero l = refl
 vector_at-append vectors more (suc k) l = get_or_append_left vectors more [] k (omega arith)
 

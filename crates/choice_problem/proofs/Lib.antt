@@ -1,12 +1,17 @@
-pub mod ProblemLemmas
-pub mod StripLemmas
-pub mod VectorLemmas
-pub mod BoundLemmas
-pub mod AllowedLemmas
-pub mod TreeLemmas
-pub mod ShapeLemmas
-pub mod GraftLemmas
-pub mod FloorLemmas
-pub mod DrivenLemmas
-pub mod GreedyLemmas
-pub mod RootLemmas
+mod ProblemLemmas
+mod LimitLemmas
+mod StripLemmas
+mod VectorLemmas
+mod BoundLemmas
+mod AllowedLemmas
+mod TreeLemmas
+mod ShapeLemmas
+mod GraftLemmas
+mod FloorLemmas
+mod DrivenLemmas
+mod GreedyLemmas
+mod RootLemmas
+mod AlikeLemmas
+mod AlikeTreeLemmas
+mod RenumberLemmas
+mod WalkLemmas

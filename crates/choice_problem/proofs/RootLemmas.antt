@@ -1,7 +1,7 @@
 -- Root vectors: there is one, and its prices are the problem's.
 use Rattle.std.proofs.Common.{◌≡◌, ℕ, zero, suc, ◌+◌, ◌*◌, ◌<◌, ◌≤◌, ◌^◌, refl, sym, ◌∙◌, ap, arith, List, [], ◌∷◌, ◌++◌, length, inl, inr, false, pos, ◌<ℤ◌}
 use Rattle.std.specs.Prelude.{ℤ, ◌≤ℤ◌, if◌then◌else◌, ◌==◌, slice_index_or, All}
-use Rattle.std.proofs.lemmas.Int.{ints}
+use Rattle.std.proofs.lemmas.Int.{ints, by_lt_z}
 use Rattle.std.proofs.lemmas.Bool.{cases_lt}
 use Rattle.std.proofs.lemmas.Grind.{common_steps}
 use Rattle.std.proofs.lemmas.List.{length-append, get_or_append_left, get_or_push}
@@ -131,3 +131,70 @@ IsNodeVector-IsVector p ranges prices few units h v =
     rw v.prices_are
     (vector_of-IsVector p (λ r. price_after p ranges v.step r)
     (λ r _. omega (arith, price_top p ranges few units h v.step r, step_lengths-le v.step v.counted)))
+
+-- of the first numbers, the first at which f is greatest
+record IsGreatestUpTo (n : ℕ) (f : ℕ → ℤ) (step : ℕ) : Type 0 where
+  counted : step ≤ n
+  greatest : (k : ℕ) → k ≤ n → f k ≤ℤ f step
+  first : (k : ℕ) → k < step → f k <ℤ f step
+
+greatest_same : (a b : ℤ) → a ≡ b → a ≤ℤ b
+greatest_same a b e = omega (arith, ints)
+
+greatest_next : (a b c : ℤ) → a ≤ℤ b → b <ℤ c → a <ℤ c
+greatest_next a b c l m = omega (arith, ints)
+
+greatest_or : (a b : ℤ) → a <ℤ b → a ≤ℤ b
+greatest_or a b l = omega (arith, ints)
+
+greatest_up_to : (n : ℕ) (f : ℕ → ℤ) → (step : ℕ) × IsGreatestUpTo n f step
+greatest_up_to zero f = (
+  0,
+  record {
+    counted = omega arith;
+    greatest = λ k l. let e : k ≡ 0 = omega arith in greatest_same (f k) (f 0) (ap f e);
+    first = λ k l. absurd (omega arith);
+  },
+)
+greatest_up_to (suc n) f = one_more (greatest_up_to n f)
+  where
+    one_more : (step : ℕ) × IsGreatestUpTo n f step → (step : ℕ) × IsGreatestUpTo (suc n) f step
+    one_more b = by_lt_z (f b.0) (f (suc n))
+        (λ less. (
+          suc n,
+          record {
+            counted = omega arith;
+            greatest = λ k l. elim (cases_lt k (suc n)) [
+              | inl below ↦ greatest_or (f k) (f (suc n)) (greatest_next (f k) (f b.0) (f (suc n)) (b.1.greatest k (omega arith)) less)
+              | inr last ↦ let e : k ≡ suc n = omega arith in greatest_same (f k) (f (suc n)) (ap f e)
+            ];
+            first = λ k l. greatest_next (f k) (f b.0) (f (suc n)) (b.1.greatest k (omega arith)) less;
+          },
+        ))
+        (λ more. (
+          b.0,
+          record {
+            counted = omega (arith, b.1.counted);
+            greatest = λ k l. elim (cases_lt k (suc n)) [
+              | inl below ↦ b.1.greatest k (omega arith)
+              | inr last ↦ let e : k ≡ suc n = omega arith in rw e more
+            ];
+            first = b.1.first;
+          },
+        ))
+
+-- each problem and ranges have a node vector
+pub node_vector : (p : ProblemView) (ranges : List (ℕ × ℕ)) → (prices : List Price) × IsNodeVector p ranges prices
+node_vector p ranges = vector_at_step (greatest_up_to 64 (λ k. bound_of p ranges (step_vector p ranges k) 1024))
+  where
+    vector_at_step : (step : ℕ) × IsGreatestUpTo 64 (λ k. bound_of p ranges (step_vector p ranges k) 1024) step → (prices : List Price) × IsNodeVector p ranges prices
+    vector_at_step b = (
+      step_vector p ranges b.0,
+      record {
+        step = b.0;
+        counted = b.1.counted;
+        prices_are = refl;
+        greatest = b.1.greatest;
+        first = b.1.first;
+      },
+    )

@@ -1,10 +1,27 @@
 -- The shape of trees as lists: joined, cut in two, and that no tree begins another.
 use Rattle.std.proofs.Common.{◌≡◌, ℕ, refl, ap, arith, List, [], ◌∷◌, ◌++◌, length, Option, append_assoc, length-append}
+use Rattle.std.specs.List.{AllZip}
 use Rattle.choice_problem.specs.declared.vectors.Price.{Price}
 use Rattle.choice_problem.specs.declared.nodes.Node.{Node}
 use Rattle.choice_problem.specs.declared.nodes.Node.TheVariants.{Split, Leaf, Over, Undone}
 use Rattle.choice_problem.specs.Problems.{ProblemView}
 use Rattle.choice_problem.specs.Trees.{AreTrees, IsSound, IsTree, NodeHolds, CanSplit, parts_of, low_part, high_part}
+
+-- what follows from what each node promises, place by place
+pub AreTrees-map : (Holds Keeps : List (ℕ × ℕ) → Node → Type 0) → ((ranges : List (ℕ × ℕ)) (node : Node) → Holds ranges node → Keeps ranges node) →
+    (pending : List (List (ℕ × ℕ))) (nodes : List Node) → AreTrees Holds pending nodes → AreTrees Keeps pending nodes
+AreTrees-map Holds Keeps into [] [] h = tt
+AreTrees-map Holds Keeps into [] (node ∷ nodes) h = absurd h
+AreTrees-map Holds Keeps into (ranges ∷ pending) [] h = absurd h
+AreTrees-map Holds Keeps into (ranges ∷ pending) (node ∷ nodes) h =
+    (into ranges node h.0, AreTrees-map Holds Keeps into (parts_of ranges node ++ pending) nodes h.1)
+
+-- and for two lists, place by place
+pub AllZip-into : {A B : Type 0} (R S : A → B → Type 0) → ((x : A) (y : B) → R x y → S x y) → (xs : List A) (ys : List B) → AllZip R xs ys → AllZip S xs ys
+AllZip-into R S into [] [] h = tt
+AllZip-into R S into [] (y ∷ ys) h = absurd h
+AllZip-into R S into (x ∷ xs) [] h = absurd h
+AllZip-into R S into (x ∷ xs) (y ∷ ys) h = (into x y h.0, AllZip-into R S into xs ys h.1)
 
 -- trees on two lists of ranges, one after the other
 pub AreTrees-append : (Holds : List (ℕ × ℕ) → Node → Type 0) (first second : List (List (ℕ × ℕ))) (nodes more : List Node) →

@@ -1,5 +1,6 @@
 -- How often strips use a resource.
-use Rattle.std.proofs.Common.{ℕ, zero, suc, ◌≤◌, arith, true, false}
+use Rattle.std.proofs.Common.{ℕ, zero, suc, ◌≤◌, arith, true, false, List, [], ◌∷◌}
+use Rattle.std.proofs.lemmas.List.Elements.{All-head, All-tail}
 use Rattle.std.specs.Prelude.{if◌then◌else◌, count_by, ◌==◌}
 use Rattle.std.specs.List.{range_with_len}
 use Rattle.std.proofs.Common.{◌≡◌, ◌+◌, refl, sym, add-zero}
@@ -12,7 +13,7 @@ use Rattle.finite_sums.proofs.SumLemmas.{sum_below-add, sum_below-same, count_be
 use Rattle.std.proofs.Math.Nat.{le-div_iff_mul-le}
 use Rattle.finite_sums.specs.Sums.{sum_below, count_below}
 use Rattle.choice_problem.specs.Loops.{run_uses}
-use Rattle.choice_problem.specs.Strips.{run_start, run_resources, strip_resources, strip_uses, is_in_run, IsStripInRange}
+use Rattle.choice_problem.specs.Strips.{run_start, run_resources, strip_resources, strip_uses, part_uses, is_in_run, IsStripInRange, IsPartInRange}
 
 -- no run holds a resource twice
 pub strip_uses-le : (s : Strip) (r : ℕ) → strip_uses s r ≤ s.times
@@ -101,3 +102,15 @@ strip_uses-ended s r l m =
         (if nat_le (first + t) q && nat_lt q (first + t + width) then 1 else 0) + (if nat_le t (q - first - width) then 1 else 0)
         ≡ (if nat_le t (q - first) then 1 else 0)
     ended first t width q h k = grind (arith, common_steps)
+
+-- strips that stay within the resources use nothing beyond them
+pub part_uses-beyond : (strips : List Strip) (resources r : ℕ) → IsPartInRange resources strips → resources ≤ r → part_uses strips r ≡ 0
+part_uses-beyond [] resources r h l = refl
+part_uses-beyond (s ∷ strips) resources r h l =
+    let within : IsStripInRange resources s = All-head (IsStripInRange resources) s strips h in
+    omega (
+      arith,
+      sum_by-cons (λ (t : Strip). strip_uses t r) s strips,
+      strip_uses-after s r (λ i j. omega (arith, within i j, l)),
+      part_uses-beyond strips resources r (All-tail (IsStripInRange resources) s strips h) l,
+    )

@@ -1,16 +1,11 @@
 -- Vectors of prices.
 use Rattle.std.proofs.Common.{ℕ, ◌<◌, ◌≤◌, List, [], length, pos, arith}
-use Rattle.std.specs.Prelude.{slice_index_or}
 use Rattle.choice_problem.specs.declared.vectors.Price.{Price}
 use Rattle.choice_problem.specs.Problems.{ProblemView}
-use Rattle.choice_problem.specs.Bounds.{IsPrice, IsVector}
+use Rattle.choice_problem.specs.Bounds.{price_at, IsPrice, IsVector}
 use Rattle.std.proofs.lemmas.List.{get_or_default}
 use Rattle.std.proofs.lemmas.List.Elements.{All-from_get_or}
 use Rattle.choice_problem.specs.Loops.{PriceFollows}
-
--- the price at a place
-abbrev pub price_at : List Price → ℕ → Price
-price_at prices i = slice_index_or prices i (record { resource = 0; price = pos 0 })
 
 -- in a vector each price follows those before it
 pub IsVector-follows : (p : ProblemView) (prices : List Price) (i next : ℕ) → i < length prices →

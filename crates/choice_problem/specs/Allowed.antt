@@ -3,6 +3,7 @@ use Rattle.std.specs.Prelude.{ℕ, ◌+◌, ◌-◌, ◌/◌, ◌<◌, ◌≤◌
 use Rattle.std.specs.Option.{ForSome}
 use Rattle.choice_problem.specs.declared.strips.Strip.{Strip}
 use Rattle.choice_problem.specs.declared.problems.Alt.{Alt}
+use Rattle.choice_problem.specs.declared.problems.TheConstants.{MOST_USES}
 use Rattle.choice_problem.specs.Strips.{part_uses}
 use Rattle.choice_problem.specs.Problems.{ChooserView}
 
@@ -24,7 +25,7 @@ pub record IsAllowedAlt (parts : List (List Strip)) (alt : Alt) : Type 0 where
   pub cost : alt.cost < 2 ^ 24
   pub one : ForSome alt.one (λ k. k < length parts)
   pub two : ForSome alt.two (λ k. k < length parts)
-  pub uses : named_most parts alt.one + named_most parts alt.two ≤ 434
+  pub uses : named_most parts alt.one + named_most parts alt.two ≤ MOST_USES
 
 -- a unit of such alternatives
 pub record IsAllowed (m : ChooserView) : Type 0 where

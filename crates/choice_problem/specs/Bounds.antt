@@ -26,6 +26,10 @@ pub record IsWithin (p : ProblemView) (ranges : List (ℕ × ℕ)) (x : List ℕ
   pub from : (u : ℕ) → u < unit_count p → low_of ranges u ≤ slice_index x u
   pub to : (u : ℕ) → u < unit_count p → slice_index x u ≤ high_of ranges u
 
+-- the price at a place of a vector
+abbrev pub price_at : List Price → ℕ → Price
+price_at prices i = slice_index_or prices i (record { resource = 0; price = pos 0 })
+
 -- uses at the vector's prices, each use counted: a resource that it does not name is free
 abbrev pub priced : List Price → (ℕ → ℕ) → ℕ
 priced prices uses = sum_by (λ e. amount e.price * uses e.resource) prices
@@ -37,20 +41,26 @@ priced_cost p prices scale u a = scale * alt_cost p u a + priced prices (λ r. a
 -- the sum over units of the least priced cost in range
 abbrev pub least_total : ProblemView → List (ℕ × ℕ) → List Price → ℕ → ℕ
 least_total p ranges prices scale =
-    sum_below (unit_count p) (λ u. least_within (low_of ranges u) (high_of ranges u) (λ a. priced_cost p prices scale u a))
+    sum_below (unit_count p)
+    (λ u. least_within (low_of ranges u) (high_of ranges u)
+    (λ a. priced_cost p prices scale u a))
 
 -- the Lagrangian bound, scaled: the least total less the limits at their prices
 abbrev pub bound_of : ProblemView → List (ℕ × ℕ) → List Price → ℕ → ℤ
-bound_of p ranges prices scale = pos (least_total p ranges prices scale) -ℤ pos (priced prices (λ r. limit_of p r))
+bound_of p ranges prices scale =
+    pos (least_total p ranges prices scale) -ℤ pos (priced prices (λ r. limit_of p r))
 
 -- the bound closes the ranges for a cost, or for none
 abbrev pub Closes : ProblemView → List (ℕ × ℕ) → List Price → ℕ → Option ℕ → Type 0
-Closes p ranges prices scale (Some cost) = (pos scale *ℤ (pos cost -ℤ pos 1)) <ℤ bound_of p ranges prices scale
+Closes p ranges prices scale (Some cost) =
+    (pos scale *ℤ (pos cost -ℤ pos 1)) <ℤ bound_of p ranges prices scale
 Closes p ranges prices scale None = (scale ≡ 0) × (pos 0 <ℤ bound_of p ranges prices scale)
 
 -- the sum over units of the least number of uses of the resource in range
 abbrev pub least_load : ProblemView → List (ℕ × ℕ) → ℕ → ℕ
-least_load p ranges r = sum_below (unit_count p) (λ u. least_within (low_of ranges u) (high_of ranges u) (λ a. alt_uses p u a r))
+least_load p ranges r =
+    sum_below (unit_count p)
+    (λ u. least_within (low_of ranges u) (high_of ranges u) (λ a. alt_uses p u a r))
 
 -- even the least load passes the limit
 abbrev pub IsOver : ProblemView → List (ℕ × ℕ) → ℕ → Type 0

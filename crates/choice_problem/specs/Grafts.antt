@@ -12,7 +12,8 @@ abbrev pub open_ranges : List (List (ℕ × ℕ)) → List Node → List (List (
 open_ranges pending [] = []
 open_ranges [] (node ∷ nodes) = []
 open_ranges (ranges ∷ pending) (Undone ∷ nodes) = ranges ∷ open_ranges pending nodes
-open_ranges (ranges ∷ pending) (Split unit cut seen ∷ nodes) = open_ranges (parts_of ranges (Split unit cut seen) ++ pending) nodes
+open_ranges (ranges ∷ pending) (Split unit cut seen ∷ nodes) =
+    open_ranges (parts_of ranges (Split unit cut seen) ++ pending) nodes
 open_ranges (ranges ∷ pending) (Leaf vector scale seen ∷ nodes) = open_ranges pending nodes
 open_ranges (ranges ∷ pending) (Over resource ∷ nodes) = open_ranges pending nodes
 
@@ -29,11 +30,16 @@ graft (Over resource ∷ nodes) trees = Over resource ∷ graft nodes trees
 abbrev pub AreOn : (List (ℕ × ℕ) → Node → Type 0) → List (List (ℕ × ℕ)) → List (List Node) → Type 0
 AreOn Holds pieces [] = Unit {0}
 AreOn Holds [] (tree ∷ trees) = ⊥
-AreOn Holds (ranges ∷ pieces) (tree ∷ trees) = AreTrees Holds (ranges ∷ []) tree × AreOn Holds pieces trees
+AreOn Holds (ranges ∷ pieces) (tree ∷ trees) =
+    AreTrees Holds (ranges ∷ []) tree × AreOn Holds pieces trees
 
 -- sound trees, and driven trees, on these pieces
-abbrev pub AreSoundOn : ProblemView → List (List Price) → Option ℕ → List (List (ℕ × ℕ)) → List (List Node) → Type 0
-AreSoundOn p vectors cost pieces trees = AreOn (λ ranges node. NodeHolds p vectors cost ranges node) pieces trees
+abbrev pub AreSoundOn : ProblemView → List (List Price) → Option ℕ → List (List (ℕ × ℕ)) →
+    List (List Node) → Type 0
+AreSoundOn p vectors cost pieces trees =
+    AreOn (λ ranges node. NodeHolds p vectors cost ranges node) pieces trees
 
-abbrev pub AreDrivenOn : ProblemView → List (List Price) → List Price → List (List (ℕ × ℕ)) → List (List Node) → Type 0
-AreDrivenOn p vectors root pieces trees = AreOn (λ ranges node. IsDrivenNode p vectors root ranges node) pieces trees
+abbrev pub AreDrivenOn : ProblemView → List (List Price) → List Price → List (List (ℕ × ℕ)) →
+    List (List Node) → Type 0
+AreDrivenOn p vectors root pieces trees =
+    AreOn (λ ranges node. IsDrivenNode p vectors root ranges node) pieces trees

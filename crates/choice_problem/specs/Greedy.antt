@@ -32,7 +32,8 @@ pub record IsGreedy (p : ProblemView) (n : ℕ) (x : List ℕ) : Type 0 where
 pub record GreedyStops (p : ProblemView) (x : List ℕ) : Type 0 where
   pub before : IsGreedy p (length x) x
   pub there : length x < unit_count p
-  pub none : (a : ℕ) → a < alt_count p (length x) → FitsOn p (λ r. load_before p x (length x) r) (length x) a → ⊥
+  pub none : (a : ℕ) → a < alt_count p (length x) → FitsOn p (λ r. load_before p x (length x) r)
+      (length x) a → ⊥
 
 -- the cost of the greedy choice, or none where there is no greedy choice
 abbrev pub IsGreedyCost : ProblemView → Option ℕ → Type 0

@@ -11,4 +11,7 @@ pub mod Splits
 pub mod Driven
 pub mod Grafts
 pub mod Floors
+pub mod Alike
+pub mod Renumbered
+pub mod Walks
 pub mod Loops

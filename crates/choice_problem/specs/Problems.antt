@@ -3,6 +3,7 @@ use Rattle.std.specs.Prelude.{ℕ, ◌+◌, ◌<◌, ◌≤◌, ◌^◌, List, [
 use Rattle.std.specs.Option.{ForSome}
 use Rattle.choice_problem.specs.declared.strips.Strip.{Strip}
 use Rattle.choice_problem.specs.declared.problems.Alt.{Alt}
+use Rattle.choice_problem.specs.declared.problems.TheConstants.{MOST_UNITS, MOST_RESOURCES, MOST_USES, HIGHEST_LIMIT}
 use Rattle.choice_problem.specs.Strips.{part_uses, IsPartInRange}
 
 -- a unit: its parts, and its alternatives, each of which names up to two of them
@@ -42,7 +43,7 @@ pub record IsChooser (m : ChooserView) : Type 0 where
   pub cost : (a : ℕ) → a < length m.alts → (alt_at m a).cost < 2 ^ 24
   pub one : (a : ℕ) → a < length m.alts → ForSome (alt_at m a).one (λ k. k < length m.parts)
   pub two : (a : ℕ) → a < length m.alts → ForSome (alt_at m a).two (λ k. k < length m.parts)
-  pub uses : (a r : ℕ) → a < length m.alts → chooser_uses m a r ≤ 434
+  pub uses : (a r : ℕ) → a < length m.alts → chooser_uses m a r ≤ MOST_USES
 
 -- how many units, alternatives and parts of a unit, and resources there are
 abbrev pub unit_count : ProblemView → ℕ
@@ -83,8 +84,8 @@ problem_of units limits = record { units = units; limits = map amount limits }
 -- the limits on a problem: at most 4,096 units and 1,000,000 resources, each with a limit from 0 to 999,999, and parts
 -- that stay within them
 pub record IsProblem (units : List ChooserView) (limits : List ℤ) : Type 0 where
-  pub few_units : length units ≤ 4096
-  pub few_resources : length limits ≤ 1000000
+  pub few_units : length units ≤ MOST_UNITS
+  pub few_resources : length limits ≤ MOST_RESOURCES
   pub limits_from : All (λ z. pos 0 ≤ℤ z) limits
-  pub limits_to : All (λ z. z ≤ℤ pos 999999) limits
+  pub limits_to : All (λ z. z ≤ℤ HIGHEST_LIMIT) limits
   pub in_range : All (ArePartsInRange (length limits)) units

@@ -9,16 +9,20 @@ use Rattle.choice_problem.specs.Bounds.{low_of, high_of, whole_of, priced_cost, 
 -- the vector of the prices of the first n resources that are above 0
 abbrev pub vector_of : ℕ → (ℕ → ℕ) → List Price
 vector_of zero prices = []
-vector_of (suc n) prices = if prices n == 0 then vector_of n prices else vector_of n prices ++ record { resource = n; price = pos (prices n) } ∷ []
+vector_of (suc n) prices =
+    if prices n == 0 then vector_of n prices else vector_of n prices
+    ++ record { resource = n; price = pos (prices n) } ∷ []
 
 -- the unit's first alternative in range that is least by 1024 times its cost and its uses at these prices
 abbrev pub priced_alt : ProblemView → List (ℕ × ℕ) → (ℕ → ℕ) → ℕ → ℕ
 priced_alt p ranges prices u =
-    first_least (low_of ranges u) (high_of ranges u) (λ a. priced_cost p (vector_of (resource_count p) prices) 1024 u a)
+    first_least (low_of ranges u) (high_of ranges u)
+    (λ a. priced_cost p (vector_of (resource_count p) prices) 1024 u a)
 
 -- how often these alternatives together use the resource
 abbrev pub priced_load : ProblemView → List (ℕ × ℕ) → (ℕ → ℕ) → ℕ → ℕ
-priced_load p ranges prices r = sum_below (unit_count p) (λ u. alt_uses p u (priced_alt p ranges prices u) r)
+priced_load p ranges prices r =
+    sum_below (unit_count p) (λ u. alt_uses p u (priced_alt p ranges prices u) r)
 
 -- how far a step moves a price for each use above or below the limit; steps count from 0
 abbrev pub step_length : ℕ → ℕ
@@ -35,12 +39,15 @@ abbrev pub step_vector : ProblemView → List (ℕ × ℕ) → ℕ → List Pric
 step_vector p ranges step = vector_of (resource_count p) (λ r. price_after p ranges step r)
 
 -- of the vectors after 0 to 64 steps, the first with the greatest bound on the ranges at scale 1024
-pub record IsNodeVector (p : ProblemView) (ranges : List (ℕ × ℕ)) (prices : List Price) : Type 0 where
+pub record IsNodeVector (p : ProblemView) (ranges : List (ℕ × ℕ))
+    (prices : List Price) : Type 0 where
   pub step : ℕ
   pub counted : step ≤ 64
   pub prices_are : prices ≡ step_vector p ranges step
-  pub greatest : (k : ℕ) → k ≤ 64 → bound_of p ranges (step_vector p ranges k) 1024 ≤ℤ bound_of p ranges (step_vector p ranges step) 1024
-  pub first : (k : ℕ) → k < step → bound_of p ranges (step_vector p ranges k) 1024 <ℤ bound_of p ranges (step_vector p ranges step) 1024
+  pub greatest : (k : ℕ) → k ≤ 64 → bound_of p ranges (step_vector p ranges k) 1024
+      ≤ℤ bound_of p ranges (step_vector p ranges step) 1024
+  pub first : (k : ℕ) → k < step → bound_of p ranges (step_vector p ranges k) 1024
+      <ℤ bound_of p ranges (step_vector p ranges step) 1024
 
 -- the same on all alternatives
 abbrev pub IsRootVector : ProblemView → List Price → Type 0

@@ -8,7 +8,8 @@ use Rattle.choice_problem.specs.Bounds.{low_of, high_of, Closes, IsOver}
 
 -- the first cheapest alternative of a unit in its range
 abbrev pub IsFirstCheapest : ProblemView → List (ℕ × ℕ) → ℕ → ℕ → Type 0
-IsFirstCheapest p ranges u a = IsFirstLeast (low_of ranges u) (high_of ranges u) (λ b. alt_cost p u b) a
+IsFirstCheapest p ranges u a =
+    IsFirstLeast (low_of ranges u) (high_of ranges u) (λ b. alt_cost p u b) a
 
 -- the choice of each unit's first cheapest alternative
 pub record IsCheapest (p : ProblemView) (ranges : List (ℕ × ℕ)) (x : List ℕ) : Type 0 where
@@ -22,7 +23,8 @@ pub record IsFirstOver (p : ProblemView) (ranges : List (ℕ × ℕ)) (r : ℕ) 
   pub first : (q : ℕ) → q < r → IsOver p ranges q → ⊥
 
 -- what closes no leaf at a visit: an over leaf, the zero vector at scale 1, the root vector at scale 1024
-pub record StaysOpen (p : ProblemView) (root : List Price) (ranges : List (ℕ × ℕ)) (seen : Option ℕ) : Type 0 where
+pub record StaysOpen (p : ProblemView) (root : List Price) (ranges : List (ℕ × ℕ))
+    (seen : Option ℕ) : Type 0 where
   pub none_over : (r : ℕ) → r < resource_count p → IsOver p ranges r → ⊥
   pub no_zero : Closes p ranges [] 1 seen → ⊥
   pub no_root : Closes p ranges root 1024 seen → ⊥
@@ -37,7 +39,8 @@ cut_at low a = if nat_lt low a then a else a + 1
 
 -- the split rule: at the lowest resource that the choice uses above its limit, the lowest unit that uses it more often than
 -- some alternative in its range does
-pub record IsSplitAt (p : ProblemView) (ranges : List (ℕ × ℕ)) (x : List ℕ) (r unit cut : ℕ) : Type 0 where
+pub record IsSplitAt (p : ProblemView) (ranges : List (ℕ × ℕ)) (x : List ℕ)
+    (r unit cut : ℕ) : Type 0 where
   pub passed : IsFirstPassed p x r
   pub there : unit < unit_count p
   pub more : least_uses p ranges unit r < alt_uses p unit (slice_index x unit) r

@@ -2,6 +2,7 @@
 use Rattle.std.specs.Prelude.{ℕ, zero, suc, ◌-◌, ◌+◌, ◌^◌, ◌<◌, ◌≤◌, List, [], ◌∷◌, ◌++◌, length, slice_index_or, slice_set, Option}
 use Rattle.choice_problem.specs.declared.vectors.Price.{Price}
 use Rattle.choice_problem.specs.declared.nodes.Node.{Node}
+use Rattle.choice_problem.specs.declared.closing.TheConstants.{SCALE_BOUND}
 use Rattle.choice_problem.specs.declared.nodes.Node.TheVariants.{Split, Leaf, Over, Undone}
 use Rattle.choice_problem.specs.Problems.{ProblemView, resource_count}
 use Rattle.choice_problem.specs.Bounds.{low_of, high_of, Closes, IsOver}
@@ -25,9 +26,10 @@ vector_at vectors zero = []
 vector_at vectors (suc k) = slice_index_or vectors k []
 
 -- a leaf names a vector that is there and a scale in its limit, and closes for the cost or for none
-pub record LeafHolds (p : ProblemView) (vectors : List (List Price)) (cost : Option ℕ) (ranges : List (ℕ × ℕ)) (vector scale : ℕ) : Type 0 where
+pub record LeafHolds (p : ProblemView) (vectors : List (List Price)) (cost : Option ℕ)
+    (ranges : List (ℕ × ℕ)) (vector scale : ℕ) : Type 0 where
   pub there : vector ≤ length vectors
-  pub small : scale < 2 ^ 20
+  pub small : scale < SCALE_BOUND
   pub closes : Closes p ranges (vector_at vectors vector) scale cost
 
 -- the resource is there, and its least load passes its limit
@@ -38,7 +40,8 @@ pub record OverHolds (p : ProblemView) (ranges : List (ℕ × ℕ)) (resource : 
 -- what a node promises of its ranges
 abbrev pub NodeHolds : ProblemView → List (List Price) → Option ℕ → List (ℕ × ℕ) → Node → Type 0
 NodeHolds p vectors cost ranges (Split unit cut seen) = CanSplit ranges unit cut
-NodeHolds p vectors cost ranges (Leaf vector scale seen) = LeafHolds p vectors cost ranges vector scale
+NodeHolds p vectors cost ranges (Leaf vector scale seen) =
+    LeafHolds p vectors cost ranges vector scale
 NodeHolds p vectors cost ranges (Over resource) = OverHolds p ranges resource
 NodeHolds p vectors cost ranges Undone = Unit {0}
 
@@ -54,10 +57,13 @@ abbrev pub AreTrees : (List (ℕ × ℕ) → Node → Type 0) → List (List (�
 AreTrees Holds [] [] = Unit {0}
 AreTrees Holds [] (node ∷ nodes) = ⊥
 AreTrees Holds (ranges ∷ pending) [] = ⊥
-AreTrees Holds (ranges ∷ pending) (node ∷ nodes) = Holds ranges node × AreTrees Holds (parts_of ranges node ++ pending) nodes
+AreTrees Holds (ranges ∷ pending) (node ∷ nodes) =
+    Holds ranges node × AreTrees Holds (parts_of ranges node ++ pending) nodes
 
-abbrev pub AreSound : ProblemView → List (List Price) → Option ℕ → List (List (ℕ × ℕ)) → List Node → Type 0
-AreSound p vectors cost pending nodes = AreTrees (λ ranges node. NodeHolds p vectors cost ranges node) pending nodes
+abbrev pub AreSound : ProblemView → List (List Price) → Option ℕ → List (List (ℕ × ℕ)) → List Node →
+    Type 0
+AreSound p vectors cost pending nodes =
+    AreTrees (λ ranges node. NodeHolds p vectors cost ranges node) pending nodes
 
 -- the nodes are one tree, whatever its nodes promise
 abbrev pub IsTree : List Node → Type 0

@@ -1,6 +1,7 @@
 //! Choices of one alternative for each unit.
 
-ghost use Rattle.std.specs.Prelude.{◌≡◌, ◌↔◌, ℕ, ◌^◌, ◌<◌, ◌≤◌, length, slice_index, IfOk, IfSome, IfNone, IsTrue};
+ghost use Rattle.std.specs.Prelude.{◌≡◌, ◌↔◌, ℕ, ◌^◌, ◌<◌, ◌≤◌, length, slice_index, IfOk, IfSome, IfNone, IsTrue, pos, ◌≤ℤ◌};
+ghost use Rattle.choice_problem.specs.Counts.{IsFirstAbove, limit_at};
 ghost use Rattle.choice_problem.specs.Problems.{resource_count, limit_of};
 ghost use Rattle.choice_problem.specs.Choices.{IsChoice, Fits, IsFirstPassed, choice_cost, load_of};
 
@@ -107,7 +108,8 @@ fn count_uses(problem: &Problem, choice: &Choice, counts: &mut [u32])
     requires choice { IsChoice problem.now choice.now }
     requires counts { length counts.old ≡ resource_count problem.now }
     requires empty { (r : ℕ) → r < length counts.old → slice_index counts.old r ≡ 0 }
-    ensures { (r : ℕ) → r < length counts.old → slice_index counts.new r ≡ load_of problem.now choice.now r }
+    ensures { (r : ℕ) → r < length counts.old → slice_index counts.new r
+        ≡ load_of problem.now choice.now r }
 {
     for unit in 0..problem.units() {
         problem.add_uses(unit, choice.alt(unit), counts);
@@ -119,12 +121,25 @@ pub fn first_above(problem: &Problem, counts: &[u32]) -> Option<u32>
     requires { length counts.now ≡ resource_count problem.now }
     ensures there { IfSome result (λ r. r < resource_count problem.now) }
     ensures above { IfSome result (λ r. limit_of problem.now r < slice_index counts.now r) }
-    ensures first { IfSome result (λ r. (q : ℕ) → q < r → slice_index counts.now q ≤ limit_of problem.now q) }
-    ensures none { IfNone result ((r : ℕ) → r < resource_count problem.now → slice_index counts.now r ≤ limit_of problem.now r) }
+    ensures first { IfSome result (λ r. (q : ℕ) → q < r →
+        slice_index counts.now q ≤ limit_of problem.now q) }
+    ensures none { IfNone result ((r : ℕ) → r < resource_count problem.now →
+        slice_index counts.now r ≤ limit_of problem.now r) }
 {
-    for resource in 0..problem.resources() {
-        if i64::from(counts[resource as usize]) > problem.limit(resource) {
-            return Some(resource);
+    first_above_limit(counts, problem.limits())
+}
+
+/// The lowest resource whose count is above its limit, for counts and limits of as many resources: one step a resource.
+pub fn first_above_limit(counts: &[u32], limits: &[i64]) -> Option<u32>
+    requires resources { length counts.now < 2 ^ 32 }
+    requires limits { length limits.now ≡ length counts.now }
+    ensures some { IfSome result (IsFirstAbove counts.now limits.now) }
+    ensures none { IfNone result ((r : ℕ) → r < length counts.now →
+        pos (slice_index counts.now r) ≤ℤ limit_at limits.now r) }
+{
+    for at in 0..counts.len() {
+        if i64::from(counts[at]) > limits[at] {
+            return Some(at as u32);
         }
     }
     None

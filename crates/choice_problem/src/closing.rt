@@ -2,6 +2,8 @@
 
 ghost use Rattle.std.specs.Prelude.{◌≡◌, ◌↔◌, ◌<◌, ◌≤◌, ◌^◌, IsTrue, pos, ◌-ℤ◌, ◌*ℤ◌, ◌<ℤ◌};
 ghost use Rattle.finite_sums.specs.Sums.{least_within};
+ghost use Rattle.choice_problem.specs.declared.problems.TheConstants.{MOST_USES};
+ghost use Rattle.choice_problem.specs.declared.closing.TheConstants.{SCALE_BOUND};
 ghost use Rattle.choice_problem.specs.Problems.{unit_count, alt_count, resource_count, alt_uses, limit_of};
 ghost use Rattle.choice_problem.specs.Bounds.{
   AreRanges,
@@ -18,6 +20,9 @@ ghost use Rattle.choice_problem.specs.Bounds.{
 use crate::problems::Problem;
 use crate::spans::Ranges;
 use crate::vectors::Vector;
+
+/// What the scale of a bound stays below.
+pub const SCALE_BOUND: u64 = 1 << 20;
 
 /// Whether even the least load of a resource passes its limit.
 pub fn over_closes(problem: &Problem, ranges: &Ranges, resource: u32) -> bool
@@ -40,7 +45,7 @@ pub fn least_uses(problem: &Problem, unit: u32, low: u32, high: u32, resource: u
     requires ordered { low ≤ high }
     requires there { high < alt_count problem.now unit }
     ensures value { result ≡ least_within low high (λ a. alt_uses problem.now unit a resource) }
-    ensures few { result ≤ 434 }
+    ensures few { result ≤ MOST_USES }
 {
     let mut least = problem.uses(unit, low, resource);
     for alt in low..high {
@@ -62,19 +67,19 @@ pub fn leaf_closes(
 ) -> bool
     requires ranges { AreRanges problem.now ranges.now }
     requires vector { IsVector problem.now vector.now }
-    requires scale { scale < 2 ^ 20 }
+    requires scale { scale < SCALE_BOUND }
     ensures { IsTrue result ↔ Closes problem.now ranges.now vector.now scale seen }
 {
     let bound = bound(problem, ranges, vector, scale);
     match seen {
-        Some(cost) => is_above(bound, scale, cost),
+        Some(cost) => bound_passes(bound, scale, cost),
         None => scale == 0 && bound > 0,
     }
 }
 
-// Whether a scaled bound shows that every cost is at least this one.
-fn is_above(bound: i128, scale: u64, cost: u64) -> bool
-    requires { scale < 2 ^ 20 }
+/// Whether a bound at a scale shows that every cost is at least this one.
+pub fn bound_passes(bound: i128, scale: u64, cost: u64) -> bool
+    requires { scale < SCALE_BOUND }
     ensures { IsTrue result ↔ ((pos scale *ℤ (pos cost -ℤ pos 1)) <ℤ bound) }
 {
     bound > i128::from(scale) * (i128::from(cost) - 1)
@@ -84,7 +89,7 @@ fn is_above(bound: i128, scale: u64, cost: u64) -> bool
 fn bound(problem: &Problem, ranges: &Ranges, vector: &Vector, scale: u64) -> i128
     requires ranges { AreRanges problem.now ranges.now }
     requires vector { IsVector problem.now vector.now }
-    requires scale { scale < 2 ^ 20 }
+    requires scale { scale < SCALE_BOUND }
     ensures { result ≡ bound_of problem.now ranges.now vector.now scale }
 {
     least_total(problem, ranges, vector, scale) as i128 - priced_limits(problem, vector) as i128
@@ -94,7 +99,7 @@ fn bound(problem: &Problem, ranges: &Ranges, vector: &Vector, scale: u64) -> i12
 fn least_total(problem: &Problem, ranges: &Ranges, vector: &Vector, scale: u64) -> u128
     requires ranges { AreRanges problem.now ranges.now }
     requires vector { IsVector problem.now vector.now }
-    requires scale { scale < 2 ^ 20 }
+    requires scale { scale < SCALE_BOUND }
     ensures value { result ≡ least_total problem.now ranges.now vector.now scale }
     ensures small { result ≤ 2 ^ 126 }
 {
@@ -126,8 +131,9 @@ fn least_cost(
     requires ordered { low ≤ high }
     requires there { high < alt_count problem.now unit }
     requires vector { IsVector problem.now vector.now }
-    requires scale { scale < 2 ^ 20 }
-    ensures value { result ≡ least_within low high (λ a. priced_cost problem.now vector.now scale unit a) }
+    requires scale { scale < SCALE_BOUND }
+    ensures value { result
+        ≡ least_within low high (λ a. priced_cost problem.now vector.now scale unit a) }
     ensures small { result < 2 ^ 114 }
 {
     let mut least = alt_price(problem, unit, low, vector, scale);
@@ -142,7 +148,7 @@ fn alt_price(problem: &Problem, unit: u32, alt: u32, vector: &Vector, scale: u64
     requires unit { unit < unit_count problem.now }
     requires alt { alt < alt_count problem.now unit }
     requires vector { IsVector problem.now vector.now }
-    requires scale { scale < 2 ^ 20 }
+    requires scale { scale < SCALE_BOUND }
     ensures value { result ≡ priced_cost problem.now vector.now scale unit alt }
     ensures small { result < 2 ^ 114 }
 {
@@ -166,8 +172,8 @@ fn priced_uses(problem: &Problem, unit: u32, alt: u32, vector: &Vector) -> u128
     total
 }
 
-// The limits at their prices.
-fn priced_limits(problem: &Problem, vector: &Vector) -> u128
+/// The limits at the vector's prices: what the bound takes off. One step a price.
+pub fn priced_limits(problem: &Problem, vector: &Vector) -> u128
     requires vector { IsVector problem.now vector.now }
     ensures value { result ≡ priced vector.now (λ r. limit_of problem.now r) }
     ensures small { result < 2 ^ 124 }

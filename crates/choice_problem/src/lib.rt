@@ -16,12 +16,14 @@ mod problems;
 mod spans;
 mod strips;
 mod vectors;
+mod walks;
 
-pub use choices::{Choice, cost_of, first_above, first_passed, fits};
-pub use closing::{leaf_closes, least_uses, over_closes};
+pub use choices::{Choice, cost_of, first_above, first_above_limit, first_passed, fits};
+pub use closing::{SCALE_BOUND, bound_passes, leaf_closes, least_uses, over_closes, priced_limits};
 pub use laws::{
-    closed_ranges, driven_tree, few_uses, floored_tree, joined_trees, search_start, sound_tree,
-    split_trees, strip_list,
+    alike_problems, closed_ranges, closing_numbers, driven_tree, few_uses, fewer_vectors,
+    floored_tree, joined_trees, node_vector_exists, part_ranges, price_vectors, renumbered_vectors,
+    search_start, sound_tree, split_trees, strip_list,
 };
 pub use nodes::{Node, Tree, count_nodes};
 pub use problems::{
@@ -30,6 +32,7 @@ pub use problems::{
 pub use spans::Ranges;
 pub use strips::{Part, Strip};
 pub use vectors::{HIGHEST_PRICE, Price, Vector, VectorList};
+pub use walks::{RangeWalk, open_pieces};
 
 #[cfg(test)]
 mod closing_tests;

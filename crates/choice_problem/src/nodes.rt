@@ -65,6 +65,13 @@ impl Tree {
     {
         &self.nodes
     }
+
+    /// The nodes in preorder as a `Vec`, without a copy.
+    pub fn into_items(self) -> Vec<Node>
+        ensures { result.items ≡ self }
+    {
+        self.nodes
+    }
 }
 
 /// How many splits and closed leaves a tree has; undone nodes are not counted. One step a node.

@@ -53,6 +53,7 @@ impl Model for Chooser {
 impl Chooser {
     ghost use Rattle.std.specs.Option.{ForSome};
     ghost use Rattle.std.specs.Prelude.{◌≡◌, ◌+◌, ◌^◌, ◌<◌, ◌≤◌, ℕ, length};
+    ghost use Rattle.choice_problem.specs.declared.problems.TheConstants.{MOST_USES};
     ghost use Rattle.choice_problem.specs.Problems.{ChooserView, IsChooser, alt_at, part_at, named_uses, chooser_uses, ArePartsInRange};
     ghost use Rattle.choice_problem.specs.Counts.{GrowsBy, HasRoom};
 
@@ -126,7 +127,7 @@ impl Chooser {
     fn uses(&self, alt: u32, resource: u32) -> u32
         requires { alt < length self.now.alts }
         ensures value { result ≡ chooser_uses self.now alt resource }
-        ensures few { result ≤ 434 }
+        ensures few { result ≤ MOST_USES }
     {
         let _invariant = &self.parts;
         let chosen = self.alt(alt);
@@ -149,9 +150,9 @@ impl Chooser {
     fn add_uses(&self, alt: u32, counts: &mut [u32])
         requires alt { alt < length self.now.alts }
         requires there { ArePartsInRange (length counts.old) self.now }
-        requires room { HasRoom counts.old (λ _. 434) }
+        requires room { HasRoom counts.old (λ _. MOST_USES) }
         ensures uses { GrowsBy counts.old counts.new (λ r. chooser_uses self.now alt r) }
-        ensures few { (r : ℕ) → chooser_uses self.now alt r ≤ 434 }
+        ensures few { (r : ℕ) → chooser_uses self.now alt r ≤ MOST_USES }
     {
         let _invariant = &self.parts;
         let chosen = self.alt(alt);
@@ -183,7 +184,9 @@ impl Model for Problem {
 impl Problem {
     ghost use Rattle.std.specs.Option.{ForSome};
     ghost use Rattle.std.specs.Prelude.{◌≡◌, ◌+◌, ◌^◌, ◌<◌, ◌≤◌, ℕ, length, map, pos, All};
+    ghost use Rattle.choice_problem.specs.declared.problems.TheConstants.{MOST_UNITS, MOST_RESOURCES, MOST_USES, HIGHEST_LIMIT};
     ghost use Rattle.choice_problem.specs.Problems.{
+      amount,
       ProblemView,
       IsChooser,
       IsProblem,
@@ -214,7 +217,7 @@ impl Problem {
     /// How many units there are.
     pub fn units(&self) -> u32
         ensures count { result ≡ unit_count self.now }
-        ensures few { result ≤ 4096 }
+        ensures few { result ≤ MOST_UNITS }
     {
         self.units.len() as u32
     }
@@ -241,7 +244,7 @@ impl Problem {
     /// How many resources there are.
     pub fn resources(&self) -> u32
         ensures count { result ≡ resource_count self.now }
-        ensures few { result ≤ 1000000 }
+        ensures few { result ≤ MOST_RESOURCES }
     {
         self.limits.len() as u32
     }
@@ -250,7 +253,7 @@ impl Problem {
     pub fn limit(&self, resource: u32) -> i64
         requires { resource < resource_count self.now }
         ensures value { result ≡ pos (limit_of self.now resource) }
-        ensures small { limit_of self.now resource ≤ 999999 }
+        ensures small { limit_of self.now resource ≤ amount HIGHEST_LIMIT }
     {
         self.limits[resource as usize]
     }
@@ -258,7 +261,7 @@ impl Problem {
     /// The limits, one for each resource.
     pub fn limits(&self) -> &[i64]
         ensures value { result.now ≡ map pos self.now.limits }
-        ensures few { length self.now.limits ≤ 1000000 }
+        ensures few { length self.now.limits ≤ MOST_RESOURCES }
     {
         &self.limits
     }
@@ -317,7 +320,7 @@ impl Problem {
         requires unit { unit < unit_count self.now }
         requires alt { alt < alt_count self.now unit }
         ensures value { result ≡ alt_uses self.now unit alt resource }
-        ensures few { result ≤ 434 }
+        ensures few { result ≤ MOST_USES }
     {
         self.units[unit as usize].uses(alt, resource)
     }
@@ -327,9 +330,9 @@ impl Problem {
         requires unit { unit < unit_count self.now }
         requires alt { alt < alt_count self.now unit }
         requires counts { length counts.old ≡ resource_count self.now }
-        requires room { HasRoom counts.old (λ _. 434) }
+        requires room { HasRoom counts.old (λ _. MOST_USES) }
         ensures uses { GrowsBy counts.old counts.new (λ r. alt_uses self.now unit alt r) }
-        ensures few { (r : ℕ) → alt_uses self.now unit alt r ≤ 434 }
+        ensures few { (r : ℕ) → alt_uses self.now unit alt r ≤ MOST_USES }
     {
         self.units[unit as usize].add_uses(alt, counts);
     }

@@ -37,6 +37,13 @@ impl Ranges {
         Ok(Ranges { spans })
     }
 
+    // How many units have a range.
+    pub(crate) fn len(&self) -> usize
+        ensures { result ≡ length self.now }
+    {
+        self.spans.len()
+    }
+
     /// The lowest alternative in a unit's range.
     pub fn low(&self, unit: u32) -> u32
         requires { unit < length self.now }
@@ -67,7 +74,8 @@ impl Ranges {
     pub fn set(&mut self, unit: u32, low: u32, high: u32)
         requires { unit < length self.old }
         ensures value { self.new ≡ slice_set self.old unit (low, high) }
-        ensures valid { (p : ProblemView) → AreRanges p self.old → low ≤ high → high < alt_count p unit →
+        ensures valid { (p : ProblemView) → AreRanges p self.old → low ≤ high →
+            high < alt_count p unit →
             AreRanges p self.new }
     {
         self.spans[unit as usize] = (low, high);

@@ -1,7 +1,7 @@
 //! The resources that an alternative uses, in strips.
 
 ghost use Rattle.std.specs.Prelude.{◌≡◌, ◌+◌, ◌^◌, ◌<◌, ◌≤◌, length, All};
-ghost use Rattle.choice_problem.specs.Counts.{GrowsBy, HasRoom};
+ghost use Rattle.choice_problem.specs.Counts.{GrowsBy, HasRoom, HasUses};
 ghost use Rattle.choice_problem.specs.Loops.{run_uses};
 
 use std::marker::Model;
@@ -25,7 +25,7 @@ impl Strip {
     ghost use Rattle.finite_sums.specs.Sums.{count_below};
     ghost use Rattle.choice_problem.specs.Strips.{run_start, strip_uses, IsStripInRange};
     ghost use Rattle.choice_problem.specs.Allowed.{strip_most};
-    ghost use Rattle.choice_problem.specs.Counts.{GrowsBy, HasRoom};
+    ghost use Rattle.choice_problem.specs.Counts.{GrowsBy, HasRoom, HasUses};
 
     /// Where a run, numbered from 0, begins and ends: its first resource, and the first one after it.
     pub fn run(&self, run: u32) -> (u64, u64)
@@ -108,6 +108,18 @@ impl Strip {
             add_run(counts, start as usize, end as usize);
         }
     }
+
+    // Takes the strip's uses away.
+    fn take_uses(&self, counts: &mut [u32])
+        requires there { IsStripInRange (length counts.old) self.now }
+        requires added { HasUses counts.old (λ r. strip_uses self.now r) }
+        ensures { GrowsBy counts.new counts.old (λ r. strip_uses self.now r) }
+    {
+        for i in 0..self.times {
+            let (start, end) = self.run(i);
+            take_run(counts, start as usize, end as usize);
+        }
+    }
 }
 
 // Adds one to each count from one place to another.
@@ -119,6 +131,18 @@ fn add_run(counts: &mut [u32], start: usize, end: usize)
 {
     for at in start..end {
         counts[at] += 1;
+    }
+}
+
+// Takes one from each count from one place to another.
+fn take_run(counts: &mut [u32], start: usize, end: usize)
+    requires ordered { start ≤ end }
+    requires there { end ≤ length counts.old }
+    requires added { HasUses counts.old (λ r. run_uses start end r) }
+    ensures { GrowsBy counts.new counts.old (λ r. run_uses start end r) }
+{
+    for at in start..end {
+        counts[at] -= 1;
     }
 }
 
@@ -141,7 +165,7 @@ impl Part {
     ghost use Rattle.std.specs.Prelude.{◌≡◌, ◌↔◌, ◌^◌, ◌<◌, ◌≤◌, length, IsTrue};
     ghost use Rattle.choice_problem.specs.Strips.{part_uses, IsPartInRange};
     ghost use Rattle.choice_problem.specs.Allowed.{part_most};
-    ghost use Rattle.choice_problem.specs.Counts.{GrowsBy, HasRoom};
+    ghost use Rattle.choice_problem.specs.Counts.{GrowsBy, HasRoom, HasUses};
 
     /// The part of these strips.
     pub fn new(strips: Vec<Strip>) -> Part
@@ -202,6 +226,18 @@ impl Part {
     {
         for strip in &self.strips {
             strip.add_uses(counts);
+        }
+    }
+
+    /// Takes the uses of the strips together away from counts, one for each resource from 0: one step a use. The strips
+    /// stay within these resources, and each count is at least the uses of its resource.
+    pub fn take_uses(&self, counts: &mut [u32])
+        requires there { IsPartInRange (length counts.old) self.now }
+        requires added { HasUses counts.old (λ r. part_uses self.now r) }
+        ensures { GrowsBy counts.new counts.old (λ r. part_uses self.now r) }
+    {
+        for strip in &self.strips {
+            strip.take_uses(counts);
         }
     }
 }

@@ -246,6 +246,13 @@ fn nodes_and_laws(rt: HostRuntime) -> Result<(), Fail> {
     assert_eq!(rt; tree.items(), nodes.as_slice());
     assert_eq!(rt; count_nodes(&tree), 3);
     strip_list();
+    alike_problems();
+    fewer_vectors();
+    renumbered_vectors();
+    node_vector_exists();
+    closing_numbers();
+    part_ranges();
+    price_vectors();
     closed_ranges();
     sound_tree();
     floored_tree();
@@ -254,5 +261,66 @@ fn nodes_and_laws(rt: HostRuntime) -> Result<(), Fail> {
     search_start();
     few_uses();
     driven_tree();
+    Ok(())
+}
+
+// The ranges of three units.
+fn spans(ranges: &Ranges) -> Option<[(u32, u32); 3]> {
+    if ranges.len() != 3 {
+        return None;
+    }
+    Some([0, 1, 2].map(|unit| (ranges.low(unit), ranges.high(unit))))
+}
+
+// The ranges of the first undone nodes of a tree on three units of two alternatives, if it is one tree.
+fn pieces(
+    alloc: Global,
+    nodes: &[Node],
+    most: usize,
+) -> Result<Option<Vec<Option<[(u32, u32); 3]>>>, Fail> {
+    let problem = three(alloc)?;
+    let Some(pieces) = open_pieces(alloc, Ranges::whole(alloc, &problem)?, nodes, most)? else {
+        return Ok(None);
+    };
+    let mut found = Vec::new(alloc);
+    for piece in &pieces {
+        found.push(spans(piece))?;
+    }
+    Ok(Some(found))
+}
+
+#[test]
+fn undone_ranges_of_trees(rt: HostRuntime) -> Result<(), Fail> {
+    let alloc = rt.alloc();
+    let split = |unit| Node::Split {
+        unit,
+        cut: 1,
+        seen: None,
+    };
+    let over = Node::Over { resource: 0 };
+    let low = Some([(0, 1), (0, 0), (0, 1)]);
+    let high = Some([(1, 1), (1, 1), (0, 1)]);
+    let table = [
+        // the low part of unit 1, then the high parts of units 1 and 0
+        (
+            [split(1), Node::Undone, split(0), over, Node::Undone].as_slice(),
+            9,
+            Some([low, high].as_slice()),
+        ),
+        (
+            &[split(1), Node::Undone, split(0), over, Node::Undone],
+            1,
+            Some(&[low]),
+        ),
+        (&[split(1), over, over], 9, Some(&[])),
+        // a split of one alternative, a node too few and one too many
+        (&[split(1), split(1), over, over, over], 9, None),
+        (&[split(1), over], 9, None),
+        (&[over, over], 9, None),
+    ];
+    for (nodes, most, want) in table {
+        let found = pieces(alloc, nodes, most)?;
+        assert_eq!(rt; found.as_deref(), want, "{nodes:?}");
+    }
     Ok(())
 }

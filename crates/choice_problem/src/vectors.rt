@@ -20,26 +20,33 @@ pub struct Price {
 
 impl Price {
     ghost use Rattle.std.specs.Prelude.{◌≡◌, ◌↔◌, ◌<◌, IsTrue, pos, ◌≤ℤ◌};
+    ghost use Rattle.choice_problem.specs.declared.problems.TheConstants.{MOST_RESOURCES};
     ghost use Rattle.choice_problem.specs.Problems.{amount};
+    ghost use Rattle.choice_problem.specs.Bounds.{IsPrice};
     ghost use Rattle.choice_problem.specs.Loops.{PriceFollows};
 
-    // The price as a number.
-    pub(crate) fn amount(&self) -> u64
+    /// The price as a number. It is at least 1.
+    pub fn amount(&self) -> u64
         requires { pos 1 ≤ℤ self.now.price }
         ensures { result ≡ amount self.now.price }
     {
         self.price as u64
     }
 
-    // Whether the resource is the problem's and at least the next one, and the price is from 1 to 2^40 - 1.
+    /// Whether the resource is the problem's and the price from 1 to 2^40 - 1, in one step.
+    pub fn is_for(&self, problem: &Problem) -> bool
+        ensures exact { IsTrue result ↔ IsPrice problem.now self.now }
+        ensures few { IsTrue result → self.now.resource < MOST_RESOURCES }
+    {
+        self.resource < problem.resources() && self.price >= 1 && self.price <= HIGHEST_PRICE
+    }
+
+    // Whether the resource is at least the next one, and the price is one for the problem.
     fn follows(&self, problem: &Problem, next: u32) -> bool
         ensures exact { IsTrue result ↔ PriceFollows problem.now next self.now }
-        ensures few { IsTrue result → self.now.resource < 1000000 }
+        ensures few { IsTrue result → self.now.resource < MOST_RESOURCES }
     {
-        next <= self.resource
-            && self.resource < problem.resources()
-            && self.price >= 1
-            && self.price <= HIGHEST_PRICE
+        next <= self.resource && self.is_for(problem)
     }
 }
 
@@ -116,5 +123,12 @@ impl VectorList {
         ensures { result.now ≡ self.now }
     {
         &self.vectors
+    }
+
+    /// The vectors as a `Vec`, number 1 first, without a copy.
+    pub fn into_items(self) -> Vec<Vector>
+        ensures { result.items ≡ self }
+    {
+        self.vectors
     }
 }

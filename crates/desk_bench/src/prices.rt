@@ -5,9 +5,8 @@ ghost use Rattle.choice_problem.specs.Bounds.{AreRanges, IsVector};
 use crate::bounds;
 use crate::report::{Size, step};
 use choice_problem::{Problem, Ranges, Vector};
-use dual_bound::{
-    bound, floor_of, infeasibility_vector, polished_vector, price_table, root_vector,
-};
+use dual_bound::{floor_of, infeasibility_vector, polished_vector, root_vector};
+use price_table::{bound, price_table};
 use slot_text::Memory;
 use std::alloc::Global;
 use std::time::Instant;
@@ -51,13 +50,13 @@ fn judge(
     requires vector { IsVector problem.now vector.now }
 {
     let start = Instant::now(rt)?;
-    let table = price_table(alloc, problem, vector)?;
+    let tables = [price_table(alloc, problem, vector)?];
     step(rt, size, "price_table", start)?;
     let start = Instant::now(rt)?;
-    let scaled = bound(problem, ranges, &table, 1024);
+    let scaled = bound(problem, ranges, &tables[0], 1024);
     step(rt, size, "bound", start)?;
     let start = Instant::now(rt)?;
-    let (floor, _) = floor_of(problem, ranges, &table);
+    let floor = floor_of(problem, ranges, &tables).cost;
     step(rt, size, "floor_of", start)?;
     let count = vector.items().len();
     println!(rt; "prices: {count} prices, bound {scaled}, floor {floor}")?;

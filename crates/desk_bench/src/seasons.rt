@@ -8,11 +8,11 @@ ghost use Rattle.choice_problem.specs.Bounds.{AreRanges, IsVector};
 use crate::generated::{capacity_text, request_text};
 use crate::report::{Size, step};
 use crate::units::{chooser, read};
-use branch_tree::{greedy, improved_choice};
+use branch_tree::greedy;
 use choice_problem::{Choice, Problem, Ranges, Vector, cost_of};
-use dual_bound::{
-    bound, floor_of, infeasibility_vector, polished_vector, price_table, root_vector,
-};
+use dual_bound::{floor_of, infeasibility_vector, polished_vector, root_vector};
+use improved_choice::improved_choice;
+use price_table::{bound, price_table};
 use series_model::{Group, Submission};
 use slot_text::Memory;
 use std::alloc::Global;
@@ -291,8 +291,8 @@ fn judge(
     requires choice { ForSome (option_copied choice) (IsFeasible problem.now) }
     requires vector { IsVector problem.now vector.now }
 {
-    let table = price_table(alloc, problem, vector)?;
-    let (floor, _) = floor_of(problem, ranges, &table);
+    let tables = [price_table(alloc, problem, vector)?];
+    let floor = floor_of(problem, ranges, &tables).cost;
     let prices = vector.items().len();
     match choice {
         Some(choice) => {

@@ -1,13 +1,13 @@
 //! A walk through ranges: making it, narrowing it, and visiting its ranges.
 
 ghost use Rattle.std.specs.Prelude.{◌≡◌};
-ghost use Rattle.dual_bound.specs.Tables.{IsTableFor};
+ghost use Rattle.price_table.specs.Tables.{IsTableFor};
 
 use crate::bounds;
 use crate::report::{Size, step};
 use branch_tree::{Visit, Walk};
 use choice_problem::{Price, Problem, Ranges, Vector};
-use dual_bound::{PriceTable, price_table};
+use price_table::{PriceTable, price_table};
 use slot_text::Memory;
 use std::alloc::Global;
 use std::time::Instant;

@@ -1,4 +1,5 @@
-pub mod SlotLemmas
-pub mod CabinetLemmas
-pub mod WriteLemmas
-pub mod FilesLemmas
+mod Walks
+mod SlotLemmas
+mod CabinetLemmas
+mod WriteLemmas
+mod FilesLemmas

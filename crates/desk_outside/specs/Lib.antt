@@ -1,6 +1,8 @@
 pub mod Cause
 pub mod Files
 pub mod Bytes
+pub mod Passages
+pub mod Noted
 pub mod Buffers
 pub mod Failures
 pub mod InMemory

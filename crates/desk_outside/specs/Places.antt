@@ -7,4 +7,5 @@ use Rattle.desk_outside.specs.declared.slots.Slot.{Slot}
 abbrev pub IsPlaceOf : List Slot → List ℕ → ℕ → Type 0
 IsPlaceOf [] name at = ⊥
 IsPlaceOf (slot ∷ slots) name zero = bytes_eq slot.name.bytes name ≡ true
-IsPlaceOf (slot ∷ slots) name (suc at) = (bytes_eq slot.name.bytes name ≡ false) × IsPlaceOf slots name at
+IsPlaceOf (slot ∷ slots) name (suc at) = (bytes_eq slot.name.bytes name ≡ false)
+    × IsPlaceOf slots name at

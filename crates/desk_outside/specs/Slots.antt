@@ -2,6 +2,7 @@
 use Rattle.std.specs.Prelude.{◌≡◌, ℕ, ◌<◌, List, length, take, map, slice_index_or}
 use Rattle.desk_outside.specs.InMemory.{HeldFile}
 use Rattle.desk_outside.specs.declared.slots.Slot.{Slot}
+use Rattle.desk_outside.specs.declared.slots.TheConstants.{NAME_ROOM}
 
 -- the file in a place that is used
 abbrev pub file_in : Slot → HeldFile
@@ -13,4 +14,6 @@ files_in used slots = map file_in (take used slots)
 
 -- each place has room for a name and for the bytes of a file
 abbrev pub HaveRoom : ℕ → List Slot → Type 0
-HaveRoom room slots = (at : ℕ) (d : Slot) → at < length slots → ((slice_index_or slots at d).name.room ≡ 255) × ((slice_index_or slots at d).bytes.room ≡ room)
+HaveRoom room slots = (at : ℕ) (d : Slot) → at < length slots
+    → ((slice_index_or slots at d).name.room ≡ NAME_ROOM)
+    × ((slice_index_or slots at d).bytes.room ≡ room)

@@ -19,7 +19,8 @@ impl Model for Buffer {
 
     ghost view = { λ buffer. record { bytes = buffer.bytes.items; room = buffer.room } };
 
-    ghost invariant = { λ buffer. (buffer.room ≤ vec_capacity buffer.bytes) × (vec_len buffer.bytes ≤ buffer.room) };
+    ghost invariant = { λ buffer. (buffer.room ≤ vec_capacity buffer.bytes)
+        × (vec_len buffer.bytes ≤ buffer.room) };
 }
 
 impl Buffer {

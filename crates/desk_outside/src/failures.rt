@@ -8,10 +8,11 @@ use std::marker::Model;
 /// One call of an object in memory that is to fail.
 #[derive(Clone, Copy, Debug, PartialEq, Eq)]
 pub struct Failure {
-    /// The number of the call, from 0. An object counts its reads and writes, or its puts, in one row.
+    /// The number of the call, from 0. An object counts its reads and writes, or its puts, in one
+    /// row.
     pub call: u64,
-    /// How many of the bytes it takes all the same, from the first one on. None: nothing is changed. A read
-    /// takes no bytes, so for a read both mean the same.
+    /// How many of the bytes it takes all the same, from the first one on. None: nothing is
+    /// changed. A read takes no bytes, so for a read both mean the same.
     pub part: Option<usize>,
 }
 

@@ -1,10 +1,14 @@
-//! The outside of the desk: a cabinet of files and a sink of bytes, in memory and over the real system.
-//! Each says what it holds, where that is told, and counts its faults.
+//! The outside of the desk: a cabinet of files and a sink of bytes, in memory and over the real
+//! system. Each says what it holds, where that is told, counts its faults, and keeps a log in
+//! proofs alone of what passed through it.
 #![tactic(auto)]
 
 mod buffer;
 mod cabinet;
 mod failures;
+mod gate;
+pub mod laws;
+mod log;
 mod memory_cabinet;
 mod memory_sink;
 mod real_cabinet;
@@ -14,6 +18,7 @@ mod slots;
 
 pub use cabinet::{Cabinet, CabinetFault};
 pub use failures::Failure;
+pub use gate::{Gate, RealGate};
 pub use memory_cabinet::MemoryCabinet;
 pub use memory_sink::MemorySink;
 pub use real_cabinet::RealCabinet;

@@ -1,11 +1,18 @@
-ghost use Rattle.std.specs.Prelude.{is_ok, ◌≡◌, ◌≤◌, ℕ, Some, Option, IfOk, IfErr, OnOk, OnErr, if◌then◌else◌};
+ghost use Rattle.std.specs.Prelude.{is_ok, ◌≡◌, ◌≤◌, ◌++◌, ◌∷◌, [], ℕ, Some, Option, IfOk, IfErr};
+ghost use Rattle.std.specs.Prelude.{OnOk, OnErr, if◌then◌else◌};
 ghost use Rattle.std.specs.Option.{option_copied};
 ghost use Rattle.desk_outside.specs.Cause.{HasCause};
 ghost use Rattle.desk_outside.specs.Files.{Files, Reads, Writes, WritesPart};
-ghost use Rattle.desk_outside.specs.InMemory.{new_cabinet, bytes_under, has_room, with_loaded, next_failure, with_call, with_fault, found_file, read_answer, GivesFile, after_read, takes_file, with_taken, after_write};
+ghost use Rattle.desk_outside.specs.InMemory.{new_cabinet, bytes_under, has_room, with_loaded};
+ghost use Rattle.desk_outside.specs.InMemory.{next_failure, with_call, with_fault};
+ghost use Rattle.desk_outside.specs.InMemory.{found_file, read_answer, GivesFile, after_read};
+ghost use Rattle.desk_outside.specs.InMemory.{takes_file, with_taken, after_write};
+ghost use Rattle.desk_outside.specs.Noted.{passage_of};
+ghost use Rattle.desk_outside.specs.Passages.{with_read, with_write};
 
 use crate::cabinet::{Cabinet, CabinetFault};
 use crate::failures::{Calls, Failure, taken};
+use crate::log::{Log, Note};
 use crate::slots::{NAME_ROOM, Slot, find_slot, new_slots};
 use slot_text::Memory;
 use std::alloc::Global;
@@ -13,9 +20,10 @@ use std::marker::Model;
 
 /// Files in memory, in room that is taken when the cabinet is made.
 ///
-/// Contracts see its files by name, its room, the calls that are to fail, how many calls it has had and how many
-/// of them failed. A call is a `read` or a `write`; it fails where its number is listed, and a `write` also where
-/// its file has no room: a name over 255 bytes, more bytes than the room of a file, or no place for one more file.
+/// Contracts see its files by name, its room, the calls that are to fail, how many calls it has had
+/// and how many of them failed, and what passed. A call is a `read` or a `write`; it fails where
+/// its number is listed, and a `write` also where its file has no room: a name over 255 bytes, more
+/// bytes than the room of a file, or no place for one more file.
 #[derive(Drop)]
 pub struct MemoryCabinet {
     slots: Vec<Slot>,
@@ -23,6 +31,7 @@ pub struct MemoryCabinet {
     byte_limit: usize,
     calls: Calls,
     faults: u64,
+    log: Log,
 }
 
 impl Model for MemoryCabinet {
@@ -32,13 +41,22 @@ impl Model for MemoryCabinet {
 
     ghost Value = { CabinetView };
 
-    ghost view = { λ c. record { files = files_in c.used c.slots.items; file_limit = vec_len c.slots; byte_limit = c.byte_limit; failing = c.calls.failing; made = c.calls.made; faults = c.faults } };
+    ghost view = { λ c. record {
+      files = files_in c.used c.slots.items;
+      file_limit = vec_len c.slots;
+      byte_limit = c.byte_limit;
+      failing = c.calls.failing;
+      made = c.calls.made;
+      faults = c.faults;
+      log = c.log.passages;
+    } };
 
     ghost invariant = { λ c. (c.used ≤ vec_len c.slots) × HaveRoom c.byte_limit c.slots.items };
 }
 
 impl MemoryCabinet {
-    /// An empty cabinet with room for `file_limit` files of at most `byte_limit` bytes each, whose calls named in
+    /// An empty cabinet with room for `file_limit` files of at most `byte_limit` bytes each, whose
+    /// calls named in
     /// `failing` will fail. `Memory` where that room could not be taken; no later call but a read wants memory.
     pub fn new(
         alloc: Global,
@@ -46,7 +64,8 @@ impl MemoryCabinet {
         byte_limit: usize,
         failing: Vec<Failure>,
     ) -> Result<MemoryCabinet, Memory>
-        ensures { IfOk result (λ cabinet. cabinet ≡ new_cabinet file_limit byte_limit failing.items) }
+        ensures { IfOk result (λ cabinet.
+            cabinet ≡ new_cabinet file_limit byte_limit failing.items) }
     {
         let slots = new_slots(alloc, file_limit, byte_limit)?;
         Ok(MemoryCabinet {
@@ -55,6 +74,7 @@ impl MemoryCabinet {
             byte_limit,
             calls: Calls::new(failing),
             faults: 0,
+            log: Log::new(),
         })
     }
 
@@ -66,8 +86,8 @@ impl MemoryCabinet {
         Some(self.slots[at].bytes.bytes())
     }
 
-    /// Puts a file in, or other bytes under its name, before or between the calls that are counted. False where it
-    /// has no room, and then nothing changes.
+    /// Puts a file in, or other bytes under its name, before or between the calls that are counted.
+    /// False where it has no room, and then nothing changes.
     pub fn load(&mut self, name: &str, bytes: &[u8]) -> bool
         ensures answer { result ≡ has_room self.old name.now bytes.now }
         ensures files { self.new ≡ with_loaded self.old name.now bytes.now }
@@ -108,6 +128,13 @@ impl MemoryCabinet {
         ensures later { self.old.faults ≤ self.new.faults }
     {
         self.faults = self.faults.saturating_add(1);
+    }
+
+    /// Notes a passage in the log.
+    fn note(&mut self, note: &Note<'_>)
+        ensures { self.new ≡ record self.old { log = self.old.log ++ passage_of note.now ∷ [] } }
+    {
+        self.log = self.log.then(note);
     }
 
     /// A copy of the file.
@@ -166,32 +193,48 @@ impl Cabinet for MemoryCabinet {
 
     ghost fault_count = { λ cabinet. cabinet.faults };
 
+    ghost log = { λ cabinet. cabinet.log };
+
     fn faults(&self) -> u64 {
         self.faults
     }
 
     fn read(&mut self, alloc: Global, name: &str, most: usize) -> Result<Vec<u8>, CabinetFault>
-        ensures answer { Reads (Some (bytes_under self.old.files)) name.now most self.old.faults self.new.faults result }
+        ensures answer { Reads (Some (bytes_under self.old.files)) name.now most
+            self.old.faults self.new.faults result }
         ensures unchanged { self.new.files ≡ self.old.files }
         ensures later { self.old.faults ≤ self.new.faults }
         ensures kept { OnOk result (self.new.faults ≡ self.old.faults) }
+        ensures passed { self.new.log ≡ with_read self.old.log name.now result }
         ensures gives { GivesFile (read_answer self.old name.now most) result }
-        ensures after { self.new ≡ after_read self.old }
+        ensures after { self.new
+            ≡ record (after_read self.old) { log = with_read self.old.log name.now result } }
     {
-        self.read_counted(alloc, name, most)
+        let answer = self.read_counted(alloc, name, most);
+        if let Ok(bytes) = &answer {
+            self.note(&Note::Read(name, bytes));
+        }
+        answer
     }
 
     fn write(&mut self, name: &str, bytes: &[u8]) -> Result<(), CabinetFault>
-        ensures ok { OnOk result (Writes (Some (bytes_under self.old.files)) name.now bytes.now (Some (bytes_under self.new.files))) }
-        ensures part { OnErr result (WritesPart (Some (bytes_under self.old.files)) name.now bytes.now (Some (bytes_under self.new.files))) }
+        ensures ok { OnOk result (Writes (Some (bytes_under self.old.files)) name.now bytes.now
+            (Some (bytes_under self.new.files))) }
+        ensures part { OnErr result (WritesPart (Some (bytes_under self.old.files))
+            name.now bytes.now (Some (bytes_under self.new.files))) }
         ensures failed { IfErr result (λ e. e ≡ CabinetFault.Failed) }
         ensures cause { HasCause self.old.faults self.new.faults result }
+        ensures passed { self.new.log ≡ with_write self.old.log name.now bytes.now result }
         ensures gives { is_ok result ≡ takes_file self.old name.now bytes.now }
-        ensures after { self.new ≡ after_write self.old name.now bytes.now }
+        ensures after { self.new ≡ record (after_write self.old name.now bytes.now) {
+          log = with_write self.old.log name.now bytes.now result;
+        } }
     {
         if self.write_counted(name, bytes) {
+            self.note(&Note::Wrote(name, bytes));
             Ok(())
         } else {
+            self.note(&Note::WriteFailed(name, bytes));
             Err(CabinetFault::Failed)
         }
     }

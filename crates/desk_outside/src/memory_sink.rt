@@ -1,10 +1,14 @@
-ghost use Rattle.std.specs.Prelude.{is_ok, ◌≡◌, ◌≤◌, ℕ, List, Option, Some, IfOk, OnOk, OnErr};
+ghost use Rattle.std.specs.Prelude.{is_ok, ◌≡◌, ◌≤◌, ◌++◌, ◌∷◌, [], ℕ, List, Option, Some, IfOk};
+ghost use Rattle.std.specs.Prelude.{OnOk, OnErr};
 ghost use Rattle.desk_outside.specs.Cause.{HasCause};
 ghost use Rattle.desk_outside.specs.Bytes.{Puts, PutsPart};
 ghost use Rattle.desk_outside.specs.InMemory.{new_sink, takes_bytes, after_put};
+ghost use Rattle.desk_outside.specs.Noted.{passage_of};
+ghost use Rattle.desk_outside.specs.Passages.{with_put};
 
 use crate::buffer::Buffer;
 use crate::failures::{Calls, Failure, sent};
+use crate::log::{Log, Note};
 use crate::sink::{Sink, SinkFault};
 use slot_text::Memory;
 use std::alloc::Global;
@@ -12,14 +16,15 @@ use std::marker::Model;
 
 /// Bytes in memory, in room that is taken when the sink is made.
 ///
-/// Contracts see its bytes, its room, the calls that are to fail, how many calls of `put` it has had and how many
-/// of them failed. A put fails where its number is listed, and where its bytes pass the room that is left; in the
-/// second case none of them is appended.
+/// Contracts see its bytes, its room, the calls that are to fail, how many calls of `put` it has
+/// had and how many of them failed, and what passed. A put fails where its number is listed, and
+/// where its bytes pass the room that is left; in the second case none of them is appended.
 #[derive(Drop)]
 pub struct MemorySink {
     buffer: Buffer,
     calls: Calls,
     faults: u64,
+    log: Log,
 }
 
 impl Model for MemorySink {
@@ -27,12 +32,19 @@ impl Model for MemorySink {
 
     ghost Value = { SinkView };
 
-    ghost view = { λ s. record { bytes = s.buffer.bytes; byte_limit = s.buffer.room; failing = s.calls.failing; made = s.calls.made; faults = s.faults } };
+    ghost view = { λ s. record {
+      bytes = s.buffer.bytes;
+      byte_limit = s.buffer.room;
+      failing = s.calls.failing;
+      made = s.calls.made;
+      faults = s.faults;
+      log = s.log.passages;
+    } };
 }
 
 impl MemorySink {
-    /// An empty sink with room for `byte_limit` bytes, whose calls named in `failing` will fail. `Memory` where that
-    /// room could not be taken; no later call wants memory.
+    /// An empty sink with room for `byte_limit` bytes, whose calls named in `failing` will fail.
+    /// `Memory` where that room could not be taken; no later call wants memory.
     pub fn new(
         alloc: Global,
         byte_limit: usize,
@@ -45,6 +57,7 @@ impl MemorySink {
             buffer,
             calls: Calls::new(failing),
             faults: 0,
+            log: Log::new(),
         })
     }
 
@@ -53,6 +66,13 @@ impl MemorySink {
         ensures { result.now ≡ self.now.bytes }
     {
         self.buffer.bytes()
+    }
+
+    /// Notes a passage in the log.
+    fn note(&mut self, note: &Note<'_>)
+        ensures { self.new ≡ record self.old { log = self.old.log ++ passage_of note.now ∷ [] } }
+    {
+        self.log = self.log.then(note);
     }
 
     fn put_counted(&mut self, bytes: &[u8]) -> bool
@@ -76,20 +96,28 @@ impl Sink for MemorySink {
 
     ghost fault_count = { λ sink. sink.faults };
 
+    ghost log = { λ sink. sink.log };
+
     fn faults(&self) -> u64 {
         self.faults
     }
 
     fn put(&mut self, bytes: &[u8]) -> Result<(), SinkFault>
         ensures ok { OnOk result (Puts (Some self.old.bytes) bytes.now (Some self.new.bytes)) }
-        ensures part { OnErr result (PutsPart (Some self.old.bytes) bytes.now (Some self.new.bytes)) }
+        ensures part { OnErr result
+            (PutsPart (Some self.old.bytes) bytes.now (Some self.new.bytes)) }
         ensures cause { HasCause self.old.faults self.new.faults result }
+        ensures passed { self.new.log ≡ with_put self.old.log bytes.now result }
         ensures gives { is_ok result ≡ takes_bytes self.old bytes.now }
-        ensures after { self.new ≡ after_put self.old bytes.now }
+        ensures after { self.new ≡ record (after_put self.old bytes.now) {
+          log = with_put self.old.log bytes.now result;
+        } }
     {
         if self.put_counted(bytes) {
+            self.note(&Note::Put(bytes));
             Ok(())
         } else {
+            self.note(&Note::PutFailed(bytes));
             Err(SinkFault)
         }
     }

@@ -1,8 +1,9 @@
-ghost use Rattle.std.specs.Prelude.{◌≡◌, ◌<◌, ◌≤◌, None, IfOk, IfErr, IfSome, length, vec_len};
+ghost use Rattle.std.specs.Prelude.{◌≡◌, ◌<◌, ◌≤◌, [], None, IfOk, IfErr, IfSome, length, vec_len};
 ghost use Rattle.std.specs.IoError.{error_kind};
 ghost use Rattle.std.specs.declared.io.ErrorKind.{ErrorKind};
 
 use crate::cabinet::{Cabinet, CabinetFault};
+use crate::log::{Log, Note};
 use std::alloc::Global;
 use std::fs::OpenFile;
 use std::io::{ErrorKind, Read};
@@ -10,38 +11,46 @@ use std::marker::Model;
 use std::rt::Files;
 use std::{fs, io};
 
-/// The files of the system, by their paths. It does not tell what they hold: contracts see the count of its faults.
+/// The files of the system, by their paths. It does not tell what they hold: contracts see the
+/// count of its faults and what passed.
 ///
 /// `Missing` where no file stands under the path, `Larger` where its bytes are more than the caller takes, `Failed`
-/// for everything else that the system refuses, a folder in the place of a file among them. Each of the three
-/// raises the count.
+/// for everything else that the system refuses, a folder in the place of a file among them. Each of
+/// the three raises the count.
 #[derive(Drop)]
 pub struct RealCabinet<'a, R: Files> {
     rt: &'a R,
     faults: u64,
+    log: Log,
 }
 
 impl<'a, R: Files> Model for RealCabinet<'a, R> {
-    ghost use Rattle.std.specs.Prelude.{ℕ};
+    ghost use Rattle.desk_outside.specs.Passages.{Counted};
 
-    ghost Value = { ℕ };
+    ghost Value = { Counted };
 
-    ghost view = { λ cabinet. cabinet.faults };
+    ghost view = { λ cabinet. record { faults = cabinet.faults; log = cabinet.log.passages } };
 }
 
 impl<'a, R: Files> RealCabinet<'a, R> {
     /// The files that the runtime reaches, with no fault so far.
     pub fn new(rt: &'a R) -> RealCabinet<'a, R>
-        ensures { result ≡ 0 }
+        ensures { result ≡ record { faults = 0; log = [] } }
     {
-        RealCabinet { rt, faults: 0 }
+        RealCabinet {
+            rt,
+            faults: 0,
+            log: Log::new(),
+        }
     }
 }
 
 impl<'a, R: Files> Cabinet for RealCabinet<'a, R> {
     ghost files = { λ _. None };
 
-    ghost fault_count = { λ cabinet. cabinet };
+    ghost fault_count = { λ cabinet. cabinet.faults };
+
+    ghost log = { λ cabinet. cabinet.log };
 
     fn faults(&self) -> u64 {
         self.faults
@@ -49,7 +58,10 @@ impl<'a, R: Files> Cabinet for RealCabinet<'a, R> {
 
     fn read(&mut self, alloc: Global, name: &str, most: usize) -> Result<Vec<u8>, CabinetFault> {
         match read_file(self.rt, alloc, name, most) {
-            Ok(bytes) => Ok(bytes),
+            Ok(bytes) => {
+                self.log = self.log.then(&Note::Read(name, &bytes));
+                Ok(bytes)
+            }
             Err(CabinetFault::Memory) => Err(CabinetFault::Memory),
             Err(fault) => {
                 self.faults = self.faults.saturating_add(1);
@@ -60,8 +72,12 @@ impl<'a, R: Files> Cabinet for RealCabinet<'a, R> {
 
     fn write(&mut self, name: &str, bytes: &[u8]) -> Result<(), CabinetFault> {
         match fs::write(self.rt, name, bytes) {
-            Ok(()) => Ok(()),
+            Ok(()) => {
+                self.log = self.log.then(&Note::Wrote(name, bytes));
+                Ok(())
+            }
             Err(_) => {
+                self.log = self.log.then(&Note::WriteFailed(name, bytes));
                 self.faults = self.faults.saturating_add(1);
                 Err(CabinetFault::Failed)
             }
@@ -88,7 +104,8 @@ fn read_file<R: Files>(
 
 fn open_fault(error: &io::Error) -> CabinetFault
     ensures missing { error_kind error.now ≡ ErrorKind.NotFound → result ≡ CabinetFault.Missing }
-    ensures failed { (error_kind error.now ≡ ErrorKind.NotFound → ⊥) → result ≡ CabinetFault.Failed }
+    ensures failed { (error_kind error.now ≡ ErrorKind.NotFound → ⊥)
+        → result ≡ CabinetFault.Failed }
 {
     match error.kind() {
         ErrorKind::NotFound => CabinetFault::Missing,
@@ -96,7 +113,8 @@ fn open_fault(error: &io::Error) -> CabinetFault
     }
 }
 
-/// All bytes of the reader, if they are no more than `most`; of others no more than `most + 1` are read. Room for
+/// All bytes of the reader, if they are no more than `most`; of others no more than `most + 1` are
+/// read. Room for
 /// `expected` bytes is taken at once, so a file of that length is read into its place and never moved.
 fn read_whole<F: Read + Drop>(
     file: F,
@@ -105,8 +123,10 @@ fn read_whole<F: Read + Drop>(
     most: usize,
 ) -> Result<Vec<u8>, CabinetFault>
     ensures within { IfOk result (λ bytes. vec_len bytes ≤ most) }
-    ensures whole { IfOk result (λ bytes. IfSome (F.remaining file) (λ known. bytes.items ≡ known)) }
-    ensures larger { IfErr result (λ fault. fault ≡ CabinetFault.Larger → IfSome (F.remaining file) (λ known. most < length known)) }
+    ensures whole { IfOk result (λ bytes.
+        IfSome (F.remaining file) (λ known. bytes.items ≡ known)) }
+    ensures larger { IfErr result (λ fault. fault ≡ CabinetFault.Larger
+        → IfSome (F.remaining file) (λ known. most < length known)) }
 {
     let room = usize::try_from(expected).map_or(most, |expected| expected.min(most));
     let Ok(mut bytes) = Vec::with_capacity(alloc, room) else {

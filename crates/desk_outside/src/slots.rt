@@ -1,4 +1,5 @@
-ghost use Rattle.std.specs.Prelude.{◌≡◌, ◌<◌, ◌≤◌, ℕ, IfOk, IfSome, MatchOption, None, Some, length, map, slice_index_or};
+ghost use Rattle.std.specs.Prelude.{◌≡◌, ◌<◌, ◌≤◌, ℕ, IfOk, IfSome, MatchOption, None, Some};
+ghost use Rattle.std.specs.Prelude.{length, map, slice_index_or};
 ghost use Rattle.std.specs.Str.{bytes_eq};
 ghost use Rattle.desk_outside.specs.InMemory.{bytes_under};
 ghost use Rattle.desk_outside.specs.Slots.{file_in, HaveRoom};
@@ -19,7 +20,7 @@ pub(crate) struct Slot {
 }
 
 fn new_slot(alloc: Global, room: usize) -> Result<Slot, Memory>
-    ensures { IfOk result (λ slot. (slot.name.room ≡ 255) × (slot.bytes.room ≡ room)) }
+    ensures { IfOk result (λ slot. (slot.name.room ≡ NAME_ROOM) × (slot.bytes.room ≡ room)) }
 {
     Ok(Slot {
         name: Buffer::new(alloc, NAME_ROOM)?,
@@ -43,7 +44,8 @@ pub(crate) fn new_slots(alloc: Global, count: usize, room: usize) -> Result<Vec<
 /// The place of the file with this name.
 pub(crate) fn find_slot(slots: &[Slot], name: &str) -> Option<usize>
     ensures within { IfSome result (λ at. at < length slots.now) }
-    ensures place { MatchOption result (bytes_under (map file_in slots.now) name.now ≡ None) (IsPlaceOf slots.now name.now) }
+    ensures place { MatchOption result (bytes_under (map file_in slots.now) name.now ≡ None)
+        (IsPlaceOf slots.now name.now) }
 {
     for (at, slot) in slots.iter().enumerate() {
         if has_name(slot, name) {

@@ -71,22 +71,6 @@ fn a_cabinet_in_memory_fails_where_listed_or_full(rt: HostRuntime) -> Result<(),
 }
 
 #[test]
-fn a_name_has_at_most_255_bytes(rt: HostRuntime) -> Result<(), Fail> {
-    let alloc = rt.alloc();
-    let mut cabinet = MemoryCabinet::new(alloc, 1, 1, Vec::new(alloc))?;
-    let mut name = "n".repeat(alloc, 256)?;
-    assert_eq!(rt;
-        cabinet.write(name.as_str(), b""),
-        Err(CabinetFault::Failed)
-    );
-    assert_eq!(rt; cabinet.faults(), 1);
-    name.pop();
-    assert_eq!(rt; cabinet.write(name.as_str(), b""), Ok(()));
-    assert_eq!(rt; cabinet.file(name.as_str()), Some(b"".as_slice()));
-    Ok(())
-}
-
-#[test]
 fn a_sink_in_memory_fails_where_listed_or_full(rt: HostRuntime) -> Result<(), Fail> {
     let alloc = rt.alloc();
     let failing = [Failure::at(1), Failure::after(3, 2), Failure::after(5, 9)];
@@ -171,4 +155,16 @@ fn the_system_has_an_output(rt: HostRuntime) {
     let mut sink = RealSink::new(&closed);
     assert_eq!(rt; sink.put(b"lost"), Err(SinkFault));
     assert_eq!(rt; sink.faults(), 1);
+}
+
+/// Passes both points of a gate, and counts them.
+fn pass<G: Gate>(gate: &G, worker: u32) -> u32 {
+    gate.before_node(worker);
+    gate.before_line(worker);
+    2
+}
+
+#[test]
+fn the_gate_of_the_program_holds_nobody(rt: HostRuntime) {
+    assert_eq!(rt; pass(&RealGate, 0), 2);
 }

@@ -1,5 +1,2 @@
-pub mod WorthLemmas
-pub mod TableLemmas
-pub mod BoundLemmas
-pub mod StepLemmas
-pub mod KnownLemmas
+mod StepLemmas
+mod FloorLemmas

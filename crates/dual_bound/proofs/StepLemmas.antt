@@ -1,20 +1,31 @@
 -- Vectors of prices in lists, and the prices of subgradient steps.
-use Rattle.std.proofs.Common.{◌≡◌, ℕ, zero, suc, ◌+◌, ◌-◌, ◌*◌, ◌<◌, ◌≤◌, refl, ◌∙◌, ap, arith, add-one, List, pos, ◌<ℤ◌, inl, inr}
-use Rattle.std.specs.Prelude.{slice_index, ℤ, ◌≤ℤ◌}
+use Rattle.std.proofs.lemmas.Grind.{common_steps}
+use Rattle.std.proofs.Common.{false, [], ◌∷◌, ◌++◌, ◌≡◌, ℕ, zero, suc, ◌+◌, ◌-◌, ◌*◌, ◌<◌, ◌≤◌, refl, ◌∙◌, ap, arith, add-one, List, pos, ◌<ℤ◌, inl, inr}
+use Rattle.std.specs.Prelude.{slice_index, ℤ, ◌≤ℤ◌, if◌then◌else◌, ◌==◌}
 use Rattle.std.proofs.lemmas.Int.{ints}
 use Rattle.std.proofs.lemmas.Bool.{cases_lt}
 use Rattle.std.proofs.lemmas.List.Sums.{sum_by_push}
 use Rattle.choice_problem.specs.declared.vectors.Price.{Price}
 use Rattle.finite_sums.specs.Sums.{sum_below}
 use Rattle.choice_problem.specs.Problems.{ProblemView, resource_count, amount, limit_of}
-use Rattle.choice_problem.specs.Bounds.{priced, bound_of}
+use Rattle.choice_problem.specs.Bounds.{IsVector, priced, bound_of}
 use Rattle.choice_problem.specs.Roots.{vector_of, price_after, priced_load, step_length, step_vector, IsNodeVector}
-use Rattle.choice_problem.proofs.RootLemmas.{with_price, with_price-suc, vector_of-IsVector, step_lengths-le}
-use Rattle.dual_bound.specs.Loops.{worth, AreSums, IsPricedBy, vector_in, ArePrices, IsPoint, AreMoved, IsAfter, IsGreatestUpTo}
+use Rattle.price_table.specs.Strips.{worth, AreSums, IsPricedBy, ArePrices}
+use Rattle.dual_bound.specs.Loops.{vector_in, IsPoint, AreMoved, IsAfter, IsGreatestUpTo}
 use Rattle.std.proofs.Math.Nat.{mul-le-mul_left}
 use Rattle.choice_problem.specs.Problems.{unit_count}
 use Rattle.finite_sums.proofs.SumLemmas.{sum_below-more}
 use Rattle.dual_bound.specs.Loops.{least_alt_load}
+
+-- a vector with one resource more, which it names where its price is above 0
+abbrev with_price : List Price → ℕ → ℕ → List Price
+with_price prices r price = if price == 0 then prices else prices ++ record { resource = r; price = pos price } ∷ []
+
+not_zero : (v : ℕ) → (suc v == 0) ≡ false
+not_zero v = grind (arith, common_steps)
+
+with_price-suc : (prices : List Price) (r v : ℕ) → with_price prices r (suc v) ≡ prices ++ record { resource = r; price = pos (suc v) } ∷ []
+with_price-suc prices r v = ap (λ b. if b then prices else prices ++ record { resource = r; price = pos (suc v) } ∷ []) (not_zero v)
 
 priced-with_price : (prices : List Price) (r price : ℕ) (uses : ℕ → ℕ) → priced (with_price prices r price) uses ≡ priced prices uses + price * uses r
 priced-with_price prices r zero uses = omega arith
@@ -31,10 +42,10 @@ vector_of-same (suc n) f g h =
     ∙ ap (λ v. with_price v n (g n)) (vector_of-same n f g (λ r l. h r (omega arith)))
 
 -- the vector in a list of prices, with their sums
-pub vector_in-priced : (p : ProblemView) (numbers sums : List ℕ) → ArePrices p numbers → resource_count p ≤ 1000000 → AreSums numbers sums →
-    IsPricedBy p (vector_in p numbers) sums
-vector_in-priced p numbers sums h few s = record {
-  vector = vector_of-IsVector p (λ r. slice_index numbers r) h.small;
+pub vector_in-priced : (p : ProblemView) (numbers sums : List ℕ) → IsVector p (vector_in p numbers) → ArePrices p numbers → resource_count p ≤ 1000000 →
+    AreSums numbers sums → IsPricedBy p (vector_in p numbers) sums
+vector_in-priced p numbers sums valid h few s = record {
+  vector = valid;
   sums_are = record {
     spread = numbers;
     spread_is = record { count = h.count; small = h.small; same = λ uses. priced-vector_of (resource_count p) (λ r. slice_index numbers r) uses };
@@ -45,9 +56,10 @@ vector_in-priced p numbers sums h few s = record {
 
 -- a step from prices that are those after some steps, as far as they are below 2 ^ 40 whatever the cap
 pub moved_is : (p : ProblemView) (ranges : List (ℕ × ℕ)) (step : ℕ) (numbers loads moved : List ℕ) (bound : ℤ) → step < 64 →
+    sum_below (step + 1) step_length ≤ 261120 →
     IsPoint p ranges 1024 numbers loads bound → AreMoved p numbers loads (step_length step) moved →
     IsAfter p ranges step numbers → IsAfter p ranges (step + 1) moved
-moved_is p ranges step numbers loads moved bound l h m a = record {
+moved_is p ranges step numbers loads moved bound l short h m a = record {
   prices_are = λ r b. (each r b).0;
   top = λ r b. (each r b).1;
 }
@@ -67,7 +79,7 @@ moved_is p ranges step numbers loads moved bound l h m a = record {
         let rise : step_length step * slice_index loads r ≤ step_length step * (4096 * 434) = mul-le-mul_left (step_length step) few in
         let top : slice_index numbers r ≤ sum_below step step_length * (4096 * 434) = a.top r b in
         let more : sum_below (step + 1) step_length ≡ sum_below step step_length + step_length step = sum_below-more step step_length in
-        let most : sum_below (step + 1) step_length ≤ 261120 = step_lengths-le (step + 1) (omega arith) in
+        let most : sum_below (step + 1) step_length ≤ 261120 = short in
         let next : price_after p ranges (step + 1) r ≡ (after r + step_length step * priced_load p ranges after r) - step_length step * limit_of p r = rw add-one refl in
         let move = m.each r b in
         let load : step_length step * slice_index loads r ≡ step_length step * priced_load p ranges after r = ap (λ v. step_length step * v) (load_is r b) in

@@ -1,4 +1,2 @@
-pub mod Tables
 pub mod Stated
 pub mod Loops
-pub mod Known

@@ -1,36 +1,62 @@
 //! The floor of ranges: a cost below which they have no feasible choice.
 
-ghost use Rattle.std.specs.Prelude.{◌≡◌, ◌↔◌, ◌^◌, ◌<◌, ◌≤◌, IsTrue, false, Some, []};
+ghost use Rattle.std.specs.Prelude.{◌≡◌, ◌^◌, ◌<◌, ◌≤◌, length, All, Some, []};
 ghost use Rattle.finite_sums.specs.Sums.{least_within};
 ghost use Rattle.choice_problem.specs.Problems.{unit_count, alt_count};
 ghost use Rattle.choice_problem.specs.Bounds.{AreRanges, Closes, priced_cost};
-ghost use Rattle.dual_bound.specs.Tables.{IsTableFor};
-ghost use Rattle.dual_bound.specs.Stated.{stated_floor, zero_floor, rounded_up, priced_floor};
+ghost use Rattle.choice_problem.specs.Trees.{LeafHolds};
+ghost use Rattle.price_table.specs.Tables.{IsTableFor, vectors_of};
+ghost use Rattle.dual_bound.specs.Stated.{IsStatedFloor, IsFloorBy, scale_at, zero_floor, rounded_up, priced_floor};
 
-use crate::bounds::bound;
-use crate::tables::PriceTable;
 use choice_problem::{Problem, Ranges};
+use price_table::{PriceTable, bound};
 
-/// The floor of ranges, and whether the table's vector gives it: the greater of the sum of the least costs, which is the
-/// bound of the vector without prices at scale 1, and the bound of the table's vector at scale 1024, divided by 1024 and
-/// rounded up. On a tie the vector without prices gives it. The vector and scale that give it close the ranges for it. Two
-/// steps an alternative in range.
-pub fn floor_of(problem: &Problem, ranges: &Ranges, root: &PriceTable) -> (u64, bool)
-    requires ranges { AreRanges problem.now ranges.now }
-    requires table { IsTableFor problem.now root.now }
-    ensures floor { result.0 ≡ stated_floor problem.now ranges.now root.now.prices }
-    ensures which { IsTrue result.1 ↔ (zero_floor problem.now ranges.now < priced_floor problem.now ranges.now root.now.prices) }
-    ensures closes_zero { result.1 ≡ false → Closes problem.now ranges.now [] 1 (Some result.0) }
-    ensures closes_root { IsTrue result.1 → Closes problem.now ranges.now root.now.prices 1024 (Some result.0) }
-{
-    let zero = least_costs(problem, ranges);
-    let priced = rounded_up(bound(problem, ranges, root, 1024));
-    if zero < priced {
-        (priced, true)
-    } else {
-        (zero, false)
-    }
+/// A cost, and the number of the vector whose bound shows that no feasible choice costs less: 0 is the vector without
+/// prices, at scale 1, and others are meant at scale 1024.
+#[derive(Clone, Copy, Debug, PartialEq, Eq)]
+pub struct Floor {
+    pub cost: u64,
+    pub vector: u32,
 }
+
+/// The floor of ranges by the vector without prices and those of these tables, which have the numbers from 1 on: the
+/// greatest of the sum of the least costs, which is the bound of vector 0 at scale 1, and of each other bound at scale 1024,
+/// divided by 1024 and rounded up. It names the lowest vector that gives it; that vector closes the ranges for the cost. One
+/// step an alternative in range for each vector.
+pub fn floor_of(problem: &Problem, ranges: &Ranges, tables: &[PriceTable]) -> Floor
+    requires ranges { AreRanges problem.now ranges.now }
+    requires tables { All (IsTableFor problem.now) tables.now }
+    requires few { length tables.now ≤ 64 }
+    ensures floor { IsStatedFloor problem.now ranges.now (vectors_of tables.now) result.cost result.vector }
+    ensures closes { LeafHolds problem.now (vectors_of tables.now) (Some result.cost) ranges.now
+        result.vector (scale_at result.vector) }
+{
+    let mut floor = Floor {
+        cost: least_costs(problem, ranges),
+        vector: 0,
+    };
+    for place in 0..tables.len() {
+        let cost = priced_floor(problem, ranges, &tables[place]);
+        if floor.cost < cost {
+            let vector = place as u32 + 1;
+            floor = Floor { cost, vector };
+        }
+    }
+    floor
+}
+
+// The floor by a table's vector.
+fn priced_floor(problem: &Problem, ranges: &Ranges, table: &PriceTable) -> u64
+    requires ranges { AreRanges problem.now ranges.now }
+    requires table { IsTableFor problem.now table.now }
+    ensures value { result ≡ priced_floor problem.now ranges.now table.now.prices }
+    ensures closes { 0 < result → Closes problem.now ranges.now table.now.prices 1024 (Some result) }
+{
+    rounded_up(bound(problem, ranges, table, SCALE))
+}
+
+// The scale of all vectors with prices.
+const SCALE: u64 = 1024;
 
 // The least whole number that is at least a bound at scale 1024 divided by 1024, within 64 bits, or 0 below 0.
 fn rounded_up(bound: i128) -> u64
@@ -46,7 +72,8 @@ fn rounded_up(bound: i128) -> u64
 // The sum over units of the least cost in range.
 fn least_costs(problem: &Problem, ranges: &Ranges) -> u64
     requires { AreRanges problem.now ranges.now }
-    ensures { result ≡ zero_floor problem.now ranges.now }
+    ensures value { result ≡ zero_floor problem.now ranges.now }
+    ensures closes { Closes problem.now ranges.now [] 1 (Some result) }
 {
     let mut total = 0;
     for unit in 0..problem.units() {
@@ -56,7 +83,7 @@ fn least_costs(problem: &Problem, ranges: &Ranges) -> u64
 }
 
 // The least cost of a unit's alternatives from one to another.
-#[tactic(auto, using(crate::proofs::BoundLemmas::least_steps))]
+#[tactic(auto, using(crate::proofs::FloorLemmas::least_steps))]
 fn least_cost(problem: &Problem, unit: u32, low: u32, high: u32) -> u64
     requires unit { unit < unit_count problem.now }
     requires ordered { low ≤ high }

@@ -3,9 +3,9 @@
 
 ghost use Rattle.std.specs.Prelude.{◌≡◌, ◌<◌, ◌^◌, IfOk, length};
 ghost use Rattle.choice_problem.specs.Problems.{resource_count};
-ghost use Rattle.dual_bound.specs.Loops.{ArePrices};
+ghost use Rattle.price_table.specs.Strips.{ArePrices};
 
-use crate::points::{MOST, Point};
+use crate::points::{HIGHEST, Point};
 use choice_problem::Problem;
 use slot_text::Memory;
 use std::alloc::Global;
@@ -60,5 +60,5 @@ fn moved_price(price: u64, change: i64) -> u64
     } else {
         price.saturating_add(size)
     };
-    moved.min(MOST)
+    moved.min(HIGHEST)
 }

@@ -2,20 +2,19 @@
 
 ghost use Rattle.std.specs.Prelude.{◌≡◌, ℕ, ◌+◌, ◌*◌, ◌^◌, ◌<◌, ◌≤◌, IfOk, List, length, slice_index, pos, ◌-ℤ◌};
 ghost use Rattle.choice_problem.specs.declared.vectors.Price.{Price};
-ghost use Rattle.finite_sums.specs.Sums.{least_within};
 ghost use Rattle.choice_problem.specs.Counts.{GrowsBy, HasRoom};
 ghost use Rattle.choice_problem.specs.Problems.{ProblemView, unit_count, resource_count, alt_uses, limit_of};
-ghost use Rattle.choice_problem.specs.Bounds.{AreRanges, IsVector, low_of, high_of, priced, priced_cost, least_total};
-ghost use Rattle.dual_bound.specs.Loops.{ArePrices, IsPoint, AreMoved, IsPricedBy, IsAfter, IsGreatestUpTo, vector_in, least_alt, least_alt_load};
+ghost use Rattle.choice_problem.specs.Bounds.{AreRanges, IsVector, priced, least_total};
+ghost use Rattle.price_table.specs.Strips.{ArePrices, IsPricedBy, least_alt, unit_least};
+ghost use Rattle.dual_bound.specs.Loops.{IsPoint, AreMoved, IsAfter, IsGreatestUpTo, vector_in, least_alt_load};
 
-use crate::bounds::first_least;
-use crate::strips::StripPrices;
-use choice_problem::{Price, Problem, Ranges, Vector};
+use choice_problem::{HIGHEST_PRICE, Price, Problem, Ranges, Vector, price_vectors};
+use price_table::StripPrices;
 use slot_text::Memory;
 use std::alloc::Global;
 
-/// The greatest price that a vector may have.
-pub(crate) const MOST: u64 = (1 << 40) - 1;
+// The highest price, as a number.
+pub(crate) const HIGHEST: u64 = HIGHEST_PRICE as u64;
 
 // Prices of all resources, how often each unit's first least alternative at these prices uses a resource, all units
 // together, and the bound.
@@ -88,6 +87,7 @@ pub(crate) fn evaluate(
     ensures point { IfOk result (λ point. IsPoint problem.now ranges.now scale point.prices.items point.loads.items point.bound) }
     ensures same { IfOk result (λ point. point.prices.items ≡ prices.items) }
 {
+    price_vectors();
     let mut strips = StripPrices::new(alloc, problem, &prices)?;
     let mut loads = vec![in alloc; 0; problem.resources() as usize]?;
     let total = take_least(alloc, problem, ranges, &mut strips, scale, &mut loads)?;
@@ -170,22 +170,14 @@ fn take_unit(
     requires count { length loads.old ≡ resource_count problem.now }
     requires room { HasRoom loads.old (λ _. 434) }
     ensures cost { IfOk result (λ cost. (prices : List Price) → IsPricedBy problem.now prices strips.old →
-        cost ≡ least_within (low_of ranges.now unit) (high_of ranges.now unit) (λ a. priced_cost problem.now prices scale unit a)) }
+        cost ≡ unit_least problem.now ranges.now prices scale unit) }
     ensures loads { IfOk result (λ _. (prices : List Price) → IsPricedBy problem.now prices strips.old →
         GrowsBy loads.old loads.new (λ r. alt_uses problem.now unit (least_alt problem.now ranges.now prices scale unit) r)) }
     ensures few { IfOk result (λ _. (r : ℕ) → r < length loads.old → slice_index loads.new r ≤ slice_index loads.old r + 434) }
     ensures small { IfOk result (λ cost. cost < 2 ^ 101) }
     ensures same { strips.new ≡ strips.old }
 {
-    let prices = strips.unit(alloc, problem, unit)?;
-    let alts = problem.unit_alts(unit);
-    let least = first_least(
-        alts,
-        ranges.low(unit),
-        ranges.high(unit),
-        prices.items(),
-        scale,
-    );
+    let least = strips.first_least(alloc, problem, ranges, unit, scale)?;
     problem.add_uses(unit, least.alt, loads);
     Ok(least.cost)
 }
@@ -210,7 +202,7 @@ pub(crate) fn move_prices(
         let at = resource as usize;
         let raised = prices[at] + step * u64::from(loads[at]);
         let lowered = raised.saturating_sub(step * problem.limit(resource) as u64);
-        moved.push(lowered.min(MOST))?;
+        moved.push(lowered.min(HIGHEST))?;
     }
     Ok(moved)
 }
@@ -221,6 +213,7 @@ pub(crate) fn vector_in(alloc: Global, problem: &Problem, prices: &[u64]) -> Res
     ensures value { IfOk result (λ vector. vector ≡ vector_in problem.now prices.now) }
     ensures valid { IfOk result (λ vector. IsVector problem.now vector) }
 {
+    price_vectors();
     let mut entries = Vec::new(alloc);
     for resource in 0..problem.resources() {
         let price = prices[resource as usize];

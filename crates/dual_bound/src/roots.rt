@@ -5,7 +5,7 @@ ghost use Rattle.choice_problem.specs.Bounds.{AreRanges, IsVector};
 ghost use Rattle.choice_problem.specs.Roots.{IsNodeVector, IsRootVector, step_length};
 
 use crate::points::{better, evaluate, first_best, move_prices, start, vector_in};
-use choice_problem::{Problem, Ranges, Vector};
+use choice_problem::{Problem, Ranges, Vector, price_vectors};
 use slot_text::Memory;
 use std::alloc::Global;
 
@@ -27,6 +27,7 @@ pub fn node_vector(alloc: Global, problem: &Problem, ranges: &Ranges) -> Result<
     ensures node { IfOk result (λ vector. IsNodeVector problem.now ranges.now vector) }
     ensures prices { IfOk result (λ vector. IsVector problem.now vector) }
 {
+    price_vectors();
     let mut here = start(alloc, problem, ranges, 1024)?;
     let mut best = first_best(alloc, &here)?;
     for step in 0..64 {

@@ -3,7 +3,7 @@
 ghost use Rattle.std.specs.Prelude.{◌^◌, ◌<◌, IfOk};
 ghost use Rattle.choice_problem.specs.Problems.{unit_count};
 ghost use Rattle.choice_problem.specs.Bounds.{AreRanges};
-ghost use Rattle.dual_bound.specs.Tables.{IsTableFor};
+ghost use Rattle.price_table.specs.Tables.{IsTableFor};
 
 use super::*;
 use choice_problem::{Alt, Chooser, Part, Price, Problem, Ranges, Strip, Vector, leaf_closes};
@@ -167,19 +167,20 @@ fn table_of(alloc: Global, problem: &Problem, vector: &Vector) -> Result<PriceTa
     }
 }
 
-// The bound at a vector, and the floor.
+// The bound at a vector; the floor, and the number of the vector that gives it.
 fn judged(
     alloc: Global,
     problem: &Problem,
     ranges: &Ranges,
     vector: &Vector,
-) -> Result<(i128, (u64, bool)), Fail>
+) -> Result<(i128, (u64, u32)), Fail>
     requires { AreRanges problem.now ranges.now }
 {
-    let table = table_of(alloc, problem, vector)?;
+    let tables = [table_of(alloc, problem, vector)?];
+    let floor = floor_of(problem, ranges, &tables);
     Ok((
-        bound(problem, ranges, &table, 1024),
-        floor_of(problem, ranges, &table),
+        bound(problem, ranges, &tables[0], 1024),
+        (floor.cost, floor.vector),
     ))
 }
 
@@ -195,7 +196,7 @@ fn root_of_one_window(rt: HostRuntime) -> Result<(), Fail> {
         }
         let ranges = narrowed(alloc, &problem, &[])?;
         let answer = judged(alloc, &problem, &ranges, &root)?;
-        assert_eq!(rt; answer, (want, (floor, true)));
+        assert_eq!(rt; answer, (want, (floor, 1)));
     }
     Ok(())
 }
@@ -206,7 +207,7 @@ fn has_node(
     problem: &Problem,
     spans: &[(u32, u32)],
     prices: &[(u32, i64)],
-    want: (i128, (u64, bool)),
+    want: (i128, (u64, u32)),
 ) -> Result<bool, Fail> {
     let ranges = narrowed(alloc, problem, spans)?;
     let node = node_vector(alloc, problem, &ranges)?;
@@ -227,7 +228,7 @@ fn vectors_of_three_units(rt: HostRuntime) -> Result<(), Fail> {
         ((1, 1), &high, 40_960, 40),
     ];
     for (span, prices, bound, floor) in table {
-        let same = has_node(alloc, &problem, &[span], prices, (bound, (floor, true)))?;
+        let same = has_node(alloc, &problem, &[span], prices, (bound, (floor, 1)))?;
         assert!(rt; same, "{span:?}");
     }
     Ok(())
@@ -236,10 +237,10 @@ fn vectors_of_three_units(rt: HostRuntime) -> Result<(), Fail> {
 #[test]
 fn vectors_of_two_units(rt: HostRuntime) -> Result<(), Fail> {
     let alloc = rt.alloc();
-    let table: [(i64, &[(u32, i64)], (i128, (u64, bool))); 3] = [
-        (1, &[(0, 4096), (1, 4096)], (3072, (3, true))),
-        (0, &[(0, 49_152), (1, 32_768)], (16_384, (16, true))),
-        (5, &[], (0, (0, false))),
+    let table: [(i64, &[(u32, i64)], (i128, (u64, u32))); 3] = [
+        (1, &[(0, 4096), (1, 4096)], (3072, (3, 1))),
+        (0, &[(0, 49_152), (1, 32_768)], (16_384, (16, 1))),
+        (5, &[], (0, (0, 0))),
     ];
     for (limit, prices, want) in table {
         let problem = two(alloc, &[limit, limit])?;
@@ -253,11 +254,11 @@ fn vectors_of_four_units(rt: HostRuntime) -> Result<(), Fail> {
     let alloc = rt.alloc();
     let problem = four(alloc)?;
     let prices = [(0, 30_720), (1, 29_696), (2, 26_624)];
-    let want = (35_840, (35, true));
+    let want = (35_840, (35, 1));
     assert!(rt; has_node(alloc, &problem, &[], &prices, want)?);
     let spans = [(0, 1), (0, 2), (1, 3), (0, 3)];
     let prices = [(0, 30_976), (1, 29_952), (2, 26_880)];
-    let want = (35_584, (35, true));
+    let want = (35_584, (35, 1));
     assert!(rt; has_node(alloc, &problem, &spans, &prices, want)?);
     Ok(())
 }
@@ -269,15 +270,15 @@ fn floors_are_rounded_up(rt: HostRuntime) -> Result<(), Fail> {
     let alloc = rt.alloc();
     let problem = three(alloc)?;
     let table = [
-        (10_240, (0, 0), (30_720, (30, true))),
-        (10_240, (1, 1), (30_720, (30, true))),
-        (5120, (0, 1), (15_360, (15, true))),
-        (5000, (0, 1), (15_000, (15, true))),
-        (1, (1, 1), (20_481, (21, true))),
-        (1, (0, 1), (3, (1, true))),
-        (0, (1, 1), (20_480, (20, false))),
-        (20_480, (0, 1), (0, (0, false))),
-        (30_000, (0, 1), (-28_560, (0, false))),
+        (10_240, (0, 0), (30_720, (30, 1))),
+        (10_240, (1, 1), (30_720, (30, 1))),
+        (5120, (0, 1), (15_360, (15, 1))),
+        (5000, (0, 1), (15_000, (15, 1))),
+        (1, (1, 1), (20_481, (21, 1))),
+        (1, (0, 1), (3, (1, 1))),
+        (0, (1, 1), (20_480, (20, 0))),
+        (20_480, (0, 1), (0, (0, 0))),
+        (30_000, (0, 1), (-28_560, (0, 0))),
     ];
     for (price, span, want) in table {
         let prices = [(0, price), (1, price), (2, price)];
@@ -358,7 +359,7 @@ fn polished_vectors_reach_the_best_bound(rt: HostRuntime) -> Result<(), Fail> {
         let ranges = narrowed(alloc, problem, &[])?;
         let polished = polished_vector(alloc, problem, &ranges, 300)?;
         let (_, floor) = judged(alloc, problem, &ranges, &polished)?;
-        assert_eq!(rt; floor, (want, true));
+        assert_eq!(rt; floor, (want, 1));
         let none = polished_vector(alloc, problem, &ranges, 0)?;
         assert!(rt; none.items().is_empty());
     }
@@ -384,13 +385,13 @@ fn stuck(alloc: Global, out: &[(u64, Option<u32>, Option<u32>)]) -> Result<Probl
 fn infeasibility_is_found(rt: HostRuntime) -> Result<(), Fail> {
     let alloc = rt.alloc();
     let table = [
-        (stuck(alloc, &[(0, Some(0), Some(1))])?, true),
+        (stuck(alloc, &[(0, Some(0), Some(1))])?, 1),
         (
             stuck(alloc, &[(0, Some(0), Some(1)), (20, None, None)])?,
             true,
         ),
-        (three(alloc)?, false),
-        (two(alloc, &[0, 0])?, false),
+        (three(alloc)?, 0),
+        (two(alloc, &[0, 0])?, 0),
     ];
     for (problem, want) in &table {
         let ranges = narrowed(alloc, problem, &[])?;
@@ -405,7 +406,7 @@ fn infeasibility_is_found(rt: HostRuntime) -> Result<(), Fail> {
 fn nothing_has_the_bound_zero(rt: HostRuntime) -> Result<(), Fail> {
     let alloc = rt.alloc();
     let nothing = problem(alloc, Vec::new(alloc), &[])?;
-    assert!(rt; has_node(alloc, &nothing, &[], &[], (0, (0, false)))?);
+    assert!(rt; has_node(alloc, &nothing, &[], &[], (0, (0, 0)))?);
     let table = table_of(alloc, &nothing, &vector(alloc, &[])?)?;
     assert!(rt; table.vector().items().is_empty());
     Ok(())

@@ -1,12 +1,12 @@
 -- A date, from its spelling back to its month and day, and the days of a season by their dates.
-use Rattle.std.proofs.Common.{◌≡◌, ℕ, ◌<◌, ◌≤◌, ◌↔◌, List, length, take, drop, ap, refl, ◌∙◌, arith, pos}
+use Rattle.std.proofs.Common.{◌≡◌, ℕ, ℤ, ◌<◌, ◌≤◌, ◌↔◌, List, length, take, drop, ap, refl, ◌∙◌, arith, pos}
 use Rattle.schedule_text.specs.Times.{two_digits}
 use Rattle.std.proofs.lemmas.List.{take_at, drop_at}
-use Rattle.jiff_core.proofs.SignedLemmas.{signed_arith}
-use Rattle.jiff_core.proofs.CalendarLemmas.{days_in_month_bounds}
+use Rattle.std.proofs.lemmas.Int.{ints}
+use Rattle.jiff_core.specs.Calendar.{days_in_month}
 use Rattle.season_days.specs.Term.{Term}
 use Rattle.season_days.specs.Seasons.{date_count, date_at, first_year, year_of_month, NamesDate, IsDayNamed}
-use Rattle.scr_reader.specs.Parts.{month_text, date_text}
+use Rattle.scr_reader.specs.Parts.{month_text, date_text, IsDayOfMonth}
 use Rattle.scr_reader.specs.Printed.{day_text}
 use Rattle.historic_reader.proofs.CleanLemmas.{date_long}
 
@@ -20,10 +20,17 @@ NamedDays season = (month of_month day : ℕ) → IsDayNamed season month of_mon
 pub named : (season : Term) (day : ℕ) → NamedDays season → day < date_count season → IsDayNamed season (date_at season day).month (date_at season day).of_month day
 named season day law lt = (law _ _ day).1 (lt, refl, refl)
 
+-- no month has more than 31 days
+month_few : (year : ℤ) (month : ℕ) → days_in_month year month ≤ 31
+month_few year month = grind arith
+
+pub few_days : (month day : ℕ) → IsDayOfMonth month day → day < 100
+few_days month day is = omega (arith, is.day_to, month_few (pos 2000) month)
+
 pub in_range : (season : Term) (month day : ℕ) → NamesDate season month day → (1 ≤ month) × (month ≤ 12) × (day < 100)
 in_range season month day is =
-    let most = days_in_month_bounds (pos (year_of_month season.half (first_year season) month)) month in
-    (omega (arith, signed_arith, is.1.0), omega (arith, signed_arith, is.1.1), omega (arith, signed_arith, is.2.1, most.0))
+    let most = month_few (pos (year_of_month season.half (first_year season) month)) month in
+    (omega (arith, ints, is.1.0), omega (arith, ints, is.1.1), omega (arith, ints, is.2.1, most))
 
 pub day_long : (season : Term) (day : ℕ) → NamedDays season → day < date_count season → length (day_text season day) ≡ 5
 day_long season day law lt =

@@ -1,4 +1,5 @@
--- A message with one line, which asks for a historic arrival, as it is printed; and the first line of a text that is not in this form.
+-- A message with one line, which asks for a historic arrival, as it is printed; and the first line
+-- of a text that is not in this form.
 use Rattle.std.specs.Prelude.{◌≡◌, ℕ, List, [], ◌∷◌, None, IsSome}
 use Rattle.slot_text.specs.Forms.{IsFirstBadLine}
 use Rattle.slot_text.specs.declared.station.Station.{Station}
@@ -31,9 +32,11 @@ pub record IsHistoricMessage (season : Term) (airport : Station) (message : Mess
 
 -- the text is such a message, as it is printed
 abbrev pub IsHistoricText : Term → Station → List ℕ → Type 0
-IsHistoricText season airport text = (message : Message) × IsHistoricMessage season airport message × (text ≡ message_text message)
+IsHistoricText season airport text =
+    (message : Message) × IsHistoricMessage season airport message × (text ≡ message_text message)
 
 -- why the text is not read
 abbrev pub HasHistoricFault : Term → Station → List ℕ → HistoricFault → Type 0
-HasHistoricFault season airport text (OutOfForm line) = IsFirstBadLine (IsHistoricText season airport) text line
+HasHistoricFault season airport text (OutOfForm line) =
+    IsFirstBadLine (IsHistoricText season airport) text line
 HasHistoricFault season airport text Memory = Unit {0}

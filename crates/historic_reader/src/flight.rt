@@ -9,9 +9,14 @@ use scr_reader::Flight;
 
 /// The airline in front of a flight's number, and the rest.
 fn read_airline(text: &[u8]) -> Option<([u8; 3], &[u8])>
-    ensures found { IfSome result (λ x. AirlineFits x.0 × (text.now ≡ airline_text x.0 ++ x.1.now)) }
-    ensures three { (a b c : ℕ) (rest : List ℕ) → ((is_letter a && is_letter b) && is_letter c) ≡ true → text.now ≡ a ∷ b ∷ c ∷ rest → IsSomeAnd result (λ x. (x.0 ≡ a ∷ b ∷ c ∷ []) × (x.1.now ≡ rest)) }
-    ensures two { (a b c : ℕ) (rest : List ℕ) → AirlineFits (a ∷ b ∷ 0 ∷ []) → is_letter c ≡ false → text.now ≡ a ∷ b ∷ c ∷ rest → IsSomeAnd result (λ x. (x.0 ≡ a ∷ b ∷ 0 ∷ []) × (x.1.now ≡ c ∷ rest)) }
+    ensures found { IfSome result (λ x. AirlineFits x.0
+        × (text.now ≡ airline_text x.0 ++ x.1.now)) }
+    ensures three { (a b c : ℕ) (rest : List ℕ) →
+        ((is_letter a && is_letter b) && is_letter c) ≡ true → text.now ≡ a ∷ b ∷ c ∷ rest →
+        IsSomeAnd result (λ x. (x.0 ≡ a ∷ b ∷ c ∷ []) × (x.1.now ≡ rest)) }
+    ensures two { (a b c : ℕ) (rest : List ℕ) → AirlineFits (a ∷ b ∷ 0 ∷ []) →
+        is_letter c ≡ false → text.now ≡ a ∷ b ∷ c ∷ rest →
+        IsSomeAnd result (λ x. (x.0 ≡ a ∷ b ∷ 0 ∷ []) × (x.1.now ≡ c ∷ rest)) }
 {
     match text {
         [a, b, c, rest @ ..] if is_letter_byte(*c) => {
@@ -31,8 +36,10 @@ fn read_airline(text: &[u8]) -> Option<([u8; 3], &[u8])>
 
 /// A flight's number and its letter, or 0: three digits, or four of which the first is not 0.
 fn read_number(text: &[u8]) -> Option<(u16, u8)>
-    ensures found { IfSome result (λ x. (x.0 < 10000) × SuffixFits x.1 × (text.now ≡ number_text x.0 ++ suffix_text x.1)) }
-    ensures only { (n s : ℕ) → n < 10000 → SuffixFits s → text.now ≡ number_text n ++ suffix_text s → result ≡ Some (n, s) }
+    ensures found { IfSome result (λ x. (x.0 < 10000) × SuffixFits x.1
+        × (text.now ≡ number_text x.0 ++ suffix_text x.1)) }
+    ensures only { (n s : ℕ) → n < 10000 → SuffixFits s →
+        text.now ≡ number_text n ++ suffix_text s → result ≡ Some (n, s) }
 {
     let (digits, suffix) = split_suffix(text);
     let number = read_digits(digits)?;
@@ -66,7 +73,8 @@ fn read_digits(text: &[u8]) -> Option<u16>
 /// What stands before a last letter, and the letter, or 0 where there is none.
 fn split_suffix(text: &[u8]) -> (&[u8], u8)
     ensures parts { SuffixFits result.1 × (text.now ≡ result.0.now ++ suffix_text result.1) }
-    ensures none { result.1 ≡ 0 → (front : List ℕ) (b : ℕ) → text.now ≡ front ++ b ∷ [] → is_letter b ≡ false }
+    ensures none { result.1 ≡ 0 → (front : List ℕ) (b : ℕ) → text.now ≡ front ++ b ∷ [] →
+        is_letter b ≡ false }
 {
     match text {
         [front @ .., last] if is_letter_byte(*last) => (front, *last),
@@ -77,7 +85,8 @@ fn split_suffix(text: &[u8]) -> (&[u8], u8)
 /// The flight that a field spells, as it is printed.
 pub(crate) fn read_flight(text: &[u8]) -> Option<Flight>
     ensures found { IfSome result (λ flight. FlightFits flight × (text.now ≡ flight_text flight)) }
-    ensures only { (flight : FlightValue) → FlightFits flight → text.now ≡ flight_text flight → result ≡ Some flight }
+    ensures only { (flight : FlightValue) → FlightFits flight → text.now ≡ flight_text flight →
+        result ≡ Some flight }
 {
     let (airline, rest) = read_airline(text)?;
     let (number, suffix) = read_number(rest)?;

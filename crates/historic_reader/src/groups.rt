@@ -11,8 +11,10 @@ use slot_text::Station;
 
 /// Seats, and the type of aircraft.
 pub(crate) fn read_seats(text: &[u8]) -> Option<(u16, Craft)>
-    ensures found { IfSome result (λ x. (x.0 < 1000) × ThreeLettersOrDigits x.1.0 × (text.now ≡ three_digits x.0 ++ x.1.0)) }
-    ensures only { (n : ℕ) (craft : List ℕ) → n < 1000 → ThreeLettersOrDigits craft → text.now ≡ three_digits n ++ craft → IsSomeAnd result (λ x. (x.0 ≡ n) × (x.1.0 ≡ craft)) }
+    ensures found { IfSome result (λ x. (x.0 < 1000) × ThreeLettersOrDigits x.1.0
+        × (text.now ≡ three_digits x.0 ++ x.1.0)) }
+    ensures only { (n : ℕ) (craft : List ℕ) → n < 1000 → ThreeLettersOrDigits craft →
+        text.now ≡ three_digits n ++ craft → IsSomeAnd result (λ x. (x.0 ≡ n) × (x.1.0 ≡ craft)) }
 {
     if text.len() != 6 {
         return None;
@@ -39,8 +41,11 @@ fn read_craft(text: &[u8]) -> Option<Craft>
 
 /// Stations, then a time.
 pub(crate) fn read_arrival_group(text: &[u8]) -> Option<(Station, Option<Station>, u16)>
-    ensures found { IfSome result (λ x. StationsFit x.0 x.1 × (x.2 < 1440) × (text.now ≡ stations_text x.0 x.1 ++ time_text x.2)) }
-    ensures only { (near : StationValue) (far : Option StationValue) (minute : ℕ) → StationsFit near far → minute < 1440 → text.now ≡ stations_text near far ++ time_text minute → result ≡ Some (near, far, minute) }
+    ensures found { IfSome result (λ x. StationsFit x.0 x.1 × (x.2 < 1440)
+        × (text.now ≡ stations_text x.0 x.1 ++ time_text x.2)) }
+    ensures only { (near : StationValue) (far : Option StationValue) (minute : ℕ) →
+        StationsFit near far → minute < 1440 →
+        text.now ≡ stations_text near far ++ time_text minute → result ≡ Some (near, far, minute) }
 {
     if text.len() < 4 {
         return None;
@@ -54,7 +59,8 @@ pub(crate) fn read_arrival_group(text: &[u8]) -> Option<(Station, Option<Station
 /// One station, or two.
 fn read_stations(text: &[u8]) -> Option<(Station, Option<Station>)>
     ensures found { IfSome result (λ x. StationsFit x.0 x.1 × (text.now ≡ stations_text x.0 x.1)) }
-    ensures only { (near : StationValue) (far : Option StationValue) → StationsFit near far → text.now ≡ stations_text near far → result ≡ Some (near, far) }
+    ensures only { (near : StationValue) (far : Option StationValue) → StationsFit near far →
+        text.now ≡ stations_text near far → result ≡ Some (near, far) }
 {
     if text.len() == 3 {
         return Some((Station::read(text)?, None));
@@ -70,8 +76,10 @@ fn read_stations(text: &[u8]) -> Option<(Station, Option<Station>)>
 
 /// A letter for the service.
 pub(crate) fn read_service(text: &[u8]) -> Option<u8>
-    ensures found { IfSome result (λ service. (is_letter service ≡ true) × (text.now ≡ service ∷ [])) }
-    ensures only { (service : ℕ) → is_letter service ≡ true → text.now ≡ service ∷ [] → result ≡ Some service }
+    ensures found { IfSome result (λ service. (is_letter service ≡ true)
+        × (text.now ≡ service ∷ [])) }
+    ensures only { (service : ℕ) → is_letter service ≡ true → text.now ≡ service ∷ [] →
+        result ≡ Some service }
 {
     match text {
         [service] if is_letter_byte(*service) => Some(*service),

@@ -21,7 +21,8 @@ fn days_of(month: u8) -> u8
 /// A day, and a month that has it in some year.
 fn read_date(text: &[u8]) -> Option<(u8, u8)>
     ensures found { IfSome result (λ x. IsDayOfMonth x.1 x.0 × (text.now ≡ date_text x.1 x.0)) }
-    ensures only { (month day : ℕ) → IsDayOfMonth month day → text.now ≡ date_text month day → result ≡ Some (day, month) }
+    ensures only { (month day : ℕ) → IsDayOfMonth month day → text.now ≡ date_text month day →
+        result ≡ Some (day, month) }
 {
     if text.len() != 5 {
         return None;
@@ -40,7 +41,8 @@ fn read_date(text: &[u8]) -> Option<(u8, u8)>
 
 /// The date of a message on the next line, and what follows the line.
 pub(crate) fn read_date_line(text: &[u8]) -> Option<(u8, u8, &[u8])>
-    ensures found { IfSome result (λ x. IsDayOfMonth x.1 x.0 × (text.now ≡ date_text x.1 x.0 ++ (10 ∷ x.2.now))) }
+    ensures found { IfSome result (λ x. IsDayOfMonth x.1 x.0
+        × (text.now ≡ date_text x.1 x.0 ++ (10 ∷ x.2.now))) }
     ensures only { (month day : ℕ) (rest : List ℕ) → IsDayOfMonth month day → text.now ≡ date_text month day ++ (10 ∷ rest)
         → IsSomeAnd result (λ x. (x.0 ≡ day) × (x.1 ≡ month) × (x.2.now ≡ rest)) }
 {

@@ -27,8 +27,8 @@ use std::alloc::{AllocError, AllocFailed, Global};
 /// Why a text is no message with one historic arrival.
 #[derive(Clone, Copy, Debug, PartialEq, Eq)]
 pub enum HistoricFault {
-    /// The first line that is not in the form, counted from 1. A line without its LF is not in the form. Where a
-    /// line is missing this is the place after the last line.
+    /// The first line that is not in the form, counted from 1. A line without its LF is not in the
+    /// form. Where a line is missing this is the place after the last line.
     OutOfForm { line: u32 },
     Memory,
 }
@@ -52,8 +52,10 @@ impl<T: Drop> From<AllocFailed<T>> for HistoricFault {
 /// A line that asks for a historic arrival, in its printed spelling.
 fn read_arrival(season: &Season, text: &[u8]) -> Option<Line>
     requires { season.now.year < 100 }
-    ensures found { IfSome result (λ line. IsHistoricArrival season.now line × (text.now ≡ line_text season.now F line)) }
-    ensures only { (line : LineValue) → IsHistoricArrival season.now line → text.now ≡ line_text season.now F line → result ≡ Some line }
+    ensures found { IfSome result (λ line. IsHistoricArrival season.now line
+        × (text.now ≡ line_text season.now F line)) }
+    ensures only { (line : LineValue) → IsHistoricArrival season.now line →
+        text.now ≡ line_text season.now F line → result ≡ Some line }
 {
     let fields = cut_fields(text)?;
     let flight = read_flight(fields.flight)?;
@@ -81,7 +83,8 @@ fn read_arrival(season: &Season, text: &[u8]) -> Option<Line>
 /// The next line, and what follows it.
 fn read_arrival_line<'a>(season: &Season, text: &'a [u8]) -> Option<(Line, &'a [u8])>
     requires { season.now.year < 100 }
-    ensures found { IfSome result (λ x. IsHistoricArrival season.now x.0 × (text.now ≡ line_text season.now F x.0 ++ (10 ∷ x.1.now))) }
+    ensures found { IfSome result (λ x. IsHistoricArrival season.now x.0
+        × (text.now ≡ line_text season.now F x.0 ++ (10 ∷ x.1.now))) }
     ensures only { (line : LineValue) (rest : List ℕ) → IsHistoricArrival season.now line → text.now ≡ line_text season.now F line ++ (10 ∷ rest)
         → IsSomeAnd result (λ x. (x.0 ≡ line) × (x.1.now ≡ rest)) }
 {
@@ -124,12 +127,13 @@ fn read_lines(season: &Season, airport: Station, text: &[u8]) -> Result<(u8, u8,
     }
 }
 
-/// The message to an airport for a season that has one line, which asks for a historic arrival, everything in its
-/// printed spelling: `SCR`, the season, a date, the airport and the line, each with its LF and nothing after them.
-/// The bytes are read once and not copied; the list of the one item is what memory is taken for.
+/// The message to an airport for a season that has one line, which asks for a historic arrival,
+/// everything in its printed spelling: `SCR`, the season, a date, the airport and the line, each
+/// with its LF and nothing after them. The bytes are read once and not copied; the list of the one
+/// item is what memory is taken for.
 ///
-/// `OutOfForm`: no message in this form begins with the lines up to this one, and some message does with those before
-/// it. So a text of five good lines and more is bad at line 6.
+/// `OutOfForm`: no message in this form begins with the lines up to this one, and some message does
+/// with those before it. So a text of five good lines and more is bad at line 6.
 pub fn read_historic_message(
     alloc: Global,
     season: &Season,
@@ -137,9 +141,14 @@ pub fn read_historic_message(
     text: &[u8],
 ) -> Result<Message, HistoricFault>
     requires { IsStation airport.0 }
-    ensures answer { AnswersBy Memory (λ message. IsHistoricMessage season.now airport message × (text.now ≡ message_text message)) (HasHistoricFault season.now airport text.now) result }
-    ensures only { (message : MessageValue) → IsHistoricMessage season.now airport message → text.now ≡ message_text message → GivesOr Memory result (Ok message) }
-    ensures exact { (line : ℕ) → IsFirstBadLine (IsHistoricText season.now airport) text.now line → GivesOr Memory result (Err (OutOfForm line)) }
+    ensures answer { AnswersBy Memory
+        (λ message. IsHistoricMessage season.now airport message
+        × (text.now ≡ message_text message)) (HasHistoricFault season.now airport text.now) result }
+    ensures only { (message : MessageValue) → IsHistoricMessage season.now airport message →
+        text.now ≡ message_text message → GivesOr Memory result (Ok message) }
+    ensures exact { (line : ℕ) →
+        IsFirstBadLine (IsHistoricText season.now airport) text.now line →
+        GivesOr Memory result (Err (OutOfForm line)) }
 {
     match read_lines(season, airport, text) {
         Ok((day, month, line)) => {

@@ -14,8 +14,8 @@ ghost use Rattle.scr_reader.specs.declared.line.Item.TheVariants.{One};
 ghost use Rattle.scr_reader.specs.declared.line.Code.TheVariants.{F};
 ghost use Rattle.scr_reader.specs.declared.message.Message.{Message};
 
-/// An arrival that is printed with the code F behind a header is a message in the form, whose line is the same but for
-/// its code. So it is read again.
+/// An arrival that is printed with the code F behind a header is a message in the form, whose line
+/// is the same but for its code. So it is read again.
 pub fn printed_again()
     ensures { (season : Term) (airport : Station) (month day : ℕ) (line : Line) → IsDayOfMonth month day → LineFits season line → IsSome line.arrival → line.departure ≡ None →
         (message : Message) × IsHistoricMessage season airport message × (message.items ≡ record { line = 5; item = One (record line { code = F }) } ∷ [])
@@ -24,5 +24,7 @@ pub fn printed_again()
 
 /// A text has at most one first line that is not in the form.
 pub fn first_bad_line()
-    ensures { (season : Term) (airport : Station) (text : List ℕ) (a b : ℕ) → IsFirstBadLine (IsHistoricText season airport) text a → IsFirstBadLine (IsHistoricText season airport) text b → a ≡ b }
+    ensures { (season : Term) (airport : Station) (text : List ℕ) (a b : ℕ) →
+        IsFirstBadLine (IsHistoricText season airport) text a →
+        IsFirstBadLine (IsHistoricText season airport) text b → a ≡ b }
 {}

@@ -11,8 +11,10 @@ use season_days::{Day, Period, Season, laws};
 
 /// The month of a name.
 pub(crate) fn read_month(text: &[u8]) -> Option<u8>
-    ensures found { IfSome result (λ month. (1 ≤ month) × (month ≤ 12) × (text.now ≡ month_text month)) }
-    ensures only { (month : ℕ) → 1 ≤ month → month ≤ 12 → text.now ≡ month_text month → result ≡ Some month }
+    ensures found { IfSome result (λ month. (1 ≤ month) × (month ≤ 12)
+        × (text.now ≡ month_text month)) }
+    ensures only { (month : ℕ) → 1 ≤ month → month ≤ 12 → text.now ≡ month_text month →
+        result ≡ Some month }
 {
     Some(match text {
         b"JAN" => 1,
@@ -34,8 +36,10 @@ pub(crate) fn read_month(text: &[u8]) -> Option<u8>
 /// The day of the season that a date names.
 fn read_day(season: &Season, text: &[u8]) -> Option<Day>
     requires { season.now.year < 100 }
-    ensures found { IfSome result (λ day. (day.0 < date_count season.now) × (text.now ≡ day_text season.now day.0)) }
-    ensures only { (day : ℕ) → day < date_count season.now → text.now ≡ day_text season.now day → IsSomeAnd result (λ found. found.0 ≡ day) }
+    ensures found { IfSome result (λ day. (day.0 < date_count season.now)
+        × (text.now ≡ day_text season.now day.0)) }
+    ensures only { (day : ℕ) → day < date_count season.now → text.now ≡ day_text season.now day →
+        IsSomeAnd result (λ found. found.0 ≡ day) }
 {
     laws::named_days();
     if text.len() != 5 {
@@ -50,7 +54,9 @@ fn read_day(season: &Season, text: &[u8]) -> Option<Day>
 /// The first and the last day of a period, of which the last isn't before the first.
 fn read_dates(season: &Season, text: &[u8]) -> Option<(Day, Day)>
     requires { season.now.year < 100 }
-    ensures found { IfSome result (λ x. (x.0.0 < date_count season.now) × (x.1.0 < date_count season.now) × (x.0.0 ≤ x.1.0) × (text.now ≡ day_text season.now x.0.0 ++ day_text season.now x.1.0)) }
+    ensures found { IfSome result (λ x. (x.0.0 < date_count season.now)
+        × (x.1.0 < date_count season.now) × (x.0.0 ≤ x.1.0)
+        × (text.now ≡ day_text season.now x.0.0 ++ day_text season.now x.1.0)) }
     ensures only { (first last : ℕ) → first < date_count season.now → last < date_count season.now → first ≤ last → text.now ≡ day_text season.now first ++ day_text season.now last
         → IsSomeAnd result (λ x. (x.0.0 ≡ first) × (x.1.0 ≡ last)) }
 {
@@ -67,33 +73,17 @@ fn read_dates(season: &Season, text: &[u8]) -> Option<(Day, Day)>
     Some((first, last))
 }
 
-/// Whether a period has a date.
-fn has_date(season: &Season, period: Period) -> bool
-    requires first { period.first.0 < date_count season.now }
-    requires last { period.last.0 < date_count season.now }
-    ensures { IsTrue result ↔ (dates_of season.now period ≢ []) }
-{
-    laws::lengths();
-    laws::period_dates();
-    let end = period.last.0 + 1;
-    for day in period.first.0..end {
-        if season.is_on(period.days, Day(day)) {
-            return true;
-        }
-    }
-    false
-}
-
 /// The period that two fields spell, if it has a date on its weekdays.
 pub(crate) fn read_period(season: &Season, dates: &[u8], days: &[u8]) -> Option<Period>
     requires { season.now.year < 100 }
     ensures found { IfSome result (λ period. PrintsPeriod season.now period dates.now days.now) }
-    ensures only { (period : PeriodValue) → PrintsPeriod season.now period dates.now days.now → result ≡ Some period }
+    ensures only { (period : PeriodValue) → PrintsPeriod season.now period dates.now days.now →
+        result ≡ Some period }
 {
     let (first, last) = read_dates(season, dates)?;
     let days = read_places(days)?;
     let period = Period { first, last, days };
-    if has_date(season, period) {
+    if season.has_dates(period) {
         Some(period)
     } else {
         None

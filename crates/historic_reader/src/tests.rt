@@ -77,7 +77,7 @@ fn a_message_is_read_and_printed(rt: HostRuntime) -> Result<(), Fail> {
         }
     );
     let mut out = Vec::new(rt.alloc());
-    print_header(rt.alloc(), &mut out, &message)?;
+    print_header(rt.alloc(), &mut out, &message.header())?;
     assert_eq!(rt; out.as_slice(), b"SCR\nS25\n20NOV\nABC\n".as_slice());
     Ok(())
 }

@@ -8,7 +8,7 @@ use mathlib.Core.Logic.{dite}
 use mathlib.Core.Option.{some, some-injective}
 use native.Mathlib.Decide.{dec_le, ℕ_discrete}
 use lib.ListN.{get_elem?}
-use Rattle.atomic_table.proofs.Lists as lists
+use Rattle.incumbent_word.proofs.Places as places
 use Rattle.incumbent_word.specs.declared.view.Terms.{Terms}
 use Rattle.incumbent_word.specs.declared.view.Worker.{Worker}
 use Rattle.incumbent_word.specs.declared.view.View.{View}
@@ -52,10 +52,10 @@ known_more n known log e other k = (k.0 ++ e ∷ [], sym (append_assoc known k.0
 
 -- a fact of each seat, after one changed or one came
 all_put : (Q : SeatState → Type 0) (vs : List SeatState) (i : ℕ) (w : SeatState) → ((j : ℕ) (u : SeatState) → get_elem? vs j ≡ some u → j ≢ i → Q u) → Q w → (j : ℕ) (u : SeatState) → get_elem? (set vs i w) j ≡ some u → Q u
-all_put Q vs i w all now j u e = ⊎_elim (λ (t : (j ≡ i) × (w ≡ u)). subst Q t.1 now) (λ (t : (j ≢ i) × (get_elem? vs j ≡ some u)). all j u t.1 t.0) (lists.at_set vs i j w u e)
+all_put Q vs i w all now j u e = ⊎_elim (λ (t : (j ≡ i) × (w ≡ u)). subst Q t.1 now) (λ (t : (j ≢ i) × (get_elem? vs j ≡ some u)). all j u t.1 t.0) (places.at_set vs i j w u e)
 
 all_snoc : (Q : SeatState → Type 0) (vs : List SeatState) (w : SeatState) → ((j : ℕ) (u : SeatState) → get_elem? vs j ≡ some u → Q u) → Q w → (j : ℕ) (u : SeatState) → get_elem? (vs ++ w ∷ []) j ≡ some u → Q u
-all_snoc Q vs w all now j u e = ⊎_elim (all j u) (λ (t : w ≡ u). subst Q t now) (lists.at_snoc vs w u j e)
+all_snoc Q vs w all now j u e = ⊎_elim (all j u) (λ (t : w ≡ u). subst Q t now) (places.at_snoc vs w u j e)
 
 -- who is there, where a worker changed, came or is gone
 presence_set : (ws : List (Option Worker)) (i : ℕ) (w v : Worker) (n : ℕ) → worker_at ws i ≡ Some w → presence (worker_at (set ws i (Some v)) n) ≡ presence (worker_at ws n)
@@ -279,7 +279,7 @@ module _ (t : Terms) (log : List Event) (s : Core) (vs : List SeatState) (h : St
   seats_guest g is two = let l : SeatState = host_state v in let r : SeatState = guest_state_of v.view (Some g) in let one : List SeatState = set vs id l in let its = mine.guest g is in
       let same : guest_state v ≡ r = ap (guest_state_of v.view) is in
       let left_share : 1 ≤ l.view.share = omega arith in let right_share : 1 ≤ r.view.share = omega arith in
-      let last : get_elem? (one ++ r ∷ []) (length one) ≡ some r = lists.at_last one r (length one) refl in
+      let last : get_elem? (one ++ r ∷ []) (length one) ≡ some r = places.at_last one r in
       subst (λ (z : SeatState). Stands t log s (one ++ z ∷ [])) (sym same) (record {
         few_pieces = h.few_pieces;
         few_numbers = h.few_numbers;
@@ -293,10 +293,10 @@ module _ (t : Terms) (log : List Event) (s : Core) (vs : List SeatState) (h : St
         whole = let w = h.whole in dite (ℕ_discrete w.0 id)
             (λ here. let mine_too : v ≡ w.1 = some-injective v w.1 (sym at ∙ subst (λ (i : ℕ). get_elem? vs i ≡ some w.1) here w.2) in let knows : KnowsAll log v = subst (KnowsAll log) (sym mine_too) w.4 in
             ⊎_elim
-            (λ (k : v.view.log ≡ log). (id, l, lists.at_longer one (r ∷ []) id l (put_here vs id v l at), left_share, inl k))
+            (λ (k : v.view.log ≡ log). (id, l, places.at_longer one (r ∷ []) id l (put_here vs id v l at), left_share, inl k))
             (λ (k : (y : Guest) × (v.guest ≡ Some y) × (y.log ≡ log)). (length one, r, last, right_share, inl (ap (λ (y : Guest). y.log) (some_same g k.0 (sym is ∙ k.1)) ∙ k.2)))
             knows)
-            (λ other. (w.0, w.1, lists.at_longer one (r ∷ []) w.0 w.1 (lists.set_else vs id w.0 l other ∙ w.2), w.3, w.4));
+            (λ other. (w.0, w.1, places.at_longer one (r ∷ []) w.0 w.1 (places.set_else vs id w.0 l other ∙ w.2), w.3, w.4));
         shares = let p = total_put (λ (u : SeatState). u.view.share) vs id v l at in let q = sum_by_push (λ (u : SeatState). u.view.share) one r in let was = h.shares in omega arith;
         claims = let p = total_put claiming vs id v l at in let q = sum_by_push claiming one r in let was = h.claims in let halves = halved v.view.no_piece_left v.view.share in omega arith;
         takes = let p = total_put taking vs id v l at in let q = sum_by_push taking one r in let was = h.takes in let halves = halved v.view.no_number_left v.view.share in omega arith;
@@ -310,12 +310,12 @@ module _ (t : Terms) (log : List Event) (s : Core) (vs : List SeatState) (h : St
   pub hosts_worker : v.guest ≡ None → (other : ℕ) (u : SeatState) → ¬ (other ≡ id) → get_elem? (set vs id (hosting_state v u)) other ≡ some u → 1 ≤ u.view.share → u.guest ≡ None
       → Stands t log s (set (set vs id (hosting_state v u)) other spent_state)
   hosts_worker alone other u elsewhere beside part alone' = let z : SeatState = hosting_state v u in let one : List SeatState = set vs id z in
-      let was_there : get_elem? vs other ≡ some u = sym (lists.set_else vs id other z elsewhere) ∙ beside in
+      let was_there : get_elem? vs other ≡ some u = sym (places.set_else vs id other z elsewhere) ∙ beside in
       let theirs = h.holds other u was_there part in
       let g : Guest = record { number = u.view.number; worker = u.view.worker; log = u.view.log } in
       let z_share : 1 ≤ z.view.share = omega arith in
       let elsewhere' : ¬ (id ≡ other) = λ e. elsewhere (sym e) in
-      let z_there : get_elem? (set one other spent_state) id ≡ some z = lists.set_else one other id spent_state elsewhere' ∙ put_here vs id v z at in
+      let z_there : get_elem? (set one other spent_state) id ≡ some z = places.set_else one other id spent_state elsewhere' ∙ put_here vs id v z at in
       let kept : ViewHolds t log s z = record {
         terms = mine.terms;
         there = mine.there;
@@ -345,7 +345,7 @@ module _ (t : Terms) (log : List Event) (s : Core) (vs : List SeatState) (h : St
             (λ (k : u.view.log ≡ log). (id, z, z_there, z_share, inr (g, refl, k)))
             (λ (k : (y : Guest) × (u.guest ≡ Some y) × (y.log ≡ log)). absurd (not_none k.0 (sym alone' ∙ k.1)))
             knows)
-            (λ not_there. (w.0, w.1, lists.set_else one other w.0 spent_state not_there ∙ (lists.set_else vs id w.0 z not_here ∙ w.2), w.3, w.4)));
+            (λ not_there. (w.0, w.1, places.set_else one other w.0 spent_state not_there ∙ (places.set_else vs id w.0 z not_here ∙ w.2), w.3, w.4)));
         shares = let p = total_put (λ (y : SeatState). y.view.share) vs id v z at in let q = total_put (λ (y : SeatState). y.view.share) one other u spent_state beside in let was = h.shares in omega arith;
         claims = let p = total_put claiming vs id v z at in let q = total_put claiming one other u spent_state beside in let was = h.claims in let both = united v.view.no_piece_left u.view.no_piece_left v.view.share u.view.share in omega arith;
         takes = let p = total_put taking vs id v z at in let q = total_put taking one other u spent_state beside in let was = h.takes in let both = united v.view.no_number_left u.view.no_number_left v.view.share u.view.share in omega arith;

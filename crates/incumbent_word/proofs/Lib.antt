@@ -1,5 +1,7 @@
 mod Costs
 mod Workers
+mod Places
+mod Once
 mod Sound
 mod Keeps
 mod Allowed

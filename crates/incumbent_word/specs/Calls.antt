@@ -1,20 +1,25 @@
 -- What each step on the board tells the seat that makes it.
-use Rattle.std.specs.Prelude.{◌≡◌, ◌≢◌, ℕ, ◌+◌, ◌-◌, ◌/◌, ◌^◌, ◌<◌, ◌≤◌, ◌==◌, ◌||◌, true, false, List, [], ◌∷◌, ◌++◌, Option, Some, None}
+use Rattle.std.specs.Prelude.{◌≡◌, ◌≢◌, ℕ, ◌+◌, ◌-◌, ◌/◌, ◌^◌, ◌<◌, ◌≤◌, ◌==◌, ◌||◌, true, false}
+use Rattle.std.specs.Prelude.{List, [], ◌∷◌, ◌++◌, Option, Some, None}
 use Rattle.std.specs.List.{All, count_by}
 use Rattle.atomic_table.specs.Table.{Me, Step}
 use Rattle.incumbent_word.specs.declared.view.Terms.{Terms}
 use Rattle.incumbent_word.specs.declared.view.Worker.{Worker}
 use Rattle.incumbent_word.specs.declared.view.View.{View}
 use Rattle.incumbent_word.specs.declared.view.Event.{Event}
-use Rattle.incumbent_word.specs.declared.view.Event.TheVariants.{Claim, Take, Post, Read, Split, Join}
+use Rattle.incumbent_word.specs.declared.view.Event.TheVariants.{Claim, Take, Post, Read, Split}
+use Rattle.incumbent_word.specs.declared.view.Event.TheVariants.{Join}
 use Rattle.incumbent_word.specs.declared.view.Guest.{Guest}
 use Rattle.incumbent_word.specs.declared.view.SeatState.{SeatState}
-use Rattle.incumbent_word.specs.Core.{Core, opening, maker, newcomer, joined, after_post, Has, Steps, Runs, AtMost, piece_holders, number_holders}
+use Rattle.incumbent_word.specs.Core.{Core, opening, maker, newcomer, joined, after_post, Has}
+use Rattle.incumbent_word.specs.Core.{Steps, Runs, AtMost, piece_holders, number_holders}
 use Rattle.incumbent_word.specs.Rule.{cost_in_word}
 
--- The board's list of events, as far as it goes after the call: what the seat knew, then events of other
--- workers alone, then the one event of this call, which leads from a state where `at` holds to `after`
-pub record Made (t : Terms) (v : View) (event : Event) (at : Core → Type 0) (after : Core) (log : List Event) : Type 0 where
+-- The board's list of events, as far as it goes after the call: what the seat knew, then events of
+-- other workers alone, then the one event of this call, which leads from a state where `at` holds
+-- to `after`
+pub record Made (t : Terms) (v : View) (event : Event) (at : Core → Type 0) (after : Core)
+    (log : List Event) : Type 0 where
   pub between : List Event
   pub others : All (λ e. maker e ≢ v.number) between
   pub log_is : log ≡ (v.log ++ between) ++ event ∷ []
@@ -26,13 +31,16 @@ pub record Made (t : Terms) (v : View) (event : Event) (at : Core → Type 0) (a
 
 -- the call made the event, which left its worker as w shows it
 abbrev pub MadeBy : View → (ℕ → Event) → (Core → Type 0) → View → Type 0
-MadeBy v event at w = (after : Core) × Has after v.number w.worker × Made v.terms v (event v.number) at after w.log
+MadeBy v event at w = (after : Core) × Has after v.number w.worker
+    × Made v.terms v (event v.number) at after w.log
 
 abbrev pub with_piece : View → ℕ → List Event → View
-with_piece v n log = record v { worker = record v.worker { pieces = v.worker.pieces ++ n ∷ [] }; log = log }
+with_piece v n log =
+    record v { worker = record v.worker { pieces = v.worker.pieces ++ n ∷ [] }; log = log }
 
 abbrev pub with_number : View → ℕ → List Event → View
-with_number v n log = record v { worker = record v.worker { numbers = v.worker.numbers ++ n ∷ [] }; log = log }
+with_number v n log =
+    record v { worker = record v.worker { numbers = v.worker.numbers ++ n ∷ [] }; log = log }
 
 -- the seat's claim found the count n; no worker had the piece n
 pub record Claimed (v : View) (n : ℕ) (w : View) : Type 0 where
@@ -68,9 +76,11 @@ left_half v log = record v { share = v.share - v.share / 2; log = log }
 
 -- the new seat, of the worker of this number
 abbrev pub right_half : View → ℕ → List Event → View
-right_half v number log = record v { number = number; worker = newcomer v.worker.seen; share = v.share / 2; log = log }
+right_half v number log =
+    record v { number = number; worker = newcomer v.worker.seen; share = v.share / 2; log = log }
 
--- the worker of this number is new: it was split off from that of v, and has only seen what that one has
+-- the worker of this number is new: it was split off from that of v, and has only seen what that
+-- one has
 pub record Parted (v : View) (number : ℕ) (log : List Event) : Type 0 where
   pub after : Core
   pub left : Has after v.number v.worker
@@ -87,13 +97,15 @@ both_views v u log = record v {
   log = log;
 }
 
--- the worker of this number, which knew these events, was joined into that of v and is there no more
+-- the worker of this number, which knew these events, was joined into that of v and is there no
+-- more
 pub record United (v : View) (number : ℕ) (worker : Worker) (known log : List Event) : Type 0 where
   pub after : Core
   pub is : Has after v.number (joined v.worker worker)
   pub gone : (w : Worker) → Has after number w → ⊥
   pub event : Made v.terms v (Join v.number number) (λ s. Has s number worker) after log
-  pub both_known : (rest : List Event) × (log ≡ (known ++ rest) ++ Join v.number number ∷ []) × All (λ e. maker e ≢ number) rest
+  pub both_known : (rest : List Event) × (log ≡ (known ++ rest) ++ Join v.number number ∷ [])
+      × All (λ e. maker e ≢ number) rest
 
 module _ {S : Type 0} where
   -- the seat keeps the slots and the guest that it has
@@ -115,21 +127,41 @@ module _ {S : Type 0} where
   -- a new worker is there, and is this seat's guest
   abbrev pub split_play : Step S → Me S SeatState → ℕ → Me S SeatState → Type 0
   split_play st m n m' = (m'.1 ≡ m.1) × ((number : ℕ) × (log : List Event)
-      × (m'.0 ≡ record { view = record m.0.view { log = log }; guest = Some (record { number = number; worker = newcomer m.0.view.worker.seen; log = log }) })
+      × (m'.0 ≡ record {
+        view = record m.0.view { log = log };
+        guest = Some (record {
+          number = number;
+          worker = newcomer m.0.view.worker.seen;
+          log = log;
+        });
+      })
       × Parted m.0.view number log)
 
   -- the guest is joined into the seat's worker
   abbrev pub join_play : Step S → Me S SeatState → ℕ → Me S SeatState → Type 0
   join_play st m n m' = (m'.1 ≡ m.1) × (m'.0.guest ≡ None) × ((g : Guest) → m.0.guest ≡ Some g
-      → (m'.0.view ≡ record m.0.view { worker = joined m.0.view.worker g.worker; log = m'.0.view.log }) × United m.0.view g.number g.worker g.log m'.0.view.log)
+      → (m'.0.view ≡ record m.0.view {
+        worker = joined m.0.view.worker g.worker;
+        log = m'.0.view.log;
+      }) × United m.0.view g.number g.worker g.log m'.0.view.log)
 
 -- the seat without its guest, and with one half of its share
 abbrev pub host_state : SeatState → SeatState
-host_state v = record { view = record v.view { share = v.view.share - v.view.share / 2 }; guest = None }
+host_state v =
+    record { view = record v.view { share = v.view.share - v.view.share / 2 }; guest = None }
 
 abbrev pub guest_state_of : View → Option Guest → SeatState
 guest_state_of v None = record { view = record v { share = v.share / 2 }; guest = None }
-guest_state_of v (Some g) = record { view = record v { number = g.number; worker = g.worker; log = g.log; share = v.share / 2 }; guest = None }
+guest_state_of v (Some g) =
+    record {
+      view = record v {
+        number = g.number;
+        worker = g.worker;
+        log = g.log;
+        share = v.share / 2;
+      };
+      guest = None;
+    }
 
 -- the guest at a seat of its own, with the other half
 abbrev pub guest_state : SeatState → SeatState
@@ -147,10 +179,21 @@ hosting_state v u = record {
 }
 
 abbrev pub first_view : Terms → View
-first_view t = record { terms = t; number = 0; worker = newcomer t.start; log = []; share = 2 ^ 32; no_piece_left = false; no_number_left = false }
+first_view t = record {
+  terms = t;
+  number = 0;
+  worker = newcomer t.start;
+  log = [];
+  share = 2 ^ 32;
+  no_piece_left = false;
+  no_number_left = false;
+}
 
 abbrev pub first_state : Terms → SeatState
 first_state t = record { view = first_view t; guest = None }
 
 abbrev pub spent_state : SeatState
-spent_state = record { view = record (first_view (record { pieces = 0; budget = 0; start = None })) { share = 0 }; guest = None }
+spent_state = record {
+  view = record (first_view (record { pieces = 0; budget = 0; start = None })) { share = 0 };
+  guest = None;
+}

@@ -1,10 +1,12 @@
 -- A search by several workers, with no threads: its state, its events, and what each event does.
-use Rattle.std.specs.Prelude.{◌≡◌, ◌≢◌, ℕ, ◌+◌, ◌<◌, ◌≤◌, ◌==◌, zero, suc, min, List, [], ◌∷◌, ◌++◌, slice_set, Option, Some, None}
+use Rattle.std.specs.Prelude.{◌≡◌, ◌≢◌, ℕ, ◌+◌, ◌<◌, ◌≤◌, ◌==◌, zero, suc, min, List, [], ◌∷◌, ◌++◌}
+use Rattle.std.specs.Prelude.{slice_set, Option, Some, None}
 use Rattle.std.specs.List.{sum_by, count_by}
 use Rattle.incumbent_word.specs.declared.view.Terms.{Terms}
 use Rattle.incumbent_word.specs.declared.view.Worker.{Worker}
 use Rattle.incumbent_word.specs.declared.view.Event.{Event}
-use Rattle.incumbent_word.specs.declared.view.Event.TheVariants.{Claim, Take, Post, Read, Split, Join}
+use Rattle.incumbent_word.specs.declared.view.Event.TheVariants.{Claim, Take, Post, Read, Split}
+use Rattle.incumbent_word.specs.declared.view.Event.TheVariants.{Join}
 
 -- the smaller of two costs, where no cost counts as greater than every cost
 abbrev pub lesser : Option ℕ → Option ℕ → Option ℕ
@@ -39,7 +41,12 @@ abbrev pub newcomer : Option ℕ → Worker
 newcomer seen = record { pieces = []; numbers = []; best = None; seen = seen }
 
 abbrev pub opening : Terms → Core
-opening t = record { claimed = 0; taken = 0; least = t.start; workers = Some (newcomer t.start) ∷ [] }
+opening t = record {
+  claimed = 0;
+  taken = 0;
+  least = t.start;
+  workers = Some (newcomer t.start) ∷ [];
+}
 
 abbrev pub worker_at : List (Option Worker) → ℕ → Option Worker
 worker_at [] i = None
@@ -52,11 +59,13 @@ Has s i w = worker_at s.workers i ≡ Some w
 
 -- w becomes v where the count of claimed pieces was n
 abbrev pub Claims : Terms → ℕ → Worker → Worker → Type 0
-Claims t n w v = (n < t.pieces → v ≡ record w { pieces = w.pieces ++ n ∷ [] }) × (t.pieces ≤ n → v ≡ w)
+Claims t n w v = (n < t.pieces → v ≡ record w { pieces = w.pieces ++ n ∷ [] })
+    × (t.pieces ≤ n → v ≡ w)
 
 -- w becomes v where the count of taken numbers was n
 abbrev pub Takes : Terms → ℕ → Worker → Worker → Type 0
-Takes t n w v = (n < t.budget → v ≡ record w { numbers = w.numbers ++ n ∷ [] }) × (t.budget ≤ n → v ≡ w)
+Takes t n w v = (n < t.budget → v ≡ record w { numbers = w.numbers ++ n ∷ [] })
+    × (t.budget ≤ n → v ≡ w)
 
 -- w after it posted the cost c, where the least cost was `least`
 abbrev pub after_post : Option ℕ → ℕ → Worker → Worker
@@ -81,9 +90,12 @@ Steps t s (Claim i) r = (w v : Worker) × Has s i w × Claims t s.claimed w v
 Steps t s (Take i) r = (w v : Worker) × Has s i w × Takes t s.taken w v
     × (r ≡ with_worker (record s { taken = s.taken + 1 }) i (Some v))
 Steps t s (Post i c) r = (w : Worker) × Has s i w
-    × (r ≡ with_worker (record s { least = lesser s.least (Some c) }) i (Some (after_post s.least c w)))
-Steps t s (Read i) r = (w : Worker) × Has s i w × (r ≡ with_worker s i (Some (record w { seen = s.least })))
-Steps t s (Split i) r = (w : Worker) × Has s i w × (r ≡ record s { workers = s.workers ++ Some (newcomer w.seen) ∷ [] })
+    × (r ≡ with_worker (record s { least = lesser s.least (Some c) }) i
+    (Some (after_post s.least c w)))
+Steps t s (Read i) r = (w : Worker) × Has s i w
+    × (r ≡ with_worker s i (Some (record w { seen = s.least })))
+Steps t s (Split i) r = (w : Worker) × Has s i w
+    × (r ≡ record s { workers = s.workers ++ Some (newcomer w.seen) ∷ [] })
 Steps t s (Join i j) r = (w v : Worker) × Has s i w × Has s j v × (j ≢ i)
     × (r ≡ with_worker (with_worker s i (Some (joined w v))) j None)
 
@@ -117,7 +129,8 @@ number_holders s x = sum_by (of_worker (λ w. count_by (λ y. y == x) w.numbers)
 abbrev pub EachOnce : (ℕ → ℕ) → ℕ → Type 0
 EachOnce had n = (x : ℕ) → (x < n → had x ≡ 1) × (n ≤ x → had x ≡ 0)
 
--- what holds after the events xs, which lead to the state `middle`, and then ys, which lead to `last`
+-- what holds after the events xs, which lead to the state `middle`, and then ys, which lead to
+-- `last`
 pub record IsLawful (t : Terms) (xs ys : List Event) (middle last : Core) : Type 0 where
   pub smallest : last.least ≡ lesser t.start (least_posted (xs ++ ys))
   pub never_rises : AtMost last.least middle.least

@@ -1,6 +1,7 @@
--- The rule of a board's table.
--- The words are the count of claimed pieces, the count of taken numbers, and the least cost, where 2^64 - 1 stands for none.
-use Rattle.std.specs.Prelude.{◌≡◌, ◌≢◌, ◌⊎◌, ℕ, ◌+◌, ◌^◌, ◌<◌, ◌≤◌, ◌==◌, if◌then◌else◌, max, true, List, [], ◌∷◌, ◌++◌, Option, Some, None}
+-- The rule of a board's table. The words are the count of claimed pieces, the count of taken
+-- numbers, and the least cost, where 2^64 - 1 stands for none.
+use Rattle.std.specs.Prelude.{◌≡◌, ◌≢◌, ◌⊎◌, ℕ, ◌+◌, ◌^◌, ◌<◌, ◌≤◌, ◌==◌, if◌then◌else◌, max, true}
+use Rattle.std.specs.Prelude.{List, [], ◌∷◌, ◌++◌, Option, Some, None}
 use Rattle.std.specs.List.{All, sum_by}
 use mathlib.Core.Option.{some}
 use lib.ListN.{get_elem?}
@@ -19,7 +20,8 @@ cost_in_word n = if n == NO_COST then None else Some n
 
 -- the events begin with those known, and the rest is by other workers than the one of this number
 abbrev pub IsKnown : ℕ → List Event → List Event → Type 0
-IsKnown number known events = (rest : List Event) × (known ++ rest ≡ events) × All (λ e. maker e ≢ number) rest
+IsKnown number known events = (rest : List Event) × (known ++ rest ≡ events)
+    × All (λ e. maker e ≢ number) rest
 
 -- how many workers stand at this place of the list
 abbrev pub presence : Option Worker → ℕ
@@ -32,7 +34,9 @@ guest_count (Some g) n = if g.number == n then 1 else 0
 
 -- how often the seat has the worker of this number: a spent seat has none
 abbrev pub seat_count : ℕ → SeatState → ℕ
-seat_count n v = if v.view.share == 0 then 0 else ((if v.view.number == n then 1 else 0) + guest_count v.guest n)
+seat_count n v =
+    if v.view.share == 0 then 0
+    else ((if v.view.number == n then 1 else 0) + guest_count v.guest n)
 
 -- the shares of the seats that may still raise the word
 abbrev pub claiming : SeatState → ℕ
@@ -58,15 +62,18 @@ pub record ViewHolds (t : Terms) (log : List Event) (s : Core) (v : SeatState) :
 abbrev pub KnowsAll : List Event → SeatState → Type 0
 KnowsAll log v = (v.view.log ≡ log) ⊎ ((g : Guest) × (v.guest ≡ Some g) × (g.log ≡ log))
 
--- The board's events led to the state. Each worker that is there has one seat, each seat agrees with the
--- state, and some seat knows all events. The shares count the seats, and bound how often a word can rise.
+-- The board's events led to the state. Each worker that is there has one seat, each seat agrees
+-- with the state, and some seat knows all events. The shares count the seats, and bound how often a
+-- word can rise.
 pub record Stands (t : Terms) (log : List Event) (s : Core) (views : List SeatState) : Type 0 where
   pub few_pieces : t.pieces < 2 ^ 32
   pub few_numbers : t.budget < 2 ^ 32
   pub reached : Runs t (opening t) log s
-  pub holds : (i : ℕ) (v : SeatState) → get_elem? views i ≡ some v → 1 ≤ v.view.share → ViewHolds t log s v
+  pub holds : (i : ℕ) (v : SeatState) → get_elem? views i ≡ some v → 1 ≤ v.view.share
+      → ViewHolds t log s v
   pub one_seat : (n : ℕ) → sum_by (seat_count n) views ≡ presence (worker_at s.workers n)
-  pub whole : (i : ℕ) × (v : SeatState) × (get_elem? views i ≡ some v) × (1 ≤ v.view.share) × KnowsAll log v
+  pub whole : (i : ℕ) × (v : SeatState) × (get_elem? views i ≡ some v) × (1 ≤ v.view.share)
+      × KnowsAll log v
   pub shares : sum_by (λ v. v.view.share) views ≡ 2 ^ 32
   pub claims : max s.claimed t.pieces + sum_by claiming views ≤ t.pieces + 2 ^ 32
   pub takes : max s.taken t.budget + sum_by taking views ≤ t.budget + 2 ^ 32

@@ -21,19 +21,26 @@ pub record SeatView : Type 0 where
 abbrev pub IsSeatOf : BoardView → SeatView → Type 0
 IsSeatOf b s = (s.board ≡ b.id) × (s.view.terms ≡ b.terms)
 
--- A seat that is marked makes no step and stays as it is. Any other makes one, and has the piece, or is marked.
+-- the seat has the worker that it had, and the same share
+abbrev pub IsSameSeat : View → View → Type 0
+IsSameSeat v w = (w.number ≡ v.number) × (w.share ≡ v.share)
+
+-- A seat that is marked makes no step and stays as it is. Any other makes one, and has the piece,
+-- or is marked.
 abbrev pub IsClaim : View → Option ℕ → View → Type 0
 IsClaim v r w =
     (v.no_piece_left ≡ true → (r ≡ None) × (w ≡ v))
-    × (v.no_piece_left ≡ false → (n : ℕ) × Claimed v n w × (n < v.terms.pieces → r ≡ Some n) × (v.terms.pieces ≤ n → r ≡ None))
+    × (v.no_piece_left ≡ false → (n : ℕ) × Claimed v n w
+    × (n < v.terms.pieces → r ≡ Some n) × (v.terms.pieces ≤ n → r ≡ None))
 
 abbrev pub IsTake : View → Option ℕ → View → Type 0
 IsTake v r w =
     (v.no_number_left ≡ true → (r ≡ None) × (w ≡ v))
-    × (v.no_number_left ≡ false → (n : ℕ) × Took v n w × (n < v.terms.budget → r ≡ Some n) × (v.terms.budget ≤ n → r ≡ None))
+    × (v.no_number_left ≡ false → (n : ℕ) × Took v n w
+    × (n < v.terms.budget → r ≡ Some n) × (v.terms.budget ≤ n → r ≡ None))
 
--- The last seat knows all events of the board. They led to a state whose one worker is the seat's, and whose
--- counts, cut at their bounds, and least cost these are.
+-- The last seat knows all events of the board. They led to a state whose one worker is the seat's,
+-- and whose counts, cut at their bounds, and least cost these are.
 pub record EndsAs (t : Terms) (v : View) (claimed taken : ℕ) (least : Option ℕ) : Type 0 where
   pub final : Core
   pub reached : Runs t (opening t) v.log final

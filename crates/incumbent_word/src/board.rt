@@ -1,12 +1,14 @@
 //! A board and its seats.
-ghost use Rattle.std.specs.Prelude.{◌≡◌, ℕ, ◌+◌, ◌-◌, ◌^◌, ◌<◌, ◌≤◌, ◌==◌, min, true, false, Some, None, IfOk, IfSome, IfNone};
+ghost use Rattle.std.specs.Prelude.{◌≡◌, ℕ, ◌+◌, ◌-◌, ◌^◌, ◌<◌, ◌≤◌, ◌==◌, length, min, true};
+ghost use Rattle.std.specs.Prelude.{false, Some, None, IfOk, IfSome, IfNone};
 ghost use Rattle.std.specs.List.{count_by};
 ghost use Rattle.std.specs.Option.{ForSome};
 ghost use Rattle.incumbent_word.specs.Core.{AtMost, lesser, EachOnce};
 ghost use Rattle.incumbent_word.specs.Rule.{cost_in_word};
-ghost use Rattle.incumbent_word.specs.Calls.{with_piece, with_number, Posted, Looked, Parted, United};
+ghost use Rattle.incumbent_word.specs.Calls.{with_piece, with_number, Posted, Looked, Parted};
+ghost use Rattle.incumbent_word.specs.Calls.{United};
 ghost use Rattle.incumbent_word.specs.Calls.{first_view, left_half, right_half, both_views};
-ghost use Rattle.incumbent_word.specs.Seats.{IsSeatOf, IsClaim, IsTake, EndsAs};
+ghost use Rattle.incumbent_word.specs.Seats.{IsSeatOf, IsSameSeat, IsClaim, IsTake, EndsAs};
 
 use crate::steps::{
     BoardRule, ClaimStep, JoinStep, PostStep, ReadStep, SeatGuest, SplitStep, TakeGuest, TakeStep,
@@ -33,10 +35,10 @@ fn read_cost(word: u64) -> Option<u64>
     if word == NO_COST { None } else { Some(word) }
 }
 
-/// What the workers of one search share: how many pieces are claimed, how many numbers are taken, and
-/// the least cost posted. These are three words. `claim`, `take`, `post` and `least` each make one
-/// atomic step on one of them, and `split` and `join` two loads. No call waits, and only `new` takes
-/// memory.
+/// What the workers of one search share: how many pieces are claimed, how many numbers are taken,
+/// and the least cost posted. These are three words. `claim`, `take`, `post` and `least` each make
+/// one atomic step on one of them, and `split` and `join` two loads. No call waits, and only `new`
+/// takes memory.
 #[derive(Drop)]
 pub struct Board {
     table: Table<(), SeatState, Terms, BoardRule, Global>,
@@ -58,9 +60,9 @@ impl Model for Board {
         × (b.table.shared.key.budget ≡ b.budget) };
 }
 
-/// The right of one worker to take part in a search. Workers come and go by `split` and `join`. A seat
-/// has no bytes but two marks, which say that it once found no piece or no number left. A seat that is
-/// dropped takes its share with it: its board can then be dropped, but not closed.
+/// The right of one worker to take part in a search. Workers come and go by `split` and `join`. A
+/// seat has no bytes but two marks, which say that it once found no piece or no number left. A seat
+/// that is dropped takes its share with it: its board can then be dropped, but not closed.
 #[derive(Drop)]
 pub struct BoardSeat {
     seat: Seat<(), SeatState>,
@@ -92,9 +94,9 @@ pub struct BoardEnd {
 }
 
 impl Board {
-    /// A board with nothing claimed or taken, and its one seat, which has seen the start cost. Pieces are
-    /// numbered from 0 to `pieces` - 1, and the numbers to take are 0 to `budget` - 1. A cost is below
-    /// 2^64 - 1, which stands for none.
+    /// A board with nothing claimed or taken, and its one seat, which has seen the start cost.
+    /// Pieces are numbered from 0 to `pieces` - 1, and the numbers to take are 0 to `budget` - 1. A
+    /// cost is below 2^64 - 1, which stands for none.
     pub fn new(
         alloc: Global,
         budget: u32,
@@ -128,8 +130,9 @@ impl Board {
 }
 
 impl BoardSeat {
-    /// A piece that no other seat has. `None` where this step, or an earlier one of this seat or of a seat
-    /// that it came from or took in, found all pieces claimed; from then on this seat makes no step here.
+    /// A piece that no other seat has. `None` where this step, or an earlier one of this seat or of
+    /// a seat that it came from or took in, found all pieces claimed; from then on this seat makes
+    /// no step here.
     pub fn claim(&mut self, board: &Board) -> Option<u32>
         requires { IsSeatOf board.now self.old }
         ensures own { IsSeatOf board.now self.new }
@@ -141,6 +144,7 @@ impl BoardSeat {
         ensures rising { IfSome result (λ n. (x : ℕ) → n ≤ x
             → count_by (λ y. y == x) self.old.view.worker.pieces ≡ 0) }
         ensures seen { AtMost self.new.view.worker.seen self.old.view.worker.seen }
+        ensures same { IsSameSeat self.old.view self.new.view }
     {
         if self.no_piece_left {
             return None;
@@ -157,9 +161,9 @@ impl BoardSeat {
         }
     }
 
-    /// A number below the budget that no other seat has. `None` where this step, or an earlier one of this
-    /// seat or of a seat that it came from or took in, found the budget reached; from then on this seat
-    /// makes no step here.
+    /// A number below the budget that no other seat has. `None` where this step, or an earlier one
+    /// of this seat or of a seat that it came from or took in, found the budget reached; from then
+    /// on this seat makes no step here.
     pub fn take(&mut self, board: &Board) -> Option<u64>
         requires { IsSeatOf board.now self.old }
         ensures own { IsSeatOf board.now self.new }
@@ -171,6 +175,7 @@ impl BoardSeat {
         ensures rising { IfSome result (λ n. (x : ℕ) → n ≤ x
             → count_by (λ y. y == x) self.old.view.worker.numbers ≡ 0) }
         ensures seen { AtMost self.new.view.worker.seen self.old.view.worker.seen }
+        ensures same { IsSameSeat self.old.view self.new.view }
     {
         if self.no_number_left {
             return None;
@@ -187,8 +192,8 @@ impl BoardSeat {
         }
     }
 
-    /// Lowers the least cost to this one, if it is smaller. This seat has then seen the least cost that is
-    /// left.
+    /// Lowers the least cost to this one, if it is smaller. This seat has then seen the least cost
+    /// that is left.
     pub fn post(&mut self, board: &Board, cost: u64)
         requires own { IsSeatOf board.now self.old }
         requires cost { cost < 2 ^ 64 - 1 }
@@ -197,6 +202,7 @@ impl BoardSeat {
         ensures best { self.new.view.worker.best ≡ lesser self.old.view.worker.best (Some cost) }
         ensures low { AtMost self.new.view.worker.seen (Some cost) }
         ensures seen { AtMost self.new.view.worker.seen self.old.view.worker.seen }
+        ensures same { IsSameSeat self.old.view self.new.view }
     {
         board
             .table
@@ -204,8 +210,8 @@ impl BoardSeat {
             .fetch_min::<PostStep>(&mut self.seat, LEAST, cost);
     }
 
-    /// The least cost so far, which this seat has then seen. `None` where there was no start cost and
-    /// nothing was posted.
+    /// The least cost so far, which this seat has then seen. `None` where there was no start cost
+    /// and nothing was posted.
     pub fn least(&mut self, board: &Board) -> Option<u64>
         requires { IsSeatOf board.now self.old }
         ensures own { IsSeatOf board.now self.new }
@@ -213,20 +219,22 @@ impl BoardSeat {
         ensures result { self.new.view.worker.seen ≡ result }
         ensures start { AtMost result self.old.view.terms.start }
         ensures seen { AtMost self.new.view.worker.seen self.old.view.worker.seen }
+        ensures same { IsSameSeat self.old.view self.new.view }
     {
         let found = board.table.shared.load::<ReadStep>(&mut self.seat, LEAST);
         read_cost(found)
     }
 
-    /// A second seat, for a new worker that has seen what this one has, and has nothing else. It has this
-    /// seat's marks, and each of the two has one half of the share, so that a seat can be split 32 times
-    /// in a row.
+    /// A second seat, for a new worker that has seen what this one has, and has nothing else. It
+    /// has this seat's marks, and each of the two has one half of the share, so that a seat can be
+    /// split 32 times in a row.
     pub fn split(&mut self, board: &Board) -> BoardSeat
         requires own { IsSeatOf board.now self.old }
         requires share { 2 ≤ self.old.view.share }
         ensures own { IsSeatOf board.now self.new × IsSeatOf board.now result }
         ensures kept { self.new.view ≡ left_half self.old.view self.new.view.log }
-        ensures given { result.view ≡ right_half self.old.view result.view.number self.new.view.log }
+        ensures given { result.view
+            ≡ right_half self.old.view result.view.number self.new.view.log }
         ensures step { Parted self.old.view result.view.number self.new.view.log }
     {
         let shared = &board.table.shared;
@@ -239,7 +247,8 @@ impl BoardSeat {
         }
     }
 
-    /// Takes in what another seat has: its pieces, its numbers, the smaller costs, its share and its marks.
+    /// Takes in what another seat has: its pieces, its numbers, the smaller costs, its share and
+    /// its marks.
     pub fn join(&mut self, board: &Board, other: BoardSeat)
         requires own { IsSeatOf board.now self.old }
         requires other { IsSeatOf board.now other }
@@ -262,15 +271,19 @@ impl BoardSeat {
 }
 
 impl Board {
-    /// Ends the search. The seat is the last one: all others were joined into it, so it has the whole
-    /// share again.
+    /// Ends the search. The seat is the last one: all others were joined into it, so it has the
+    /// whole share again.
     pub fn close(self, seat: BoardSeat) -> BoardEnd
         requires own { IsSeatOf self seat }
         requires last { seat.view.share ≡ 2 ^ 32 }
         ensures last { EndsAs self.terms seat.view result.claimed result.taken result.least }
         ensures counts { (result.claimed ≤ self.terms.pieces) × (result.taken ≤ self.terms.budget) }
-        ensures pieces { EachOnce (λ x. count_by (λ y. y == x) seat.view.worker.pieces) result.claimed }
-        ensures numbers { EachOnce (λ x. count_by (λ y. y == x) seat.view.worker.numbers) result.taken }
+        ensures pieces { EachOnce (λ x. count_by (λ y. y == x) seat.view.worker.pieces)
+            result.claimed }
+        ensures numbers { EachOnce (λ x. count_by (λ y. y == x) seat.view.worker.numbers)
+            result.taken }
+        ensures piece_count { length seat.view.worker.pieces ≡ result.claimed }
+        ensures number_count { length seat.view.worker.numbers ≡ result.taken }
         ensures least { result.least ≡ lesser self.terms.start seat.view.worker.best }
         ensures seen { AtMost result.least seat.view.worker.seen }
         ensures all_pieces { seat.view.no_piece_left ≡ true → result.claimed ≡ self.terms.pieces }

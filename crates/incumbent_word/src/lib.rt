@@ -1,5 +1,5 @@
-//! The board of a parallel search: pieces and numbers that each worker draws once, and the least cost that
-//! any of them has posted.
+//! The board of a parallel search: pieces and numbers that each worker draws once, and the least
+//! cost that any of them has posted.
 #![tactic(auto)]
 
 mod board;

@@ -1,6 +1,8 @@
 //! The rule of the board's table, and what each step on it tells.
 ghost use Rattle.incumbent_word.specs.Rule.{IsKept};
-ghost use Rattle.incumbent_word.specs.Calls.{first_state, claim_play, take_play, post_play, read_play, split_play, join_play, host_state, guest_state, hosting_state, spent_state};
+ghost use Rattle.incumbent_word.specs.Calls.{first_state, claim_play, take_play, post_play};
+ghost use Rattle.incumbent_word.specs.Calls.{read_play, split_play, join_play, host_state};
+ghost use Rattle.incumbent_word.specs.Calls.{guest_state, hosting_state, spent_state};
 
 use crate::view::{SeatState, Terms};
 use atomic_table::{Join, Play, Split, TableRule};

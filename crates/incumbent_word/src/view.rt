@@ -1,8 +1,9 @@
-//! What a seat knows of its board. Values of these types, but for `Terms`, are made in proofs alone.
+//! What a seat knows of its board. Values of these types, but for `Terms`, are made in proofs
+//! alone.
 use std::collections::LinkedList;
 
-/// What a board is made with: how many pieces there are to claim, how many numbers may be taken, and a cost
-/// that is known at the start.
+/// What a board is made with: how many pieces there are to claim, how many numbers may be taken,
+/// and a cost that is known at the start.
 #[derive(Drop)]
 pub struct Terms {
     pub pieces: u32,
@@ -10,8 +11,8 @@ pub struct Terms {
     pub start: Option<u64>,
 }
 
-/// What one worker of the search has: its pieces, its numbers, the least cost that it posted, and the cost
-/// that it saw last.
+/// What one worker of the search has: its pieces, its numbers, the least cost that it posted, and
+/// the cost that it saw last.
 pub struct Worker {
     pub pieces: LinkedList<u32>,
     pub numbers: LinkedList<u64>,
@@ -19,8 +20,8 @@ pub struct Worker {
     pub seen: Option<u64>,
 }
 
-/// One event of the search, with the number of the worker that makes it. `Post` has the cost, and `Join` the
-/// number of the worker that is joined into the first.
+/// One event of the search, with the number of the worker that makes it. `Post` has the cost, and
+/// `Join` the number of the worker that is joined into the first.
 pub enum Event {
     Claim(u64),
     Take(u64),
@@ -30,8 +31,9 @@ pub enum Event {
     Join(u64, u64),
 }
 
-/// A worker at its seat. `log` is the beginning, as far as the seat knows it, of the board's one list of
-/// events. The shares of all seats add up to 2^32. A seat that once found nothing left is marked.
+/// A worker at its seat. `log` is the beginning, as far as the seat knows it, of the board's one
+/// list of events. The shares of all seats add up to 2^32. A seat that once found nothing left is
+/// marked.
 pub struct View {
     pub terms: Terms,
     pub number: u64,
@@ -42,8 +44,8 @@ pub struct View {
     pub no_number_left: bool,
 }
 
-/// A second worker that a seat has for a moment: one that is split off and has no seat yet, or one that has
-/// left its seat and is to be joined.
+/// A second worker that a seat has for a moment: one that is split off and has no seat yet, or one
+/// that has left its seat and is to be joined.
 pub struct Guest {
     pub number: u64,
     pub worker: Worker,

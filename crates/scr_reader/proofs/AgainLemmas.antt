@@ -8,8 +8,9 @@ use Rattle.season_days.specs.Term.{Term}
 use Rattle.season_days.specs.Seasons.{season_text, half_letter}
 use Rattle.season_days.specs.declared.season.Half.{Half}
 use Rattle.season_days.specs.declared.season.Half.TheVariants.{Summer, Winter}
+use Rattle.slot_text.specs.Fields.{is_blank_line}
 use Rattle.scr_reader.specs.Parts.{date_text}
-use Rattle.scr_reader.specs.Rows.{Row, entry, question, trimmed, is_empty_line, IsRow, AreRows}
+use Rattle.scr_reader.specs.Rows.{Row, entry, question, trimmed, IsRow, AreRows}
 use Rattle.scr_reader.specs.Messages.{AsksChange, HeaderPart, title, parts_from_season, header_parts, header_of, body_of, HeaderAgrees, LineIsPaired, AreGood, line_item, items_of, Run, run_from, runs_of, front_length, IsMessage, AreMessages, runs_in, FirstIs, ReadsAll, ReadsMessage}
 use Rattle.scr_reader.specs.Printed.{line_text, flight_text, item_lines, items_lines, message_lines, message_text, IsAsked, LineFits, ItemFits, ItemsFit}
 use Rattle.scr_reader.specs.Again.{IsAskedItem, AreAsked, line_count, AreNumbered, IsReadAgain, messages_text, AreReadAgain}
@@ -28,11 +29,11 @@ use Rattle.scr_reader.proofs.OncePartLemmas.{three_long}
 
 -- ---- the lines of the text
 
-abbrev AllFull : List (List ℕ) → Type 0
+abbrev pub AllFull : List (List ℕ) → Type 0
 AllFull [] = Unit {0}
 AllFull (line ∷ lines) = IsFullLine line × AllFull lines
 
-lines_again : (lines : List (List ℕ)) (rest : List ℕ) → AllFull lines → lines_of (ended lines ++ rest) ≡ lines ++ lines_of rest
+pub lines_again : (lines : List (List ℕ)) (rest : List ℕ) → AllFull lines → lines_of (ended lines ++ rest) ≡ lines ++ lines_of rest
 lines_again [] rest all = refl
 lines_again (line ∷ lines) rest all =
     ap lines_of (append_assoc line (10 ∷ ended lines) rest) ∙ all.0.0 (ended lines ++ rest) ∙ ap (λ (l : List (List ℕ)). line ∷ l) (lines_again lines rest all.1)
@@ -109,13 +110,13 @@ abbrev items_rows : List Placed → List (Option Row)
 items_rows [] = []
 items_rows (placed ∷ items) = item_rows placed.item ++ items_rows items
 
-line_row : (season : Term) (line : Line) → NamedDays season → IsAsked line.code → LineFits season line → IsRow season (line_text season line.code line) (entry line)
+pub line_row : (season : Term) (line : Line) → NamedDays season → IsAsked line.code → LineFits season line → IsRow season (line_text season line.code line) (entry line)
 line_row season line law asked fits = printed_back season line.code line law asked fits
 
-asked_change : (code : Code) → code ≡ C → IsAsked code
+pub asked_change : (code : Code) → code ≡ C → IsAsked code
 asked_change code is = rw is refl
 
-asked_request : (code : Code) → (code ≡ R) ⊎ (code ≡ L) → IsAsked code
+pub asked_request : (code : Code) → (code ≡ R) ⊎ (code ≡ L) → IsAsked code
 asked_request code (inl is) = rw is refl
 asked_request code (inr is) = rw is refl
 
@@ -285,8 +286,8 @@ empty_next : (rest : List ℕ) → lines_of (10 ∷ rest) ≡ [] ∷ lines_of re
 unfolding lines_of
 empty_next rest = refl
 
-nothing_empty : is_empty_line [] ≡ true
-unfolding is_empty_line
+nothing_empty : is_blank_line [] ≡ true
+unfolding is_blank_line
 nothing_empty = refl
 
 -- the law at each season, as a caller has it

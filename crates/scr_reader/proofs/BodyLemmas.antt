@@ -3,7 +3,8 @@ use Rattle.std.proofs.Common.{◌≡◌, ℕ, ◌+◌, ◌<◌, List, [], ◌∷
 use Rattle.std.specs.Prelude.{Option}
 use Rattle.std.proofs.lemmas.Bool.{both_ways}
 use Rattle.season_days.specs.Term.{Term}
-use Rattle.scr_reader.specs.Rows.{Row, remark, entry, question, most_bytes, is_remark, is_question, line_fields, IsRow, IsRowOrNone, AreRows, IsBadField}
+use Rattle.slot_text.specs.declared.lines.TheConstants.{LONGEST_LINE}
+use Rattle.scr_reader.specs.Rows.{Row, remark, entry, question, is_remark, is_question, line_fields, IsRow, IsRowOrNone, AreRows, IsBadField}
 use Rattle.scr_reader.specs.Readings.{row_read, IsRowReading, AreReadings}
 use Rattle.scr_reader.specs.Messages.{IsShort, LineIsPaired, IsGoodRow, AreGood, IsLineFault, IsBodyFault}
 use Rattle.scr_reader.specs.Pairing.{rows_read, IsGoodReading, HasFaultAt, AreGoodReadings, IsFirstAt}
@@ -62,7 +63,7 @@ good_back season line (Question flight) before after is good = tt
 bad_at : (season : Term) (number : ℕ) (line : List ℕ) (row : Option Row) (before after : List (Option Row)) (fault : ScrFault) (k : ℕ) → fault ≡ BadLine number k → IsBadField season line k → IsLineFault season number line row before after fault
 bad_at season number line row before after fault k is bad = rw is (refl, bad)
 
-long_at : (season : Term) (number : ℕ) (line : List ℕ) (row : Option Row) (before after : List (Option Row)) (fault : ScrFault) → fault ≡ TooLong number → most_bytes < length line → IsLineFault season number line row before after fault
+long_at : (season : Term) (number : ℕ) (line : List ℕ) (row : Option Row) (before after : List (Option Row)) (fault : ScrFault) → fault ≡ TooLong number → LONGEST_LINE < length line → IsLineFault season number line row before after fault
 long_at season number line row before after fault is long = rw is (refl, long)
 
 unpaired_at : (season : Term) (number : ℕ) (line : List ℕ) (value : Line) (before after : List (Option Row)) (fault : ScrFault) → fault ≡ Unpaired number → IsShort line → (LineIsPaired value.code value before after → ⊥) → IsLineFault season number line (Some (entry value)) before after fault

@@ -1,5 +1,5 @@
 -- A day of the season, from the date that names it and back.
-use Rattle.std.proofs.Common.{◌≡◌, ℕ, ◌<◌, ◌≤◌, ◌-◌, ◌⊎◌, zero, suc, Bool, true, eqb, List, [], ◌∷◌, ◌++◌, length, length-append, get_or, subst, take, drop, Result, Ok, Err, refl, sym, ap, ◌∙◌, arith, inl, inr, pos}
+use Rattle.std.proofs.Common.{◌≡◌, ℕ, ℤ, ◌<◌, ◌≤◌, ◌-◌, ◌⊎◌, zero, suc, Bool, true, eqb, List, [], ◌∷◌, ◌++◌, length, length-append, get_or, subst, take, drop, Result, Ok, Err, refl, sym, ap, ◌∙◌, arith, inl, inr, pos}
 use Rattle.schedule_text.specs.Days.{IsDays}
 use Rattle.schedule_text.specs.Times.{two_digits}
 use Rattle.std.specs.Prelude.{IfOk, IfSome, IsSomeAnd, Option, Some, None, ◌≢◌}
@@ -7,20 +7,27 @@ use Rattle.std.specs.Result.{result_ok}
 use Rattle.std.proofs.lemmas.List.{take_at, drop_at, take-append-drop}
 use Rattle.std.proofs.Math.Bool.{◌&&◌}
 use Rattle.std.proofs.lemmas.Bool.{and_parts, eqb-true}
-use Rattle.jiff_core.proofs.SignedLemmas.{signed_arith}
-use Rattle.jiff_core.proofs.CalendarLemmas.{days_in_month_bounds}
+use Rattle.std.proofs.lemmas.Int.{ints}
+use Rattle.jiff_core.specs.Calendar.{days_in_month}
 use Rattle.season_days.specs.Term.{Term}
 use Rattle.season_days.specs.Seasons.{NamesDate, IsDayNamed, year_of_month, first_year, dates_of}
 use Rattle.season_days.specs.declared.day.Day.{Day}
 use Rattle.season_days.specs.declared.day.DayFault.{DayFault}
-use Rattle.scr_reader.specs.Parts.{month_names, month_text, SpellsDay, IsTwoDays, IsPeriod}
+use Rattle.scr_reader.specs.Parts.{month_names, month_text, IsDayOfMonth, SpellsDay, IsTwoDays, IsPeriod}
 use Rattle.scr_reader.specs.Shapes.{NamesPeriod}
 use Rattle.season_days.specs.declared.day.Period.{Period}
 
+-- no month has more than 31 days
+month_few : (year : ℤ) (month : ℕ) → days_in_month year month ≤ 31
+month_few year month = grind arith
+
+pub few_days : (month day : ℕ) → IsDayOfMonth month day → day < 100
+few_days month day is = omega (arith, is.day_to, month_few (pos 2000) month)
+
 pub in_range : (season : Term) (month day : ℕ) → NamesDate season month day → (1 ≤ month) × (month ≤ 12) × (day < 100)
 in_range season month day named =
-    let most = days_in_month_bounds (pos (year_of_month season.half (first_year season) month)) month in
-    (omega (arith, signed_arith, named.1.0), omega (arith, signed_arith, named.1.1), omega (arith, signed_arith, named.2.1, most.0))
+    let most = month_few (pos (year_of_month season.half (first_year season) month)) month in
+    (omega (arith, ints, named.1.0), omega (arith, ints, named.1.1), omega (arith, ints, named.2.1, most))
 
 pub spelled : (season : Term) (text front back : List ℕ) (month of_month : ℕ) (r : Result Day DayFault) → front ≡ take 2 text → back ≡ drop 2 text → front ≡ two_digits of_month → back ≡ month_text month
     → IfOk r (λ found. IsDayNamed season month of_month found.0) → IfSome (result_ok r) (λ day. SpellsDay season text day.0)

@@ -28,7 +28,7 @@ asked_fits : (text : List ℕ) (flight : Flight) → IsAskedFlight text flight �
 asked_fits [] flight is = absurd is
 asked_fits (b ∷ text) flight is = flight_fits text flight is.1
 
-question_fits : (fields : List (List ℕ)) (flight : Flight) → IsQuestion fields flight → FlightFits flight
+pub question_fits : (fields : List (List ℕ)) (flight : Flight) → IsQuestion fields flight → FlightFits flight
 question_fits [] flight is = absurd is
 question_fits (first ∷ rest) flight is = asked_fits first flight is.0
 

@@ -1,32 +1,35 @@
-pub mod PartLemmas
-pub mod CutLemmas
-pub mod DayLemmas
-pub mod NightLemmas
-pub mod AgreeLemmas
-pub mod FaultLemmas
-pub mod FitsLemmas
-pub mod PrintLemmas
-pub mod ItemLemmas
-pub mod PutLemmas
-pub mod CleanLemmas
-pub mod TextLemmas
-pub mod MessageLemmas
-pub mod HeaderLemmas
-pub mod RunLemmas
-pub mod BodyLemmas
-pub mod PairLemmas
-pub mod TrimLemmas
-pub mod ReadingLemmas
-pub mod NineLemmas
-pub mod RowLemmas
-pub mod SameLemmas
-pub mod ShapeLemmas
-pub mod AtLemmas
-pub mod PlaceLemmas
-pub mod PieceLemmas
-pub mod LineLemmas
-pub mod OncePartLemmas
-pub mod OnceLineLemmas
-pub mod OnceTextLemmas
-pub mod AgainLemmas
-pub mod RisingLemmas
+mod PartLemmas
+mod CutLemmas
+mod DayLemmas
+mod NightLemmas
+mod AgreeLemmas
+mod FaultLemmas
+mod FitsLemmas
+mod PrintLemmas
+mod ItemLemmas
+mod PutLemmas
+mod CleanLemmas
+mod TextLemmas
+mod MessageLemmas
+mod HeaderLemmas
+mod RunLemmas
+mod BodyLemmas
+mod PairLemmas
+mod TrimLemmas
+mod ReadingLemmas
+mod NineLemmas
+mod RowLemmas
+mod SameLemmas
+mod ShapeLemmas
+mod AtLemmas
+mod PlaceLemmas
+mod PieceLemmas
+mod LineLemmas
+mod OncePartLemmas
+mod OnceLineLemmas
+mod OnceTextLemmas
+mod AgainLemmas
+mod RisingLemmas
+mod LengthLemmas
+mod AskedLemmas
+mod ReadItemLemmas

@@ -5,12 +5,12 @@ use Rattle.std.specs.Prelude.{Option}
 use Rattle.std.proofs.lemmas.Bool.{ne_eqb}
 use Rattle.slot_text.specs.Lines.{onto_first, lines_of}
 use Rattle.season_days.specs.Term.{Term}
+use Rattle.slot_text.specs.Fields.{is_blank_line}
 use Rattle.scr_reader.specs.declared.line.Code.{Code}
 use Rattle.scr_reader.specs.declared.line.Line.{Line}
 use Rattle.scr_reader.specs.declared.line.Stop.{Stop}
 use Rattle.scr_reader.specs.Bytes.{three_digits}
 use Rattle.scr_reader.specs.Parts.{ThreeLettersOrDigits}
-use Rattle.scr_reader.specs.Rows.{is_empty_line}
 use Rattle.scr_reader.specs.Printed.{code_letter, dates_text, fields_by, joined, line_text, StopsFit, LineFits}
 use Rattle.scr_reader.proofs.TrimLemmas.{not_blank}
 use Rattle.scr_reader.proofs.CleanLemmas.{Clean, clean_one, clean_flight, clean_dates, clean_days, clean_seats, clean_group}
@@ -79,22 +79,22 @@ pub printed_line : (season : Term) (code : Code) (line : Line) (rest : List ℕ)
 printed_line season code line rest fits =
     one_line (line_text season code line) rest (plain_joined (fields_with season code line line.arrival line.departure) (clean_fields season code line line.arrival line.departure fits.stops fits.craft))
 
-full_first : (b : ℕ) (line : List ℕ) → 33 ≤ b → is_empty_line (b ∷ line) ≡ false
-unfolding is_empty_line
+full_first : (b : ℕ) (line : List ℕ) → 33 ≤ b → is_blank_line (b ∷ line) ≡ false
+unfolding is_blank_line
 full_first b line above = rw (not_blank b (λ e. omega (arith, above, e)) (λ e. omega (arith, above, e))) refl
 
-full_fields : (season : Term) (code : Code) (line : Line) (a d : Option Stop) → StopsFit line a d → is_empty_line (joined (fields_with season code line a d)) ≡ false
+full_fields : (season : Term) (code : Code) (line : Line) (a d : Option Stop) → StopsFit line a d → is_blank_line (joined (fields_with season code line a d)) ≡ false
 full_fields season code line None None fits = absurd fits
 full_fields season code line (Some coming) None fits = full_first (code_letter code) _ (code_above code)
 full_fields season code line None (Some going) fits = full_first (code_letter code) _ (code_above code)
 full_fields season code line (Some coming) (Some going) fits = full_first (code_letter code) _ (code_above code)
 
-pub printed_full : (season : Term) (code : Code) (line : Line) → LineFits season line → is_empty_line (line_text season code line) ≡ false
+pub printed_full : (season : Term) (code : Code) (line : Line) → LineFits season line → is_blank_line (line_text season code line) ≡ false
 printed_full season code line fits = full_fields season code line line.arrival line.departure fits.stops
 
 -- one line of a text, and not an empty one
 abbrev pub IsFullLine : List ℕ → Type 0
-IsFullLine line = ((rest : List ℕ) → lines_of (line ++ 10 ∷ rest) ≡ line ∷ lines_of rest) × (is_empty_line line ≡ false)
+IsFullLine line = ((rest : List ℕ) → lines_of (line ++ 10 ∷ rest) ≡ line ∷ lines_of rest) × (is_blank_line line ≡ false)
 
 pub full_line : (season : Term) (code : Code) (line : Line) → LineFits season line → IsFullLine (line_text season code line)
 full_line season code line fits = ((λ rest. printed_line season code line rest fits), printed_full season code line fits)

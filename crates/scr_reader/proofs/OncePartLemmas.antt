@@ -5,7 +5,7 @@ use Rattle.std.proofs.Math.Bool.{◌&&◌}
 use Rattle.std.proofs.lemmas.Bool.{and_parts, cases_eq, eqb-true}
 use Rattle.std.proofs.lemmas.List.{take_at, drop_at}
 use Rattle.std.proofs.lemmas.Option.{same_Some}
-use Rattle.jiff_core.proofs.SignedLemmas.{signed_arith}
+use Rattle.std.proofs.lemmas.Int.{ints}
 use Rattle.schedule_text.specs.Days.{IsDays}
 use Rattle.schedule_text.specs.Times.{two_digits, time_text}
 use Rattle.season_days.specs.Term.{Term}
@@ -131,7 +131,7 @@ day_once season text a b x y =
     let two = in_range season y.0 y.1 y.2.0 in
     let same = date_once x.0 x.1 y.0 y.1 one.0 one.1 one.2 two.0 two.1 two.2 (sym x.3 ∙ y.3) in
     let number = x.2.1 ∙ rw (same.0, same.1) refl ∙ sym y.2.1 in
-    omega (arith, signed_arith, number)
+    omega (arith, ints, number)
 
 pub period_once : (season : Term) (text : List ℕ) (first last first' last' : ℕ) → IsPeriod season text first last → IsPeriod season text first' last' → (first ≡ first') × (last ≡ last')
 period_once season text first last first' last' x y =

@@ -1,9 +1,7 @@
 -- A text has one reading or one fault at most, and never both.
-use Rattle.std.proofs.Common.{◌≡◌, ℕ, ◌+◌, ◌<◌, Bool, true, false, List, [], ◌∷◌, length, Option, Some, None, pos, refl, sym, ap, subst, ◌∙◌, arith, inl, inr}
+use Rattle.std.proofs.Common.{◌≡◌, ℕ, ◌+◌, ◌<◌, Bool, true, false, List, [], ◌∷◌, length, Option, Some, None, refl, sym, ap, subst, ◌∙◌, arith, inl, inr}
 use Rattle.std.specs.Prelude.{IsSomeAnd, slice_get, if◌then◌else◌}
 use Rattle.std.proofs.lemmas.Bool.{both_ways}
-use Rattle.jiff_core.proofs.SignedLemmas.{signed_arith}
-use Rattle.jiff_core.proofs.CalendarLemmas.{days_in_month_bounds}
 use Rattle.season_days.specs.Term.{Term}
 use Rattle.season_days.specs.Seasons.{season_text}
 use Rattle.slot_text.specs.Lines.{lines_of}
@@ -21,6 +19,7 @@ use Rattle.scr_reader.specs.declared.fault.ScrFault.TheVariants.{BadLine, BadHea
 use Rattle.scr_reader.proofs.HeaderLemmas.{header_or_fault, header_once, names_same}
 use Rattle.scr_reader.proofs.BodyLemmas.{bad_once, bad_is_short, bad_no_row}
 use Rattle.scr_reader.proofs.MessageLemmas.{same_message}
+use Rattle.scr_reader.proofs.DayLemmas.{few_days}
 use Rattle.scr_reader.proofs.OncePartLemmas.{OneTime, OneSet, flight_once, date_once, season_once, station_once}
 use Rattle.scr_reader.proofs.OnceLineLemmas.{line_once}
 
@@ -77,14 +76,11 @@ SaysDate day month text = IsShort text × (IsDayOfMonth month day × (trimmed te
 abbrev SaysAirport : Station → List ℕ → Type 0
 SaysAirport airport text = IsShort text × (IsStation airport.0 × (trimmed text ≡ airport.0))
 
-few : (month day : ℕ) → IsDayOfMonth month day → day < 100
-few month day is = omega (arith, signed_arith, is.day_to, (days_in_month_bounds (pos 2000) month).0)
-
 dates_say : (text : List ℕ) (day month day' month' : ℕ) → SaysDate day month text → SaysDate day' month' text → (day ≡ day') × (month ≡ month')
 dates_say text day month day' month' x y =
     let a = x.1.0 in
     let b = y.1.0 in
-    let same = date_once month day month' day' a.month_from a.month_to (few month day a) b.month_from b.month_to (few month' day' b) (sym x.1.1 ∙ y.1.1) in
+    let same = date_once month day month' day' a.month_from a.month_to (few_days month day a) b.month_from b.month_to (few_days month' day' b) (sym x.1.1 ∙ y.1.1) in
     (same.1, same.0)
 
 names_once : (place : ℕ) (lines : List (List ℕ)) (a b : Header) → HeaderAgrees place parts_from_season lines a → HeaderAgrees place parts_from_season lines b → a ≡ b

@@ -4,7 +4,7 @@ use Rattle.std.proofs.lemmas.Bool.{cases_Bool}
 use Rattle.std.proofs.lemmas.List.{length-take-le, append-nil, drop_all}
 use Rattle.std.specs.Prelude.{slice_range}
 use Rattle.slot_text.specs.Lines.{first_line, after_line, lines_of}
-use Rattle.scr_reader.specs.Rows.{is_empty_line}
+use Rattle.slot_text.specs.Fields.{is_blank_line}
 use Rattle.scr_reader.specs.Messages.{Run, run_from, runs_of, runs_in, front_length}
 use Rattle.scr_reader.specs.Places.{after_lines, StandsAt, StandAt}
 use Rattle.scr_reader.specs.declared.message.Piece.{Piece}
@@ -25,7 +25,7 @@ pub record InFront (text : List ℕ) (lines bytes : ℕ) (rest : List ℕ) : Typ
 pub front_start : (text rest : List ℕ) → rest ≡ text → InFront text 0 0 rest
 front_start text rest e = rw e (record { few = omega arith; placed = omega arith; at = refl; behind = sym (after_zero text); full = omega arith })
 
-pub front_line : (text rest more line : List ℕ) (lines bytes : ℕ) → more ≡ after_line rest → length more < length rest → lines_of rest ≡ line ∷ lines_of more → is_empty_line line ≡ false → InFront text lines bytes rest
+pub front_line : (text rest more line : List ℕ) (lines bytes : ℕ) → more ≡ after_line rest → length more < length rest → lines_of rest ≡ line ∷ lines_of more → is_blank_line line ≡ false → InFront text lines bytes rest
     → InFront text (lines + 1) (length text - length more) more
 front_line text rest more line lines bytes after less split full front =
     let count : bytes + (length rest - length more) ≡ length text - length more = omega (arith, less, front.placed) in
@@ -37,7 +37,7 @@ front_line text rest more line lines bytes after less split full front =
       full = omega (arith, front.full, ap front_length split, front_full line (lines_of more) full);
     }
 
-pub front_done : (text rest line : List ℕ) (more : List (List ℕ)) (lines bytes : ℕ) → lines_of rest ≡ line ∷ more → is_empty_line line ≡ true → InFront text lines bytes rest → lines ≡ front_length (lines_of text)
+pub front_done : (text rest line : List ℕ) (more : List (List ℕ)) (lines bytes : ℕ) → lines_of rest ≡ line ∷ more → is_blank_line line ≡ true → InFront text lines bytes rest → lines ≡ front_length (lines_of text)
 front_done text rest line more lines bytes split empty front = omega (arith, front.full, ap front_length split, front_empty line more empty)
 
 pub front_ends : (text rest : List ℕ) (lines bytes : ℕ) → rest ≡ [] → InFront text lines bytes rest → lines ≡ front_length (lines_of text)
@@ -70,7 +70,7 @@ stand_more bytes (r ∷ runs) (p ∷ pieces) run piece stand is = (stand.0, stan
 front_within : (lines : List (List ℕ)) → front_length lines ≤ length lines
 front_within [] = omega (arith, front_none)
 front_within (line ∷ lines) =
-    elim (cases_Bool (is_empty_line line)) [
+    elim (cases_Bool (is_blank_line line)) [
       | inl empty ↦ omega (arith, front_empty line lines empty)
       | inr full ↦ omega (arith, front_full line lines full, front_within lines)
     ]
@@ -114,7 +114,7 @@ skip_line line (b ∷ bytes) some front =
     let first = first_line (b ∷ bytes) in
     let more = lines_of (after_line (b ∷ bytes)) in
     let split : lines_of (b ∷ bytes) ≡ first ∷ more = lines_split b bytes in
-    elim (cases_Bool (is_empty_line first)) [
+    elim (cases_Bool (is_blank_line first)) [
       | inl empty ↦ ap (runs_of line) split ∙ runs_skip line first more empty
       | inr full ↦ absurd (omega (arith, front, ap front_length split, front_full first more full))
     ]

@@ -1,17 +1,17 @@
 -- What is printed is read again.
-use Rattle.std.proofs.Common.{◌≡◌, ◌≢◌, ◌↔◌, ℕ, zero, suc, ◌+◌, ◌-◌, ◌*◌, ◌/◌, ◌%◌, ◌<◌, ◌≤◌, Bool, true, false, ltb, leb, List, [], ◌∷◌, ◌++◌, length, length-append, get_or, Some, None, refl, sym, ap, subst, ◌∙◌, arith, inl, inr}
+use Rattle.std.proofs.Common.{◌≡◌, ◌≢◌, ◌↔◌, ℕ, zero, suc, ◌+◌, ◌*◌, ◌/◌, ◌%◌, ◌<◌, ◌≤◌, Bool, true, false, ltb, List, [], ◌∷◌, ◌++◌, length, length-append, Some, None, refl, sym, ap, subst, ◌∙◌, arith, inl, inr}
 use Rattle.schedule_text.specs.Days.{days_text}
 use Rattle.schedule_text.specs.Times.{time_text, digit, two_digits}
 use Rattle.std.specs.Prelude.{Option, ◌==◌}
 use Rattle.std.proofs.Math.Bool.{◌&&◌, ◌||◌}
-use Rattle.std.proofs.lemmas.Bool.{cases_Bool, ne_eqb, and_parts, ltb-true, leb-true}
+use Rattle.std.proofs.lemmas.Bool.{cases_Bool, ne_eqb, and_parts, ltb-true}
 use Rattle.std.proofs.lemmas.Bool.Decides.{nat_tests}
 use Rattle.slot_text.specs.Fields.{is_blank, fields_of}
 use Rattle.slot_text.specs.Lines.{onto_first}
-use Rattle.slot_text.specs.declared.station.Station.{Station}
 use Rattle.season_days.specs.Term.{Term}
 use Rattle.season_days.specs.Seasons.{date_count, date_at, dates_of, IsDayNamed}
 use Rattle.season_days.specs.declared.day.Period.{Period}
+use Rattle.slot_text.specs.declared.lines.TheConstants.{LONGEST_LINE}
 use Rattle.scr_reader.specs.declared.line.Line.{Line}
 use Rattle.scr_reader.specs.declared.line.Stop.{Stop}
 use Rattle.scr_reader.specs.declared.line.Craft.{Craft}
@@ -19,14 +19,15 @@ use Rattle.scr_reader.specs.declared.line.Flight.{Flight}
 use Rattle.scr_reader.specs.declared.line.Code.{Code}
 use Rattle.scr_reader.specs.declared.line.Code.TheVariants.{N, B, F, C, R, L, D, A, Z, K, H, O, U, W, X}
 use Rattle.scr_reader.specs.Bytes.{is_letter, is_digit, three_digits, four_digits}
-use Rattle.scr_reader.specs.Parts.{AirlineFits, airline_text, NamesNumber, suffix_text, IsFlight, begins_with_flight, month_names, month_text, SpellsDay, IsPeriod, ThreeLettersOrDigits, StationsFit, stations_text, IsNights}
+use Rattle.scr_reader.specs.Parts.{AirlineFits, airline_text, NamesNumber, suffix_text, IsFlight, begins_with_flight, month_text, SpellsDay, IsPeriod, ThreeLettersOrDigits, stations_text, IsNights}
 use Rattle.scr_reader.specs.Shapes.{arrival, departure, turnaround, shape_of, arrival_service, departure_service, both_services, IsLine}
-use Rattle.scr_reader.specs.Rows.{is_remark, is_question, line_fields, most_bytes, entry, question, IsQuestion, IsRow}
+use Rattle.scr_reader.specs.Rows.{is_remark, is_question, line_fields, entry, question, IsQuestion, IsRow}
 use Rattle.scr_reader.specs.Printed.{code_letter, number_text, flight_text, nights_text, arrival_group_text, departure_group_text, day_text, dates_text, joined, line_text, FlightFits, StopFits, LineFits, IsAsked, PrintsBack}
 use Rattle.scr_reader.proofs.AgreeLemmas.{whole_line}
 use Rattle.scr_reader.proofs.ShapeLemmas.{arriving, leaving, turning, arrival_6, departure_7, turnaround_8}
 use Rattle.scr_reader.proofs.TrimLemmas.{not_blank}
-use Rattle.scr_reader.proofs.CleanLemmas.{Clean, clean_append, clean_one, clean_flight, clean_two, clean_stations, clean_dates, clean_days, clean_seats, clean_group, craft_long, stations_long}
+use Rattle.scr_reader.proofs.LengthLemmas.{flight_few, arrival_short, departure_short, turnaround_short}
+use Rattle.scr_reader.proofs.CleanLemmas.{Clean, clean_append, clean_one, clean_flight, clean_two, clean_stations, clean_dates, clean_days, clean_seats, clean_group}
 
 -- ---- fields that are joined by blanks
 
@@ -227,68 +228,6 @@ code_no_question U text fields = refl
 code_no_question W text fields = refl
 code_no_question X text fields = refl
 
--- ---- lengths
-
-airline_few : (airline : List ℕ) → AirlineFits airline → length (airline_text airline) ≤ 3
-airline_few [] fits = absurd fits
-airline_few (a ∷ []) fits = absurd fits
-airline_few (a ∷ b ∷ []) fits = absurd fits
-airline_few (a ∷ b ∷ zero ∷ []) fits = omega arith
-airline_few (a ∷ b ∷ suc c ∷ []) fits = omega arith
-airline_few (a ∷ b ∷ zero ∷ d ∷ airline) fits = absurd fits
-airline_few (a ∷ b ∷ suc c ∷ d ∷ airline) fits = absurd fits
-
-number_few : (n : ℕ) → length (number_text n) ≤ 4
-number_few n =
-    elim (cases_Bool (ltb n 1000)) [
-      | inl small ↦ rw small (omega arith)
-      | inr large ↦ rw large (omega arith)
-    ]
-
-suffix_few : (s : ℕ) → length (suffix_text s) ≤ 1
-suffix_few zero = omega arith
-suffix_few (suc s) = omega arith
-
-flight_few : (flight : Flight) → FlightFits flight → length (flight_text flight) ≤ 8
-flight_few flight fits =
-    omega (arith, length-append (airline_text flight.airline) (number_text flight.number ++ suffix_text flight.suffix), length-append (number_text flight.number) (suffix_text flight.suffix), airline_few flight.airline fits.airline, number_few flight.number, suffix_few flight.suffix)
-
-abbrev short_each : List (List ℕ) → Bool
-short_each [] = true
-short_each (text ∷ texts) = leb (length text) 3 && short_each texts
-
-short_at : (texts : List (List ℕ)) (k : ℕ) → short_each texts ≡ true → length (get_or texts k []) ≤ 3
-short_at [] k all = omega arith
-short_at (text ∷ texts) zero all = leb-true (length text) 3 (and_parts (leb (length text) 3) (short_each texts) all).0
-short_at (text ∷ texts) (suc k) all = short_at texts k (and_parts (leb (length text) 3) (short_each texts) all).1
-
-day_few : (season : Term) (day : ℕ) → length (day_text season day) ≤ 5
-day_few season day = omega (arith, length-append (two_digits (date_at season day).of_month) (month_text (date_at season day).month), short_at month_names ((date_at season day).month - 1) refl)
-
-dates_few : (season : Term) (period : Period) → length (dates_text season period) ≤ 10
-dates_few season period = omega (arith, length-append (day_text season period.first.0) (day_text season period.last.0), day_few season period.first.0, day_few season period.last.0)
-
-seats_few : (seats : ℕ) (craft : List ℕ) → ThreeLettersOrDigits craft → length (three_digits seats ++ craft) ≤ 6
-seats_few seats craft fits = omega (arith, length-append (three_digits seats) craft, craft_long craft fits)
-
-stations_few : (near : Station) (far : Option Station) → StationsFit near far → length (stations_text near far) ≤ 6
-stations_few near far fits =
-    elim (stations_long near far fits) [
-      | inl one ↦ omega (arith, one.0)
-      | inr two ↦ omega (arith, two.0)
-    ]
-
-nights_few : (n : ℕ) → length (nights_text n) ≤ 1
-nights_few zero = omega arith
-nights_few (suc n) = omega arith
-
-coming_few : (stop : Stop) → StopFits stop → length (arrival_group_text stop) ≤ 10
-coming_few stop fits = omega (arith, length-append (stations_text stop.near stop.far) (time_text stop.minute), stations_few stop.near stop.far fits.stations)
-
-going_few : (stop : Stop) (n : ℕ) → StopFits stop → length (departure_group_text stop n) ≤ 11
-going_few stop n fits =
-    omega (arith, length-append (time_text stop.minute) (nights_text n ++ stations_text stop.near stop.far), length-append (nights_text n) (stations_text stop.near stop.far), stations_few stop.near stop.far fits.stations, nights_few n)
-
 nights_clean : (n : ℕ) → Clean (nights_text n)
 nights_clean zero = tt
 nights_clean (suc n) = (omega arith, tt)
@@ -298,16 +237,13 @@ going_clean stop n fits =
     clean_append (time_text stop.minute) (nights_text n ++ stations_text stop.near stop.far) (clean_append (two_digits (stop.minute / 60)) (two_digits (stop.minute % 60)) (clean_two (stop.minute / 60)) (clean_two (stop.minute % 60)))
     (clean_append (nights_text n) (stations_text stop.near stop.far) (nights_clean n) (clean_stations stop.near stop.far fits.stations))
 
-joined_length : (text next : List ℕ) (fields : List (List ℕ)) → length (joined (text ∷ next ∷ fields)) ≡ length text + (1 + length (joined (next ∷ fields)))
-joined_length text next fields = omega (arith, length-append text (32 ∷ joined (next ∷ fields)))
-
 -- ---- a line of fields
 
 second_byte : (code : Code) (front rest : List ℕ) → is_remark (code_letter code ∷ (front ++ (32 ∷ rest))) ≡ false
 second_byte code [] rest = code_no_remark code 32 rest
 second_byte code (b ∷ front) rest = code_no_remark code b (front ++ (32 ∷ rest))
 
-row_of_fields : (season : Term) (code : Code) (front next : List ℕ) (fields : List (List ℕ)) (value : Line) → AllFull ((code_letter code ∷ front) ∷ next ∷ fields) → length (joined ((code_letter code ∷ front) ∷ next ∷ fields)) ≤ most_bytes
+row_of_fields : (season : Term) (code : Code) (front next : List ℕ) (fields : List (List ℕ)) (value : Line) → AllFull ((code_letter code ∷ front) ∷ next ∷ fields) → length (joined ((code_letter code ∷ front) ∷ next ∷ fields)) ≤ LONGEST_LINE
     → IsLine season ((code_letter code ∷ front) ∷ next ∷ fields) value → IsRow season (joined ((code_letter code ∷ front) ∷ next ∷ fields)) (entry value)
 row_of_fields season code front next fields value full short is =
     let all : List (List ℕ) = (code_letter code ∷ front) ∷ next ∷ fields in
@@ -364,19 +300,7 @@ arrival_back season code stop period seats craft law asked fits middle =
     let shape : shape_of fields ≡ arrival = rw (no_single code stop.flight fits.flight, dates_no_flight season period) refl in
     let said = arrival_6 season fields line (asked, flight_named stop.flight fits.flight) (spells_period season period law middle.first middle.last middle.ordered) (record { week = middle.week; spelled = inl refl }, middle.dated)
     (record { few = middle.few; kind = middle.kind; spelled = refl }) (record { stations = fits.stations; time = fits.minute; spelled = refl }) (fits.service, refl) in
-    let short : length (joined fields) ≤ most_bytes =
-    omega (
-      arith,
-      length-append (code_letter code ∷ flight_text stop.flight) (32 ∷ joined (d ∷ w ∷ s ∷ g ∷ (stop.service ∷ []) ∷ [])),
-      joined_length d w (s ∷ g ∷ (stop.service ∷ []) ∷ []),
-      joined_length w s (g ∷ (stop.service ∷ []) ∷ []),
-      joined_length s g ((stop.service ∷ []) ∷ []),
-      joined_length g (stop.service ∷ []) [],
-      flight_few stop.flight fits.flight,
-      dates_few season period,
-      seats_few seats craft.0 middle.kind,
-      coming_few stop fits,
-    ) in
+    let short : length (joined fields) ≤ LONGEST_LINE = omega (arith, arrival_short season code stop period seats craft.0 fits middle.kind) in
     row_of_fields season code (flight_text stop.flight) d (w ∷ s ∷ g ∷ (stop.service ∷ []) ∷ []) line (
       code_clean code stop.flight fits.flight,
       omega arith,
@@ -409,20 +333,7 @@ departure_back season code stop period seats craft law asked fits middle =
     let shape : shape_of fields ≡ departure = refl in
     let said = departure_7 season fields line (asked, refl) (flight_named stop.flight fits.flight) (spells_period season period law middle.first middle.last middle.ordered) (record { week = middle.week; spelled = inl refl }, middle.dated)
     (record { few = middle.few; kind = middle.kind; spelled = refl }) (record { stations = fits.stations; time = fits.minute; spelled = refl }) (fits.service, refl) in
-    let short : length (joined fields) ≤ most_bytes =
-    omega (
-      arith,
-      length-append (code_letter code ∷ []) (32 ∷ joined (f ∷ d ∷ w ∷ s ∷ g ∷ (stop.service ∷ []) ∷ [])),
-      joined_length f d (w ∷ s ∷ g ∷ (stop.service ∷ []) ∷ []),
-      joined_length d w (s ∷ g ∷ (stop.service ∷ []) ∷ []),
-      joined_length w s (g ∷ (stop.service ∷ []) ∷ []),
-      joined_length s g ((stop.service ∷ []) ∷ []),
-      joined_length g (stop.service ∷ []) [],
-      flight_few stop.flight fits.flight,
-      dates_few season period,
-      seats_few seats craft.0 middle.kind,
-      going_few stop 0 fits,
-    ) in
+    let short : length (joined fields) ≤ LONGEST_LINE = omega (arith, departure_short season code stop period seats craft.0 fits middle.kind) in
     row_of_fields season code [] f (d ∷ w ∷ s ∷ g ∷ (stop.service ∷ []) ∷ []) line (
       (code_above code, tt),
       omega arith,
@@ -459,23 +370,7 @@ turnaround_back season code coming going nights period seats craft law asked com
     let said = turnaround_8 season fields line (asked, flight_named coming.flight comes.flight) (flight_named going.flight goes.flight) (spells_period season period law middle.first middle.last middle.ordered) (record { week = middle.week; spelled = inl refl }, middle.dated)
     (record { few = middle.few; kind = middle.kind; spelled = refl }) (record { stations = comes.stations; time = comes.minute; spelled = refl })
     (record { nights_text = nights_text nights; group = record { stations = goes.stations; time = goes.minute; spelled = refl }; nights_said = spells_nights nights few; later = later }) (comes.service, goes.service, refl) in
-    let short : length (joined fields) ≤ most_bytes =
-    omega (
-      arith,
-      length-append (code_letter code ∷ flight_text coming.flight) (32 ∷ joined (f ∷ d ∷ w ∷ s ∷ g ∷ h ∷ v ∷ [])),
-      joined_length f d (w ∷ s ∷ g ∷ h ∷ v ∷ []),
-      joined_length d w (s ∷ g ∷ h ∷ v ∷ []),
-      joined_length w s (g ∷ h ∷ v ∷ []),
-      joined_length s g (h ∷ v ∷ []),
-      joined_length g h (v ∷ []),
-      joined_length h v [],
-      flight_few coming.flight comes.flight,
-      flight_few going.flight goes.flight,
-      dates_few season period,
-      seats_few seats craft.0 middle.kind,
-      coming_few coming comes,
-      going_few going nights goes,
-    ) in
+    let short : length (joined fields) ≤ LONGEST_LINE = omega (arith, turnaround_short season code coming going nights period seats craft.0 comes goes middle.kind) in
     row_of_fields season code (flight_text coming.flight) f (d ∷ w ∷ s ∷ g ∷ h ∷ v ∷ []) line (
       code_clean code coming.flight comes.flight,
       omega arith,

@@ -2,10 +2,11 @@
 use Rattle.std.proofs.Common.{◌≡◌, ℕ, ◌<◌, ◌≤◌, true, false, List, take, Some, refl, sym, ap, ◌∙◌, inl, inr, length, arith}
 use Rattle.std.proofs.lemmas.Bool.{both_ways}
 use Rattle.season_days.specs.Term.{Term}
+use Rattle.slot_text.specs.declared.lines.TheConstants.{LONGEST_LINE}
 use Rattle.scr_reader.specs.declared.line.Line.{Line}
 use Rattle.scr_reader.specs.declared.line.Flight.{Flight}
 use Rattle.scr_reader.specs.Shapes.{IsLine, IsFaultyField}
-use Rattle.scr_reader.specs.Rows.{Row, remark, entry, question, is_remark, is_question, line_fields, most_bytes, IsRow, IsQuestion, IsFaultyQuestion}
+use Rattle.scr_reader.specs.Rows.{Row, remark, entry, question, is_remark, is_question, line_fields, IsRow, IsQuestion, IsFaultyQuestion}
 use Rattle.scr_reader.specs.Readings.{IsRowReading, row_read}
 use Rattle.scr_reader.specs.declared.rows.Reading.TheVariants.{Remark, LongRemark, TooLong, Bad, Entry, Question}
 use Rattle.scr_reader.proofs.NineLemmas.{line_whole, line_cut, faulty_whole, same_asks, question_whole, question_cut, faulty_question_whole, faulty_no_line, faulty_no_question}
@@ -15,7 +16,7 @@ only_entry season line value fields asked same remark is = absurd (both_ways (is
 only_entry season line value fields asked same (entry other) is = ap (λ (l : Line). Some (entry l)) (same other is.1)
 only_entry season line value fields asked same (question flight) is = absurd (both_ways (is_question (line_fields line)) asked is.0.kind)
 
-pub entry_reading : (season : Term) (line : List ℕ) (value : Line) → is_remark line ≡ false → length line ≤ most_bytes → is_question (take 9 (line_fields line)) ≡ false → IsLine season (take 9 (line_fields line)) value
+pub entry_reading : (season : Term) (line : List ℕ) (value : Line) → is_remark line ≡ false → length line ≤ LONGEST_LINE → is_question (take 9 (line_fields line)) ≡ false → IsLine season (take 9 (line_fields line)) value
     → ((other : Line) → IsLine season (take 9 (line_fields line)) other → value ≡ other) → IsRowReading season line (Entry value)
 entry_reading season line value fields short asks is same =
     let asked : is_question (line_fields line) ≡ false = sym (same_asks (line_fields line)) ∙ asks in
@@ -31,7 +32,7 @@ only_question season line flight fields asked same remark is = absurd (both_ways
 only_question season line flight fields asked same (entry other) is = absurd (both_ways (is_question (line_fields line)) is.0.kind asked)
 only_question season line flight fields asked same (question other) is = ap (λ (f : Flight). Some (question f)) (same other is.1)
 
-pub question_reading : (season : Term) (line : List ℕ) (flight : Flight) → is_remark line ≡ false → length line ≤ most_bytes → is_question (take 9 (line_fields line)) ≡ true → IsQuestion (take 9 (line_fields line)) flight
+pub question_reading : (season : Term) (line : List ℕ) (flight : Flight) → is_remark line ≡ false → length line ≤ LONGEST_LINE → is_question (take 9 (line_fields line)) ≡ true → IsQuestion (take 9 (line_fields line)) flight
     → ((other : Flight) → IsQuestion (take 9 (line_fields line)) other → flight ≡ other) → IsRowReading season line (Question flight)
 question_reading season line flight fields short asks is same =
     let asked : is_question (line_fields line) ≡ true = sym (same_asks (line_fields line)) ∙ asks in
@@ -46,7 +47,7 @@ no_row_line season line k fields asked faulty remark is = both_ways (is_remark l
 no_row_line season line k fields asked faulty (entry other) is = faulty_no_line season (line_fields line) k other faulty is.1
 no_row_line season line k fields asked faulty (question flight) is = both_ways (is_question (line_fields line)) asked is.0.kind
 
-pub bad_line_reading : (season : Term) (line : List ℕ) (k : ℕ) → is_remark line ≡ false → length line ≤ most_bytes → is_question (take 9 (line_fields line)) ≡ false → IsFaultyField season (take 9 (line_fields line)) k → IsRowReading season line (Bad k)
+pub bad_line_reading : (season : Term) (line : List ℕ) (k : ℕ) → is_remark line ≡ false → length line ≤ LONGEST_LINE → is_question (take 9 (line_fields line)) ≡ false → IsFaultyField season (take 9 (line_fields line)) k → IsRowReading season line (Bad k)
 bad_line_reading season line k fields short asks faulty =
     let asked : is_question (line_fields line) ≡ false = sym (same_asks (line_fields line)) ∙ asks in
     let whole = faulty_whole season (line_fields line) k faulty in
@@ -58,7 +59,7 @@ no_row_question season line k fields asked faulty remark is = both_ways (is_rema
 no_row_question season line k fields asked faulty (entry other) is = both_ways (is_question (line_fields line)) is.0.kind asked
 no_row_question season line k fields asked faulty (question flight) is = faulty_no_question (line_fields line) k flight faulty is.1
 
-pub bad_question_reading : (season : Term) (line : List ℕ) (k : ℕ) → is_remark line ≡ false → length line ≤ most_bytes → is_question (take 9 (line_fields line)) ≡ true → IsFaultyQuestion (take 9 (line_fields line)) k → IsRowReading season line (Bad k)
+pub bad_question_reading : (season : Term) (line : List ℕ) (k : ℕ) → is_remark line ≡ false → length line ≤ LONGEST_LINE → is_question (take 9 (line_fields line)) ≡ true → IsFaultyQuestion (take 9 (line_fields line)) k → IsRowReading season line (Bad k)
 bad_question_reading season line k fields short asks faulty =
     let asked : is_question (line_fields line) ≡ true = sym (same_asks (line_fields line)) ∙ asks in
     let whole = faulty_question_whole (line_fields line) k faulty in
@@ -72,18 +73,18 @@ only_remark season line is remark row = refl
 only_remark season line is (entry other) row = absurd (both_ways (is_remark line) row.0.read is)
 only_remark season line is (question flight) row = absurd (both_ways (is_remark line) row.0.read is)
 
-pub remark_reading : (season : Term) (line : List ℕ) → is_remark line ≡ true → length line ≤ most_bytes → IsRowReading season line Remark
+pub remark_reading : (season : Term) (line : List ℕ) → is_remark line ≡ true → length line ≤ LONGEST_LINE → IsRowReading season line Remark
 remark_reading season line is short = record { row = is; only = only_remark season line is; own = short }
 
-pub long_remark_reading : (season : Term) (line : List ℕ) → is_remark line ≡ true → most_bytes < length line → IsRowReading season line LongRemark
+pub long_remark_reading : (season : Term) (line : List ℕ) → is_remark line ≡ true → LONGEST_LINE < length line → IsRowReading season line LongRemark
 long_remark_reading season line is long = record { row = is; only = only_remark season line is; own = long }
 
-no_row_long : (season : Term) (line : List ℕ) → is_remark line ≡ false → most_bytes < length line → (row : Row) → IsRow season line row → ⊥
+no_row_long : (season : Term) (line : List ℕ) → is_remark line ≡ false → LONGEST_LINE < length line → (row : Row) → IsRow season line row → ⊥
 no_row_long season line fields long remark is = both_ways (is_remark line) fields is
 no_row_long season line fields long (entry other) is = omega (arith, is.0.short, long)
 no_row_long season line fields long (question flight) is = omega (arith, is.0.short, long)
 
-pub too_long_reading : (season : Term) (line : List ℕ) → is_remark line ≡ false → most_bytes < length line → IsRowReading season line TooLong
+pub too_long_reading : (season : Term) (line : List ℕ) → is_remark line ≡ false → LONGEST_LINE < length line → IsRowReading season line TooLong
 too_long_reading season line fields long =
     let none = no_row_long season line fields long in
     record { row = none; only = λ row is. absurd (none row is); own = long }

@@ -6,7 +6,8 @@ use Rattle.std.proofs.lemmas.Bool.{cases_Bool}
 use Rattle.std.proofs.lemmas.List.{length-drop}
 use Rattle.season_days.specs.Term.{Term}
 use Rattle.slot_text.specs.Lines.{lines_of}
-use Rattle.scr_reader.specs.Rows.{Row, is_empty_line, AreRows}
+use Rattle.slot_text.specs.Fields.{is_blank_line}
+use Rattle.scr_reader.specs.Rows.{Row, AreRows}
 use Rattle.scr_reader.specs.Messages.{header_length, header_of, body_of, Run, begins_in_run, onto_run, runs_of, row_item, place, items_of, IsMessage, AreMessages, runs_in, ReadsAll}
 use Rattle.scr_reader.specs.Rising.{item_line, named_lines, all_named_lines}
 use Rattle.scr_reader.specs.declared.line.Item.{Item}
@@ -85,7 +86,7 @@ runs_rise number (line ∷ lines) =
     let high = number + length (line ∷ lines) in
     let count : number + 1 + length lines ≡ high = omega arith in
     let rest : RunsRise (number + 1) high (runs_of (number + 1) lines) = subst (λ (h : ℕ). RunsRise (number + 1) h (runs_of (number + 1) lines)) count (runs_rise (number + 1) lines) in
-    elim (cases_Bool (is_empty_line line)) [
+    elim (cases_Bool (is_blank_line line)) [
       | inl empty ↦ subst (λ (r : List Run). RunsRise number high r) (sym (runs_skip number line lines empty)) (runs_from number (number + 1) high (runs_of (number + 1) lines) (omega arith) rest)
       | inr full ↦ elim (cases_Bool (begins_in_run lines)) [
         | inl goes_on ↦ subst (λ (r : List Run). RunsRise number high r) (sym (runs_onto number line lines full goes_on)) (onto_rises number high line (runs_of (number + 1) lines) rest)

@@ -4,8 +4,8 @@ use Rattle.std.proofs.lemmas.Bool.{cases_Bool}
 use Rattle.std.proofs.lemmas.List.{take_more, map-append, append-nil}
 use Rattle.slot_text.specs.Lines.{lines_of}
 use Rattle.season_days.specs.Term.{Term}
+use Rattle.slot_text.specs.Fields.{is_blank_line}
 use Rattle.scr_reader.specs.Texts.{text_in, texts_in}
-use Rattle.scr_reader.specs.Rows.{is_empty_line}
 use Rattle.scr_reader.specs.Readings.{IsRowReading, AreReadings}
 use Rattle.scr_reader.specs.Messages.{run_from, begins_in_run, onto_run, runs_of, front_length}
 use Rattle.scr_reader.specs.declared.rows.Reading.{Reading}
@@ -16,18 +16,18 @@ pub front_none : front_length [] ≡ 0
 unfolding front_length
 front_none = refl
 
-pub front_full : (line : List ℕ) (lines : List (List ℕ)) → is_empty_line line ≡ false → front_length (line ∷ lines) ≡ suc (front_length lines)
+pub front_full : (line : List ℕ) (lines : List (List ℕ)) → is_blank_line line ≡ false → front_length (line ∷ lines) ≡ suc (front_length lines)
 unfolding front_length
 front_full line lines full = rw full refl
 
-pub front_empty : (line : List ℕ) (lines : List (List ℕ)) → is_empty_line line ≡ true → front_length (line ∷ lines) ≡ 0
+pub front_empty : (line : List ℕ) (lines : List (List ℕ)) → is_blank_line line ≡ true → front_length (line ∷ lines) ≡ 0
 unfolding front_length
 front_empty line lines empty = rw empty refl
 
 line_here : (lines : List (Bor (List ℕ))) (i : ℕ) (d : Bor (List ℕ)) → i < length lines → texts_in (drop i lines) ≡ (get_or lines i d).now ∷ texts_in (drop (suc i) lines)
 line_here lines i d lt = ap texts_in (drop-cons lines i d lt)
 
-pub front_more : (lines : List (Bor (List ℕ))) (i : ℕ) (d : Bor (List ℕ)) → i < length lines → is_empty_line (get_or lines i d).now ≡ false → front_length (texts_in lines) ≡ i + front_length (texts_in (drop i lines))
+pub front_more : (lines : List (Bor (List ℕ))) (i : ℕ) (d : Bor (List ℕ)) → i < length lines → is_blank_line (get_or lines i d).now ≡ false → front_length (texts_in lines) ≡ i + front_length (texts_in (drop i lines))
     → front_length (texts_in lines) ≡ i + 1 + front_length (texts_in (drop (i + 1) lines))
 front_more lines i d lt full so_far =
     let here = ap front_length (line_here lines i d lt) ∙ front_full (get_or lines i d).now (texts_in (drop (suc i) lines)) full in
@@ -35,7 +35,7 @@ front_more lines i d lt full so_far =
     let moved : front_length (texts_in (drop (suc i) lines)) ≡ front_length (texts_in (drop (i + 1) lines)) = ap (λ (k : ℕ). front_length (texts_in (drop k lines))) next in
     omega (arith, so_far, here, moved)
 
-pub front_stop : (lines : List (Bor (List ℕ))) (i : ℕ) (d : Bor (List ℕ)) → i < length lines → is_empty_line (get_or lines i d).now ≡ true → front_length (texts_in lines) ≡ i + front_length (texts_in (drop i lines)) → i ≡ front_length (texts_in lines)
+pub front_stop : (lines : List (Bor (List ℕ))) (i : ℕ) (d : Bor (List ℕ)) → i < length lines → is_blank_line (get_or lines i d).now ≡ true → front_length (texts_in lines) ≡ i + front_length (texts_in (drop i lines)) → i ≡ front_length (texts_in lines)
 front_stop lines i d lt empty so_far =
     let here = ap front_length (line_here lines i d lt) ∙ front_empty (get_or lines i d).now (texts_in (drop (suc i) lines)) empty in
     omega (arith, so_far, here)
@@ -53,25 +53,25 @@ front_end lines i past so_far =
 
 -- ---- the first run
 
-pub runs_one : (n : ℕ) (line : List ℕ) (lines : List (List ℕ)) → is_empty_line line ≡ false → begins_in_run lines ≡ false → runs_of n (line ∷ lines) ≡ run_from n (line ∷ []) ∷ runs_of (n + 1) lines
+pub runs_one : (n : ℕ) (line : List ℕ) (lines : List (List ℕ)) → is_blank_line line ≡ false → begins_in_run lines ≡ false → runs_of n (line ∷ lines) ≡ run_from n (line ∷ []) ∷ runs_of (n + 1) lines
 unfolding runs_of
 runs_one n line lines full ends = rw (full, ends) refl
 
-pub runs_onto : (n : ℕ) (line : List ℕ) (lines : List (List ℕ)) → is_empty_line line ≡ false → begins_in_run lines ≡ true → runs_of n (line ∷ lines) ≡ onto_run n line (runs_of (n + 1) lines)
+pub runs_onto : (n : ℕ) (line : List ℕ) (lines : List (List ℕ)) → is_blank_line line ≡ false → begins_in_run lines ≡ true → runs_of n (line ∷ lines) ≡ onto_run n line (runs_of (n + 1) lines)
 unfolding runs_of
 runs_onto n line lines full goes_on = rw (full, goes_on) refl
 
-pub runs_skip : (n : ℕ) (line : List ℕ) (lines : List (List ℕ)) → is_empty_line line ≡ true → runs_of n (line ∷ lines) ≡ runs_of (n + 1) lines
+pub runs_skip : (n : ℕ) (line : List ℕ) (lines : List (List ℕ)) → is_blank_line line ≡ true → runs_of n (line ∷ lines) ≡ runs_of (n + 1) lines
 unfolding runs_of
 runs_skip n line lines empty = rw empty refl
 
-pub runs_cons : (n : ℕ) (line : List ℕ) (lines : List (List ℕ)) → is_empty_line line ≡ false
+pub runs_cons : (n : ℕ) (line : List ℕ) (lines : List (List ℕ)) → is_blank_line line ≡ false
     → runs_of n (line ∷ lines) ≡ run_from n (take (front_length (line ∷ lines)) (line ∷ lines)) ∷ runs_of (n + front_length (line ∷ lines)) (drop (front_length (line ∷ lines)) (line ∷ lines))
 runs_cons n line [] full =
     let one : front_length (line ∷ []) ≡ 1 = front_full line [] full ∙ ap (λ (k : ℕ). suc k) front_none in
     rw one (runs_one n line [] full refl)
 runs_cons n line (next ∷ lines) full =
-    elim (cases_Bool (is_empty_line next)) [
+    elim (cases_Bool (is_blank_line next)) [
       | inl empty ↦
           let one : front_length (line ∷ next ∷ lines) ≡ 1 = front_full line (next ∷ lines) full ∙ ap (λ (k : ℕ). suc k) (front_empty next lines empty) in
           rw one (runs_one n line (next ∷ lines) full (rw empty refl))

@@ -5,8 +5,8 @@ use Rattle.std.proofs.lemmas.List.{append-nil, length-map, length-drop}
 use Rattle.std.proofs.lemmas.Bool.{cases_Bool}
 use Rattle.std.specs.Prelude.{◌==◌, ◌&&◌}
 use Rattle.slot_text.specs.Lines.{lines_of, onto_first, starts_with_lf}
+use Rattle.slot_text.specs.Fields.{is_blank_line}
 use Rattle.scr_reader.specs.Texts.{text_in, texts_in}
-use Rattle.scr_reader.specs.Rows.{is_empty_line}
 use Rattle.scr_reader.specs.Messages.{Run, run_from, runs_of, front_length, IsMessage, IsMessageFault, AreMessages, IsFirstFault, FirstIs, IsFaultOfFirst}
 use Rattle.scr_reader.specs.Decided.{Decides, OnlyMessage, OnlyFault, Advances, Stops, BeginsFull}
 use Rattle.scr_reader.specs.declared.message.Message.{Message}
@@ -43,7 +43,7 @@ progress_start lines messages none =
 
 -- ---- one step
 
-pub blank_more : (lines : List (Bor (List ℕ))) (i : ℕ) (d : Bor (List ℕ)) → i < length lines → is_empty_line (get_or lines i d).now ≡ true → runs_of 1 (texts_in lines) ≡ runs_of (1 + i) (texts_in (drop i lines))
+pub blank_more : (lines : List (Bor (List ℕ))) (i : ℕ) (d : Bor (List ℕ)) → i < length lines → is_blank_line (get_or lines i d).now ≡ true → runs_of 1 (texts_in lines) ≡ runs_of (1 + i) (texts_in (drop i lines))
     → runs_of 1 (texts_in lines) ≡ runs_of (1 + (i + 1)) (texts_in (drop (i + 1) lines))
 blank_more lines i d lt empty so_far =
     let here : texts_in (drop i lines) ≡ (get_or lines i d).now ∷ texts_in (drop (suc i) lines) = ap texts_in (drop-cons lines i d lt) in
@@ -55,7 +55,7 @@ blank_more lines i d lt empty so_far =
 pub skip_one : (number : ℕ) (lines : List (List ℕ)) (messages : List Message) → 0 < length lines → front_length lines ≡ 0 → Advances number lines 1 messages messages
 skip_one number [] messages some none = absurd (omega (arith, some))
 skip_one number (line ∷ lines) messages some none =
-    let empty : is_empty_line line ≡ true = elim (cases_Bool (is_empty_line line)) [
+    let empty : is_blank_line line ≡ true = elim (cases_Bool (is_blank_line line)) [
       | inl is ↦ is
       | inr full ↦ absurd (omega (arith, none, front_full line lines full))
     ] in
@@ -64,7 +64,7 @@ skip_one number (line ∷ lines) messages some none =
 pub first_run : (number : ℕ) (lines : List (List ℕ)) → 1 ≤ front_length lines → runs_of number lines ≡ run_from number (take (front_length lines) lines) ∷ runs_of (number + front_length lines) (drop (front_length lines) lines)
 first_run number [] some = absurd (omega (arith, some, front_none))
 first_run number (line ∷ lines) some =
-    elim (cases_Bool (is_empty_line line)) [
+    elim (cases_Bool (is_blank_line line)) [
       | inl empty ↦ absurd (omega (arith, some, front_empty line lines empty))
       | inr full ↦ runs_cons number line lines full
     ]

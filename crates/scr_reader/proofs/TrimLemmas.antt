@@ -1,16 +1,10 @@
 -- Blanks at the end of a line.
-use Rattle.std.proofs.Common.{◌≡◌, ◌≢◌, ℕ, zero, suc, ◌+◌, ◌<◌, ◌≤◌, Bool, true, false, List, [], ◌∷◌, ◌++◌, length, take, drop, get_or, refl, sym, ap, ◌∙◌, arith, drop-cons, add-one}
+use Rattle.std.proofs.Common.{◌≡◌, ◌≢◌, ℕ, ◌+◌, ◌<◌, Bool, true, false, List, [], ◌∷◌, ◌++◌, length, take, get_or, refl, ◌∙◌, add-one}
 use Rattle.std.proofs.Math.Bool.{◌&&◌}
 use Rattle.std.proofs.lemmas.Bool.{ne_eqb}
 use Rattle.std.proofs.Math.Seq.{take-suc}
-use Rattle.slot_text.specs.Fields.{is_blank}
-use Rattle.scr_reader.specs.Rows.{is_empty_line, trimmed}
-
-nothing_left : (line : List ℕ) (i : ℕ) → length line ≤ i → drop i line ≡ []
-nothing_left [] zero past = refl
-nothing_left [] (suc i) past = refl
-nothing_left (b ∷ line) zero past = absurd (omega (arith, past))
-nothing_left (b ∷ line) (suc i) past = nothing_left line i (omega (arith, past))
+use Rattle.slot_text.specs.Fields.{is_blank, is_blank_line}
+use Rattle.scr_reader.specs.Rows.{trimmed}
 
 and_false : (a : Bool) → (a && false) ≡ false
 and_false true = refl
@@ -18,18 +12,6 @@ and_false false = refl
 
 pub not_blank : (b : ℕ) → b ≢ 32 → b ≢ 9 → is_blank b ≡ false
 not_blank b space tab = rw (ne_eqb b 32 space, ne_eqb b 9 tab) refl
-
-pub empty_step : (line : List ℕ) (i b : ℕ) → i < length line → get_or line i 0 ≡ b → is_blank b ≡ true → is_empty_line (drop i line) ≡ is_empty_line line → is_empty_line (drop (i + 1) line) ≡ is_empty_line line
-unfolding is_empty_line
-empty_step line i b lt at blank so_far =
-    let here : drop i line ≡ b ∷ drop (suc i) line = drop-cons line i 0 lt ∙ ap (λ (x : ℕ). x ∷ drop (suc i) line) at in
-    rw add-one (sym (ap is_empty_line here ∙ rw blank refl) ∙ so_far)
-
-pub empty_stop : (line : List ℕ) (i b : ℕ) → i < length line → get_or line i 0 ≡ b → is_blank b ≡ false → is_empty_line (drop i line) ≡ is_empty_line line → false ≡ is_empty_line line
-unfolding is_empty_line
-empty_stop line i b lt at byte so_far =
-    let here : drop i line ≡ b ∷ drop (suc i) line = drop-cons line i 0 lt ∙ ap (λ (x : ℕ). x ∷ drop (suc i) line) at in
-    sym (ap is_empty_line here ∙ rw byte refl) ∙ so_far
 
 and_true : (a : Bool) → (a && true) ≡ a
 and_true true = refl
@@ -39,24 +21,24 @@ and_groups : (a b c : Bool) → (a && (b && c)) ≡ ((a && b) && c)
 and_groups true b c = refl
 and_groups false b c = refl
 
-empty_more : (line : List ℕ) (b : ℕ) → is_empty_line (line ++ b ∷ []) ≡ (is_empty_line line && is_blank b)
-unfolding is_empty_line
+empty_more : (line : List ℕ) (b : ℕ) → is_blank_line (line ++ b ∷ []) ≡ (is_blank_line line && is_blank b)
+unfolding is_blank_line
 empty_more [] b = and_true (is_blank b)
-empty_more (x ∷ line) b = rw (empty_more line b) (and_groups (is_blank x) (is_empty_line line) (is_blank b))
+empty_more (x ∷ line) b = rw (empty_more line b) (and_groups (is_blank x) (is_blank_line line) (is_blank b))
 
-still_empty : (line : List ℕ) (b : ℕ) → is_blank b ≡ true → is_empty_line (line ++ b ∷ []) ≡ is_empty_line line
-still_empty line b blank = empty_more line b ∙ rw blank (and_true (is_empty_line line))
+still_empty : (line : List ℕ) (b : ℕ) → is_blank b ≡ true → is_blank_line (line ++ b ∷ []) ≡ is_blank_line line
+still_empty line b blank = empty_more line b ∙ rw blank (and_true (is_blank_line line))
 
-never_empty : (line : List ℕ) (b : ℕ) → is_blank b ≡ false → is_empty_line (line ++ b ∷ []) ≡ false
-never_empty line b byte = empty_more line b ∙ rw byte (and_false (is_empty_line line))
+never_empty : (line : List ℕ) (b : ℕ) → is_blank b ≡ false → is_blank_line (line ++ b ∷ []) ≡ false
+never_empty line b byte = empty_more line b ∙ rw byte (and_false (is_blank_line line))
 
 pub trim_blank : (line : List ℕ) (b : ℕ) → is_blank b ≡ true → trimmed (line ++ b ∷ []) ≡ trimmed line
-unfolding trimmed is_empty_line
+unfolding trimmed is_blank_line
 trim_blank [] b blank = rw blank refl
 trim_blank (x ∷ line) b blank = rw (still_empty line b blank, trim_blank line b blank) refl
 
 pub trim_byte : (line : List ℕ) (b : ℕ) → is_blank b ≡ false → trimmed (line ++ b ∷ []) ≡ line ++ b ∷ []
-unfolding trimmed is_empty_line
+unfolding trimmed is_blank_line
 trim_byte [] b byte = rw byte refl
 trim_byte (x ∷ line) b byte = rw (never_empty line b byte, and_false (is_blank x), trim_byte line b byte) refl
 
@@ -72,7 +54,3 @@ trim_on_byte line i b lt at byte =
 pub trim_nothing : (line : List ℕ) → trimmed (take 0 line) ≡ take 0 line
 unfolding trimmed
 trim_nothing line = refl
-
-pub empty_end : (line : List ℕ) (i : ℕ) → length line ≤ i → is_empty_line (drop i line) ≡ is_empty_line line → true ≡ is_empty_line line
-unfolding is_empty_line
-empty_end line i past so_far = sym (ap is_empty_line (nothing_left line i past)) ∙ so_far

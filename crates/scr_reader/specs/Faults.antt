@@ -6,8 +6,11 @@ use Rattle.scr_reader.specs.declared.fault.ScrFault.{ScrFault}
 use Rattle.scr_reader.specs.declared.fault.ScrFault.TheVariants.{BadLine, BadHeader, Unpaired, TooLong, Memory}
 
 abbrev pub scr_fault_text : ScrFault → List ℕ
-scr_fault_text (BadLine line field) = codes "line " ++ (decimal line ++ (codes ": field " ++ (decimal field ++ codes " has not its form")))
-scr_fault_text (BadHeader line) = codes "line " ++ (decimal line ++ codes ": a header line that has not its form")
+scr_fault_text (BadLine line field) =
+    codes "line "
+    ++ (decimal line ++ (codes ": field " ++ (decimal field ++ codes " has not its form")))
+scr_fault_text (BadHeader line) =
+    codes "line " ++ (decimal line ++ codes ": a header line that has not its form")
 scr_fault_text (Unpaired line) = codes "line " ++ (decimal line ++ codes ": an unpaired change")
 scr_fault_text (TooLong line) = codes "line " ++ (decimal line ++ codes ": more than 200 bytes")
 scr_fault_text Memory = memory_text

@@ -2,8 +2,8 @@
 use Rattle.std.specs.Prelude.{ℕ, ◌-◌, if◌then◌else◌, List, [], ◌∷◌}
 use Rattle.scr_reader.specs.Bytes.{is_digit}
 use Rattle.scr_reader.specs.Shapes.{Shape, arrival, departure, turnaround}
-use Rattle.scr_reader.specs.declared.lines.Movements.{Movements}
-use Rattle.scr_reader.specs.declared.lines.Movements.TheVariants.{Arrival, Departure, Both}
+use Rattle.scr_reader.specs.declared.line_reader.Movements.{Movements}
+use Rattle.scr_reader.specs.declared.line_reader.Movements.TheVariants.{Arrival, Departure, Both}
 
 -- the digit in front, or 0, and what follows it
 abbrev pub leading_nights : List ℕ → ℕ

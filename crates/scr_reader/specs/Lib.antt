@@ -13,3 +13,4 @@ pub mod Printed
 pub mod Faults
 pub mod Again
 pub mod Rising
+pub mod Strays

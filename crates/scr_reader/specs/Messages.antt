@@ -1,11 +1,14 @@
--- Messages: the header, the rows with their pairs, the first fault, and several messages in one text.
+-- Messages: the header, the rows with their pairs, the first fault, and several messages in one
+-- text.
 use Rattle.std.specs.Prelude.{◌≡◌, ◌⊎◌, ℕ, suc, ◌+◌, ◌<◌, ◌≤◌, Bool, true, false, ◌==◌, if◌then◌else◌, List, [], ◌∷◌, length, drop, slice_get, Option, Some, None, is_some, IsSomeAnd, codes}
 use Rattle.slot_text.specs.Lines.{lines_of}
 use Rattle.slot_text.specs.Stations.{IsStation}
 use Rattle.season_days.specs.Term.{Term}
 use Rattle.season_days.specs.Seasons.{season_text}
+use Rattle.slot_text.specs.declared.lines.TheConstants.{LONGEST_LINE}
+use Rattle.slot_text.specs.Fields.{is_blank_line}
 use Rattle.scr_reader.specs.Parts.{date_text, IsDayOfMonth}
-use Rattle.scr_reader.specs.Rows.{is_empty_line, trimmed, Row, remark, entry, question, most_bytes, AreRows, IsBadField}
+use Rattle.scr_reader.specs.Rows.{trimmed, Row, remark, entry, question, AreRows, IsBadField}
 use Rattle.scr_reader.specs.declared.line.Line.{Line}
 use Rattle.scr_reader.specs.declared.line.Code.{Code}
 use Rattle.scr_reader.specs.declared.line.Code.TheVariants.{C, R, L}
@@ -39,17 +42,20 @@ abbrev pub parts_from_season : List HeaderPart
 parts_from_season = season_name ∷ date_name ∷ airport_name ∷ []
 
 abbrev pub header_parts : List (List ℕ) → List HeaderPart
-header_parts lines = title ∷ (if has_address lines then address ∷ parts_from_season else parts_from_season)
+header_parts lines =
+    title ∷ (if has_address lines then address ∷ parts_from_season else parts_from_season)
 
 abbrev pub IsShort : List ℕ → Type 0
-IsShort line = length line ≤ most_bytes
+IsShort line = length line ≤ LONGEST_LINE
 
 -- what a line of the header says
 abbrev pub HeaderSays : HeaderPart → List ℕ → Header → Type 0
 HeaderSays title line header = trimmed line ≡ codes "SCR"
 HeaderSays address line header = Unit {0}
-HeaderSays season_name line header = (header.season.year < 100) × (trimmed line ≡ season_text header.season)
-HeaderSays date_name line header = IsDayOfMonth header.month header.day × (trimmed line ≡ date_text header.month header.day)
+HeaderSays season_name line header =
+    (header.season.year < 100) × (trimmed line ≡ season_text header.season)
+HeaderSays date_name line header =
+    IsDayOfMonth header.month header.day × (trimmed line ≡ date_text header.month header.day)
 HeaderSays airport_name line header = IsStation header.airport.0 × (trimmed line ≡ header.airport.0)
 
 -- the line is there, is not too long, and says so
@@ -59,29 +65,39 @@ PartSays part line header = IsSomeAnd line (λ text. IsShort text × HeaderSays 
 -- the lines from a place on are those of the parts, and say what the header is
 abbrev pub HeaderAgrees : ℕ → List HeaderPart → List (List ℕ) → Header → Type 0
 HeaderAgrees place [] lines header = Unit {0}
-HeaderAgrees place (part ∷ parts) lines header = PartSays part (slice_get lines place) header × HeaderAgrees (place + 1) parts lines header
+HeaderAgrees place (part ∷ parts) lines header =
+    PartSays part (slice_get lines place) header × HeaderAgrees (place + 1) parts lines header
 
 -- a line is missing or too long
 abbrev pub IsMissingOrLong : ℕ → Option (List ℕ) → ScrFault → Type 0
 IsMissingOrLong number None fault = fault ≡ BadHeader number
-IsMissingOrLong number (Some line) fault = (most_bytes < length line) × (fault ≡ TooLong number)
+IsMissingOrLong number (Some line) fault = (LONGEST_LINE < length line) × (fault ≡ TooLong number)
 
 -- a line of the header is missing or too long, or has not its form
 abbrev pub IsPartFault : HeaderPart → ℕ → Option (List ℕ) → ScrFault → Type 0
 IsPartFault part number line fault =
     IsMissingOrLong number line fault
-    ⊎ (IsSomeAnd line (λ text. IsShort text × ((header : Header) → HeaderSays part text header → ⊥)) × (fault ≡ BadHeader number))
+    ⊎ (IsSomeAnd line (λ text. IsShort text × ((header : Header) → HeaderSays part text header → ⊥))
+    × (fault ≡ BadHeader number))
 
--- the fault of the first line of the header that has one, the first line of the run having the number
+-- the fault of the first line of the header that has one, the first line of the run having the
+-- number
 abbrev pub IsHeaderFault : ℕ → List HeaderPart → ℕ → List (List ℕ) → ScrFault → Type 0
 IsHeaderFault place [] first lines fault = ⊥
 IsHeaderFault place (part ∷ parts) first lines fault =
     IsPartFault part (first + place) (slice_get lines place) fault
-    ⊎ (((header : Header) × PartSays part (slice_get lines place) header) × IsHeaderFault (place + 1) parts first lines fault)
+    ⊎ (((header : Header) × PartSays part (slice_get lines place) header)
+    × IsHeaderFault (place + 1) parts first lines fault)
 
 -- what the header of a message says
 abbrev pub header_of : Message → Header
-header_of message = record { season = message.season; day = message.day; month = message.month; airport = message.airport }
+header_of message =
+    record {
+      season = message.season;
+      day = message.day;
+      month = message.month;
+      airport = message.airport;
+    }
 
 -- ---- pairs
 
@@ -110,8 +126,8 @@ RowIsChange remark = ⊥
 RowIsChange (entry changed) = changed.code ≡ C
 RowIsChange (question flight) = ⊥
 
--- A line that changes is followed by the line that asks for it, and one that asks for a change follows a line that changes.
--- The rows before it stand from the last to the first.
+-- A line that changes is followed by the line that asks for it, and one that asks for a change
+-- follows a line that changes. The rows before it stand from the last to the first.
 abbrev pub LineIsPaired : Code → Line → List (Option Row) → List (Option Row) → Type 0
 LineIsPaired C line before after = IsSomeAnd (next_row after) (RowAsksChange line)
 LineIsPaired R line before after = IsSomeAnd (next_row before) RowIsChange
@@ -130,22 +146,29 @@ IsGoodRow line None before after = ⊥
 IsGoodRow line (Some row) before after = IsShort line × IsPaired row before after
 
 abbrev pub AreGood : List (Option Row) → List (List ℕ) → List (Option Row) → Type 0
-AreGood before (line ∷ lines) (row ∷ rows) = IsGoodRow line row before rows × AreGood (row ∷ before) lines rows
+AreGood before (line ∷ lines) (row ∷ rows) =
+    IsGoodRow line row before rows × AreGood (row ∷ before) lines rows
 AreGood before lines rows = Unit {0}
 
 -- one line's fault: too long, then the first field that has not its form, then unpaired
-abbrev pub IsLineFault : Term → ℕ → List ℕ → Option Row → List (Option Row) → List (Option Row) → ScrFault → Type 0
-IsLineFault season number line row before after (TooLong at) = (at ≡ number) × (most_bytes < length line)
-IsLineFault season number line row before after (BadLine at field) = (at ≡ number) × IsBadField season line field
-IsLineFault season number line row before after (Unpaired at) = (at ≡ number) × IsShort line × IsSomeAnd row (λ r. IsPaired r before after → ⊥)
+abbrev pub IsLineFault : Term → ℕ → List ℕ → Option Row → List (Option Row) → List (Option Row) →
+    ScrFault → Type 0
+IsLineFault season number line row before after (TooLong at) =
+    (at ≡ number) × (LONGEST_LINE < length line)
+IsLineFault season number line row before after (BadLine at field) =
+    (at ≡ number) × IsBadField season line field
+IsLineFault season number line row before after (Unpaired at) =
+    (at ≡ number) × IsShort line × IsSomeAnd row (λ r. IsPaired r before after → ⊥)
 IsLineFault season number line row before after (BadHeader at) = ⊥
 IsLineFault season number line row before after Memory = ⊥
 
 -- the fault of the lowest line
-abbrev pub IsBodyFault : Term → ℕ → List (Option Row) → List (List ℕ) → List (Option Row) → ScrFault → Type 0
+abbrev pub IsBodyFault : Term → ℕ → List (Option Row) → List (List ℕ) → List (Option Row) →
+    ScrFault → Type 0
 IsBodyFault season number before (line ∷ lines) (row ∷ rows) fault =
     IsLineFault season number line row before rows fault
-    ⊎ (IsGoodRow line row before rows × IsBodyFault season (number + 1) (row ∷ before) lines rows fault)
+    ⊎ (IsGoodRow line row before rows
+    × IsBodyFault season (number + 1) (row ∷ before) lines rows fault)
 IsBodyFault season number before lines rows fault = ⊥
 
 -- ---- items
@@ -209,17 +232,19 @@ pub record IsFaultBelow (run : Run) (fault : ScrFault) : Type 0 where
   pub header : Header
   pub agrees : HeaderAgrees 0 (header_parts run.lines) run.lines header
   pub read : AreRows header.season (body_of run.lines) rows
-  pub below : IsBodyFault header.season (run.number + header_length run.lines) [] (body_of run.lines) rows fault
+  pub below : IsBodyFault header.season (run.number + header_length run.lines) []
+      (body_of run.lines) rows fault
 
 -- the fault of the lowest line of a message
 abbrev pub IsMessageFault : Run → ScrFault → Type 0
-IsMessageFault run fault = IsHeaderFault 0 (header_parts run.lines) run.number run.lines fault ⊎ IsFaultBelow run fault
+IsMessageFault run fault =
+    IsHeaderFault 0 (header_parts run.lines) run.number run.lines fault ⊎ IsFaultBelow run fault
 
 -- ---- several messages
 
 abbrev pub begins_in_run : List (List ℕ) → Bool
 begins_in_run [] = false
-begins_in_run (line ∷ lines) = if is_empty_line line then false else true
+begins_in_run (line ∷ lines) = if is_blank_line line then false else true
 
 abbrev pub onto_run : ℕ → List ℕ → List Run → List Run
 onto_run number line [] = record { number = number; lines = line ∷ [] } ∷ []
@@ -229,14 +254,14 @@ onto_run number line (run ∷ runs) = record { number = number; lines = line ∷
 unfoldable pub runs_of : ℕ → List (List ℕ) → List Run
 runs_of number [] = []
 runs_of number (line ∷ lines) =
-    if is_empty_line line then runs_of (number + 1) lines
+    if is_blank_line line then runs_of (number + 1) lines
     else (if begins_in_run lines then onto_run number line (runs_of (number + 1) lines)
     else record { number = number; lines = line ∷ [] } ∷ runs_of (number + 1) lines)
 
 -- how many lines stand before the first empty one
 unfoldable pub front_length : List (List ℕ) → ℕ
 front_length [] = 0
-front_length (line ∷ lines) = if is_empty_line line then 0 else suc (front_length lines)
+front_length (line ∷ lines) = if is_blank_line line then 0 else suc (front_length lines)
 
 -- the text's runs are these messages
 abbrev pub AreMessages : List Run → List Message → Type 0
@@ -247,7 +272,9 @@ AreMessages (run ∷ runs) (message ∷ messages) = IsMessage run message × Are
 
 abbrev pub IsFirstFault : List Run → ScrFault → Type 0
 IsFirstFault [] fault = ⊥
-IsFirstFault (run ∷ runs) fault = IsMessageFault run fault ⊎ (((message : Message) × IsMessage run message) × IsFirstFault runs fault)
+IsFirstFault (run ∷ runs) fault =
+    IsMessageFault run fault
+    ⊎ (((message : Message) × IsMessage run message) × IsFirstFault runs fault)
 
 -- the first run is the message; where there is none, the header is missing after the last line
 abbrev pub FirstIs : List Run → Message → Type 0

@@ -38,16 +38,20 @@ HasFaultAt number Remark before after fault = ⊥
 HasFaultAt number LongRemark before after fault = fault ≡ TooLong number
 HasFaultAt number OverLong before after fault = fault ≡ TooLong number
 HasFaultAt number (Bad field) before after fault = fault ≡ BadLine number field
-HasFaultAt number (Entry line) before after fault = (LineIsPaired line.code line before after → ⊥) × (fault ≡ Unpaired number)
+HasFaultAt number (Entry line) before after fault =
+    (LineIsPaired line.code line before after → ⊥) × (fault ≡ Unpaired number)
 HasFaultAt number (Question flight) before after fault = ⊥
 
 abbrev pub AreGoodReadings : List (Option Row) → List Reading → Type 0
 AreGoodReadings before [] = Unit {0}
-AreGoodReadings before (reading ∷ readings) = IsGoodReading reading before (rows_read readings) × AreGoodReadings (row_read reading ∷ before) readings
+AreGoodReadings before (reading ∷ readings) =
+    IsGoodReading reading before (rows_read readings)
+    × AreGoodReadings (row_read reading ∷ before) readings
 
 -- the fault of the first line that has one
 abbrev pub IsFirstAt : ℕ → List (Option Row) → List Reading → ScrFault → Type 0
 IsFirstAt number before [] fault = ⊥
 IsFirstAt number before (reading ∷ readings) fault =
     HasFaultAt number reading before (rows_read readings) fault
-    ⊎ (IsGoodReading reading before (rows_read readings) × IsFirstAt (number + 1) (row_read reading ∷ before) readings fault)
+    ⊎ (IsGoodReading reading before (rows_read readings)
+    × IsFirstAt (number + 1) (row_read reading ∷ before) readings fault)

@@ -4,6 +4,7 @@ use Rattle.schedule_text.specs.Times.{digit, two_digits, time_text}
 use Rattle.jiff_core.specs.Calendar.{days_in_month}
 use Rattle.scr_reader.specs.Bytes.{is_letter, is_digit, is_letter_or_digit, three_digits}
 use Rattle.season_days.specs.Term.{Term}
+use Rattle.season_days.specs.declared.declaration.TheConstants.{MINUTES_OF_DAY}
 use Rattle.season_days.specs.Seasons.{IsDayNamed}
 use Rattle.slot_text.specs.Stations.{IsStation}
 use Rattle.slot_text.specs.declared.station.Station.{Station}
@@ -30,7 +31,8 @@ code_of b =
 
 -- two bytes of which one is a letter and each a letter or a digit, or three letters
 abbrev pub AirlineFits : List ℕ → Type 0
-AirlineFits (a ∷ b ∷ zero ∷ []) = ((is_letter_or_digit a && is_letter_or_digit b) && (is_letter a || is_letter b)) ≡ true
+AirlineFits (a ∷ b ∷ zero ∷ []) =
+    ((is_letter_or_digit a && is_letter_or_digit b) && (is_letter a || is_letter b)) ≡ true
 AirlineFits (a ∷ b ∷ suc c ∷ []) = ((is_letter a && is_letter b) && is_letter (suc c)) ≡ true
 AirlineFits airline = ⊥
 
@@ -71,18 +73,23 @@ pub record IsFlight (text : List ℕ) (flight : Flight) : Type 0 where
   pub suffix : SuffixFits flight.suffix
   pub spelled : text ≡ airline_text flight.airline ++ (digits ++ suffix_text flight.suffix)
 
--- whether a text begins as a flight does: an airline, whose third byte decides whether it has three letters, and a digit
+-- whether a text begins as a flight does: an airline, whose third byte decides whether it has three
+-- letters, and a digit
 abbrev pub begins_with_flight : List ℕ → Bool
 begins_with_flight (a ∷ b ∷ c ∷ d ∷ text) =
     if is_letter c then ((is_letter a && is_letter b) && is_digit d)
-    else (((is_letter_or_digit a && is_letter_or_digit b) && (is_letter a || is_letter b)) && is_digit c)
-begins_with_flight (a ∷ b ∷ c ∷ []) = ((is_letter_or_digit a && is_letter_or_digit b) && (is_letter a || is_letter b)) && is_digit c
+    else (((is_letter_or_digit a && is_letter_or_digit b) && (is_letter a || is_letter b))
+    && is_digit c)
+begins_with_flight (a ∷ b ∷ c ∷ []) =
+    ((is_letter_or_digit a && is_letter_or_digit b) && (is_letter a || is_letter b)) && is_digit c
 begins_with_flight text = false
 
 -- ---- dates and periods
 
 abbrev pub month_names : List (List ℕ)
-month_names = codes "JAN" ∷ codes "FEB" ∷ codes "MAR" ∷ codes "APR" ∷ codes "MAY" ∷ codes "JUN" ∷ codes "JUL" ∷ codes "AUG" ∷ codes "SEP" ∷ codes "OCT" ∷ codes "NOV" ∷ codes "DEC" ∷ []
+month_names =
+    codes "JAN" ∷ codes "FEB" ∷ codes "MAR" ∷ codes "APR" ∷ codes "MAY" ∷ codes "JUN" ∷ codes "JUL"
+    ∷ codes "AUG" ∷ codes "SEP" ∷ codes "OCT" ∷ codes "NOV" ∷ codes "DEC" ∷ []
 
 -- the name of a month from 1 to 12
 abbrev pub month_text : ℕ → List ℕ
@@ -101,7 +108,8 @@ pub record IsDayOfMonth (month day : ℕ) : Type 0 where
 
 -- the text names this day of the season
 abbrev pub SpellsDay : Term → List ℕ → ℕ → Type 0
-SpellsDay season text day = (month of_month : ℕ) × IsDayNamed season month of_month day × (text ≡ date_text month of_month)
+SpellsDay season text day =
+    (month of_month : ℕ) × IsDayNamed season month of_month day × (text ≡ date_text month of_month)
 
 -- the text is two dates
 pub record IsTwoDays (season : Term) (text : List ℕ) (first last : ℕ) : Type 0 where
@@ -119,7 +127,8 @@ pub record IsPeriod (season : Term) (text : List ℕ) (first last : ℕ) : Type 
 -- ---- seats and craft, stations, times
 
 abbrev pub ThreeLettersOrDigits : List ℕ → Type 0
-ThreeLettersOrDigits (a ∷ b ∷ c ∷ []) = ((is_letter_or_digit a && is_letter_or_digit b) && is_letter_or_digit c) ≡ true
+ThreeLettersOrDigits (a ∷ b ∷ c ∷ []) =
+    ((is_letter_or_digit a && is_letter_or_digit b) && is_letter_or_digit c) ≡ true
 ThreeLettersOrDigits text = ⊥
 
 pub record IsSeats (text : List ℕ) (seats : ℕ) (craft : List ℕ) : Type 0 where
@@ -137,9 +146,10 @@ stations_text near None = near.0
 stations_text near (Some far) = near.0 ++ far.0
 
 -- stations, then a time
-pub record IsArrivalGroup (text : List ℕ) (near : Station) (far : Option Station) (minute : ℕ) : Type 0 where
+pub record IsArrivalGroup (text : List ℕ) (near : Station) (far : Option Station) (minute : ℕ) :
+    Type 0 where
   pub stations : StationsFit near far
-  pub time : minute < 1440
+  pub time : minute < MINUTES_OF_DAY
   pub spelled : text ≡ stations_text near far ++ time_text minute
 
 -- nothing for no nights, or one digit
@@ -147,7 +157,8 @@ abbrev pub IsNights : List ℕ → ℕ → Type 0
 IsNights text nights = ((text ≡ []) × (nights ≡ 0)) ⊎ ((nights < 10) × (text ≡ digit nights ∷ []))
 
 -- a time, then what is said of nights, then stations
-pub record IsDepartureGroup (text nights_text : List ℕ) (near : Station) (far : Option Station) (minute : ℕ) : Type 0 where
+pub record IsDepartureGroup (text nights_text : List ℕ) (near : Station) (far : Option Station)
+    (minute : ℕ) : Type 0 where
   pub stations : StationsFit near far
-  pub time : minute < 1440
+  pub time : minute < MINUTES_OF_DAY
   pub spelled : text ≡ time_text minute ++ (nights_text ++ stations_text near far)

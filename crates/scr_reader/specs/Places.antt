@@ -9,8 +9,8 @@ unfoldable pub after_lines : ℕ → List ℕ → List ℕ
 after_lines zero bytes = bytes
 after_lines (suc n) bytes = after_lines n (after_line bytes)
 
--- The piece holds the lines of the run and their ends, and nothing else: it begins behind the lines before the run and
--- ends where the next line begins.
+-- The piece holds the lines of the run and their ends, and nothing else: it begins behind the lines
+-- before the run and ends where the next line begins.
 pub record StandsAt (bytes : List ℕ) (run : Run) (piece : Piece) : Type 0 where
   pub line : piece.line ≡ run.number
   pub ordered : piece.from ≤ piece.to

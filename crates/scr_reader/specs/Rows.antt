@@ -1,21 +1,17 @@
 -- What a line of a message is by itself, below the header.
 use Rattle.std.specs.Prelude.{◌≡◌, ◌≢◌, ◌⊎◌, ℕ, ◌≤◌, Bool, true, false, not, ◌&&◌, ◌||◌, ◌==◌, if◌then◌else◌, List, [], ◌∷◌, length, Option, Some, None}
-use Rattle.slot_text.specs.Fields.{is_blank, begins_in_field, fields_of}
+use Rattle.slot_text.specs.Fields.{begins_in_field, fields_of, is_blank_line}
 use Rattle.season_days.specs.Term.{Term}
+use Rattle.slot_text.specs.declared.lines.TheConstants.{LONGEST_LINE}
 use Rattle.scr_reader.specs.Parts.{IsFlight}
 use Rattle.scr_reader.specs.Shapes.{IsLine, IsFaultyField}
 use Rattle.scr_reader.specs.declared.line.Line.{Line}
 use Rattle.scr_reader.specs.declared.line.Flight.{Flight}
 
--- no byte but blanks
-unfoldable pub is_empty_line : List ℕ → Bool
-is_empty_line [] = true
-is_empty_line (b ∷ line) = is_blank b && is_empty_line line
-
 -- the line without its trailing blanks
 unfoldable pub trimmed : List ℕ → List ℕ
 trimmed [] = []
-trimmed (b ∷ line) = if is_empty_line (b ∷ line) then [] else b ∷ trimmed line
+trimmed (b ∷ line) = if is_blank_line (b ∷ line) then [] else b ∷ trimmed line
 
 -- the fields of a line; a blank in front of them makes an empty first field, which has no form
 abbrev pub line_fields : List ℕ → List (List ℕ)
@@ -52,10 +48,6 @@ IsFaultyQuestion (first ∷ rest) field =
     ((field ≡ 1) × ((flight : Flight) → IsAskedFlight first flight → ⊥))
     ⊎ ((field ≡ 2) × (rest ≢ []) × (flight : Flight) × IsAskedFlight first flight)
 
--- a line has at most so many bytes
-abbrev pub most_bytes : ℕ
-most_bytes = 200
-
 pub data Row : Type 0 where
   remark : Row
   entry : Line → Row
@@ -64,7 +56,7 @@ pub data Row : Type 0 where
 -- a line with fields to read: no remark and not too long
 pub record HasFields (line : List ℕ) (asks : Bool) : Type 0 where
   pub read : is_remark line ≡ false
-  pub short : length line ≤ most_bytes
+  pub short : length line ≤ LONGEST_LINE
   pub kind : is_question (line_fields line) ≡ asks
 
 -- the line, without its end, is this; a remark is one at any length

@@ -18,12 +18,15 @@ use crate::groups::{
 };
 use crate::line::{Code, Craft, Flight};
 use crate::period::{read_dates, read_weekdays_of};
-use season_days::{Day, Period, Season};
+use season_days::{Day, MINUTES_OF_DAY, Period, Season};
 use slot_text::Station;
 
 pub(crate) fn dates_at(season: &Season, fields: &Fields<'_>, n: u32) -> Result<(Day, Day), u32>
-    ensures found { IfOk result (λ x. At fields.now n (λ field. IsPeriod season.now field x.0.0 x.1.0)) }
-    ensures only { (first last : ℕ) → At fields.now n (λ field. IsPeriod season.now field first last) → IsOkAnd result (λ x. (x.0.0 ≡ first) × (x.1.0 ≡ last)) }
+    ensures found { IfOk result
+        (λ x. At fields.now n (λ field. IsPeriod season.now field x.0.0 x.1.0)) }
+    ensures only { (first last : ℕ) →
+        At fields.now n (λ field. IsPeriod season.now field first last) →
+        IsOkAnd result (λ x. (x.0.0 ≡ first) × (x.1.0 ≡ last)) }
     ensures number { IfErr result (λ k. k ≡ n) }
 {
     let field = fields.get(n).ok_or(n)?;
@@ -37,8 +40,11 @@ pub(crate) fn weekdays_at(
     fields: &Fields<'_>,
     n: u32,
 ) -> Result<Period, u32>
-    ensures found { IfOk result (λ p. (p.first ≡ first) × (p.last ≡ last) × At fields.now n (λ field. IsDays field p.days × (dates_of season.now p ≢ []))) }
-    ensures only { (p : PeriodValue) → p.first ≡ first → p.last ≡ last → At fields.now n (λ field. IsDays field p.days × (dates_of season.now p ≢ [])) → result ≡ Ok p }
+    ensures found { IfOk result (λ p. (p.first ≡ first) × (p.last ≡ last)
+        × At fields.now n (λ field. IsDays field p.days × (dates_of season.now p ≢ []))) }
+    ensures only { (p : PeriodValue) → p.first ≡ first → p.last ≡ last →
+        At fields.now n (λ field. IsDays field p.days × (dates_of season.now p ≢ [])) →
+        result ≡ Ok p }
     ensures number { IfErr result (λ k. k ≡ n) }
 {
     let field = fields.get(n).ok_or(n)?;
@@ -47,7 +53,9 @@ pub(crate) fn weekdays_at(
 
 pub(crate) fn seats_at(fields: &Fields<'_>, n: u32) -> Result<(u16, Craft), u32>
     ensures found { IfOk result (λ x. At fields.now n (λ field. IsSeats field x.0 x.1.0)) }
-    ensures only { (seats : ℕ) (craft : List ℕ) → At fields.now n (λ field. IsSeats field seats craft) → IsOkAnd result (λ x. (x.0 ≡ seats) × (x.1.0 ≡ craft)) }
+    ensures only { (seats : ℕ) (craft : List ℕ) →
+        At fields.now n (λ field. IsSeats field seats craft) →
+        IsOkAnd result (λ x. (x.0 ≡ seats) × (x.1.0 ≡ craft)) }
     ensures number { IfErr result (λ k. k ≡ n) }
 {
     let field = fields.get(n).ok_or(n)?;
@@ -65,7 +73,8 @@ pub(crate) fn flight_at(fields: &Fields<'_>, n: u32) -> Result<Flight, u32>
 
 fn read_code_and_flight(text: &[u8]) -> Option<(Code, Flight)>
     ensures found { IfSome result (λ x. IsCodeAndFlight text.now x.0 x.1) }
-    ensures only { (code : CodeValue) (flight : FlightValue) → IsCodeAndFlight text.now code flight → result ≡ Some (code, flight) }
+    ensures only { (code : CodeValue) (flight : FlightValue) →
+        IsCodeAndFlight text.now code flight → result ≡ Some (code, flight) }
 {
     let [b, rest @ ..] = text else {
         return None;
@@ -77,7 +86,8 @@ fn read_code_and_flight(text: &[u8]) -> Option<(Code, Flight)>
 
 pub(crate) fn code_and_flight_at(fields: &Fields<'_>, n: u32) -> Result<(Code, Flight), u32>
     ensures found { IfOk result (λ x. At fields.now n (λ field. IsCodeAndFlight field x.0 x.1)) }
-    ensures only { (code : CodeValue) (flight : FlightValue) → At fields.now n (λ field. IsCodeAndFlight field code flight) → result ≡ Ok (code, flight) }
+    ensures only { (code : CodeValue) (flight : FlightValue) →
+        At fields.now n (λ field. IsCodeAndFlight field code flight) → result ≡ Ok (code, flight) }
     ensures number { IfErr result (λ k. k ≡ n) }
 {
     let field = fields.get(n).ok_or(n)?;
@@ -89,7 +99,9 @@ pub(crate) fn arrival_group_at(
     n: u32,
 ) -> Result<(Station, Option<Station>, u16), u32>
     ensures found { IfOk result (λ x. At fields.now n (λ field. IsArrivalGroup field x.0 x.1 x.2)) }
-    ensures only { (near : StationValue) (far : Option StationValue) (minute : ℕ) → At fields.now n (λ field. IsArrivalGroup field near far minute) → result ≡ Ok (near, far, minute) }
+    ensures only { (near : StationValue) (far : Option StationValue) (minute : ℕ) →
+        At fields.now n (λ field. IsArrivalGroup field near far minute) →
+        result ≡ Ok (near, far, minute) }
     ensures number { IfErr result (λ k. k ≡ n) }
 {
     let field = fields.get(n).ok_or(n)?;
@@ -97,8 +109,10 @@ pub(crate) fn arrival_group_at(
 }
 
 pub(crate) fn service_at(fields: &Fields<'_>, n: u32) -> Result<u8, u32>
-    ensures found { IfOk result (λ x. At fields.now n (λ field. (is_letter x ≡ true) × (field ≡ x ∷ []))) }
-    ensures only { (x : ℕ) → At fields.now n (λ field. (is_letter x ≡ true) × (field ≡ x ∷ [])) → result ≡ Ok x }
+    ensures found { IfOk result (λ x. At fields.now n (λ field. (is_letter x ≡ true)
+        × (field ≡ x ∷ []))) }
+    ensures only { (x : ℕ) → At fields.now n (λ field. (is_letter x ≡ true) × (field ≡ x ∷ [])) →
+        result ≡ Ok x }
     ensures number { IfErr result (λ k. k ≡ n) }
 {
     let field = fields.get(n).ok_or(n)?;
@@ -128,7 +142,8 @@ fn read_code_alone(text: &[u8]) -> Option<Code>
 
 pub(crate) fn code_at(fields: &Fields<'_>, n: u32) -> Result<Code, u32>
     ensures found { IfOk result (λ code. At fields.now n (λ field. IsCodeAlone field code)) }
-    ensures only { (code : CodeValue) → At fields.now n (λ field. IsCodeAlone field code) → result ≡ Ok code }
+    ensures only { (code : CodeValue) → At fields.now n (λ field. IsCodeAlone field code) →
+        result ≡ Ok code }
     ensures number { IfErr result (λ k. k ≡ n) }
 {
     let field = fields.get(n).ok_or(n)?;
@@ -139,21 +154,27 @@ pub(crate) fn departure_group_at(
     fields: &Fields<'_>,
     n: u32,
 ) -> Result<(Station, Option<Station>, u16), u32>
-    ensures found { IfOk result (λ x. At fields.now n (λ field. IsDepartureGroup field [] x.0 x.1 x.2)) }
-    ensures only { (near : StationValue) (far : Option StationValue) (minute : ℕ) → At fields.now n (λ field. IsDepartureGroup field [] near far minute) → result ≡ Ok (near, far, minute) }
+    ensures found { IfOk result
+        (λ x. At fields.now n (λ field. IsDepartureGroup field [] x.0 x.1 x.2)) }
+    ensures only { (near : StationValue) (far : Option StationValue) (minute : ℕ) →
+        At fields.now n (λ field. IsDepartureGroup field [] near far minute) →
+        result ≡ Ok (near, far, minute) }
     ensures number { IfErr result (λ k. k ≡ n) }
 {
     let field = fields.get(n).ok_or(n)?;
     read_departure_group(field).ok_or(n)
 }
 
-/// A departure group that may name nights, where the departure is no earlier than the arrival's minute.
+/// A departure group that may name nights, where the departure is no earlier than the arrival's
+/// minute.
 fn read_later_group(text: &[u8], earliest: u16) -> Option<(Station, Option<Station>, u16, u8)>
     ensures found { IfSome result (λ x. IsLaterGroup text.now earliest x.0 x.1 x.2 x.3) }
-    ensures only { (near : StationValue) (far : Option StationValue) (minute nights : ℕ) → IsLaterGroup text.now earliest near far minute nights → result ≡ Some (near, far, minute, nights) }
+    ensures only { (near : StationValue) (far : Option StationValue) (minute nights : ℕ) →
+        IsLaterGroup text.now earliest near far minute nights →
+        result ≡ Some (near, far, minute, nights) }
 {
     let (near, far, minute, nights) = read_group_with_nights(text)?;
-    if 1440 * u32::from(nights) + u32::from(minute) < u32::from(earliest) {
+    if MINUTES_OF_DAY * u32::from(nights) + u32::from(minute) < u32::from(earliest) {
         return None;
     }
     Some((near, far, minute, nights))
@@ -164,8 +185,11 @@ pub(crate) fn later_group_at(
     n: u32,
     earliest: u16,
 ) -> Result<(Station, Option<Station>, u16, u8), u32>
-    ensures found { IfOk result (λ x. At fields.now n (λ field. IsLaterGroup field earliest x.0 x.1 x.2 x.3)) }
-    ensures only { (near : StationValue) (far : Option StationValue) (minute nights : ℕ) → At fields.now n (λ field. IsLaterGroup field earliest near far minute nights) → result ≡ Ok (near, far, minute, nights) }
+    ensures found { IfOk result
+        (λ x. At fields.now n (λ field. IsLaterGroup field earliest x.0 x.1 x.2 x.3)) }
+    ensures only { (near : StationValue) (far : Option StationValue) (minute nights : ℕ) →
+        At fields.now n (λ field. IsLaterGroup field earliest near far minute nights) →
+        result ≡ Ok (near, far, minute, nights) }
     ensures number { IfErr result (λ k. k ≡ n) }
 {
     let field = fields.get(n).ok_or(n)?;
@@ -173,8 +197,11 @@ pub(crate) fn later_group_at(
 }
 
 pub(crate) fn services_at(fields: &Fields<'_>, n: u32) -> Result<(u8, u8), u32>
-    ensures found { IfOk result (λ x. At fields.now n (λ field. (is_letter x.0 ≡ true) × (is_letter x.1 ≡ true) × (field ≡ x.0 ∷ x.1 ∷ []))) }
-    ensures only { (a d : ℕ) → At fields.now n (λ field. (is_letter a ≡ true) × (is_letter d ≡ true) × (field ≡ a ∷ d ∷ [])) → result ≡ Ok (a, d) }
+    ensures found { IfOk result (λ x. At fields.now n (λ field. (is_letter x.0 ≡ true)
+        × (is_letter x.1 ≡ true) × (field ≡ x.0 ∷ x.1 ∷ []))) }
+    ensures only { (a d : ℕ) →
+        At fields.now n (λ field. (is_letter a ≡ true) × (is_letter d ≡ true)
+        × (field ≡ a ∷ d ∷ [])) → result ≡ Ok (a, d) }
     ensures number { IfErr result (λ k. k ≡ n) }
 {
     let field = fields.get(n).ok_or(n)?;

@@ -4,8 +4,7 @@ ghost use Rattle.scr_reader.specs.Messages.{runs_in, front_length};
 ghost use Rattle.scr_reader.specs.Places.{after_lines, StandAt};
 
 use crate::message::Piece;
-use crate::rows::is_blank_line;
-use slot_text::{Lines, Memory};
+use slot_text::{Lines, Memory, is_blank_line};
 use std::alloc::Global;
 
 /// Lines at the front of a text: how many, and how many bytes they have with their ends.
@@ -15,8 +14,8 @@ struct Front {
     bytes: usize,
 }
 
-/// Where the messages of a text stand: the longest runs of lines that are not empty, in order. An empty line has no byte
-/// but blanks. One pass over the bytes; memory for the list alone.
+/// Where the messages of a text stand: the longest runs of lines that are not empty, in order. An
+/// empty line has no byte but blanks. One pass over the bytes; memory for the list alone.
 pub fn cut_messages(alloc: Global, bytes: &[u8]) -> Result<Vec<Piece>, Memory>
     requires { length bytes.now + 6 < 2 ^ 32 }
     ensures { IfOk result (λ pieces. StandAt bytes.now (runs_in bytes.now) pieces.items) }

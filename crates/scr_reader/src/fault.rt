@@ -11,9 +11,11 @@ use std::fmt;
 pub enum ScrFault {
     /// A line below the header, and its first field that has not its form.
     BadLine { line: u32, field: u32 },
-    /// A line of the header that has not its form; where one is missing, the place after the last line.
+    /// A line of the header that has not its form; where one is missing, the place after the last
+    /// line.
     BadHeader { line: u32 },
-    /// A line to be changed that no line with the change follows, or such a line with none before it.
+    /// A line to be changed that no line with the change follows, or such a line with none before
+    /// it.
     Unpaired { line: u32 },
     /// A line of more than 200 bytes.
     TooLong { line: u32 },

@@ -6,7 +6,7 @@ use std::alloc::Global;
 use std::test::Fail;
 
 /// The fault of a text, if it has one.
-pub(crate) fn fault_in(alloc: Global, text: &[u8]) -> Option<ScrFault> {
+fn fault_in(alloc: Global, text: &[u8]) -> Option<ScrFault> {
     if text.len() > 2_000_000 {
         return Some(ScrFault::Memory);
     }
@@ -24,11 +24,11 @@ fn fault_below(alloc: Global, lines: &[u8]) -> Result<Option<ScrFault>, Memory> 
     Ok(fault_in(alloc, &text))
 }
 
-pub(crate) const fn bad(field: u32) -> Option<ScrFault> {
+const fn bad(field: u32) -> Option<ScrFault> {
     Some(ScrFault::BadLine { line: 5, field })
 }
 
-pub(crate) const fn header(line: u32) -> Option<ScrFault> {
+const fn header(line: u32) -> Option<ScrFault> {
     Some(ScrFault::BadHeader { line })
 }
 
@@ -151,11 +151,13 @@ fn pairs_and_their_faults(rt: HostRuntime) -> Result<(), Fail> {
             unpaired(5),
         ),
         (
-            b"CBA001 31MAR 1 180320 JFK0610 J\nRBA001 31MAR 1 180320 JFK2400 J\nRBA001 31MAR 1 180320 JFK0610 J",
+            b"CBA001 31MAR 1 180320 JFK0610 J\nRBA001 31MAR 1 180320 JFK2400 J\n\
+            RBA001 31MAR 1 180320 JFK0610 J",
             unpaired(5),
         ),
         (
-            b"CBA001 31MAR 1 180320 JFK0610 J\nRBA001 31MAR 1 180320 JFK0700 J\nLBA001 31MAR 1 180320 JFK0800 J",
+            b"CBA001 31MAR 1 180320 JFK0610 J\nRBA001 31MAR 1 180320 JFK0700 J\n\
+            LBA001 31MAR 1 180320 JFK0800 J",
             unpaired(7),
         ),
         (

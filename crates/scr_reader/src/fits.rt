@@ -1,18 +1,18 @@
 ghost use Rattle.std.specs.Prelude.{◌↔◌, ◌+◌, ◌*◌, ◌<◌, ◌≤◌, IsTrue};
 ghost use Rattle.slot_text.specs.Stations.{IsStation};
 ghost use Rattle.scr_reader.specs.Parts.{AirlineFits, SuffixFits, StationsFit, ThreeLettersOrDigits};
-ghost use Rattle.scr_reader.specs.Printed.{FlightFits, StopFits, StopsFit, LineFits};
+ghost use Rattle.scr_reader.specs.Printed.{FlightFits, StopFits, StopsFit, LineFits, ItemFits};
 
 use crate::bytes::{is_letter_byte, is_letter_or_digit_byte};
-use crate::line::{Craft, Flight, Line, Stop};
-use crate::period::has_date;
-use season_days::Season;
+use crate::line::{Craft, Flight, Item, Line, Stop};
+use season_days::{MINUTES_OF_DAY, Season};
 use slot_text::Station;
 
 impl Line {
-    /// Whether the line has a printed spelling in the season, whatever its code; `print_line` asks for it. The period lies
-    /// in the season and has a date, a departure is not before its arrival, only a turnaround has nights, and each part
-    /// is in its range. One look at each day of the period at most.
+    /// Whether the line has a printed spelling in the season, whatever its code; `print_line` asks
+    /// for it. The period lies in the season and has a date, a departure is not before its arrival,
+    /// only a turnaround has nights, and each part is in its range. One look at each day of the
+    /// period at most.
     pub fn fits(&self, season: &Season) -> bool
         ensures { IsTrue result ↔ LineFits season.now self.now }
     {
@@ -21,9 +21,23 @@ impl Line {
             && self.period.last.0 < season.length()
             && self.period.first.0 <= self.period.last.0
             && self.period.days < 128
-            && has_date(season, self.period)
+            && season.has_dates(self.period)
             && self.seats < 1000
             && craft_fits(self.craft)
+    }
+}
+
+impl Item {
+    /// Whether each part of the item has a printed spelling in the season; `print_item` asks for
+    /// it.
+    pub fn fits(&self, season: &Season) -> bool
+        ensures { IsTrue result ↔ ItemFits season.now self.now }
+    {
+        match self {
+            Item::One(line) => line.fits(season),
+            Item::Pair(changed, asked) => changed.fits(season) && asked.fits(season),
+            Item::Query(flight) => flight_fits(flight),
+        }
     }
 }
 
@@ -41,19 +55,21 @@ fn stops_fit(line: &Line, arrival: Option<Stop>, departure: Option<Stop>) -> boo
 
 /// Whether a departure so many nights after an arrival is not before it, and both have their form.
 fn turnaround_fits(nights: u8, coming: &Stop, going: &Stop) -> bool
-    ensures { IsTrue result ↔ (StopFits coming.now × StopFits going.now × (nights < 10) × (coming.now.minute ≤ 1440 * nights + going.now.minute)) }
+    ensures { IsTrue result
+        ↔ (StopFits coming.now × StopFits going.now × (nights < 10)
+        × (coming.now.minute ≤ MINUTES_OF_DAY * nights + going.now.minute)) }
 {
     stop_fits(coming)
         && stop_fits(going)
         && nights < 10
-        && u32::from(coming.minute) <= 1440 * u32::from(nights) + u32::from(going.minute)
+        && u32::from(coming.minute) <= MINUTES_OF_DAY * u32::from(nights) + u32::from(going.minute)
 }
 
 fn stop_fits(stop: &Stop) -> bool
     ensures { IsTrue result ↔ StopFits stop.now }
 {
     flight_fits(&stop.flight)
-        && stop.minute < 1440
+        && u32::from(stop.minute) < MINUTES_OF_DAY
         && stations_fit(stop.near, stop.far)
         && is_letter_byte(stop.service)
 }

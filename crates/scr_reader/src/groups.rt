@@ -12,7 +12,8 @@ use slot_text::Station;
 /// Seats, and the type of aircraft.
 pub(crate) fn read_seats(text: &[u8]) -> Option<(u16, Craft)>
     ensures found { IfSome result (λ x. IsSeats text.now x.0 x.1.0) }
-    ensures only { (n : ℕ) (craft : List ℕ) → IsSeats text.now n craft → IsSomeAnd result (λ x. (x.0 ≡ n) × (x.1.0 ≡ craft)) }
+    ensures only { (n : ℕ) (craft : List ℕ) → IsSeats text.now n craft →
+        IsSomeAnd result (λ x. (x.0 ≡ n) × (x.1.0 ≡ craft)) }
 {
     if text.len() != 6 {
         return None;
@@ -40,7 +41,8 @@ fn read_craft(text: &[u8]) -> Option<Craft>
 /// Stations, then a time.
 pub(crate) fn read_arrival_group(text: &[u8]) -> Option<(Station, Option<Station>, u16)>
     ensures found { IfSome result (λ x. IsArrivalGroup text.now x.0 x.1 x.2) }
-    ensures only { (near : StationValue) (far : Option StationValue) (minute : ℕ) → IsArrivalGroup text.now near far minute → result ≡ Some (near, far, minute) }
+    ensures only { (near : StationValue) (far : Option StationValue) (minute : ℕ) →
+        IsArrivalGroup text.now near far minute → result ≡ Some (near, far, minute) }
 {
     if text.len() < 4 {
         return None;
@@ -54,7 +56,8 @@ pub(crate) fn read_arrival_group(text: &[u8]) -> Option<(Station, Option<Station
 /// A time, then stations.
 pub(crate) fn read_departure_group(text: &[u8]) -> Option<(Station, Option<Station>, u16)>
     ensures found { IfSome result (λ x. IsDepartureGroup text.now [] x.0 x.1 x.2) }
-    ensures only { (near : StationValue) (far : Option StationValue) (minute : ℕ) → IsDepartureGroup text.now [] near far minute → result ≡ Some (near, far, minute) }
+    ensures only { (near : StationValue) (far : Option StationValue) (minute : ℕ) →
+        IsDepartureGroup text.now [] near far minute → result ≡ Some (near, far, minute) }
 {
     if text.len() < 4 {
         return None;
@@ -67,8 +70,11 @@ pub(crate) fn read_departure_group(text: &[u8]) -> Option<(Station, Option<Stati
 
 /// A time, perhaps a digit of nights, then stations.
 pub(crate) fn read_group_with_nights(text: &[u8]) -> Option<(Station, Option<Station>, u16, u8)>
-    ensures found { IfSome result (λ x. (nights : List ℕ) × IsDepartureGroup text.now nights x.0 x.1 x.2 × IsNights nights x.3) }
-    ensures only { (near : StationValue) (far : Option StationValue) (minute n : ℕ) (nights : List ℕ) → IsDepartureGroup text.now nights near far minute → IsNights nights n → result ≡ Some (near, far, minute, n) }
+    ensures found { IfSome result (λ x. (nights : List ℕ)
+        × IsDepartureGroup text.now nights x.0 x.1 x.2 × IsNights nights x.3) }
+    ensures only { (near : StationValue) (far : Option StationValue) (minute n : ℕ)
+        (nights : List ℕ) → IsDepartureGroup text.now nights near far minute → IsNights nights n →
+        result ≡ Some (near, far, minute, n) }
 {
     if text.len() < 4 {
         return None;
@@ -94,7 +100,8 @@ fn split_nights(text: &[u8]) -> (u8, &[u8])
 /// One station, or two.
 fn read_stations(text: &[u8]) -> Option<(Station, Option<Station>)>
     ensures found { IfSome result (λ x. StationsFit x.0 x.1 × (text.now ≡ stations_text x.0 x.1)) }
-    ensures only { (near : StationValue) (far : Option StationValue) → StationsFit near far → text.now ≡ stations_text near far → result ≡ Some (near, far) }
+    ensures only { (near : StationValue) (far : Option StationValue) → StationsFit near far →
+        text.now ≡ stations_text near far → result ≡ Some (near, far) }
 {
     if text.len() == 3 {
         return Some((Station::read(text)?, None));
@@ -110,8 +117,10 @@ fn read_stations(text: &[u8]) -> Option<(Station, Option<Station>)>
 
 /// A letter for the service.
 pub(crate) fn read_service(text: &[u8]) -> Option<u8>
-    ensures found { IfSome result (λ service. (is_letter service ≡ true) × (text.now ≡ service ∷ [])) }
-    ensures only { (service : ℕ) → is_letter service ≡ true → text.now ≡ service ∷ [] → result ≡ Some service }
+    ensures found { IfSome result (λ service. (is_letter service ≡ true)
+        × (text.now ≡ service ∷ [])) }
+    ensures only { (service : ℕ) → is_letter service ≡ true → text.now ≡ service ∷ [] →
+        result ≡ Some service }
 {
     match text {
         [service] if is_letter_byte(*service) => Some(*service),
@@ -121,8 +130,10 @@ pub(crate) fn read_service(text: &[u8]) -> Option<u8>
 
 /// Letters for the services of an arrival and of a departure.
 pub(crate) fn read_services(text: &[u8]) -> Option<(u8, u8)>
-    ensures found { IfSome result (λ x. (is_letter x.0 ≡ true) × (is_letter x.1 ≡ true) × (text.now ≡ x.0 ∷ x.1 ∷ [])) }
-    ensures only { (a d : ℕ) → is_letter a ≡ true → is_letter d ≡ true → text.now ≡ a ∷ d ∷ [] → result ≡ Some (a, d) }
+    ensures found { IfSome result (λ x. (is_letter x.0 ≡ true) × (is_letter x.1 ≡ true)
+        × (text.now ≡ x.0 ∷ x.1 ∷ [])) }
+    ensures only { (a d : ℕ) → is_letter a ≡ true → is_letter d ≡ true → text.now ≡ a ∷ d ∷ [] →
+        result ≡ Some (a, d) }
 {
     match text {
         [a, d] if is_letter_byte(*a) && is_letter_byte(*d) => Some((*a, *d)),

@@ -13,26 +13,32 @@ ghost use Rattle.scr_reader.specs.Messages.{parts_from_season, IsShort, has_addr
 
 use crate::fault::ScrFault;
 use crate::period::read_month;
-use crate::rows::{MOST_BYTES, trim};
+use crate::rows::trim;
 use schedule_text::read_two_digits;
 use season_days::Season;
-use slot_text::Station;
+use slot_text::{LONGEST_LINE, Station};
 
-/// What a header says.
+/// What the header of a message says: the season, the day and the month on which it was sent, and
+/// the airport.
 #[derive(Clone, Copy, Debug, PartialEq, Eq)]
-pub(crate) struct Header {
+pub struct Header {
     pub season: Season,
     pub day: u8,
     pub month: u8,
     pub airport: Station,
 }
 
-/// The header of the lines of a message, or the fault of the first of them that has one; the first line has the number.
+/// The header of the lines of a message, or the fault of the first of them that has one; the first
+/// line has the number.
 pub(crate) fn read_header(run: &[&[u8]], first: u32) -> Result<Header, ScrFault>
     requires { first + 5 < 2 ^ 32 }
-    ensures found { IfOk result (λ header. HeaderAgrees 0 (header_parts (texts_in run.now)) (texts_in run.now) header) }
-    ensures same { (other : HeaderValue) → HeaderAgrees 0 (header_parts (texts_in run.now)) (texts_in run.now) other → IfOk result (λ header. header ≡ other) }
-    ensures fault { IfErr result (λ f. IsHeaderFault 0 (header_parts (texts_in run.now)) first (texts_in run.now) f) }
+    ensures found { IfOk result
+        (λ header. HeaderAgrees 0 (header_parts (texts_in run.now)) (texts_in run.now) header) }
+    ensures same { (other : HeaderValue) →
+        HeaderAgrees 0 (header_parts (texts_in run.now)) (texts_in run.now) other →
+        IfOk result (λ header. header ≡ other) }
+    ensures fault { IfErr result
+        (λ f. IsHeaderFault 0 (header_parts (texts_in run.now)) first (texts_in run.now) f) }
 {
     check_title(line_at(run, 0), first)?;
     if has_address_line(run) {
@@ -64,9 +70,13 @@ fn line_at<'a>(run: &[&'a [u8]], place: usize) -> Option<&'a [u8]>
 
 fn read_names_after(run: &[&[u8]], first: u32) -> Result<Header, ScrFault>
     requires { first + 5 < 2 ^ 32 }
-    ensures found { IfOk result (λ header. HeaderAgrees 1 (address ∷ parts_from_season) (texts_in run.now) header) }
-    ensures same { (other : HeaderValue) → HeaderAgrees 1 (address ∷ parts_from_season) (texts_in run.now) other → IfOk result (λ header. header ≡ other) }
-    ensures fault { IfErr result (λ f. IsHeaderFault 1 (address ∷ parts_from_season) first (texts_in run.now) f) }
+    ensures found { IfOk result
+        (λ header. HeaderAgrees 1 (address ∷ parts_from_season) (texts_in run.now) header) }
+    ensures same { (other : HeaderValue) →
+        HeaderAgrees 1 (address ∷ parts_from_season) (texts_in run.now) other →
+        IfOk result (λ header. header ≡ other) }
+    ensures fault { IfErr result
+        (λ f. IsHeaderFault 1 (address ∷ parts_from_season) first (texts_in run.now) f) }
 {
     check_address(line_at(run, 1), first + 1)?;
     read_names(run, 2, first + 2)
@@ -76,9 +86,13 @@ fn read_names_after(run: &[&[u8]], first: u32) -> Result<Header, ScrFault>
 fn read_names(run: &[&[u8]], place: usize, number: u32) -> Result<Header, ScrFault>
     requires place { place ≤ 2 }
     requires number { number + 2 < 2 ^ 32 }
-    ensures found { IfOk result (λ header. HeaderAgrees place parts_from_season (texts_in run.now) header) }
-    ensures same { (other : HeaderValue) → HeaderAgrees place parts_from_season (texts_in run.now) other → IfOk result (λ header. header ≡ other) }
-    ensures fault { (first : ℕ) → number ≡ first + place → IfErr result (λ f. IsHeaderFault place parts_from_season first (texts_in run.now) f) }
+    ensures found { IfOk result
+        (λ header. HeaderAgrees place parts_from_season (texts_in run.now) header) }
+    ensures same { (other : HeaderValue) →
+        HeaderAgrees place parts_from_season (texts_in run.now) other →
+        IfOk result (λ header. header ≡ other) }
+    ensures fault { (first : ℕ) → number ≡ first + place →
+        IfErr result (λ f. IsHeaderFault place parts_from_season first (texts_in run.now) f) }
 {
     let season = read_season(line_at(run, place), number)?;
     let (day, month) = read_date(line_at(run, place + 1), number + 1)?;
@@ -93,20 +107,22 @@ fn read_names(run: &[&[u8]], place: usize, number: u32) -> Result<Header, ScrFau
 
 /// A line that is there and is not too long.
 fn short_line(line: Option<&[u8]>, number: u32) -> Result<&[u8], ScrFault>
-    ensures found { IfOk result (λ text. IsShort text.now × (option_copied line.entry ≡ Some text.now)) }
+    ensures found { IfOk result (λ text. IsShort text.now
+        × (option_copied line.entry ≡ Some text.now)) }
     ensures fault { IfErr result (λ f. IsMissingOrLong number (option_copied line.entry) f) }
 {
     let Some(text) = line else {
         return Err(ScrFault::BadHeader { line: number });
     };
-    if text.len() > MOST_BYTES {
+    if text.len() > LONGEST_LINE {
         return Err(ScrFault::TooLong { line: number });
     }
     Ok(text)
 }
 
 fn check_title(line: Option<&[u8]>, number: u32) -> Result<(), ScrFault>
-    ensures found { IfOk result (λ _. IsSomeAnd (option_copied line.entry) (λ text. IsShort text × (trimmed text ≡ codes "SCR"))) }
+    ensures found { IfOk result (λ _. IsSomeAnd (option_copied line.entry) (λ text. IsShort text
+        × (trimmed text ≡ codes "SCR"))) }
     ensures fault { IfErr result (λ f. IsPartFault title number (option_copied line.entry) f) }
 {
     let text = short_line(line, number)?;
@@ -125,9 +141,15 @@ fn check_address(line: Option<&[u8]>, number: u32) -> Result<(), ScrFault>
 }
 
 fn read_season(line: Option<&[u8]>, number: u32) -> Result<Season, ScrFault>
-    ensures found { IfOk result (λ season. IsSomeAnd (option_copied line.entry) (λ text. IsShort text × ((season.year < 100) × (trimmed text ≡ season_text season)))) }
-    ensures same { (season : Term) → IsSomeAnd (option_copied line.entry) (λ text. IsShort text × ((season.year < 100) × (trimmed text ≡ season_text season))) → IfOk result (λ s. s ≡ season) }
-    ensures fault { IfErr result (λ f. IsPartFault season_name number (option_copied line.entry) f) }
+    ensures found { IfOk result
+        (λ season. IsSomeAnd (option_copied line.entry) (λ text. IsShort text
+        × ((season.year < 100) × (trimmed text ≡ season_text season)))) }
+    ensures same { (season : Term) →
+        IsSomeAnd (option_copied line.entry) (λ text. IsShort text
+        × ((season.year < 100) × (trimmed text ≡ season_text season))) →
+        IfOk result (λ s. s ≡ season) }
+    ensures fault { IfErr result
+        (λ f. IsPartFault season_name number (option_copied line.entry) f) }
 {
     let text = short_line(line, number)?;
     match Season::read(trim(text)) {
@@ -137,8 +159,13 @@ fn read_season(line: Option<&[u8]>, number: u32) -> Result<Season, ScrFault>
 }
 
 fn read_date(line: Option<&[u8]>, number: u32) -> Result<(u8, u8), ScrFault>
-    ensures found { IfOk result (λ x. IsSomeAnd (option_copied line.entry) (λ text. IsShort text × (IsDayOfMonth x.1 x.0 × (trimmed text ≡ date_text x.1 x.0)))) }
-    ensures same { (day month : ℕ) → IsSomeAnd (option_copied line.entry) (λ text. IsShort text × (IsDayOfMonth month day × (trimmed text ≡ date_text month day))) → IfOk result (λ x. (x.0 ≡ day) × (x.1 ≡ month)) }
+    ensures found { IfOk result (λ x.
+        IsSomeAnd (option_copied line.entry) (λ text. IsShort text
+        × (IsDayOfMonth x.1 x.0 × (trimmed text ≡ date_text x.1 x.0)))) }
+    ensures same { (day month : ℕ) →
+        IsSomeAnd (option_copied line.entry) (λ text. IsShort text
+        × (IsDayOfMonth month day × (trimmed text ≡ date_text month day))) →
+        IfOk result (λ x. (x.0 ≡ day) × (x.1 ≡ month)) }
     ensures fault { IfErr result (λ f. IsPartFault date_name number (option_copied line.entry) f) }
 {
     let text = short_line(line, number)?;
@@ -149,9 +176,14 @@ fn read_date(line: Option<&[u8]>, number: u32) -> Result<(u8, u8), ScrFault>
 }
 
 fn read_airport(line: Option<&[u8]>, number: u32) -> Result<Station, ScrFault>
-    ensures found { IfOk result (λ airport. IsSomeAnd (option_copied line.entry) (λ text. IsShort text × (IsStation airport.0 × (trimmed text ≡ airport.0)))) }
-    ensures same { (airport : StationValue) → IsSomeAnd (option_copied line.entry) (λ text. IsShort text × (IsStation airport.0 × (trimmed text ≡ airport.0))) → IfOk result (λ x. x ≡ airport) }
-    ensures fault { IfErr result (λ f. IsPartFault airport_name number (option_copied line.entry) f) }
+    ensures found { IfOk result
+        (λ airport. IsSomeAnd (option_copied line.entry) (λ text. IsShort text
+        × (IsStation airport.0 × (trimmed text ≡ airport.0)))) }
+    ensures same { (airport : StationValue) →
+        IsSomeAnd (option_copied line.entry) (λ text. IsShort text
+        × (IsStation airport.0 × (trimmed text ≡ airport.0))) → IfOk result (λ x. x ≡ airport) }
+    ensures fault { IfErr result
+        (λ f. IsPartFault airport_name number (option_copied line.entry) f) }
 {
     let text = short_line(line, number)?;
     match Station::read(trim(text)) {
@@ -163,7 +195,8 @@ fn read_airport(line: Option<&[u8]>, number: u32) -> Result<Station, ScrFault>
 /// A day and a month that has it; February has 29 days.
 fn day_and_month(text: &[u8]) -> Option<(u8, u8)>
     ensures found { IfSome result (λ x. IsDayOfMonth x.1 x.0 × (text.now ≡ date_text x.1 x.0)) }
-    ensures only { (day month : ℕ) → IsDayOfMonth month day → text.now ≡ date_text month day → result ≡ Some (day, month) }
+    ensures only { (day month : ℕ) → IsDayOfMonth month day → text.now ≡ date_text month day →
+        result ≡ Some (day, month) }
 {
     if text.len() != 5 {
         return None;

@@ -10,30 +10,33 @@ mod fits;
 mod flight;
 mod groups;
 mod header;
+mod item_reader;
 pub mod laws;
 mod line;
-mod lines;
+mod line_reader;
 mod message;
-mod messages;
 mod pairs;
 mod period;
 mod print;
 mod put;
 mod rows;
+mod run_reader;
 mod shapes;
+mod stray;
 mod texts;
 
 pub use cut::cut_messages;
 pub use fault::ScrFault;
 pub use flight::read_flight;
+pub use header::Header;
+pub use item_reader::read_item;
 pub use line::{Code, Craft, Flight, Item, Line, Stop};
 pub use message::{Message, MessageList, Piece, Placed, PlacedList};
 pub use period::read_period;
-pub use print::{print_header, print_line};
+pub use print::{LONGEST_PRINTED_LINE, print_flight, print_header, print_item, print_line};
+pub use stray::StrayLine;
 pub use texts::{read_all, read_message};
 
-#[cfg(test)]
-mod byte_tests;
 #[cfg(test)]
 mod fault_tests;
 #[cfg(test)]

@@ -1,9 +1,9 @@
 use season_days::Period;
 use slot_text::Station;
 
-/// A flight: its airline, whose third byte is 0 where the airline has two, its number up to 9999, and a
-/// letter, or 0 where there is none.
-#[derive(Clone, Copy, Debug, PartialEq, Eq)]
+/// A flight: its airline, whose third byte is 0 where the airline has two, its number up to 9999,
+/// and a letter, or 0 where there is none.
+#[derive(Clone, Copy, Debug, PartialEq, Eq, Hash)]
 pub struct Flight {
     pub airline: [u8; 3],
     pub number: u16,
@@ -27,8 +27,8 @@ pub enum Code {
     C,
     /// The change of a historic line, where times between the old and the new ones will do too.
     R,
-    /// The change of a historic line to these times and no others. Under both codes the old times are kept where the change
-    /// cannot be had.
+    /// The change of a historic line to these times and no others. Under both codes the old times
+    /// are kept where the change cannot be had.
     L,
     /// Deleted.
     D,
@@ -50,8 +50,8 @@ pub enum Code {
     X,
 }
 
-/// An arrival or a departure: the minute of its day in UTC, up to 1439, the first station as written and the
-/// second, if there is one, and a letter for the service.
+/// An arrival or a departure: the minute of its day in UTC, up to 1439, the first station as
+/// written and the second, if there is one, and a letter for the service.
 #[derive(Clone, Copy, Debug, PartialEq, Eq)]
 pub struct Stop {
     pub flight: Flight,
@@ -61,8 +61,8 @@ pub struct Stop {
     pub service: u8,
 }
 
-/// A data line: an arrival, a departure, or both, which make a turnaround. A turnaround's period and weekdays are
-/// those of its arrival, and its departure is so many nights later.
+/// A data line: an arrival, a departure, or both, which make a turnaround. A turnaround's period
+/// and weekdays are those of its arrival, and its departure is so many nights later.
 #[derive(Clone, Copy, Debug, PartialEq, Eq)]
 pub struct Line {
     pub code: Code,
@@ -74,8 +74,8 @@ pub struct Line {
     pub craft: Craft,
 }
 
-/// What stands in a message: a line, a line to be changed with the line that asks for the change, or a question
-/// about a flight.
+/// What stands in a message: a line, a line to be changed with the line that asks for the change,
+/// or a question about a flight.
 #[derive(Clone, Copy, Debug, PartialEq, Eq)]
 pub enum Item {
     /// A line that stands alone.

@@ -1,9 +1,11 @@
+use crate::header::Header;
 use crate::line::Item;
 use season_days::Season;
 use slot_text::Station;
 use std::marker::Model;
 
-/// An item, and the number of its line in the text, counted from 1. A pair has the number of its first line.
+/// An item, and the number of its line in the text, counted from 1. A pair has the number of its
+/// first line.
 #[derive(Clone, Copy, Debug, PartialEq, Eq)]
 pub struct Placed {
     pub line: u32,
@@ -43,8 +45,8 @@ impl PlacedList {
     }
 }
 
-/// A message: the number of its season line, counted from 1, and what its header says: the season, the day and the
-/// month on which it was sent, and the airport. Then its items.
+/// A message: the number of its season line, counted from 1, and what its header says: the season,
+/// the day and the month on which it was sent, and the airport. Then its items.
 #[derive(Drop)]
 pub struct Message {
     pub line: u32,
@@ -53,6 +55,23 @@ pub struct Message {
     pub month: u8,
     pub airport: Station,
     pub items: PlacedList,
+}
+
+impl Message {
+    ghost use Rattle.std.specs.Prelude.{◌≡◌};
+    ghost use Rattle.scr_reader.specs.Messages.{header_of};
+
+    /// What the header says.
+    pub fn header(&self) -> Header
+        ensures { result ≡ header_of self.now }
+    {
+        Header {
+            season: self.season,
+            day: self.day,
+            month: self.month,
+            airport: self.airport,
+        }
+    }
 }
 
 /// Messages in the order of their lines.

@@ -12,14 +12,16 @@ use crate::message::Placed;
 use crate::rows::Reading;
 use std::alloc::Global;
 
-/// The items of the lines below a header, or the fault of the first line that has one; the first line has the number.
+/// The items of the lines below a header, or the fault of the first line that has one; the first
+/// line has the number.
 pub(crate) fn pair_rows(
     alloc: Global,
     rows: &[Reading],
     first: u32,
 ) -> Result<Vec<Placed>, ScrFault>
     requires { first + length rows.now < 2 ^ 32 }
-    ensures found { IfOk result (λ items. AreGoodReadings [] rows.now × (items.items ≡ items_of first (rows_read rows.now))) }
+    ensures found { IfOk result (λ items. AreGoodReadings [] rows.now
+        × (items.items ≡ items_of first (rows_read rows.now))) }
     ensures fault { IfErr result (λ f. IsFirstAt first [] rows.now f ⊎ (f ≡ NoMemory)) }
 {
     let mut items = Vec::new(alloc);
@@ -48,9 +50,12 @@ fn push_item(items: &mut Vec<Placed>, number: u32, item: Option<Item>) -> Result
     Ok(())
 }
 
-/// What is wrong with a line, given whether a line that changes stands before it, and what stands after it.
+/// What is wrong with a line, given whether a line that changes stands before it, and what stands
+/// after it.
 fn fault_at(number: u32, reading: &Reading, follows: bool, after: &[Reading]) -> Option<ScrFault>
-    ensures { (before : List (Option Row)) → Follows follows before → MatchOption result (IsGoodReading reading.now before (rows_read after.now)) (λ f. HasFaultAt number reading.now before (rows_read after.now) f) }
+    ensures { (before : List (Option Row)) → Follows follows before →
+        MatchOption result (IsGoodReading reading.now before (rows_read after.now))
+        (λ f. HasFaultAt number reading.now before (rows_read after.now) f) }
 {
     match reading {
         Reading::Remark => None,
@@ -71,9 +76,11 @@ fn fault_at(number: u32, reading: &Reading, follows: bool, after: &[Reading]) ->
     }
 }
 
-/// Whether a line that changes is followed by one that asks for the change, and one that asks follows one that changes.
+/// Whether a line that changes is followed by one that asks for the change, and one that asks
+/// follows one that changes.
 fn is_paired(line: &Line, follows: bool, after: &[Reading]) -> bool
-    ensures { (before : List (Option Row)) → Follows follows before → (IsTrue result ↔ LineIsPaired line.now.code line.now before (rows_read after.now)) }
+    ensures { (before : List (Option Row)) → Follows follows before →
+        (IsTrue result ↔ LineIsPaired line.now.code line.now before (rows_read after.now)) }
 {
     match line.code {
         Code::C => match next_entry(after) {
@@ -104,7 +111,7 @@ fn next_entry(rows: &[Reading]) -> Option<Line>
 }
 
 /// Whether a line asks for a change of the other.
-fn asks_change(changed: &Line, asked: &Line) -> bool
+pub(crate) fn asks_change(changed: &Line, asked: &Line) -> bool
     ensures { IsTrue result ↔ AsksChange changed.now asked.now }
 {
     asks(asked.code)
@@ -125,7 +132,8 @@ fn asks(code: Code) -> bool
 
 /// Whether a line that changes stands before the line after this one.
 fn follows_next(reading: &Reading, follows: bool) -> bool
-    ensures { (before : List (Option Row)) → Follows follows before → Follows result (row_read reading.now ∷ before) }
+    ensures { (before : List (Option Row)) → Follows follows before →
+        Follows result (row_read reading.now ∷ before) }
 {
     match reading {
         Reading::Remark => follows,

@@ -6,14 +6,15 @@ ghost use Rattle.scr_reader.specs.Parts.{month_text, date_text, SpellsDay, IsPer
 ghost use Rattle.scr_reader.specs.Shapes.{NamesPeriod};
 
 use schedule_text::{read_two_digits, read_weekdays};
-use season_days::laws::period_dates;
 use season_days::{Day, Period, Season};
 use slot_text::Memory;
 
 /// The month of a name.
 pub(crate) fn read_month(text: &[u8]) -> Option<u8>
-    ensures found { IfSome result (λ month. (1 ≤ month) × (month ≤ 12) × (text.now ≡ month_text month)) }
-    ensures only { (month : ℕ) → 1 ≤ month → month ≤ 12 → text.now ≡ month_text month → result ≡ Some month }
+    ensures found { IfSome result (λ month. (1 ≤ month) × (month ≤ 12)
+        × (text.now ≡ month_text month)) }
+    ensures only { (month : ℕ) → 1 ≤ month → month ≤ 12 → text.now ≡ month_text month →
+        result ≡ Some month }
 {
     Some(match text {
         b"JAN" => 1,
@@ -35,7 +36,8 @@ pub(crate) fn read_month(text: &[u8]) -> Option<u8>
 /// The day of the season that a date names.
 pub(crate) fn read_day(season: &Season, text: &[u8]) -> Option<Day>
     ensures found { IfSome result (λ day. SpellsDay season.now text.now day.0) }
-    ensures only { (day : ℕ) → SpellsDay season.now text.now day → IsSomeAnd result (λ found. found.0 ≡ day) }
+    ensures only { (day : ℕ) → SpellsDay season.now text.now day →
+        IsSomeAnd result (λ found. found.0 ≡ day) }
 {
     if text.len() != 5 {
         return None;
@@ -49,7 +51,8 @@ pub(crate) fn read_day(season: &Season, text: &[u8]) -> Option<Day>
 /// The first and the last day of a period.
 pub(crate) fn read_dates(season: &Season, text: &[u8]) -> Option<(Day, Day)>
     ensures found { IfSome result (λ x. IsPeriod season.now text.now x.0.0 x.1.0) }
-    ensures only { (first last : ℕ) → IsPeriod season.now text.now first last → IsSomeAnd result (λ x. (x.0.0 ≡ first) × (x.1.0 ≡ last)) }
+    ensures only { (first last : ℕ) → IsPeriod season.now text.now first last →
+        IsSomeAnd result (λ x. (x.0.0 ≡ first) × (x.1.0 ≡ last)) }
 {
     if text.len() == 5 {
         let day = read_day(season, text)?;
@@ -67,22 +70,6 @@ pub(crate) fn read_dates(season: &Season, text: &[u8]) -> Option<(Day, Day)>
     Some((first, last))
 }
 
-/// Whether a period has a date.
-pub(crate) fn has_date(season: &Season, period: Period) -> bool
-    ensures { IsTrue result ↔ (dates_of season.now period ≢ []) }
-{
-    period_dates();
-    if period.last.0 < period.first.0 {
-        return false;
-    }
-    for day in period.first.0..period.last.0 {
-        if season.is_on(period.days, Day(day)) {
-            return true;
-        }
-    }
-    season.is_on(period.days, period.last)
-}
-
 /// The weekdays of a period that a field names, if the period has a date on them.
 pub(crate) fn read_weekdays_of(
     season: &Season,
@@ -90,24 +77,29 @@ pub(crate) fn read_weekdays_of(
     last: Day,
     text: &[u8],
 ) -> Option<Period>
-    ensures found { IfSome result (λ period. (period.first ≡ first) × (period.last ≡ last) × IsDays text.now period.days × (dates_of season.now period ≢ [])) }
-    ensures only { (period : PeriodValue) → period.first ≡ first → period.last ≡ last → IsDays text.now period.days → dates_of season.now period ≢ [] → result ≡ Some period }
+    ensures found { IfSome result (λ period. (period.first ≡ first) × (period.last ≡ last)
+        × IsDays text.now period.days × (dates_of season.now period ≢ [])) }
+    ensures only { (period : PeriodValue) → period.first ≡ first → period.last ≡ last →
+        IsDays text.now period.days → dates_of season.now period ≢ [] → result ≡ Some period }
 {
     let days = read_weekdays(text)?;
     let period = Period { first, last, days };
-    if has_date(season, period) {
+    if season.has_dates(period) {
         Some(period)
     } else {
         None
     }
 }
 
-/// The period that two fields of a data line name: one date or two, and its days of operation. None where a date does not
-/// exist or lies outside the season, where the period is reversed or has no date on these weekdays, and where a field has
-/// another form. It takes no memory, so there is no error.
+/// The period that two fields of a data line name: one date or two, and its days of operation. None
+/// where a date does not exist or lies outside the season, where the period is reversed or has no
+/// date on these weekdays, and where a field has another form. It takes no memory, so there is no
+/// error.
 pub fn read_period(season: &Season, period: &[u8], days: &[u8]) -> Result<Option<Period>, Memory>
-    ensures found { IfOk result (λ read. IfSome read (λ p. NamesPeriod season.now period.now days.now p)) }
-    ensures only { (p : PeriodValue) → NamesPeriod season.now period.now days.now p → result ≡ Ok (Some p) }
+    ensures found { IfOk result
+        (λ read. IfSome read (λ p. NamesPeriod season.now period.now days.now p)) }
+    ensures only { (p : PeriodValue) → NamesPeriod season.now period.now days.now p →
+        result ≡ Ok (Some p) }
     // Memory cannot run out.
     ensures answered { IsOk result }
 {
@@ -116,7 +108,8 @@ pub fn read_period(season: &Season, period: &[u8], days: &[u8]) -> Result<Option
 
 fn read_period_fields(season: &Season, period: &[u8], days: &[u8]) -> Option<Period>
     ensures found { IfSome result (λ p. NamesPeriod season.now period.now days.now p) }
-    ensures only { (p : PeriodValue) → NamesPeriod season.now period.now days.now p → result ≡ Some p }
+    ensures only { (p : PeriodValue) → NamesPeriod season.now period.now days.now p →
+        result ≡ Some p }
 {
     let (first, last) = read_dates(season, period)?;
     read_weekdays_of(season, first, last, days)

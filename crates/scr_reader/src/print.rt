@@ -3,10 +3,10 @@ ghost use Rattle.schedule_text.specs.Days.{days_text};
 ghost use Rattle.slot_text.specs.Ended.{ended};
 ghost use Rattle.season_days.specs.Seasons.{date_count};
 ghost use Rattle.scr_reader.specs.Bytes.{three_digits};
-ghost use Rattle.scr_reader.specs.Printed.{code_letter, flight_text, arrival_group_text, departure_group_text, dates_text, fields_by, joined, line_text, LineFits, header_lines};
+ghost use Rattle.scr_reader.specs.Printed.{code_letter, flight_text, arrival_group_text, departure_group_text, dates_text, stops_text, line_text, LineFits, ItemFits, header_lines, item_text};
 
-use crate::line::{Code, Line, Stop};
-use crate::message::Message;
+use crate::header::Header;
+use crate::line::{Code, Flight, Item, Line, Stop};
 use crate::put::{
     last_three, letter_of, put, put_arrival_group, put_date, put_day, put_departure_group,
     put_flight,
@@ -16,10 +16,14 @@ use season_days::Season;
 use slot_text::Memory;
 use std::alloc::Global;
 
-/// Appends the printed spelling of a line with a code: the flight's number with at least three digits, both dates of
-/// the period, seven places of weekdays, no digit for no nights, and one blank between two fields; no line end. After an
-/// error `out` is as before. It takes memory once for the line's text, beside the growth of `out`. Lines that were read have a
-/// spelling (`laws::read_lines_fit`), and `Line::fits` tests it.
+/// The most bytes that a printed line has, without its end.
+pub const LONGEST_PRINTED_LINE: usize = 70;
+
+/// Appends the printed spelling of a line with a code: the flight's number with at least three
+/// digits, both dates of the period, seven places of weekdays, no digit for no nights, and one
+/// blank between two fields; no line end. After an error `out` is as before. It takes memory once
+/// for the line's text, beside the growth of `out`. Lines that were read have a spelling
+/// (`laws::read_lines_fit`), and `Line::fits` tests it.
 pub fn print_line(
     alloc: Global,
     out: &mut Vec<u8>,
@@ -37,21 +41,80 @@ pub fn print_line(
     Ok(())
 }
 
-/// Appends the four lines of a message's header, each with an LF. After an error `out` is as before.
-pub fn print_header(alloc: Global, out: &mut Vec<u8>, message: &Message) -> Result<(), Memory>
-    ensures ok { OnOk result (out.new.items ≡ out.old.items ++ ended (header_lines message.now)) }
+/// Appends the four lines of a header, each with an LF. After an error `out` is as before.
+pub fn print_header(alloc: Global, out: &mut Vec<u8>, header: &Header) -> Result<(), Memory>
+    ensures ok { OnOk result (out.new.items ≡ out.old.items ++ ended (header_lines header.now)) }
     ensures unchanged { OnErr result (out.new.items ≡ out.old.items) }
 {
     let mut text = Vec::new(alloc);
     put(&mut text, b"SCR\n")?;
-    put(&mut text, &message.season.text())?;
+    put(&mut text, &header.season.text())?;
     put(&mut text, b"\n")?;
-    put_date(&mut text, message.month, message.day)?;
+    put_date(&mut text, header.month, header.day)?;
     put(&mut text, b"\n")?;
-    put(&mut text, &message.airport.0)?;
+    put(&mut text, &header.airport.0)?;
     put(&mut text, b"\n")?;
     out.extend_from_slice(&text)?;
     Ok(())
+}
+
+/// Appends a flight: its airline, its number with at least three digits, and its letter if it has
+/// one; no line end. After an error `out` is as before.
+pub fn print_flight(alloc: Global, out: &mut Vec<u8>, flight: Flight) -> Result<(), Memory>
+    ensures ok { OnOk result (out.new.items ≡ out.old.items ++ flight_text flight) }
+    ensures unchanged { OnErr result (out.new.items ≡ out.old.items) }
+{
+    let mut text = Vec::new(alloc);
+    put_flight(&mut text, flight)?;
+    out.extend_from_slice(&text)?;
+    Ok(())
+}
+
+/// Appends an item, each of its lines with an LF: a line with its own code, both lines of a pair,
+/// or Q and the flight. After an error `out` is as before. It takes memory once for the item's
+/// text, beside the growth of `out`.
+pub fn print_item(
+    alloc: Global,
+    out: &mut Vec<u8>,
+    season: &Season,
+    item: &Item,
+) -> Result<(), Memory>
+    requires { ItemFits season.now item.now }
+    ensures ok { OnOk result (out.new.items ≡ out.old.items ++ item_text season.now item.now) }
+    ensures unchanged { OnErr result (out.new.items ≡ out.old.items) }
+{
+    let mut text = Vec::new(alloc);
+    put_item(&mut text, season, item)?;
+    out.extend_from_slice(&text)?;
+    Ok(())
+}
+
+fn put_item(out: &mut Vec<u8>, season: &Season, item: &Item) -> Result<(), Memory>
+    requires { ItemFits season.now item.now }
+    ensures { OnOk result (out.new.items ≡ out.old.items ++ item_text season.now item.now) }
+{
+    match item {
+        Item::One(line) => put_own_line(out, season, line),
+        Item::Pair(changed, asked) => {
+            put_own_line(out, season, changed)?;
+            put_own_line(out, season, asked)
+        }
+        Item::Query(flight) => {
+            put(out, b"Q")?;
+            put_flight(out, *flight)?;
+            put(out, b"\n")
+        }
+    }
+}
+
+/// Appends a line with its own code, and an LF.
+fn put_own_line(out: &mut Vec<u8>, season: &Season, line: &Line) -> Result<(), Memory>
+    requires { LineFits season.now line.now }
+    ensures { OnOk result (out.new.items
+        ≡ out.old.items ++ (line_text season.now line.now.code line.now ++ 10 ∷ [])) }
+{
+    put_line(out, season, line.code, line, line.arrival, line.departure)?;
+    put(out, b"\n")
 }
 
 /// Appends the spelling of a line whose movements these are.
@@ -65,7 +128,9 @@ fn put_line(
 ) -> Result<(), Memory>
     requires first { line.now.period.first.0 < date_count season.now }
     requires last { line.now.period.last.0 < date_count season.now }
-    ensures { OnOk result (out.new.items ≡ out.old.items ++ joined (fields_by (code_letter code) line.now (dates_text season.now line.now.period) (days_text line.now.period.days) (three_digits line.now.seats ++ line.now.craft.0) arrival departure)) }
+    ensures { OnOk result (out.new.items
+        ≡ out.old.items
+        ++ stops_text season.now code line.now arrival departure) }
 {
     match (arrival, departure) {
         (Some(coming), Some(going)) => put_turnaround(out, season, code, line, coming, going),
@@ -75,11 +140,18 @@ fn put_line(
     }
 }
 
-/// Appends a blank, and the dates, the weekdays and the seats and type, each with a blank behind it.
+/// Appends a blank, and the dates, the weekdays and the seats and type, each with a blank behind
+/// it.
 fn put_middle(out: &mut Vec<u8>, season: &Season, line: &Line) -> Result<(), Memory>
     requires first { line.now.period.first.0 < date_count season.now }
     requires last { line.now.period.last.0 < date_count season.now }
-    ensures { OnOk result (out.new.items ≡ out.old.items ++ (32 ∷ (dates_text season.now line.now.period ++ (32 ∷ (days_text line.now.period.days ++ (32 ∷ ((three_digits line.now.seats ++ line.now.craft.0) ++ (32 ∷ [])))))))) }
+    ensures { OnOk result (out.new.items
+        ≡ out.old.items
+        ++ (32
+        ∷ (dates_text season.now line.now.period
+        ++ (32
+        ∷ (days_text line.now.period.days
+        ++ (32 ∷ ((three_digits line.now.seats ++ line.now.craft.0) ++ (32 ∷ [])))))))) }
 {
     put(out, b" ")?;
     put_day(out, season, line.period.first)?;
@@ -101,7 +173,9 @@ fn put_arrival(
 ) -> Result<(), Memory>
     requires first { line.now.period.first.0 < date_count season.now }
     requires last { line.now.period.last.0 < date_count season.now }
-    ensures { OnOk result (out.new.items ≡ out.old.items ++ joined (fields_by (code_letter code) line.now (dates_text season.now line.now.period) (days_text line.now.period.days) (three_digits line.now.seats ++ line.now.craft.0) (Some coming) None)) }
+    ensures { OnOk result (out.new.items
+        ≡ out.old.items
+        ++ stops_text season.now code line.now (Some coming) None) }
 {
     put(out, &[letter_of(code)])?;
     put_flight(out, coming.flight)?;
@@ -119,7 +193,9 @@ fn put_departure(
 ) -> Result<(), Memory>
     requires first { line.now.period.first.0 < date_count season.now }
     requires last { line.now.period.last.0 < date_count season.now }
-    ensures { OnOk result (out.new.items ≡ out.old.items ++ joined (fields_by (code_letter code) line.now (dates_text season.now line.now.period) (days_text line.now.period.days) (three_digits line.now.seats ++ line.now.craft.0) None (Some going))) }
+    ensures { OnOk result (out.new.items
+        ≡ out.old.items
+        ++ stops_text season.now code line.now None (Some going)) }
 {
     put(out, &[letter_of(code), b' '])?;
     put_flight(out, going.flight)?;
@@ -138,7 +214,9 @@ fn put_turnaround(
 ) -> Result<(), Memory>
     requires first { line.now.period.first.0 < date_count season.now }
     requires last { line.now.period.last.0 < date_count season.now }
-    ensures { OnOk result (out.new.items ≡ out.old.items ++ joined (fields_by (code_letter code) line.now (dates_text season.now line.now.period) (days_text line.now.period.days) (three_digits line.now.seats ++ line.now.craft.0) (Some coming) (Some going))) }
+    ensures { OnOk result (out.new.items
+        ≡ out.old.items
+        ++ stops_text season.now code line.now (Some coming) (Some going)) }
 {
     put(out, &[letter_of(code)])?;
     put_flight(out, coming.flight)?;

@@ -1,15 +1,13 @@
 ghost use Rattle.std.specs.Prelude.{◌≡◌, ◌≤◌, length, true, false};
 ghost use Rattle.slot_text.specs.Fields.{is_blank};
-ghost use Rattle.scr_reader.specs.Rows.{is_remark, is_question, is_empty_line, trimmed, most_bytes};
+ghost use Rattle.scr_reader.specs.Rows.{is_remark, is_question, trimmed};
 ghost use Rattle.scr_reader.specs.Readings.{IsRowReading};
 
 use crate::fields::Fields;
 use crate::line::{Flight, Line};
-use crate::lines::{read_line, read_question};
+use crate::line_reader::{read_line, read_question};
 use season_days::Season;
-
-/// The most bytes of a line, without its end.
-pub(crate) const MOST_BYTES: usize = 200;
+use slot_text::{LONGEST_LINE, is_blank_byte};
 
 /// What a line below the header is by itself.
 #[derive(Clone, Copy, Debug, PartialEq, Eq)]
@@ -26,7 +24,7 @@ pub(crate) enum Reading {
 pub(crate) fn read_row(season: &Season, line: &[u8]) -> Reading
     ensures { IsRowReading season.now line.now result }
 {
-    let long = line.len() > MOST_BYTES;
+    let long = line.len() > LONGEST_LINE;
     if is_remark_line(line) {
         return if long {
             Reading::LongRemark
@@ -42,7 +40,7 @@ pub(crate) fn read_row(season: &Season, line: &[u8]) -> Reading
 
 fn read_fields(season: &Season, line: &[u8]) -> Reading
     requires fields { is_remark line.now ≡ false }
-    requires short { length line.now ≤ most_bytes }
+    requires short { length line.now ≤ LONGEST_LINE }
     ensures { IsRowReading season.now line.now result }
 {
     let fields = Fields::cut(line);
@@ -74,24 +72,6 @@ fn is_remark_line(line: &[u8]) -> bool
         [b'S' | b'G', b'I', b, ..] => *b == b' ' || *b == b'\t',
         _ => false,
     }
-}
-
-fn is_blank_byte(b: u8) -> bool
-    ensures { result ≡ is_blank b }
-{
-    b == b' ' || b == b'\t'
-}
-
-/// Whether a line has no byte but blanks.
-pub(crate) fn is_blank_line(line: &[u8]) -> bool
-    ensures { result ≡ is_empty_line line.now }
-{
-    for b in line {
-        if !is_blank_byte(*b) {
-            return false;
-        }
-    }
-    true
 }
 
 /// The line without its trailing blanks.

@@ -14,7 +14,8 @@ use season_days::Season;
 pub(crate) fn read_arrival(season: &Season, fields: &Fields<'_>) -> Result<Line, u32>
     requires { shape_of fields.now ≡ arrival }
     ensures found { IfOk result (λ line. IsLine season.now fields.now line) }
-    ensures same { IfOk result (λ line. (other : LineValue) → IsLine season.now fields.now other → line ≡ other) }
+    ensures same { IfOk result (λ line. (other : LineValue) → IsLine season.now fields.now other →
+        line ≡ other) }
     ensures fault { IfErr result (λ field. IsFaultyField season.now fields.now field) }
 {
     let (code, flight) = code_and_flight_at(fields, 1)?;
@@ -44,7 +45,8 @@ pub(crate) fn read_arrival(season: &Season, fields: &Fields<'_>) -> Result<Line,
 pub(crate) fn read_departure(season: &Season, fields: &Fields<'_>) -> Result<Line, u32>
     requires { shape_of fields.now ≡ departure }
     ensures found { IfOk result (λ line. IsLine season.now fields.now line) }
-    ensures same { IfOk result (λ line. (other : LineValue) → IsLine season.now fields.now other → line ≡ other) }
+    ensures same { IfOk result (λ line. (other : LineValue) → IsLine season.now fields.now other →
+        line ≡ other) }
     ensures fault { IfErr result (λ field. IsFaultyField season.now fields.now field) }
 {
     let code = code_at(fields, 1)?;
@@ -75,7 +77,8 @@ pub(crate) fn read_departure(season: &Season, fields: &Fields<'_>) -> Result<Lin
 pub(crate) fn read_turnaround(season: &Season, fields: &Fields<'_>) -> Result<Line, u32>
     requires { shape_of fields.now ≡ turnaround }
     ensures found { IfOk result (λ line. IsLine season.now fields.now line) }
-    ensures same { IfOk result (λ line. (other : LineValue) → IsLine season.now fields.now other → line ≡ other) }
+    ensures same { IfOk result (λ line. (other : LineValue) → IsLine season.now fields.now other →
+        line ≡ other) }
     ensures fault { IfErr result (λ field. IsFaultyField season.now fields.now field) }
 {
     let (code, coming) = code_and_flight_at(fields, 1)?;

@@ -6,28 +6,15 @@ use slot_text::Memory;
 use std::alloc::Global;
 use std::test::Fail;
 
-/// Appends the printed line with its own code, if it has a spelling, and an LF.
-fn put_line(alloc: Global, out: &mut Vec<u8>, season: &Season, line: &Line) -> Result<(), Memory> {
-    if line.fits(season) {
-        print_line(alloc, out, season, line.code, line)?;
-        out.push(b'\n')?;
+/// Appends the printed item, if it has a spelling.
+fn put_item(alloc: Global, out: &mut Vec<u8>, season: &Season, item: &Item) -> Result<(), Memory> {
+    if item.fits(season) {
+        print_item(alloc, out, season, item)?;
     }
     Ok(())
 }
 
-/// The lines of an item in their printed spelling; a question has none here.
-fn put_item(alloc: Global, out: &mut Vec<u8>, season: &Season, item: &Item) -> Result<(), Memory> {
-    match item {
-        Item::One(line) => put_line(alloc, out, season, line),
-        Item::Pair(changed, asked) => {
-            put_line(alloc, out, season, changed)?;
-            put_line(alloc, out, season, asked)
-        }
-        Item::Query(_) => Ok(()),
-    }
-}
-
-/// The lines of a message in their printed spelling.
+/// The items of a message in their printed spelling.
 fn printed(alloc: Global, text: &[u8]) -> Result<Vec<u8>, ScrFault> {
     if text.len() > 100_000 {
         return Err(ScrFault::Memory);
@@ -42,7 +29,8 @@ fn printed(alloc: Global, text: &[u8]) -> Result<Vec<u8>, ScrFault> {
     Ok(out)
 }
 
-/// The lines of a message for the summer of 2025 with these lines below its header, in their printed spelling.
+/// The lines of a message for the summer of 2025 with these lines below its header, in their
+/// printed spelling.
 fn printed_below(alloc: Global, lines: &[u8]) -> Result<Vec<u8>, ScrFault> {
     let mut text = Vec::new(alloc);
     text.extend_from_slice(b"SCR\nS25\n20NOV\nABC\n")?;
@@ -54,10 +42,13 @@ fn printed_below(alloc: Global, lines: &[u8]) -> Result<Vec<u8>, ScrFault> {
 fn printed_lines_stay(rt: HostRuntime) -> Result<(), Fail> {
     let cases: [&[u8]; 8] = [
         b"",
-        b"FBA001 30MAR25OCT 1234567 180320 JFK0610 J\nNBA002 BA003 30MAR25OCT 1234567 180320 JFK0630 0715JFK JJ\n",
-        b"FBA001 30MAR25OCT 1234567 180320 JFK0625 J\nCBA002 30MAR25OCT 1234567 180320 JFK0610 J\nLBA002 30MAR25OCT 1234567 180320 JFK0630 J\n",
+        b"FBA001 30MAR25OCT 1234567 180320 JFK0610 J\n\
+        NBA002 BA003 30MAR25OCT 1234567 180320 JFK0630 0715JFK JJ\n",
+        b"FBA001 30MAR25OCT 1234567 180320 JFK0625 J\nCBA002 30MAR25OCT 1234567 180320 JFK0610 J\n\
+        LBA002 30MAR25OCT 1234567 180320 JFK0630 J\n",
         b"FBA001 BA002 24OCT24OCT 0000500 180320 JFK2200 06301JFK JJ\n",
-        b"NBA002 30MAR25OCT 1234567 180320 JFK0620 J\nABA003 30MAR25OCT 1234567 180320 JFK0700 J\nDBA002 01JUN30JUN 1234567 180320 JFK0620 J\nZBA009 30MAR25OCT 1234567 180320 JFK0700 J\n",
+        b"NBA002 30MAR25OCT 1234567 180320 JFK0620 J\nABA003 30MAR25OCT 1234567 180320 JFK0700 J\n\
+        DBA002 01JUN30JUN 1234567 180320 JFK0620 J\nZBA009 30MAR25OCT 1234567 180320 JFK0700 J\n",
         b"NU21234 U21235 31MAR24OCT 1030500 186320 LTNBFS0815 0905BFSLTN JJ\n",
         b"BEZY9999Z 25OCT25OCT 0000060 999320 JFKLGW2359 Z\n",
         b"NXY1003 XZ1003 30MAR25OCT 1234567 180320 JFK0925 1030JFK JJ\n",
@@ -86,7 +77,8 @@ fn wide_spellings_are_printed_in_one(rt: HostRuntime) -> Result<(), Fail> {
         ),
         (
             b"CBA2 31MAR 135 180320 JFK0610 J\nSI x\nIBA02 31MAR31MAR 1030500 180320 JFK0630 J",
-            b"CBA002 31MAR31MAR 1030500 180320 JFK0610 J\nRBA002 31MAR31MAR 1030500 180320 JFK0630 J\n",
+            b"CBA002 31MAR31MAR 1030500 180320 JFK0610 J\n\
+            RBA002 31MAR31MAR 1030500 180320 JFK0630 J\n",
         ),
         (
             b"FBA001 BA002 25OCT 6 180320 JFK2200 06301JFK JJ\n",
@@ -108,7 +100,7 @@ fn wide_spellings_are_printed_in_one(rt: HostRuntime) -> Result<(), Fail> {
             b"ZA20999 31MAR13APR 1 999ZZZ JFK2359 Z\n",
             b"ZA2999 31MAR13APR 1000000 999ZZZ JFK2359 Z\n",
         ),
-        (b"QBA001\nSI\nGI\tx\nSI \0\x7f\x80\xff\r\n", b""),
+        (b"QBA1\nSI\nGI\tx\nSI \0\x7f\x80\xff\r\n", b"QBA001\n"),
         (
             b"DAAA0001 30APR 3 180320 JFK0610 J\n\nbad",
             b"DAAA001 30APR30APR 0030000 180320 JFK0610 J\n",
@@ -162,6 +154,9 @@ fn parts_of_lines_are_read(rt: HostRuntime) -> Result<(), Fail> {
     );
     assert_eq!(rt; read_flight(b"BA12"), read_flight(b"BA0012"));
     assert_eq!(rt; read_flight(b"12001"), None);
+    let mut out = Vec::new(rt.alloc());
+    print_flight(rt.alloc(), &mut out, named)?;
+    assert_eq!(rt; out.as_slice(), b"EZY012A".as_slice());
     let period = Period {
         first: Day(1),
         last: Day(1),
@@ -173,5 +168,45 @@ fn parts_of_lines_are_read(rt: HostRuntime) -> Result<(), Fail> {
         Some(period)
     );
     assert_eq!(rt; read_period(&season, b"31MAR", b"2")?, None);
+    Ok(())
+}
+
+/// The item of a text, printed again.
+fn printed_item(alloc: Global, season: &Season, text: &[u8]) -> Result<Option<Vec<u8>>, Memory> {
+    let Some(item) = read_item(alloc, season, text)? else {
+        return Ok(None);
+    };
+    let mut out = Vec::new(alloc);
+    put_item(alloc, &mut out, season, &item)?;
+    Ok(Some(out))
+}
+
+#[test]
+fn printed_items_are_read(rt: HostRuntime) -> Result<(), Fail> {
+    let season = Season::read(b"S25").ok_or("season")?;
+    let own: [&[u8]; 4] = [
+        b"NU21234 U21235 31MAR24OCT 1030500 186320 LTNBFS0815 0905BFSLTN JJ\n",
+        b"D 2A007 30MAR19OCT 0000007 005A32 2359JFKLHR J\n",
+        b"CBA002 31MAR31MAR 1030500 180320 JFK0610 J\nLBA002 31MAR31MAR 1030500 180320 JFK0630 J\n",
+        b"QEZY012A\n",
+    ];
+    for text in own {
+        let out = printed_item(rt.alloc(), &season, text)?.ok_or("item")?;
+        assert_eq!(rt; out.as_slice(), text);
+    }
+    let other: [&[u8]; 9] = [
+        b"",
+        b"\n",
+        b"SI\n",
+        b"QBA12\n",
+        b"QBA012",
+        b"QBA012\n\n",
+        b"YBA002 31MAR31MAR 1030500 180320 JFK0610 J\n",
+        b"RBA002 31MAR31MAR 1030500 180320 JFK0610 J\n",
+        b"CBA002 31MAR31MAR 1030500 180320 JFK0610 J\n",
+    ];
+    for text in other {
+        assert_eq!(rt; printed_item(rt.alloc(), &season, text)?, None);
+    }
     Ok(())
 }

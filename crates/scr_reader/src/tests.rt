@@ -26,8 +26,8 @@ fn flight(airline: [u8; 3], number: u16, suffix: u8) -> Flight {
     }
 }
 
-/// Mondays, Wednesdays and Fridays from the 31st of March to the 24th of October of 2025, at Luton on the way from and to
-/// Belfast.
+/// Mondays, Wednesdays and Fridays from the 31st of March to the 24th of October of 2025, at Luton
+/// on the way from and to Belfast.
 fn turnaround() -> Line {
     Line {
         code: Code::N,
@@ -102,6 +102,19 @@ fn a_message_is_read(rt: HostRuntime) -> Result<(), Fail> {
     assert_eq!(rt; Some(message.season), Season::read(b"S25"));
     assert_eq!(rt; (message.day, message.month), (20, 11));
     assert_eq!(rt; message.airport, Station(*b"ABC"));
+    let winter = Season::read(b"W25").ok_or("winter")?;
+    let airport = Station(*b"XYZ");
+    if message.line < 1_000 {
+        assert_eq!(rt;
+            message.stray_line(winter, airport),
+            Some(StrayLine::Season(3))
+        );
+        assert_eq!(rt;
+            message.stray_line(message.season, airport),
+            Some(StrayLine::Airport(5))
+        );
+        assert_eq!(rt; message.stray_line(message.season, message.airport), None);
+    }
     let items = [
         Placed {
             line: 6,
@@ -114,7 +127,7 @@ fn a_message_is_read(rt: HostRuntime) -> Result<(), Fail> {
     ];
     assert_eq!(rt; message.items.items(), items.as_slice());
     let mut out = Vec::new(rt.alloc());
-    print_header(rt.alloc(), &mut out, message)?;
+    print_header(rt.alloc(), &mut out, &message.header())?;
     assert_eq!(rt; out.as_slice(), b"SCR\nS25\n20NOV\nABC\n".as_slice());
     Ok(())
 }

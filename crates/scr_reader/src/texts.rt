@@ -9,20 +9,22 @@ ghost use Rattle.scr_reader.specs.declared.fault.ScrFault.TheVariants.{Memory as
 
 use crate::fault::ScrFault;
 use crate::message::{Message, MessageList};
-use crate::messages::{count_front, lines_in, read_run};
-use crate::rows::is_blank_line;
+use crate::run_reader::{count_front, lines_in, read_run};
+use slot_text::is_blank_line;
 use std::alloc::Global;
 
 /// All messages of a text, or the fault of its lowest bad line.
 ///
-/// Messages are the longest runs of lines that are not empty. One pass over the bytes; memory for a table of the lines
-/// and for what is read.
+/// Messages are the longest runs of lines that are not empty. One pass over the bytes; memory for a
+/// table of the lines and for what is read.
 pub fn read_all(alloc: Global, bytes: &[u8]) -> Result<MessageList, ScrFault>
     requires { length bytes.now + 6 < 2 ^ 32 }
     ensures found { IfOk result (ReadsAll bytes.now) }
-    ensures only { (messages : List MessageValue) → ReadsAll bytes.now messages → GivesOr NoMemory result (Ok messages) }
+    ensures only { (messages : List MessageValue) → ReadsAll bytes.now messages →
+        GivesOr NoMemory result (Ok messages) }
     ensures fault { IfErr result (λ e. HasScrFault bytes.now e ⊎ (e ≡ NoMemory)) }
-    ensures exact { (e : ScrFaultValue) → HasScrFault bytes.now e → GivesOr NoMemory result (Err e) }
+    ensures exact { (e : ScrFaultValue) → HasScrFault bytes.now e →
+        GivesOr NoMemory result (Err e) }
 {
     let lines = lines_in(alloc, bytes)?;
     read_runs(alloc, lines.as_slice())
@@ -31,7 +33,8 @@ pub fn read_all(alloc: Global, bytes: &[u8]) -> Result<MessageList, ScrFault>
 /// The messages that the runs of lines are.
 fn read_runs(alloc: Global, lines: &[&[u8]]) -> Result<MessageList, ScrFault>
     requires { length lines.now + 6 < 2 ^ 32 }
-    ensures { Decides NoMemory (AreMessages (runs_of 1 (texts_in lines.now))) (IsFirstFault (runs_of 1 (texts_in lines.now))) result }
+    ensures { Decides NoMemory (AreMessages (runs_of 1 (texts_in lines.now)))
+        (IsFirstFault (runs_of 1 (texts_in lines.now))) result }
 {
     let mut messages = Vec::new(alloc);
     let mut at = 0;
@@ -52,7 +55,8 @@ fn read_next(
     requires some { 0 < length rest.now }
     requires few { number + 5 < 2 ^ 32 }
     requires short { number + length rest.now < 2 ^ 32 }
-    ensures on { IfOk result (λ count. Advances number (texts_in rest.now) count messages.old.items messages.new.items) }
+    ensures on { IfOk result
+        (λ count. Advances number (texts_in rest.now) count messages.old.items messages.new.items) }
     ensures stop { IfErr result (λ f. (f ≡ NoMemory) ⊎ Stops number (texts_in rest.now) f) }
 {
     let count = count_front(rest);
@@ -64,14 +68,16 @@ fn read_next(
     Ok(count)
 }
 
-/// The first message of a text, or the fault of its lowest bad line; a text without a line that is not empty lacks its
-/// header after its last line. One pass over the bytes.
+/// The first message of a text, or the fault of its lowest bad line; a text without a line that is
+/// not empty lacks its header after its last line. One pass over the bytes.
 pub fn read_message(alloc: Global, bytes: &[u8]) -> Result<Message, ScrFault>
     requires { length bytes.now + 6 < 2 ^ 32 }
     ensures found { IfOk result (ReadsMessage bytes.now) }
-    ensures only { (message : MessageValue) → ReadsMessage bytes.now message → GivesOr NoMemory result (Ok message) }
+    ensures only { (message : MessageValue) → ReadsMessage bytes.now message →
+        GivesOr NoMemory result (Ok message) }
     ensures fault { IfErr result (λ e. HasMessageFault bytes.now e ⊎ (e ≡ NoMemory)) }
-    ensures exact { (e : ScrFaultValue) → HasMessageFault bytes.now e → GivesOr NoMemory result (Err e) }
+    ensures exact { (e : ScrFaultValue) → HasMessageFault bytes.now e →
+        GivesOr NoMemory result (Err e) }
 {
     let lines = lines_in(alloc, bytes)?;
     read_first(alloc, lines.as_slice())
@@ -79,7 +85,8 @@ pub fn read_message(alloc: Global, bytes: &[u8]) -> Result<Message, ScrFault>
 
 fn read_first(alloc: Global, lines: &[&[u8]]) -> Result<Message, ScrFault>
     requires { length lines.now + 6 < 2 ^ 32 }
-    ensures { Decides NoMemory (FirstIs (runs_of 1 (texts_in lines.now))) (IsFaultOfFirst (length (texts_in lines.now) + 1) (runs_of 1 (texts_in lines.now))) result }
+    ensures { Decides NoMemory (FirstIs (runs_of 1 (texts_in lines.now)))
+        (IsFaultOfFirst (length (texts_in lines.now) + 1) (runs_of 1 (texts_in lines.now))) result }
 {
     let blank = count_blank(lines);
     if blank == lines.len() {
@@ -96,7 +103,8 @@ fn read_first(alloc: Global, lines: &[&[u8]]) -> Result<Message, ScrFault>
 /// How many empty lines stand in front.
 fn count_blank(lines: &[&[u8]]) -> usize
     ensures within { result ≤ length lines.now }
-    ensures runs { runs_of 1 (texts_in lines.now) ≡ runs_of (1 + result) (texts_in (drop result lines.now)) }
+    ensures runs { runs_of 1 (texts_in lines.now)
+        ≡ runs_of (1 + result) (texts_in (drop result lines.now)) }
     ensures full { result < length lines.now → BeginsFull (texts_in (drop result lines.now)) }
 {
     for (i, line) in lines.iter().enumerate() {

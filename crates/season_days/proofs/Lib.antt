@@ -1,3 +1,5 @@
 pub mod SeasonLemmas
-pub mod CivilLemmas
+mod CivilLemmas
 pub mod PeriodLemmas
+mod CountLemmas
+mod CutLemmas

@@ -6,7 +6,7 @@ use Rattle.season_days.specs.Seasons.{date_count}
 use Rattle.season_days.specs.declared.declaration.Declaration.{Declaration}
 use Rattle.season_days.specs.declared.declaration.Rule.{Rule}
 use Rattle.season_days.specs.declared.declaration.Night.{Night}
-use Rattle.season_days.specs.declared.declaration.TheConstants.{MINUTES_OF_DAY, MOST_RULES, MOST_WINDOWS, HIGHEST_WINDOW_LIMIT, HIGHEST_NIGHT_LIMIT}
+use Rattle.season_days.specs.declared.declaration.TheConstants.{MINUTES_OF_DAY, MOST_RULES, MOST_WINDOWS, HIGHEST_WINDOW_LIMIT, HIGHEST_NIGHT_LIMIT, HIGHEST_REFUSAL_PRICE, HIGHEST_SHARE}
 
 -- what of a declaration its windows depend on
 pub record Capacity : Type 0 where
@@ -46,3 +46,9 @@ pub record IsCapacity (c : Capacity) : Type 0 where
   pub rules : All IsRule c.rules
   pub night : ForSome c.night (λ night. night.limit ≤ HIGHEST_NIGHT_LIMIT)
   pub few : declared_resources c ≤ MOST_WINDOWS
+
+-- what a declaration keeps: the limits of its capacity, and those of the price of a refusal and of the share of new entrants
+pub record IsDeclaration (d : Declaration) : Type 0 where
+  pub capacity : IsCapacity (capacity_of d)
+  pub price : ForSome d.refuse (λ price. price ≤ HIGHEST_REFUSAL_PRICE)
+  pub share : d.share ≤ HIGHEST_SHARE

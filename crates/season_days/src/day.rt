@@ -18,6 +18,16 @@ pub struct Period {
     pub days: u8,
 }
 
+/// What is left of a period where the dates of another are taken out: its days before the other's first, those from the
+/// other's first to its last on the weekdays that the other lacks, and those after the other's last. None: that part has
+/// no date. The first and the last day of a part need not be dates of it.
+#[derive(Clone, Copy, Debug, PartialEq, Eq)]
+pub struct Cut {
+    pub before: Option<Period>,
+    pub between: Option<Period>,
+    pub after: Option<Period>,
+}
+
 /// Why a day or the dates of a period are not there.
 #[derive(Clone, Copy, Debug, PartialEq, Eq)]
 pub enum DayFault {

@@ -1,7 +1,8 @@
-ghost use Rattle.std.specs.Prelude.{◌≡◌};
+ghost use Rattle.std.specs.Prelude.{◌≡◌, IfOk};
 
 use crate::season::Season;
-use slot_text::Station;
+use slot_text::{Memory, Station};
+use std::alloc::Global;
 use std::marker::Model;
 
 /// Minutes of a day. A minute of the day is below this number.
@@ -18,6 +19,12 @@ pub const HIGHEST_WINDOW_LIMIT: u32 = 9_999;
 
 /// The highest limit of the night quota.
 pub const HIGHEST_NIGHT_LIMIT: u32 = 999_999;
+
+/// The highest price of a refused movement on one date, in minutes.
+pub const HIGHEST_REFUSAL_PRICE: u32 = 9_999;
+
+/// The highest share of new entrants, in per cent.
+pub const HIGHEST_SHARE: u32 = 100;
 
 /// Which movements a window holds: arrivals, departures, or both.
 #[derive(Clone, Copy, Debug, PartialEq, Eq)]
@@ -78,6 +85,13 @@ impl RuleList {
     {
         &self.items
     }
+
+    /// The same capacity lines again.
+    pub fn copy(&self, alloc: Global) -> Result<RuleList, Memory>
+        ensures { IfOk result (λ copy. copy ≡ self.now) }
+    {
+        Ok(RuleList::new(Vec::from_slice(alloc, &self.items)?))
+    }
 }
 
 /// The declared capacity of an airport in a season, and how requests may be moved.
@@ -97,4 +111,23 @@ pub struct Declaration {
     pub refuse: Option<u32>,
     pub night: Option<Night>,
     pub rules: RuleList,
+}
+
+impl Declaration {
+    /// The same declaration again.
+    pub fn copy(&self, alloc: Global) -> Result<Declaration, Memory>
+        ensures { IfOk result (λ copy. copy ≡ self.now) }
+    {
+        Ok(Declaration {
+            airport: self.airport,
+            season: self.season,
+            step: self.step,
+            flex: self.flex,
+            ground: self.ground,
+            share: self.share,
+            refuse: self.refuse,
+            night: self.night,
+            rules: self.rules.copy(alloc)?,
+        })
+    }
 }

@@ -1,21 +1,28 @@
 //! Laws of the calendar. Each function does nothing; its contract is the law.
 
-ghost use Rattle.std.specs.Prelude.{◌≡◌, ◌↔◌, ◌<◌, ◌≤◌, ◌+◌, ◌%◌, ◌+ℤ◌, ℕ, ℤ, pos, true, length, Some, slice_get, Contains};
+ghost use Rattle.std.specs.Prelude.{◌≡◌, ◌↔◌, ◌<◌, ◌≤◌, ◌+◌, ◌%◌, ◌+ℤ◌, ℕ, ℤ, pos, true, [], ◌∷◌, length, Some, slice_get, Contains};
 ghost use Rattle.std.specs.List.Sorted.{IsStrictlyIncreasing};
-ghost use Rattle.jiff_core.specs.Calendar.{days_from_civil};
+ghost use Rattle.jiff_core.specs.Calendar.{days_from_civil, days_in_month};
 ghost use Rattle.season_days.specs.Term.{Term};
 ghost use Rattle.season_days.specs.Dates.{IsLastSunday, last_sunday};
 ghost use Rattle.season_days.specs.Seasons.{first_year, year_after, month_after, season_after, first_number, number_after, date_count, date_at, season_dates, weekday_on, IsDayNamed, is_on, dates_of};
+ghost use Rattle.season_days.specs.Periods.{part_dates, cut_of, IsInOne};
 ghost use Rattle.season_days.specs.declared.day.Period.{Period};
+ghost use Rattle.season_days.specs.declared.season.TheConstants.{MOST_DATES};
 
 /// The number that `last_sunday` gives is the last Sunday of the month, and no other day of the month is.
 pub fn last_sundays()
     ensures { (year : ℤ) (month of_month : ℕ) → IsLastSunday year month of_month ↔ (of_month ≡ last_sunday year month) }
 {}
 
+/// A month has from 28 to 31 days.
+pub fn month_lengths()
+    ensures { (year : ℤ) (month : ℕ) → (28 ≤ days_in_month year month) × (days_in_month year month ≤ 31) }
+{}
+
 /// A season has from 147 to 217 dates, which are whole weeks, and the next season begins on the date after them.
 pub fn lengths()
-    ensures bounds { (season : Term) → (147 ≤ date_count season) × (date_count season ≤ 217) }
+    ensures bounds { (season : Term) → (147 ≤ date_count season) × (date_count season ≤ MOST_DATES) }
     ensures weeks { (season : Term) → date_count season % 7 ≡ 0 }
     ensures after { (season : Term) → first_number season +ℤ pos (date_count season) ≡ number_after season }
 {}
@@ -60,4 +67,20 @@ pub fn weekday_sets()
 pub fn period_dates()
     ensures members { (season : Term) (period : Period) (day : ℕ) → Contains (dates_of season period) day ↔ ((period.first.0 ≤ day) × (day ≤ period.last.0) × (is_on season period.days day ≡ true)) }
     ensures rising { (season : Term) (period : Period) → IsStrictlyIncreasing (dates_of season period) }
+{}
+
+/// The parts of a cut have the held dates before the first asked day, those from it to the last asked day that are not
+/// asked, and those after it. So each held date is in exactly one of the asked period and the three parts.
+pub fn cuts()
+    ensures before { (season : Term) (held asked : Period) (day : ℕ) →
+        Contains (part_dates season (cut_of season held asked).before) day ↔ (Contains (dates_of season held) day × (day < asked.first.0)) }
+    ensures between { (season : Term) (held asked : Period) (day : ℕ) →
+        Contains (part_dates season (cut_of season held asked).between) day ↔
+        (Contains (dates_of season held) day × (asked.first.0 ≤ day) × (day ≤ asked.last.0) × (Contains (dates_of season asked) day → ⊥)) }
+    ensures after { (season : Term) (held asked : Period) (day : ℕ) →
+        Contains (part_dates season (cut_of season held asked).after) day ↔ (Contains (dates_of season held) day × (asked.last.0 < day)) }
+    ensures once { (season : Term) (held asked : Period) (day : ℕ) →
+        asked.first.0 ≤ asked.last.0 → Contains (dates_of season held) day →
+        IsInOne day (dates_of season asked ∷ part_dates season (cut_of season held asked).before
+        ∷ part_dates season (cut_of season held asked).between ∷ part_dates season (cut_of season held asked).after ∷ []) }
 {}

@@ -6,14 +6,16 @@ mod dates;
 mod day;
 mod declaration;
 pub mod laws;
+mod periods;
 mod season;
+mod windows;
 
-pub use day::{Day, DayFault, Period};
+pub use day::{Cut, Day, DayFault, Period};
 pub use declaration::{
-    Declaration, HIGHEST_WINDOW_LIMIT, HIGHEST_NIGHT_LIMIT, Kind, MINUTES_OF_DAY, MOST_RULES,
-    MOST_WINDOWS, Night, Rule, RuleList,
+    Declaration, HIGHEST_NIGHT_LIMIT, HIGHEST_REFUSAL_PRICE, HIGHEST_SHARE, HIGHEST_WINDOW_LIMIT,
+    Kind, MINUTES_OF_DAY, MOST_RULES, MOST_WINDOWS, Night, Rule, RuleList,
 };
-pub use season::{Half, Season};
+pub use season::{Half, MOST_DATES, Season};
 
 #[cfg(test)]
 mod tests;

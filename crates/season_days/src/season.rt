@@ -8,6 +8,9 @@ use crate::day::Day;
 use jiff::civil::{Date, Weekday, date};
 use std::marker::Model;
 
+/// The most dates of a season: 31 whole weeks.
+pub const MOST_DATES: u32 = 217;
+
 /// Northern summer or winter.
 #[derive(Clone, Copy, Debug, PartialEq, Eq)]
 pub enum Half {
@@ -70,6 +73,21 @@ impl Season {
         [letter, b'0' + self.year / 10, b'0' + self.year % 10]
     }
 
+    /// Summer or winter.
+    pub fn half(&self) -> Half
+        ensures { result ≡ self.now.half }
+    {
+        self.half
+    }
+
+    /// The year in which the season begins, from 2000 to 2099.
+    pub fn year(&self) -> u16
+        ensures exact { result ≡ first_year self.now }
+        ensures digits { self.now.year < 100 }
+    {
+        2000 + u16::from(self.year)
+    }
+
     /// The season of the same half one year later. A season of the year 99 has none.
     pub fn next(&self) -> Option<Season>
         ensures none { IsNone result ↔ (self.now.year ≡ 99) }
@@ -112,7 +130,7 @@ impl Season {
     pub fn length(&self) -> u32
         ensures exact { result ≡ date_count self.now }
         ensures some { 1 ≤ result }
-        ensures most { result ≤ 217 }
+        ensures most { result ≤ MOST_DATES }
     {
         let first = self.first().to_plain();
         first.until(self.after().to_plain()).unsigned_abs()

@@ -1,3 +1,5 @@
+ghost use Rattle.std.specs.Prelude.{◌≡◌};
+
 use super::*;
 use slot_text::Station;
 use std::test::Fail;
@@ -168,6 +170,81 @@ fn a_declaration(rt: HostRuntime) -> Result<(), Fail> {
         }),
         rules: RuleList::new(vec![in rt.alloc(); rule; 1]?),
     };
-    assert_eq!(rt; declaration.rules.items(), [rule].as_slice());
+    let copy = declaration.copy(rt.alloc())?;
+    assert_eq!(rt; copy.rules.items(), [rule].as_slice());
+    // A window of an hour from 6:00 on each of 210 dates, and the night.
+    let season = declaration.season;
+    let windows = season.count_windows(copy.step, &copy.night, copy.rules.items());
+    assert_eq!(rt; windows, 211);
+    assert_eq!(rt; (season.half(), season.year()), (Half::Summer, 2025));
+    Ok(())
+}
+
+fn period(first: u32, last: u32, days: u8) -> Period
+    ensures { result.last.0 ≡ last }
+{
+    Period {
+        first: Day(first),
+        last: Day(last),
+        days,
+    }
+}
+
+#[test]
+fn periods_are_cut(rt: HostRuntime) -> Result<(), Fail> {
+    // Mondays and Wednesdays from 7 to 27 April 2025. 7 April is a Monday, day 8 of the season.
+    let season = Season::read(b"S25").ok_or("season")?;
+    let held = period(8, 28, 5);
+    // By asked period: whether all its dates are held, and the parts.
+    let rows = [
+        // Monday 14 April, asked from 14 to 20 April.
+        (
+            period(15, 21, 1),
+            true,
+            [
+                Some(period(8, 14, 5)),
+                Some(period(15, 21, 4)),
+                Some(period(22, 28, 5)),
+            ],
+        ),
+        // Mondays from 5 to 20 April: the period begins before the held one, and its dates do not.
+        (
+            period(6, 21, 1),
+            true,
+            [None, Some(period(8, 21, 4)), Some(period(22, 28, 5))],
+        ),
+        // Mondays from 31 March on.
+        (
+            period(1, 21, 1),
+            false,
+            [None, Some(period(8, 21, 4)), Some(period(22, 28, 5))],
+        ),
+        // Wednesday 23 April to the end: of what stands behind 22 April the Wednesday alone was held.
+        (
+            period(24, 28, 4),
+            true,
+            [Some(period(8, 23, 5)), None, None],
+        ),
+        (held, true, [None, None, None]),
+    ];
+    for (asked, all, [before, between, after]) in rows {
+        assert_eq!(rt; season.has_all_dates(held, asked), all);
+        let parts = season.cut(held, asked);
+        assert_eq!(rt;
+            parts,
+            Cut {
+                before,
+                between,
+                after
+            }
+        );
+        assert!(rt; season.share_date(held, asked));
+    }
+    laws::lengths();
+    assert_eq!(rt; season.count_dates(held), 6);
+    assert_eq!(rt; season.count_dates(period(8, 30, 127)), 23);
+    assert!(rt; !season.share_date(held, period(0, 209, 2)));
+    assert!(rt; season.has_dates(held) && !season.has_dates(period(9, 9, 5)));
+    assert!(rt; season.has_date(held, Day(10)) && !season.has_date(held, Day(9)));
     Ok(())
 }

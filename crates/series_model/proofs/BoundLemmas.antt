@@ -12,10 +12,8 @@ use Rattle.std.proofs.Math.Nat.{zero-mod}
 use Rattle.std.proofs.lemmas.List.{length-append, length-map}
 use Rattle.std.proofs.lemmas.List.Elements.{All-nil, All-cons, All-head, All-tail, All-append, All-weaker, All-map, All-filter, All-contains, Contains-append_right}
 use Rattle.season_days.specs.Term.{Term}
-use Rattle.season_days.specs.Seasons.{is_on, days_from}
+use Rattle.season_days.specs.Seasons.{date_count, is_on, days_from}
 use Rattle.season_days.specs.declared.declaration.Declaration.{Declaration}
-use Rattle.season_days.proofs.SeasonLemmas.{date_count_small}
-use Rattle.season_days.proofs.PeriodLemmas.{length-days_from}
 use Rattle.scr_reader.specs.declared.line.Line.{Line}
 use Rattle.scr_reader.specs.declared.line.Stop.{Stop}
 use Rattle.scr_reader.specs.Printed.{StopsFit, LineFits}
@@ -126,12 +124,17 @@ options_good d unit fits = by_group d unit.request unit.historic unit.group fits
 
 -- ---- costs
 
-dates_few : (season : Term) (line : Line) → LineFits season line → line_dates season line ≤ 217
-dates_few season line fits =
+length-days_from : (first n : ℕ) → length (days_from first n) ≡ n
+unfolding days_from
+length-days_from first zero = refl
+length-days_from first (suc n) = ap suc (length-days_from (suc first) n)
+
+dates_few : (season : Term) (line : Line) → date_count season ≤ 217 → LineFits season line → line_dates season line ≤ 217
+dates_few season line short fits =
     let first = line.period.first.0 in
     let days = line.period.last.0 + 1 - first in
     let counted : line_dates season line ≡ count_by (is_on season line.period.days) (days_from first days) = length-filter (is_on season line.period.days) (days_from first days) in
-    omega (arith, counted, count_by-le-length (is_on season line.period.days) (days_from first days), length-days_from first days, fits.last, date_count_small season)
+    omega (arith, counted, count_by-le-length (is_on season line.period.days) (days_from first days), length-days_from first days, fits.last, short)
 
 coming_change : (line : Line) (a g : Option Stop) (minute : ℕ) → StopsFit line a g → minute < 1440 → stop_change 0 a minute ≤ 1439
 coming_change line None g minute fits lt = omega arith
@@ -153,16 +156,16 @@ price_few : (price : Option ℕ) → ForSome price (λ p. p ≤ 9999) → unwrap
 price_few None few = omega arith
 price_few (Some p) few = few p refl
 
-cost_small : (d : Declaration) (line : Line) (times : Times) → LineFits d.season line → ForSome d.refuse (λ p. p ≤ 9999) → TimesFit d.refuse times → cost_at d line times < 2 ^ 24
-cost_small d line Refused fits few good =
-    let dates = dates_few d.season line fits in
+cost_small : (d : Declaration) (line : Line) (times : Times) → date_count d.season ≤ 217 → LineFits d.season line → ForSome d.refuse (λ p. p ≤ 9999) → TimesFit d.refuse times → cost_at d line times < 2 ^ 24
+cost_small d line Refused short fits few good =
+    let dates = dates_few d.season line short fits in
     let stops = stops_few line line.arrival line.departure in
     let price = price_few d.refuse few in
     let one : unwrap_or d.refuse 0 * stop_count line ≤ 9999 * 2 = mul-le (unwrap_or d.refuse 0) (stop_count line) 9999 2 price stops in
     let all : unwrap_or d.refuse 0 * stop_count line * line_dates d.season line ≤ 9999 * 2 * 217 = mul-le (unwrap_or d.refuse 0 * stop_count line) (line_dates d.season line) (9999 * 2) 217 one dates in
     omega (arith, all)
-cost_small d line (At arrival departure) fits few good =
-    let dates = dates_few d.season line fits in
+cost_small d line (At arrival departure) short fits few good =
+    let dates = dates_few d.season line short fits in
     let nights = few_nights line line.arrival line.departure fits.stops in
     let coming = coming_change line line.arrival line.departure arrival fits.stops good.0 in
     let going = going_change line line.arrival line.departure departure nights fits.stops good.1 in
@@ -170,9 +173,9 @@ cost_small d line (At arrival departure) fits few good =
     let all : line_dates d.season line * line_change line arrival departure ≤ 217 * 15838 = mul-le (line_dates d.season line) (line_change line arrival departure) 217 15838 dates change in
     omega (arith, all)
 
-pub options_cheap : (d : Declaration) (unit : SlotUnit) → UnitFits d.season unit → ForSome d.refuse (λ p. p ≤ 9999) → All (λ times. displacement_of d unit times < 2 ^ 24) (options_of d unit)
-options_cheap d unit fits few =
-    All-weaker (TimesFit d.refuse) (λ times. displacement_of d unit times < 2 ^ 24) (λ times good. cost_small d unit.request times fits.request few good) (options_of d unit) (options_good d unit fits)
+pub options_cheap : ((season : Term) → (147 ≤ date_count season) × (date_count season ≤ 217)) → (d : Declaration) (unit : SlotUnit) → UnitFits d.season unit → ForSome d.refuse (λ p. p ≤ 9999) → All (λ times. displacement_of d unit times < 2 ^ 24) (options_of d unit)
+options_cheap lengths d unit fits few =
+    All-weaker (TimesFit d.refuse) (λ times. displacement_of d unit times < 2 ^ 24) (λ times good. cost_small d unit.request times (lengths d.season).1 fits.request few good) (options_of d unit) (options_good d unit fits)
 
 -- ---- there is an alternative
 

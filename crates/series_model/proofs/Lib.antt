@@ -1,12 +1,12 @@
-pub mod RangeLemmas
-pub mod RestLemmas
-pub mod DateLemmas
-pub mod WeekLemmas
-pub mod SpanLemmas
-pub mod UnitLemmas
-pub mod OptionLemmas
-pub mod MovementLemmas
-pub mod ReadLemmas
-pub mod FitLemmas
-pub mod BoundLemmas
-pub mod FewLemmas
+mod RangeLemmas
+mod RestLemmas
+mod DateLemmas
+mod SpanLemmas
+mod UnitLemmas
+mod OptionLemmas
+mod MovementLemmas
+mod ReadLemmas
+mod FitLemmas
+mod BoundLemmas
+mod FewLemmas
+mod StageLemmas

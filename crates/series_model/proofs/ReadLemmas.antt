@@ -8,13 +8,14 @@ use Rattle.std.proofs.lemmas.List.Sums.{sum_by-cons}
 use Rattle.std.proofs.lemmas.List.Elements.{All-nil, All-cons}
 use Rattle.slot_text.specs.Lines.{starts_with_lf, onto_first, lines_of}
 use Rattle.season_days.specs.Term.{Term}
+use Rattle.slot_text.specs.Fields.{is_blank_line}
 use Rattle.scr_reader.specs.declared.line.Line.{Line}
 use Rattle.scr_reader.specs.declared.line.Item.{Item}
 use Rattle.scr_reader.specs.declared.line.Code.{Code}
 use Rattle.scr_reader.specs.declared.line.Code.TheVariants.{N, B, F, C, R, L, D, A, Z, K, H, O, U, W, X}
 use Rattle.scr_reader.specs.declared.message.Message.{Message}
 use Rattle.scr_reader.specs.declared.message.Placed.{Placed}
-use Rattle.scr_reader.specs.Rows.{Row, remark, entry, question, is_empty_line, AreRows}
+use Rattle.scr_reader.specs.Rows.{Row, remark, entry, question, AreRows}
 use Rattle.scr_reader.specs.Messages.{Run, next_row, pair_item, line_item, row_item, RowAsksChange, LineIsPaired, IsGoodRow, AreGood, place, items_of, has_address, header_length, body_of, begins_in_run, onto_run, runs_of, runs_in, IsMessage, AreMessages, ReadsAll}
 use Rattle.series_model.specs.Submissions.{ItemPairs, PlacedPairs, MessagePairs, HasNumbers, item_count}
 
@@ -122,7 +123,7 @@ unfolding runs_of
 runs_few number [] = omega arith
 runs_few number (line ∷ lines) =
     let rest = runs_few (number + 1) lines in
-    elim (cases_Bool (is_empty_line line)) [
+    elim (cases_Bool (is_blank_line line)) [
       | inl empty ↦ rw empty (omega (arith, rest))
       | inr full ↦ elim (cases_Bool (begins_in_run lines)) [
         | inl goes_on ↦ rw (full, goes_on) (omega (arith, rest, onto_lines number line (runs_of (number + 1) lines)))
@@ -148,7 +149,7 @@ unfolding runs_of
 numbers_few most number [] le = tt
 numbers_few most number (line ∷ lines) le =
     let rest = numbers_few most (number + 1) lines (omega (arith, le)) in
-    elim (cases_Bool (is_empty_line line)) [
+    elim (cases_Bool (is_blank_line line)) [
       | inl empty ↦ rw empty rest
       | inr full ↦ elim (cases_Bool (begins_in_run lines)) [
         | inl goes_on ↦ rw (full, goes_on) (onto_number most number line (runs_of (number + 1) lines) (omega (arith, le)) rest)

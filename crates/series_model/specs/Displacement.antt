@@ -1,4 +1,5 @@
--- What an alternative costs: the displacement against the requested times, in minutes, or the price of a refusal.
+-- What an alternative costs: the displacement against the requested times, in minutes, or the price
+-- of a refusal.
 use Rattle.std.specs.Prelude.{ℕ, ◌+◌, ◌*◌, if◌then◌else◌, is_some, length, Option, Some, None}
 use Rattle.std.specs.Option.{unwrap_or}
 use Rattle.std.specs.Int.{abs_diff}
@@ -19,11 +20,13 @@ stop_change nights (Some stop) minute = abs_diff minute (MINUTES_OF_DAY * nights
 
 -- all movements of a line on one date
 abbrev pub line_change : Line → ℕ → ℕ → ℕ
-line_change line arrival departure = stop_change 0 line.arrival arrival + stop_change line.nights line.departure departure
+line_change line arrival departure =
+    stop_change 0 line.arrival arrival + stop_change line.nights line.departure departure
 
 -- how many movements a line has on a date, and how many dates
 abbrev pub stop_count : Line → ℕ
-stop_count line = (if is_some line.arrival then 1 else 0) + (if is_some line.departure then 1 else 0)
+stop_count line =
+    (if is_some line.arrival then 1 else 0) + (if is_some line.departure then 1 else 0)
 
 abbrev pub line_dates : Term → Line → ℕ
 line_dates season line = length (dates_of season line.period)
@@ -31,7 +34,8 @@ line_dates season line = length (dates_of season line.period)
 -- a refusal costs its price for each movement on each date
 abbrev pub cost_at : Declaration → Line → Times → ℕ
 cost_at d line Refused = unwrap_or d.refuse 0 * stop_count line * line_dates d.season line
-cost_at d line (At arrival departure) = line_dates d.season line * line_change line arrival departure
+cost_at d line (At arrival departure) =
+    line_dates d.season line * line_change line arrival departure
 
 abbrev pub displacement_of : Declaration → SlotUnit → Times → ℕ
 displacement_of d unit times = cost_at d unit.request times

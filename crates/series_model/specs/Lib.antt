@@ -3,4 +3,7 @@ pub mod Submissions
 pub mod Options
 pub mod Movements
 pub mod Displacement
+pub mod Allotments
+pub mod Stages
+pub mod Marks
 pub mod Loops

@@ -1,4 +1,5 @@
--- Shifts within spans of minutes, as loops find them: contracts of private functions alone cite them.
+-- Shifts within spans of minutes, as loops find them: contracts of private functions alone cite
+-- them.
 use Rattle.std.specs.Prelude.{ℕ, ◌+◌, ◌-◌, ◌*◌, ◌<◌, List, [], map, filter, Option, Some, None}
 use Rattle.std.specs.List.{range_with_len}
 use Rattle.season_days.specs.declared.declaration.Declaration.{Declaration}
@@ -13,7 +14,8 @@ use Rattle.series_model.specs.Options.{is_shift, least_ground, pairs_of}
 
 -- the shifts from a minute on
 abbrev pub shifts_from : Shifts → ℕ → List ℕ
-shifts_from s from = filter (is_shift s.step s.flex s.requested) (range_with_len from (s.high + 1 - from))
+shifts_from s from =
+    filter (is_shift s.step s.flex s.requested) (range_with_len from (s.high + 1 - from))
 
 -- those within the span
 abbrev pub all_shifts : Shifts → List ℕ
@@ -26,15 +28,22 @@ pub record AreShifts (s : Shifts) : Type 0 where
 
 -- the shifts of a declaration within a span
 abbrev pub shifts_in : Declaration → ℕ → Span → Shifts
-shifts_in d requested span = record { requested = requested; low = span.low; high = span.high; step = d.step; flex = d.flex }
+shifts_in d requested span =
+    record { requested = requested; low = span.low; high = span.high; step = d.step; flex = d.flex }
 
 -- the shifts of a line, each movement within its span
 abbrev pub within_by : Declaration → ℕ → Span → Span → Option Stop → Option Stop → List Times
 within_by d nights coming_in going_in None None = []
-within_by d nights coming_in going_in (Some coming) None = map (λ arrival. At arrival 0) (all_shifts (shifts_in d coming.minute coming_in))
-within_by d nights coming_in going_in None (Some going) = map (λ departure. At 0 departure) (all_shifts (shifts_in d (MINUTES_OF_DAY * nights + going.minute) going_in))
+within_by d nights coming_in going_in (Some coming) None =
+    map (λ arrival. At arrival 0) (all_shifts (shifts_in d coming.minute coming_in))
+within_by d nights coming_in going_in None (Some going) =
+    map (λ departure. At 0 departure)
+    (all_shifts (shifts_in d (MINUTES_OF_DAY * nights + going.minute) going_in))
 within_by d nights coming_in going_in (Some coming) (Some going) =
-    pairs_of (least_ground d coming.minute (MINUTES_OF_DAY * nights + going.minute)) (all_shifts (shifts_in d coming.minute coming_in)) (all_shifts (shifts_in d (MINUTES_OF_DAY * nights + going.minute) going_in))
+    pairs_of (least_ground d coming.minute (MINUTES_OF_DAY * nights + going.minute))
+    (all_shifts (shifts_in d coming.minute coming_in))
+    (all_shifts (shifts_in d (MINUTES_OF_DAY * nights + going.minute) going_in))
 
 abbrev pub shifts_within : Declaration → Line → Span → Span → List Times
-shifts_within d line coming_in going_in = within_by d line.nights coming_in going_in line.arrival line.departure
+shifts_within d line coming_in going_in =
+    within_by d line.nights coming_in going_in line.arrival line.departure

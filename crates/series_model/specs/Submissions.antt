@@ -1,9 +1,9 @@
 -- A season's submission: what it is made of, what of the messages is refused, and in which order.
 use Rattle.std.specs.Prelude.{◌≡◌, ℕ, ◌+◌, ◌<◌, ◌≤◌, ◌^◌, ◌==◌, ◌&&◌, Bool, true, false, nat_lt, if◌then◌else◌, is_none, List, [], ◌∷◌, length, All, Option, Some, None, Result, Ok, Err, sum_by}
-use Rattle.std.specs.Option.{option_or, ForSome}
+use Rattle.std.specs.Option.{option_or}
 use Rattle.slot_text.specs.declared.station.Station.{Station}
 use Rattle.season_days.specs.Term.{Term}
-use Rattle.season_days.specs.Capacity.{Capacity, capacity_of, IsCapacity}
+use Rattle.season_days.specs.Capacity.{Capacity, capacity_of, IsDeclaration}
 use Rattle.season_days.specs.declared.season.Half.{Half}
 use Rattle.season_days.specs.declared.season.Half.TheVariants.{Summer, Winter}
 use Rattle.season_days.specs.declared.declaration.Declaration.{Declaration}
@@ -14,7 +14,7 @@ use Rattle.scr_reader.specs.declared.message.Placed.{Placed}
 use Rattle.scr_reader.specs.declared.message.Message.{Message}
 use Rattle.series_model.specs.declared.fault.ModelFault.{ModelFault}
 use Rattle.series_model.specs.declared.fault.ModelFault.TheVariants.{OtherSeason, OtherAirport, NotInitial, TooMany}
-use Rattle.series_model.specs.declared.submission.TheConstants.{MOST_UNITS, HIGHEST_PRICE}
+use Rattle.series_model.specs.declared.submission.TheConstants.{MOST_UNITS}
 use Rattle.series_model.specs.declared.unit.Unit.{Unit as SlotUnit}
 use Rattle.series_model.specs.Units.{placed_unit, units_of, UnitFits}
 
@@ -52,20 +52,24 @@ items_fault (placed ∷ items) = option_or (item_fault placed) (items_fault item
 -- another season, on the season's line; another airport, two lines below; and then the items
 abbrev pub message_fault : Declaration → Message → Option ModelFault
 message_fault declaration message =
-    if is_season message.season declaration.season then (if is_station message.airport declaration.airport then items_fault message.items else Some (OtherAirport (message.line + 2)))
+    if is_season message.season declaration.season
+    then (if is_station message.airport declaration.airport then items_fault message.items
+    else Some (OtherAirport (message.line + 2)))
     else Some (OtherSeason message.line)
 
 -- the fault of the first message that has one; messages stand in the order of their lines
 abbrev pub first_fault : Declaration → List Message → Option ModelFault
 first_fault declaration [] = None
-first_fault declaration (message ∷ messages) = option_or (message_fault declaration message) (first_fault declaration messages)
+first_fault declaration (message ∷ messages) =
+    option_or (message_fault declaration message) (first_fault declaration messages)
 
 -- and where no line is refused, too many units
 abbrev pub too_many : ℕ → Option ModelFault
 too_many units = if nat_lt MOST_UNITS units then Some (TooMany units) else None
 
 abbrev pub refusal : Declaration → List Message → Option ModelFault
-refusal declaration messages = option_or (first_fault declaration messages) (too_many (length (units_of messages)))
+refusal declaration messages =
+    option_or (first_fault declaration messages) (too_many (length (units_of messages)))
 
 -- ---- what messages have that were read
 
@@ -97,7 +101,8 @@ pub record SubmissionView : Type 0 where
 
 -- the units of these messages
 abbrev pub submission_of : Declaration → List Message → SubmissionView
-submission_of declaration messages = record { declaration = declaration; units = units_of messages; messages = messages }
+submission_of declaration messages =
+    record { declaration = declaration; units = units_of messages; messages = messages }
 
 -- the first refusal that is due, or else the submission
 abbrev pub answer_by : Option ModelFault → SubmissionView → Result SubmissionView ModelFault
@@ -105,13 +110,13 @@ answer_by None submission = Ok submission
 answer_by (Some fault) submission = Err fault
 
 abbrev pub submission_answer : Declaration → List Message → Result SubmissionView ModelFault
-submission_answer declaration messages = answer_by (refusal declaration messages) (submission_of declaration messages)
+submission_answer declaration messages =
+    answer_by (refusal declaration messages) (submission_of declaration messages)
 
--- what a submission keeps: limits on the capacity, the price of a refusal, the share of new entrants and the units
+-- what a submission keeps: the limits of its declaration, the windows of that, and the units of its
+-- messages, which have a spelling
 pub record IsSubmission (s : SubmissionView) (windows : Capacity) : Type 0 where
-  pub limits : IsCapacity (capacity_of s.declaration)
-  pub price : ForSome s.declaration.refuse (λ price. price ≤ HIGHEST_PRICE)
-  pub share : s.declaration.share ≤ 100
+  pub keeps : IsDeclaration s.declaration
   pub declared : windows ≡ capacity_of s.declaration
   pub units : s.units ≡ units_of s.messages
   pub few : length s.units ≤ MOST_UNITS

@@ -1,4 +1,5 @@
--- Units: what is allotted as one. A line of group F, B or N is a unit, and so is a pair of a historic line and its request.
+-- Units: what is allotted as one. A line of group F, B or N is a unit, and so is a pair of a
+-- historic line and its request.
 use Rattle.std.specs.Prelude.{◌≡◌, ℕ, List, Option, Some, None, is_some, IsSomeAnd}
 use Rattle.std.specs.Option.{option_map}
 use Rattle.std.specs.List.{filter_map, flat_map}
@@ -31,10 +32,17 @@ pair_group code = group_l
 
 -- a line by itself, and a pair, on a line of the file
 abbrev pub single_unit : ℕ → Line → Group → SlotUnit
-single_unit number request group = record { line = number; group = group; request = request; historic = None }
+single_unit number request group =
+    record { line = number; group = group; request = request; historic = None }
 
 abbrev pub pair_unit : ℕ → Line → Line → SlotUnit
-pair_unit number historic request = record { line = number; group = pair_group request.code; request = request; historic = Some historic }
+pair_unit number historic request =
+    record {
+      line = number;
+      group = pair_group request.code;
+      request = request;
+      historic = Some historic;
+    }
 
 -- the unit that an item makes; a question makes none
 abbrev pub unit_of : ℕ → Item → Option SlotUnit
@@ -54,7 +62,8 @@ units_of messages = flat_map message_units messages
 
 -- ---- what the lines of a unit have
 
--- the line that a request changes: it has a spelling, the same movements, and the same period and weekdays
+-- the line that a request changes: it has a spelling, the same movements, and the same period and
+-- weekdays
 pub record IsHistoric (season : Term) (request historic : Line) : Type 0 where
   pub fits : LineFits season historic
   pub arrivals : is_some historic.arrival ≡ is_some request.arrival

@@ -11,7 +11,8 @@ pub enum ModelFault {
     OtherSeason { line: u32 },
     /// The airport on this line is not the declared one.
     OtherAirport { line: u32 },
-    /// What stands on this line makes no unit: a line by itself with another code than F, B or N, or a question.
+    /// What stands on this line makes no unit: a line by itself with another code than F, B or N,
+    /// or a question.
     NotInitial { line: u32 },
     /// There are so many units, more than 4,096.
     TooMany { units: u32 },

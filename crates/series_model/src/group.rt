@@ -1,4 +1,5 @@
-/// What a unit asks for, in the order of initial allocation of the Worldwide Airport Slot Guidelines.
+/// What a unit asks for, in the order of initial allocation of the Worldwide Airport Slot
+/// Guidelines.
 #[derive(Clone, Copy, Debug, PartialEq, Eq)]
 pub enum Group {
     /// A historic series at its own times.

@@ -1,9 +1,10 @@
-//! The model of a season's requests: units of lines, the times that each may be given, the movements at those times, and
-//! their displacement.
+//! The model of a season's requests: units of lines, the times that each may be given, the
+//! movements at those times, and their displacement.
 //!
-//! One time is chosen for each unit from its alternatives. Historic series come first by right; a request costs the
-//! minutes by which its movements are moved. See WASG on historic precedence and the order of initial allocation, and
-//! Zografos, Salouras and Madas 2012 on times per request, turnaround time and total displacement.
+//! One time is chosen for each unit from its alternatives. Historic series come first by right; a
+//! request costs the minutes by which its movements are moved. See WASG on historic precedence and
+//! the order of initial allocation, and Zografos, Salouras and Madas 2012 on times per request,
+//! turnaround time and total displacement.
 #![tactic(auto)]
 
 mod costs;
@@ -13,6 +14,7 @@ pub mod laws;
 mod movements;
 mod options;
 mod shifts;
+mod state;
 mod submission;
 mod times;
 mod unit;
@@ -23,7 +25,8 @@ pub use fault::ModelFault;
 pub use group::Group;
 pub use movements::movements_of;
 pub use options::options_of;
-pub use submission::{HIGHEST_PRICE, MOST_UNITS, Submission};
+pub use state::UnitState;
+pub use submission::{MOST_UNITS, Submission};
 pub use times::Times;
 pub use unit::Unit;
 

@@ -9,13 +9,15 @@ use crate::times::Times;
 use crate::unit::Unit;
 use capacity_windows::Movement;
 use scr_reader::{Line, Stop};
+use season_days::laws::lengths;
 use season_days::{Day, Kind, MINUTES_OF_DAY, Season};
 use slot_text::Memory;
 use std::alloc::Global;
 
-/// The movements of a unit at one of its alternatives: for each date of its line the arrival, and then the departure, on
-/// the day and minute that the times say. A movement after the season's last date is left out, and a refused unit has
-/// none. One step for each day of the period; the one fault is want of memory.
+/// The movements of a unit at one of its alternatives: for each date of its line the arrival, and
+/// then the departure, on the day and minute that the times say. A movement after the season's last
+/// date is left out, and a refused unit has none. One step for each day of the period; the one
+/// fault is want of memory.
 pub fn movements_of(
     alloc: Global,
     unit: &Unit,
@@ -33,7 +35,6 @@ pub fn movements_of(
 }
 
 // Appends the movements of a line, date by date.
-#[tactic(auto, using(season_days::proofs::SeasonLemmas::date_count_small))]
 fn push_movements(
     movements: &mut Vec<Movement>,
     season: &Season,
@@ -42,8 +43,10 @@ fn push_movements(
     departure: u32,
 ) -> Result<(), Memory>
     requires last { line.now.period.last.0 < date_count season.now }
-    ensures { OnOk result (movements.new.items ≡ movements.old.items ++ movements_at season.now line.now (Times.At arrival departure)) }
+    ensures { OnOk result (movements.new.items ≡ movements.old.items
+        ++ movements_at season.now line.now (Times.At arrival departure)) }
 {
+    lengths();
     let end = line.period.last.0 + 1;
     for date in line.period.first.0..end {
         push_date(movements, season, line, arrival, departure, date)?;
@@ -61,7 +64,9 @@ fn push_date(
     date: u32,
 ) -> Result<(), Memory>
     requires { date < 300 }
-    ensures { OnOk result (movements.new.items ≡ movements.old.items ++ (if is_on season.now line.now.period.days date then movements_on season.now line.now arrival departure date else [])) }
+    ensures { OnOk result (movements.new.items ≡ movements.old.items
+        ++ (if is_on season.now line.now.period.days date
+        then movements_on season.now line.now arrival departure date else [])) }
 {
     if !season.is_on(line.period.days, Day(date)) {
         return Ok(());
@@ -87,7 +92,8 @@ fn push_stop(
     date: u32,
 ) -> Result<(), Memory>
     requires { date < 300 }
-    ensures { OnOk result (movements.new.items ≡ movements.old.items ++ stop_on season.now kind stop minute date) }
+    ensures { OnOk result (movements.new.items ≡ movements.old.items
+        ++ stop_on season.now kind stop minute date) }
 {
     let day = date + minute / MINUTES_OF_DAY;
     if stop.is_some() && day < season.length() {

@@ -17,13 +17,15 @@ use std::alloc::Global;
 
 /// The alternatives of a unit, in their order, which numbers them from 0.
 ///
-/// A unit of group F has the requested times. One of N or B has all shifts, and last the refusal, where that has a price.
-/// One of R has the shifts whose movements lie between the historic and the requested ones, and then the historic times,
-/// unless they are there; one of L has the requested times, and then the historic ones, unless they are the same.
+/// A unit of group F has the requested times. One of N or B has all shifts, and last the refusal,
+/// where that has a price. One of R has the shifts whose movements lie between the historic and the
+/// requested ones, and then the historic times, unless they are there; one of L has the requested
+/// times, and then the historic ones, unless they are the same.
 ///
-/// A shift moves a movement by a multiple of the step, at most the flexibility, on its own date. Single movements rise; of
-/// a turnaround the arrivals rise, and of one arrival the departures, where the ground time is at least the declared one,
-/// or the requested one where that is less. One step for each alternative and for each shift of an arrival; the one fault is want of memory.
+/// A shift moves a movement by a multiple of the step, at most the flexibility, on its own date.
+/// Single movements rise; of a turnaround the arrivals rise, and of one arrival the departures,
+/// where the ground time is at least the declared one, or the requested one where that is less. One
+/// step for each alternative and for each shift of an arrival; the one fault is want of memory.
 pub fn options_of(
     alloc: Global,
     unit: &Unit,
@@ -74,7 +76,8 @@ fn push_flexible(
     requires request { LineFits declaration.now.season request.now }
     requires historic { IsSomeAnd historic (IsHistoric declaration.now.season request.now) }
     requires empty { options.old.items ≡ [] }
-    ensures { OnOk result (options.new.items ≡ flexible_options declaration.now request.now historic) }
+    ensures { OnOk result
+        (options.new.items ≡ flexible_options declaration.now request.now historic) }
 {
     let Some(historic) = historic else {
         return Ok(());
@@ -160,7 +163,8 @@ fn departure_minute(line: &Line) -> u32
     relative_minute(line.nights, line.departure)
 }
 
-// The minutes from the beginning of a line's date to a movement some nights later; 0 where there is no such movement.
+// The minutes from the beginning of a line's date to a movement some nights later; 0 where there is
+// no such movement.
 fn relative_minute(nights: u8, stop: Option<Stop>) -> u32
     ensures { result ≡ relative_minute nights stop }
 {

@@ -43,7 +43,8 @@ impl Span {
     }
 }
 
-// The minutes from `low` to `high` that differ from the requested one by a multiple of the step of at most `flex`.
+// The minutes from `low` to `high` that differ from the requested one by a multiple of the step of
+// at most `flex`.
 #[derive(Clone, Copy, Debug, PartialEq, Eq)]
 pub(crate) struct Shifts {
     pub requested: u32,
@@ -70,7 +71,8 @@ impl Shifts {
     // The first shift from a minute on.
     fn first_from(&self, from: u32) -> Option<u32>
         requires { AreShifts self.now }
-        ensures found { IfSome result (λ minute. shifts_from self.now from ≡ minute ∷ shifts_from self.now (minute + 1)) }
+        ensures found { IfSome result
+            (λ minute. shifts_from self.now from ≡ minute ∷ shifts_from self.now (minute + 1)) }
         ensures within { IfSome result (λ minute. (from ≤ minute) × (minute ≤ self.now.high)) }
         ensures none { IfNone result (shifts_from self.now from ≡ []) }
     {
@@ -104,7 +106,9 @@ fn gap_to(from: u32, to: u32, step: u32) -> u32
 // Appends the shifts of an arrival.
 fn push_arrivals(options: &mut Vec<Times>, arrivals: &Shifts) -> Result<(), Memory>
     requires { AreShifts arrivals.now }
-    ensures { OnOk result (options.new.items ≡ options.old.items ++ map (λ arrival. at_times arrival 0) (all_shifts arrivals.now)) }
+    ensures { OnOk result
+        (options.new.items ≡ options.old.items
+        ++ map (λ arrival. at_times arrival 0) (all_shifts arrivals.now)) }
 {
     let mut from = arrivals.low;
     while let Some(arrival) = arrivals.first_from(from) {
@@ -125,7 +129,9 @@ fn push_departures(
     from: u32,
 ) -> Result<(), Memory>
     requires { AreShifts departures.now }
-    ensures { OnOk result (options.new.items ≡ options.old.items ++ map (λ departure. at_times arrival departure) (shifts_from departures.now from)) }
+    ensures { OnOk result
+        (options.new.items ≡ options.old.items ++ map (λ departure. at_times arrival departure)
+        (shifts_from departures.now from)) }
 {
     let mut from = from;
     while let Some(departure) = departures.first_from(from) {
@@ -145,7 +151,9 @@ fn push_pairs(
     requires arrivals { AreShifts arrivals.now }
     requires departures { AreShifts departures.now }
     requires least { least < 2000000 }
-    ensures { OnOk result (options.new.items ≡ options.old.items ++ pairs_of least (all_shifts arrivals.now) (all_shifts departures.now)) }
+    ensures { OnOk result
+        (options.new.items ≡ options.old.items ++ pairs_of least (all_shifts arrivals.now)
+        (all_shifts departures.now)) }
 {
     let mut from = arrivals.low;
     while let Some(arrival) = arrivals.first_from(from) {
@@ -156,8 +164,8 @@ fn push_pairs(
     Ok(())
 }
 
-// Appends the shifts of a line, each movement within its span: the time of a single movement in rising order; of a
-// turnaround the pairs, by rising arrival and then by rising departure.
+// Appends the shifts of a line, each movement within its span: the time of a single movement in
+// rising order; of a turnaround the pairs, by rising arrival and then by rising departure.
 pub(crate) fn push_shifts(
     options: &mut Vec<Times>,
     declaration: &Declaration,
@@ -169,7 +177,9 @@ pub(crate) fn push_shifts(
     requires stops { StopsFit line.now line.now.arrival line.now.departure }
     requires coming { coming_in.high < 2000000 }
     requires going { going_in.high < 2000000 }
-    ensures { OnOk result (options.new.items ≡ options.old.items ++ shifts_within declaration.now line.now coming_in going_in) }
+    ensures { OnOk result
+        (options.new.items ≡ options.old.items
+        ++ shifts_within declaration.now line.now coming_in going_in) }
 {
     match (line.arrival, line.departure) {
         (Some(coming), None) => {

@@ -1,7 +1,6 @@
 ghost use Rattle.std.specs.Prelude.{◌≡◌, ◌≤◌, ◌<◌, ◌^◌, All, length};
-ghost use Rattle.std.specs.Option.{ForSome};
 ghost use Rattle.slot_text.specs.Reads.{GivesOr};
-ghost use Rattle.season_days.specs.Capacity.{capacity_of, IsCapacity};
+ghost use Rattle.season_days.specs.Capacity.{capacity_of, IsCapacity, IsDeclaration};
 ghost use Rattle.scr_reader.specs.Printed.{MessagesFit};
 ghost use Rattle.series_model.specs.declared.fault.ModelFault.TheVariants.{Memory as NoMemory};
 
@@ -17,10 +16,8 @@ use std::marker::Model;
 /// The most units that a season's submission may have.
 pub const MOST_UNITS: u32 = 4_096;
 
-/// The highest price of a refused movement on one date, in minutes.
-pub const HIGHEST_PRICE: u32 = 9_999;
-
-/// A declaration, the messages that ask for slots in its season at its airport, and their units in the order of the file.
+/// A declaration, the messages that ask for slots in its season at its airport, and their units in
+/// the order of the file.
 #[derive(Drop)]
 pub struct Submission {
     declaration: Declaration,
@@ -34,30 +31,39 @@ impl Model for Submission {
 
     ghost Value = { SubmissionView };
 
-    ghost view = { λ s. record { declaration = s.declaration; units = s.units.items; messages = s.messages } };
+    ghost view = { λ s. record {
+      declaration = s.declaration;
+      units = s.units.items;
+      messages = s.messages;
+    } };
 
-    ghost invariant = { λ s. IsSubmission (record { declaration = s.declaration; units = s.units.items; messages = s.messages }) s.windows };
+    ghost invariant = { λ s. IsSubmission
+        (record {
+          declaration = s.declaration;
+          units = s.units.items;
+          messages = s.messages;
+        }) s.windows };
 }
 
 impl Submission {
     ghost use Rattle.series_model.specs.Units.{units_of, UnitFits};
     ghost use Rattle.series_model.specs.Submissions.{HasNumbers, item_count, MessagePairs, submission_answer};
 
-    /// The submission that messages make under a declaration whose capacity is within the limits, whose price of a refusal
-    /// is at most 9,999 minutes and whose share of new entrants at most 100 per cent. The messages are read ones: their
-    /// lines have a spelling, each pair is a historic line and a request to change it, and there are fewer than 2^31 items.
+    /// The submission that messages make under a declaration that keeps the limits of a capacity
+    /// file, as one that was read does. The messages are read ones: their lines have a spelling,
+    /// each pair is a historic line and a request to change it, and there are fewer than 2^31
+    /// items.
     ///
-    /// The faults of lines come first, that of the lowest line alone: `OtherSeason` at a message's season line,
-    /// `OtherAirport` two lines below, `NotInitial` at the line of an item. Then comes `TooMany`. The time is
-    /// linear in the items, and memory is taken for the units and the capacity lines.
+    /// The faults of lines come first, that of the lowest line alone: `OtherSeason` at a message's
+    /// season line, `OtherAirport` two lines below, `NotInitial` at the line of an item. Then comes
+    /// `TooMany`. The time is linear in the items, and memory is taken for the units and the
+    /// capacity lines.
     pub fn make(
         alloc: Global,
         declaration: Declaration,
         messages: MessageList,
     ) -> Result<Submission, ModelFault>
-        requires limits { IsCapacity (capacity_of declaration) }
-        requires price { ForSome declaration.refuse (λ price. price ≤ HIGHEST_PRICE) }
-        requires share { declaration.share ≤ 100 }
+        requires keeps { IsDeclaration declaration }
         requires numbers { All HasNumbers messages }
         requires few { item_count messages < 2 ^ 31 }
         requires fits { MessagesFit messages }
@@ -81,12 +87,10 @@ impl Submission {
         })
     }
 
-    /// The declaration, with a price and a share within the limits.
+    /// The declaration, which keeps the limits.
     pub fn declaration(&self) -> &Declaration
         ensures value { result.now ≡ self.now.declaration }
-        ensures limits { IsCapacity (capacity_of result.now) }
-        ensures price { ForSome result.now.refuse (λ price. price ≤ HIGHEST_PRICE) }
-        ensures share { result.now.share ≤ 100 }
+        ensures keeps { IsDeclaration result.now }
     {
         &self.declaration
     }

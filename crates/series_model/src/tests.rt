@@ -1,11 +1,11 @@
-//! Units, alternatives, movements and costs of worked seasons, against lists written by hand. S25 begins on Sunday 30 March
-//! 2025 and has 210 dates.
+//! Units, alternatives, movements and costs of worked seasons, against lists written by hand. S25
+//! begins on Sunday 30 March 2025 and has 210 dates.
 
 ghost use Rattle.std.specs.Prelude.{◌≤◌, IfOk, IfSome};
 ghost use Rattle.std.specs.Option.{ForSome};
-ghost use Rattle.season_days.specs.Capacity.{capacity_of, IsCapacity};
+ghost use Rattle.season_days.specs.Capacity.{IsDeclaration};
 ghost use Rattle.series_model.specs.Units.{UnitFits};
-ghost use Rattle.series_model.specs.declared.submission.TheConstants.{HIGHEST_PRICE};
+ghost use Rattle.season_days.specs.declared.declaration.TheConstants.{HIGHEST_REFUSAL_PRICE};
 
 use super::*;
 use crate::laws::read_messages;
@@ -24,10 +24,8 @@ fn declaration(
     flex: u32,
     refuse: Option<u32>,
 ) -> Result<Declaration, Fail>
-    requires price { ForSome refuse (λ price. price ≤ HIGHEST_PRICE) }
-    ensures limits { IfOk result (λ d. IsCapacity (capacity_of d)) }
-    ensures price { IfOk result (λ d. ForSome d.refuse (λ price. price ≤ HIGHEST_PRICE)) }
-    ensures share { IfOk result (λ d. d.share ≤ 100) }
+    requires price { ForSome refuse (λ price. price ≤ HIGHEST_REFUSAL_PRICE) }
+    ensures keeps { IfOk result (λ d. IsDeclaration d) }
 {
     Ok(Declaration {
         airport: Station(*b"ABC"),
@@ -50,7 +48,7 @@ pub(crate) fn submission(
     refuse: Option<u32>,
     text: &[u8],
 ) -> Result<Result<Submission, ModelFault>, Fail>
-    requires price { ForSome refuse (λ price. price ≤ HIGHEST_PRICE) }
+    requires price { ForSome refuse (λ price. price ≤ HIGHEST_REFUSAL_PRICE) }
 {
     read_lines_fit();
     read_messages();
@@ -90,7 +88,7 @@ fn priced(
     refuse: Option<u32>,
     lines: &[u8],
 ) -> Result<Vec<(Times, u64)>, Fail>
-    requires price { ForSome refuse (λ price. price ≤ HIGHEST_PRICE) }
+    requires price { ForSome refuse (λ price. price ≤ HIGHEST_REFUSAL_PRICE) }
 {
     let text = text(alloc, season, lines)?;
     let submission = submission(alloc, season, flex, refuse, &text)??;
@@ -112,7 +110,7 @@ fn has_options(
     lines: &[u8],
     expected: &[(Times, u64)],
 ) -> Result<bool, Fail>
-    requires price { ForSome refuse (λ price. price ≤ HIGHEST_PRICE) }
+    requires price { ForSome refuse (λ price. price ≤ HIGHEST_REFUSAL_PRICE) }
 {
     let found = priced(alloc, b"S25", flex, refuse, lines)?;
     Ok(found.as_slice() == expected)
@@ -143,7 +141,8 @@ fn turn(arrival: u32, departure: u32) -> Times {
     Times::At { arrival, departure }
 }
 
-// Arrivals from one minute to another, five minutes apart, with the costs of a line of so many dates that asked for one.
+// Arrivals from one minute to another, five minutes apart, with the costs of a line of so many
+// dates that asked for one.
 fn arrivals(
     alloc: Global,
     first: u32,
@@ -162,8 +161,9 @@ fn arrivals(
     Ok(priced)
 }
 
-// Pairs of 25 arrivals and 25 departures of a daily turnaround of 45 minutes, without those that are under 40 minutes on
-// the ground: the departure may be shifted at most one step less than the arrival.
+// Pairs of 25 arrivals and 25 departures of a daily turnaround of 45 minutes, without those that
+// are under 40 minutes on the ground: the departure may be shifted at most one step less than the
+// arrival.
 fn pairs(alloc: Global) -> Result<Vec<(Times, u64)>, Fail> {
     let mut priced = Vec::new(alloc);
     for coming in 0..25_u32 {
@@ -177,7 +177,8 @@ fn pairs(alloc: Global) -> Result<Vec<(Times, u64)>, Fail> {
     Ok(priced)
 }
 
-// A daily arrival, also with less flexibility and a price; and one late in the evening, which stays on its date.
+// A daily arrival, also with less flexibility and a price; and one late in the evening, which stays
+// on its date.
 #[test]
 fn single_movements_are_shifted_on_their_date(rt: HostRuntime) -> Result<(), Fail> {
     let alloc = rt.alloc();
@@ -207,8 +208,8 @@ fn turnarounds_keep_their_ground_time(rt: HostRuntime) -> Result<(), Fail> {
     Ok(())
 }
 
-// A turnaround that would leave after an hour, and not the next morning, may leave up to midnight of its date, or as before;
-// and a request that asks for its historic times has these alone.
+// A turnaround that would leave after an hour, and not the next morning, may leave up to midnight
+// of its date, or as before; and a request that asks for its historic times has these alone.
 #[test]
 fn historic_nights_are_kept(rt: HostRuntime) -> Result<(), Fail> {
     let alloc = rt.alloc();
@@ -227,8 +228,8 @@ fn historic_nights_are_kept(rt: HostRuntime) -> Result<(), Fail> {
     Ok(())
 }
 
-// The dates of whole and of broken weeks: 217 dates in the 31 weeks of S01; the Mondays, Wednesdays and Fridays of 1 to 20
-// April 2025; and one date.
+// The dates of whole and of broken weeks: 217 dates in the 31 weeks of S01; the Mondays, Wednesdays
+// and Fridays of 1 to 20 April 2025; and one date.
 #[test]
 fn costs_count_all_dates(rt: HostRuntime) -> Result<(), Fail> {
     let alloc = rt.alloc();

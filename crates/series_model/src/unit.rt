@@ -1,7 +1,8 @@
 use crate::group::Group;
 use scr_reader::Line;
 
-/// What is allotted as one: a line of group F, B or N, or a historic line with the request to change it, of group R or L.
+/// What is allotted as one: a line of group F, B or N, or a historic line with the request to
+/// change it, of group R or L.
 #[derive(Clone, Copy, Debug, PartialEq, Eq)]
 pub struct Unit {
     /// The number of its line in the file, of a pair that of the historic line.

@@ -135,7 +135,8 @@ fn push_units(units: &mut Vec<Unit>, items: &[Placed]) -> Result<(), Memory>
 
 // Appends the unit that an item makes, if it makes one.
 fn push_unit(units: &mut Vec<Unit>, placed: &Placed) -> Result<(), Memory>
-    ensures { OnOk result (units.new.items ≡ units.old.items ++ cons_option (placed_unit placed.now) []) }
+    ensures { OnOk result
+        (units.new.items ≡ units.old.items ++ cons_option (placed_unit placed.now) []) }
 {
     if let Some(unit) = unit_of(placed) {
         units.push(unit)?;

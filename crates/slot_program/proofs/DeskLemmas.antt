@@ -97,38 +97,6 @@ stop_message files after names before now bytes asked d (Refused (Unwritten file
 stop_message files after names before now bytes asked d (Refused (Unbuilt file line)) same held short declared there small why =
     subst (λ (f : File). AllocationEnds files names before now (unbuilt (name_of names f) line) after) (sym why.0) (message_stop files after names before now line bytes asked d same held short declared there small why.1)
 
--- ---- which files change
-
-other_file : (files : Files) (name asked bytes : List ℕ) → (name ≡ asked → ⊥) → with_file files name bytes asked ≡ files asked
-other_file files name asked bytes apart =
-    elim (cases_Bool (bytes_eq name asked)) [
-      | inl same ↦ absurd (apart ((bytes_eq-Decides name asked).0 same))
-      | inr other ↦ rw other refl
-    ]
-
-pub unchanged_only : (files after : Option Files) (names : List Word) → after ≡ files → ChangesOnly files names after
-unchanged_only None after names e = tt
-unchanged_only (Some files) after names e = subst (λ (o : Option Files). ChangesOnly (Some files) names o) (sym e) (λ name lacks. refl)
-
-written_only : (files : Files) (after : Option Files) (names : List Word) (name bytes : List ℕ) → Contains names name → after ≡ Some (with_file files name bytes) → ChangesOnly (Some files) names after
-written_only files after names name bytes among e =
-    subst (λ (o : Option Files). ChangesOnly (Some files) names o) (sym e) (λ asked lacks. other_file files name asked bytes (λ same. lacks (subst (λ (w : List ℕ). Contains names w) same among)))
-
-pub write_only : (files after : Option Files) (names : List Word) (name bytes : List ℕ) → Contains names name → Writes files name bytes after → ChangesOnly files names after
-write_only None after names name bytes among e = tt
-write_only (Some files) after names name bytes among e = written_only files after names name bytes among e
-
-pub part_only : (files after : Option Files) (names : List Word) (name bytes : List ℕ) → Contains names name → WritesPart files name bytes after → ChangesOnly files names after
-part_only None after names name bytes among part = tt
-part_only (Some files) after names name bytes among (inl e) = unchanged_only (Some files) after names e
-part_only (Some files) after names name bytes among (inr part) = written_only files after names name _ among part.1
-
-pub then_only : (files between after : Option Files) (names : List Word) → ChangesOnly files names between → ChangesOnly between names after → ChangesOnly files names after
-then_only None between after names one two = tt
-then_only (Some files) None after names one two = absurd one
-then_only (Some files) (Some between) None names one two = absurd two
-then_only (Some files) (Some between) (Some after) names one two = λ name lacks. two name lacks ∙ one name lacks
-
 -- ---- the writes
 
 abbrev pub IsPlanned : Option Files → FileNames → List ℕ → Type 0

@@ -17,6 +17,7 @@ use Rattle.season_days.specs.declared.declaration.Declaration.{Declaration}
 use Rattle.season_days.specs.declared.declaration.Rule.{Rule}
 use Rattle.scr_reader.specs.Bytes.{three_digits}
 use Rattle.scr_reader.specs.Parts.{AirlineFits, airline_text, suffix_text, month_names, month_text, date_text, ThreeLettersOrDigits, StationsFit, stations_text}
+use Rattle.scr_reader.specs.Messages.{header_of}
 use Rattle.scr_reader.specs.Printed.{number_text, FlightFits, flight_text, arrival_group_text, dates_text, fields_by, joined, line_text, code_letter, header_lines, items_lines, message_lines, message_text, StopsFit}
 use Rattle.historic_reader.specs.Historic.{IsHistoricMessage}
 use Rattle.scr_reader.specs.declared.line.Flight.{Flight}
@@ -163,7 +164,7 @@ message_short season airport message is historic =
     let line = historic.asked in
     let asked = historic.historic in
     let lines : message_lines message ≡ codes "SCR" ∷ season_text message.season ∷ date_text message.month message.day ∷ message.airport.0 ∷ line_text message.season line.code line ∷ [] =
-    ap (λ (items : List Placed). header_lines message ++ items_lines message.season items) historic.items in
+    ap (λ (items : List Placed). header_lines (header_of message) ++ items_lines message.season items) historic.items in
     let station : IsStation message.airport.0 = subst (λ (a : Station). IsStation a.0) (sym historic.airport_is) is in
     few_lines (message_text message) (codes "SCR" ∷ season_text message.season ∷ date_text message.month message.day ∷ message.airport.0 ∷ line_text message.season line.code line ∷ []) (ap ended lines) (
       omega arith,

@@ -1,9 +1,10 @@
-pub mod WordLemmas
-pub mod CuttingLemmas
-pub mod HighLemmas
-pub mod EndedLemmas
-pub mod CapacityLemmas
-pub mod LengthLemmas
-pub mod DeskLemmas
-pub mod TextLemmas
-pub mod WindowLemmas
+mod WordLemmas
+mod CuttingLemmas
+mod HighLemmas
+mod EndedLemmas
+mod CapacityLemmas
+mod LengthLemmas
+mod DeskLemmas
+mod TextLemmas
+mod WindowLemmas
+mod HandedLemmas

@@ -1,5 +1,7 @@
--- The capacity file that is served: seven lines in a fixed order, the last with the one capacity line.
-use Rattle.std.specs.Prelude.{◌≡◌, ℕ, ◌%◌, ◌<◌, ◌≤◌, ◌==◌, ◌||◌, Bool, true, List, [], ◌∷◌, ◌++◌, None, codes}
+-- The capacity file that is served: seven lines in a fixed order, the last with the one capacity
+-- line.
+use Rattle.std.specs.Prelude.{◌≡◌, ℕ, ◌%◌, ◌<◌, ◌≤◌, ◌==◌, ◌||◌, Bool, true, List, [], ◌∷◌, ◌++◌}
+use Rattle.std.specs.Prelude.{None, codes}
 use Rattle.std.specs.Fmt.{decimal}
 use Rattle.slot_text.specs.Ended.{ended}
 use Rattle.slot_text.specs.Stations.{IsStation}
@@ -68,7 +70,9 @@ refuse_line = codes "REFUSE NONE"
 -- what follows `CAP ARR` and a blank, with this spelling of the weekdays
 abbrev pub rule_fields : Rule → List ℕ → List ℕ
 rule_fields rule days =
-    decimal rule.length ++ (32 ∷ (time_text rule.from ++ (32 ∷ (time_text rule.to ++ (32 ∷ (days ++ (32 ∷ decimal rule.limit)))))))
+    decimal rule.length
+    ++ (32 ∷ (time_text rule.from
+    ++ (32 ∷ (time_text rule.to ++ (32 ∷ (days ++ (32 ∷ decimal rule.limit)))))))
 
 abbrev pub rule_line : Rule → List ℕ → List ℕ
 rule_line rule days = codes "CAP ARR " ++ rule_fields rule days
@@ -76,7 +80,8 @@ rule_line rule days = codes "CAP ARR " ++ rule_fields rule days
 -- the seven lines
 abbrev pub capacity_lines : Declaration → Rule → List ℕ → List (List ℕ)
 capacity_lines d rule days =
-    airport_line d.airport.0 ∷ season_line d.season ∷ step_line d.step ∷ flex_line d.flex ∷ ground_line d.ground ∷ refuse_line ∷ rule_line rule days ∷ []
+    airport_line d.airport.0 ∷ season_line d.season ∷ step_line d.step ∷ flex_line d.flex
+    ∷ ground_line d.ground ∷ refuse_line ∷ rule_line rule days ∷ []
 
 -- ---- the file
 

@@ -8,6 +8,8 @@ pub mod Writing
 pub mod Desk
 pub mod Messages
 pub mod Stops
+pub mod Handed
+pub mod HandedStops
 pub mod CapacityFaults
 pub mod Cutting
 pub mod Windows

@@ -15,4 +15,5 @@ pub record HasOneLine (message : Message) : Type 0 where
 
 -- the bytes confirm the one line of the message
 abbrev pub Confirms : Message → Vec ℕ → Type 0
-Confirms message bytes = (asked : Line) → message.items ≡ record { line = 5; item = One asked } ∷ [] → bytes.items ≡ confirmation message asked
+Confirms message bytes = (asked : Line) → message.items ≡ record { line = 5; item = One asked } ∷ []
+    → bytes.items ≡ confirmation message asked

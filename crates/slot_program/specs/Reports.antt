@@ -4,8 +4,9 @@ use Rattle.std.specs.Fmt.{decimal}
 use Rattle.slot_program.specs.Words.{Word}
 use Rattle.slot_program.specs.Texts.{stage_lines, settled_stages}
 
--- the stages of an allocation; that the words are no command's; that a file is not there, is too large, could not be read
--- or could not be written; or the first line of a file that is not in the form that is served
+-- the stages of an allocation; that the words are no command's; that a file is not there, is too
+-- large, could not be read or could not be written; or the first line of a file that is not in the
+-- form that is served
 pub data Report : Type 0 where
   settled : Report
   no_command : Report

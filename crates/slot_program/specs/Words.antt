@@ -1,5 +1,6 @@
 -- What the words of a command line ask for.
-use Rattle.std.specs.Prelude.{◌≡◌, ℕ, ◌==◌, Bool, false, List, [], ◌∷◌, map, length, Option, Some, None, option_map, codes, if◌then◌else◌, String}
+use Rattle.std.specs.Prelude.{◌≡◌, ℕ, ◌==◌, Bool, false, List, [], ◌∷◌, map, length, Option, Some}
+use Rattle.std.specs.Prelude.{None, option_map, codes, if◌then◌else◌, String}
 use Rattle.std.specs.String.{string_bytes}
 use Rattle.std.specs.Str.{bytes_eq}
 use Rattle.std.specs.Global.{Global}
@@ -19,8 +20,9 @@ is_dashed [] = false
 is_dashed (first ∷ []) = false
 is_dashed (first ∷ second ∷ rest) = first == 45
 
--- The names among the words after a command that has no options. After the word `--` all words are names; before it a
--- word that begins with `-` is none, but for `-` alone, and then the words are no command's.
+-- The names among the words after a command that has no options. After the word `--` all words are
+-- names; before it a word that begins with `-` is none, but for `-` alone, and then the words are
+-- no command's.
 abbrev pub names_among : List Word → Option (List Word)
 names_among [] = Some []
 names_among (word ∷ words) =
@@ -35,7 +37,8 @@ allocate_job (Some names) = if length names == 4 then Some (Allocate names) else
 -- the job that the words ask for, if they are a command's
 abbrev pub job_of : List Word → Option Job
 job_of [] = None
-job_of (command ∷ words) = if bytes_eq command (codes "allocate") then allocate_job (names_among words) else None
+job_of (command ∷ words) =
+    if bytes_eq command (codes "allocate") then allocate_job (names_among words) else None
 
 -- a job has as many names as its command takes
 abbrev pub HasNames : Job → Type 0

@@ -12,9 +12,10 @@ abbrev pub with_writes : Files → List Write → Files
 with_writes files [] = files
 with_writes files (write ∷ writes) = with_writes (with_file files write.name write.bytes) writes
 
--- A write under the name failed. Those before it stand, its own file is as before or has a front of the bytes, and no
--- later one was begun.
+-- A write under the name failed. Those before it stand, its own file is as before or has a front of
+-- the bytes, and no later one was begun.
 abbrev pub StopsAt : Files → List Write → Word → Option Files → Type 0
 StopsAt files [] name after = ⊥
 StopsAt files (write ∷ writes) name after =
-    ((name ≡ write.name) × WritesPart (Some files) write.name write.bytes after) ⊎ StopsAt (with_file files write.name write.bytes) writes name after
+    ((name ≡ write.name) × WritesPart (Some files) write.name write.bytes after)
+    ⊎ StopsAt (with_file files write.name write.bytes) writes name after

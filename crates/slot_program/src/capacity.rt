@@ -4,7 +4,9 @@ ghost use Rattle.season_days.specs.declared.declaration.Rule.{Rule as RuleValue}
 ghost use Rattle.slot_text.specs.Reads.{AnswersBy};
 ghost use Rattle.slot_text.specs.Stations.{IsStation};
 ghost use Rattle.schedule_text.specs.Days.{IsDays};
-ghost use Rattle.slot_program.specs.Capacity.{is_step, IsFlex, IsServedRule, airport_line, season_line, step_line, flex_line, ground_line, refuse_line, rule_line, IsCapacityText};
+ghost use Rattle.slot_program.specs.Capacity.{is_step, IsFlex, IsServedRule, airport_line};
+ghost use Rattle.slot_program.specs.Capacity.{season_line, step_line, flex_line, ground_line};
+ghost use Rattle.slot_program.specs.Capacity.{refuse_line, rule_line, IsCapacityText};
 ghost use Rattle.slot_program.specs.CapacityFaults.{HasCapacityFault};
 
 use crate::cutting::{line_value, strip};
@@ -77,14 +79,20 @@ struct SeasonLine<'a> {
 // Each of these reads one line, and gives its value and what follows the line.
 
 fn airport_of(text: &[u8]) -> Option<(Station, &[u8])>
-    ensures { MatchOption result ((station rest : List ℕ) → IsStation station → text.now ≡ airport_line station ++ (10 ∷ rest) → ⊥) (λ x. IsStation x.0.0 × (text.now ≡ airport_line x.0.0 ++ (10 ∷ x.1.now))) }
+    ensures { MatchOption result
+        ((station rest : List ℕ) → IsStation station → text.now ≡ airport_line station
+        ++ (10 ∷ rest) → ⊥)
+        (λ x. IsStation x.0.0 × (text.now ≡ airport_line x.0.0 ++ (10 ∷ x.1.now))) }
 {
     let (value, rest) = line_value(text, b"AIRPORT ")?;
     Some((Station::read(value)?, rest))
 }
 
 fn season_of(text: &[u8]) -> Option<SeasonLine<'_>>
-    ensures { MatchOption result ((season : Term) (rest : List ℕ) → season.year < 100 → text.now ≡ season_line season ++ (10 ∷ rest) → ⊥) (λ x. (x.season.year < 100) × (text.now ≡ season_line x.season ++ (10 ∷ x.rest.now))) }
+    ensures { MatchOption result
+        ((season : Term) (rest : List ℕ) → season.year < 100 → text.now ≡ season_line season
+        ++ (10 ∷ rest) → ⊥)
+        (λ x. (x.season.year < 100) × (text.now ≡ season_line x.season ++ (10 ∷ x.rest.now))) }
 {
     let (value, rest) = line_value(text, b"SEASON ")?;
     let season = Season::read(value)?;
@@ -92,7 +100,9 @@ fn season_of(text: &[u8]) -> Option<SeasonLine<'_>>
 }
 
 fn step_of(text: &[u8]) -> Option<(u32, &[u8])>
-    ensures { MatchOption result ((n : ℕ) (rest : List ℕ) → is_step n ≡ true → text.now ≡ step_line n ++ (10 ∷ rest) → ⊥) (λ x. (is_step x.0 ≡ true) × (text.now ≡ step_line x.0 ++ (10 ∷ x.1.now))) }
+    ensures { MatchOption result
+        ((n : ℕ) (rest : List ℕ) → is_step n ≡ true → text.now ≡ step_line n ++ (10 ∷ rest) → ⊥)
+        (λ x. (is_step x.0 ≡ true) × (text.now ≡ step_line x.0 ++ (10 ∷ x.1.now))) }
 {
     let (value, rest) = line_value(text, b"STEP ")?;
     let step = read_number(value, 60)?;
@@ -105,7 +115,9 @@ fn step_of(text: &[u8]) -> Option<(u32, &[u8])>
 
 fn flex_of(step: u32, text: &[u8]) -> Option<(u32, &[u8])>
     requires { is_step step ≡ true }
-    ensures { MatchOption result ((n : ℕ) (rest : List ℕ) → IsFlex step n → text.now ≡ flex_line n ++ (10 ∷ rest) → ⊥) (λ x. IsFlex step x.0 × (text.now ≡ flex_line x.0 ++ (10 ∷ x.1.now))) }
+    ensures { MatchOption result
+        ((n : ℕ) (rest : List ℕ) → IsFlex step n → text.now ≡ flex_line n ++ (10 ∷ rest) → ⊥)
+        (λ x. IsFlex step x.0 × (text.now ≡ flex_line x.0 ++ (10 ∷ x.1.now))) }
 {
     let (value, rest) = line_value(text, b"FLEX ")?;
     let flex = read_number(value, 120)?;
@@ -117,20 +129,29 @@ fn flex_of(step: u32, text: &[u8]) -> Option<(u32, &[u8])>
 }
 
 fn ground_of(text: &[u8]) -> Option<(u32, &[u8])>
-    ensures { MatchOption result ((n : ℕ) (rest : List ℕ) → n ≤ 1440 → text.now ≡ ground_line n ++ (10 ∷ rest) → ⊥) (λ x. (x.0 ≤ 1440) × (text.now ≡ ground_line x.0 ++ (10 ∷ x.1.now))) }
+    ensures { MatchOption result
+        ((n : ℕ) (rest : List ℕ) → n ≤ 1440 → text.now ≡ ground_line n ++ (10 ∷ rest) → ⊥)
+        (λ x. (x.0 ≤ 1440) × (text.now ≡ ground_line x.0 ++ (10 ∷ x.1.now))) }
 {
     let (value, rest) = line_value(text, b"GROUND ")?;
     Some((read_number(value, 1440)?, rest))
 }
 
 fn after_refuse(text: &[u8]) -> Option<&[u8]>
-    ensures { MatchOption result ((rest : List ℕ) → text.now ≡ refuse_line ++ (10 ∷ rest) → ⊥) (λ rest. text.now ≡ refuse_line ++ (10 ∷ rest.now)) }
+    ensures { MatchOption result
+        ((rest : List ℕ) → text.now ≡ refuse_line ++ (10 ∷ rest) → ⊥)
+        (λ rest. text.now ≡ refuse_line ++ (10 ∷ rest.now)) }
 {
     strip(text, b"REFUSE NONE\n")
 }
 
 fn rule_of(text: &[u8]) -> Option<(Rule, &[u8])>
-    ensures { MatchOption result ((rule : RuleValue) (days rest : List ℕ) → IsServedRule rule → IsDays days rule.days → text.now ≡ rule_line rule days ++ (10 ∷ rest) → ⊥) (λ x. IsServedRule x.0 × ((days : List ℕ) × IsDays days x.0.days × (text.now ≡ rule_line x.0 days ++ (10 ∷ x.1.now)))) }
+    ensures { MatchOption result
+        ((rule : RuleValue) (days rest : List ℕ) → IsServedRule rule → IsDays days rule.days
+        → text.now ≡ rule_line rule days ++ (10 ∷ rest) → ⊥)
+        (λ x. IsServedRule x.0
+        × ((days : List ℕ) × IsDays days x.0.days
+        × (text.now ≡ rule_line x.0 days ++ (10 ∷ x.1.now)))) }
 {
     let (value, rest) = line_value(text, b"CAP ARR ")?;
     Some((read_rule(value)?, rest))

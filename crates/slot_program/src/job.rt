@@ -71,8 +71,8 @@ impl NameList {
 /// What a command line asks for.
 #[derive(Drop)]
 pub enum Job {
-    /// Allot the requests of a file within the capacity of another. The names are those of the capacity file, the
-    /// requests, the certificate and the replies.
+    /// Allot the requests of a file within the capacity of another. The names are those of the
+    /// capacity file, the requests, the certificate and the replies.
     Allocate { names: NameList },
 }
 

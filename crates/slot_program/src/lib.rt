@@ -1,4 +1,5 @@
-//! The slot coordination desk of one airport and one season, as one call over a cabinet of files and a sink.
+//! The slot coordination desk of one airport and one season, as one call over a cabinet of files
+//! and a sink.
 #![tactic(auto)]
 
 mod allocate;

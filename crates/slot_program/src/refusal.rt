@@ -84,7 +84,8 @@ impl Refusal {
 
     /// The line that is printed.
     pub(crate) fn text(&self, alloc: Global, names: &Names<'_>) -> Result<String, AllocError>
-        ensures { IfOk result (λ text. string_bytes text ≡ text_of (report_of (names_of names.now) self.now)) }
+        ensures { IfOk result (λ text.
+            string_bytes text ≡ text_of (report_of (names_of names.now) self.now)) }
     {
         match self {
             Refusal::Missing(file) => cabinet_line(alloc, names.name(*file), "MISSING"),
@@ -97,13 +98,15 @@ impl Refusal {
 }
 
 fn cabinet_line(alloc: Global, name: &str, what: &str) -> Result<String, AllocError>
-    ensures { IfOk result (λ text. string_bytes text ≡ codes "CABINET " ++ (name.now ++ (32 ∷ (what.now ++ (10 ∷ []))))) }
+    ensures { IfOk result (λ text. string_bytes text ≡ codes "CABINET "
+        ++ (name.now ++ (32 ∷ (what.now ++ (10 ∷ []))))) }
 {
     format!(in alloc; "CABINET {name} {what}\n")
 }
 
 fn unbuilt_line(alloc: Global, name: &str, line: u32) -> Result<String, AllocError>
-    ensures { IfOk result (λ text. string_bytes text ≡ codes "UNBUILT " ++ (name.now ++ (32 ∷ (decimal line ++ (10 ∷ []))))) }
+    ensures { IfOk result (λ text. string_bytes text ≡ codes "UNBUILT "
+        ++ (name.now ++ (32 ∷ (decimal line ++ (10 ∷ []))))) }
 {
     format!(in alloc; "UNBUILT {name} {line}\n")
 }

@@ -21,7 +21,11 @@ struct Fields<'a> {
 
 /// The capacity line for arrivals whose fields the text is.
 pub(crate) fn read_rule(text: &[u8]) -> Option<Rule>
-    ensures { MatchOption result ((rule : RuleValue) (days : List ℕ) → IsServedRule rule → IsDays days rule.days → text.now ≡ rule_fields rule days → ⊥) (λ rule. IsServedRule rule × ((days : List ℕ) × IsDays days rule.days × (text.now ≡ rule_fields rule days))) }
+    ensures { MatchOption result
+        ((rule : RuleValue) (days : List ℕ) → IsServedRule rule → IsDays days rule.days
+        → text.now ≡ rule_fields rule days → ⊥)
+        (λ rule. IsServedRule rule
+        × ((days : List ℕ) × IsDays days rule.days × (text.now ≡ rule_fields rule days))) }
 {
     let fields = cut_fields(text)?;
     let length = read_number(fields.length, 1440)?;
@@ -42,14 +46,17 @@ pub(crate) fn read_rule(text: &[u8]) -> Option<Rule>
 
 /// Whether a capacity line has minutes, a start, a weekday and room for an arrival.
 fn is_useful(rule: &Rule) -> bool
-    ensures { IsTrue result ↔ ((1 ≤ rule.now.length) × (rule.now.from ≤ rule.now.to) × (1 ≤ rule.now.days) × (1 ≤ rule.now.limit)) }
+    ensures { IsTrue result ↔ ((1 ≤ rule.now.length) × (rule.now.from ≤ rule.now.to)
+        × (1 ≤ rule.now.days) × (1 ≤ rule.now.limit)) }
 {
     rule.length > 0 && rule.from <= rule.to && rule.days > 0 && rule.limit > 0
 }
 
 /// The five fields, with one blank between two.
 fn cut_fields(text: &[u8]) -> Option<Fields<'_>>
-    ensures { MatchOption result ((a b c d e : List ℕ) → AreFields text.now a b c d e → ⊥) (λ x. AreFields text.now x.length.now x.from.now x.to.now x.days.now x.limit.now) }
+    ensures { MatchOption result
+        ((a b c d e : List ℕ) → AreFields text.now a b c d e → ⊥)
+        (λ x. AreFields text.now x.length.now x.from.now x.to.now x.days.now x.limit.now) }
 {
     let (length, rest) = cut_at(text, b' ')?;
     let (from, rest) = cut_at(rest, b' ')?;

@@ -1,12 +1,17 @@
-ghost use Rattle.std.specs.Prelude.{◌≡◌, ◌≢◌, ◌⊎◌, ℕ, List, Option, Some, None, IfOk, length};
+ghost use Rattle.std.specs.Prelude.{◌≡◌, ◌≢◌, ◌⊎◌, ◌++◌, ◌∷◌, [], ℕ, List, Option, Some, None};
+ghost use Rattle.std.specs.Prelude.{IfOk, length};
 ghost use Rattle.std.specs.String.{string_bytes};
 ghost use Rattle.desk_outside.specs.Cause.{Rose};
 ghost use Rattle.desk_outside.specs.Files.{Files, ChangesOnly};
 ghost use Rattle.desk_outside.specs.Bytes.{Puts, PutsPart};
+ghost use Rattle.desk_outside.specs.Passages.{put, put_failed};
 ghost use Rattle.slot_program.specs.Words.{Word, words_of, job_of};
 ghost use Rattle.slot_program.specs.Reports.{Report, status_of, text_of, settled};
 ghost use Rattle.slot_program.specs.Order.{FirstDue};
-ghost use Rattle.slot_program.specs.Desk.{file_names, allocation_steps, IsAnswer, IsPlan, Allocates, Ends, names_written, IsStatus};
+ghost use Rattle.slot_program.specs.Desk.{file_names, allocation_steps, IsPlan, Allocates};
+ghost use Rattle.slot_program.specs.Desk.{names_written, IsStatus};
+ghost use Rattle.slot_program.specs.Handed.{LogGrew, PassedWhole, OnlyOfJob, world_of, WorkEnds};
+ghost use Rattle.slot_program.specs.Handed.{IsAnswer};
 ghost use Rattle.slot_program.specs.Stops.{names_of};
 ghost use Rattle.slot_program.specs.declared.job.Job.TheVariants.{Allocate};
 
@@ -28,11 +33,12 @@ struct Answer {
     text: String,
 }
 
-/// Does what the words of a command line ask, on the files of a cabinet, and says the result to a sink.
+/// Does what the words of a command line ask, on the files of a cabinet, and says the result to a
+/// sink.
 ///
-/// The answer is the status of the program: 0 where the work is done; 2 where the words are no command's; 5 where the
-/// cabinet failed, or has no such file or one of more than 4 MiB; 6 where the sink failed; 7 for want of memory; and 12
-/// where a file is not in the form that is served.
+/// The answer is the status of the program: 0 where the work is done; 2 where the words are no
+/// command's; 5 where the cabinet failed, or has no such file or one of more than 4 MiB; 6 where
+/// the sink failed; 7 for want of memory; and 12 where a file is not in the form that is served.
 pub fn desk<R, C: Cabinet, S: Sink>(
     _rt: &R,
     alloc: Global,
@@ -40,38 +46,72 @@ pub fn desk<R, C: Cabinet, S: Sink>(
     cabinet: &mut C,
     out: &mut S,
 ) -> u8
-    // The status and what was said are those of one report, which is due by the words and the files.
+    // The status, what passed between the desk and the cabinet, and what was put are those of one
+    // report, which is due by the words and by what was handed out.
     ensures said { result ≢ 6 → result ≢ 7 → (report : Report) × (result ≡ status_of report)
-        × Ends (job_of (words_of words.now)) (C.files cabinet.old) (C.fault_count cabinet.old) (C.fault_count cabinet.new) report (C.files cabinet.new)
-        × Puts (S.contents out.old) (text_of report) (S.contents out.new) }
+        × WorkEnds (job_of (words_of words.now)) (world_of C.files C.fault_count C.log cabinet.old)
+        report (world_of C.files C.fault_count C.log cabinet.new)
+        × Puts (S.contents out.old) (text_of report) (S.contents out.new)
+        × (S.log out.new ≡ S.log out.old ++ put (text_of report) ∷ []) }
     ensures statuses { IsStatus result }
 
-    // Done: the certificate and then the replies are written, the sink got the four stage lines, and nothing failed.
-    ensures allocated { (names : List Word) → job_of (words_of words.now) ≡ Some (Allocate names) → result ≡ 0 →
-        Allocates (C.files cabinet.old) (file_names names) (C.files cabinet.new) × Puts (S.contents out.old) (text_of settled) (S.contents out.new) }
-    ensures done { result ≡ 0 → (C.fault_count cabinet.new ≡ C.fault_count cabinet.old) × (S.fault_count out.new ≡ S.fault_count out.old) }
+    // Done, also over a cabinet that tells nothing: the two files that were handed out are a
+    // capacity file and a message in their forms, the certificate and the replies that were written
+    // are right of these two, and the four stage lines were put, after all that had passed before.
+    ensures handed { (names : List Word) → job_of (words_of words.now) ≡ Some (Allocate names)
+        → result ≡ 0 →
+        LogGrew (C.log cabinet.old) (PassedWhole (C.files cabinet.old) (file_names names))
+        (C.log cabinet.new)
+        × (S.log out.new ≡ S.log out.old ++ put (text_of settled) ∷ []) }
 
-    // The words are no command's, exactly then, and no file is changed.
+    // Done: the certificate and then the replies are written, the sink got the four stage lines,
+    // and nothing failed.
+    ensures allocated { (names : List Word) → job_of (words_of words.now) ≡ Some (Allocate names)
+        → result ≡ 0 →
+        Allocates (C.files cabinet.old) (file_names names) (C.files cabinet.new)
+        × Puts (S.contents out.old) (text_of settled) (S.contents out.new) }
+    ensures done { result ≡ 0 → (C.fault_count cabinet.new ≡ C.fault_count cabinet.old)
+        × (S.fault_count out.new ≡ S.fault_count out.old) }
+
+    // The words are no command's, exactly then, and no file is changed or read.
     ensures words { result ≡ 2 → job_of (words_of words.now) ≡ None }
     ensures refused { job_of (words_of words.now) ≡ None →
-        (C.files cabinet.new ≡ C.files cabinet.old) × ((result ≡ 2) ⊎ ((result ≡ 6) ⊎ (result ≡ 7))) }
+        (C.files cabinet.new ≡ C.files cabinet.old)
+        × ((result ≡ 2) ⊎ ((result ≡ 6) ⊎ (result ≡ 7))) }
 
-    // What the files give as the first refusal is answered, unless a call of the cabinet failed, the sink failed or memory ran out.
-    ensures due { (names : List Word) (held : Files) (report : Report) → job_of (words_of words.now) ≡ Some (Allocate names) → C.files cabinet.old ≡ Some held →
+    // What the files give as the first refusal is answered, unless a call of the cabinet failed,
+    // the sink failed or memory ran out.
+    ensures due { (names : List Word) (held : Files) (report : Report)
+        → job_of (words_of words.now) ≡ Some (Allocate names) → C.files cabinet.old ≡ Some held →
         FirstDue held (allocation_steps (file_names names)) report →
-        (result ≡ status_of report) ⊎ (((result ≡ 5) × Rose (C.fault_count cabinet.old) (C.fault_count cabinet.new)) ⊎ ((result ≡ 6) ⊎ (result ≡ 7))) }
+        (result ≡ status_of report)
+        ⊎ (((result ≡ 5) × Rose (C.fault_count cabinet.old) (C.fault_count cabinet.new))
+        ⊎ ((result ≡ 6) ⊎ (result ≡ 7))) }
 
-    // The sink failed: the files are as at the status whose text was being put, and a front of that text went out.
-    ensures cut { result ≡ 6 → Rose (S.fault_count out.old) (S.fault_count out.new) × ((report : Report)
-        × Ends (job_of (words_of words.now)) (C.files cabinet.old) (C.fault_count cabinet.old) (C.fault_count cabinet.new) report (C.files cabinet.new)
-        × PutsPart (S.contents out.old) (text_of report) (S.contents out.new)) }
+    // The sink failed: the files and what passed are as at the status whose text was being put, and
+    // a front of that text went out.
+    ensures cut { result ≡ 6 → Rose (S.fault_count out.old) (S.fault_count out.new)
+        × ((report : Report)
+        × WorkEnds (job_of (words_of words.now)) (world_of C.files C.fault_count C.log cabinet.old)
+        report (world_of C.files C.fault_count C.log cabinet.new)
+        × PutsPart (S.contents out.old) (text_of report) (S.contents out.new)
+        × (S.log out.new ≡ S.log out.old ++ put_failed (text_of report) ∷ [])) }
 
-    // Whatever the status, only files that the command writes have other bytes than before.
-    ensures others { ChangesOnly (C.files cabinet.old) (names_written (job_of (words_of words.now))) (C.files cabinet.new) }
+    // Whatever the status, only files that the command writes have other bytes than before, and
+    // only the command's files were asked of the cabinet: it read those that it reads, and wrote
+    // those that it writes.
+    ensures others { ChangesOnly (C.files cabinet.old) (names_written (job_of (words_of words.now)))
+        (C.files cabinet.new) }
+    ensures asked { LogGrew (C.log cabinet.old) (OnlyOfJob (job_of (words_of words.now)))
+        (C.log cabinet.new) }
 
-    // With a command's words, both files in their forms and no rise of a count the work is done, or memory ran out.
-    ensures complete { (names : List Word) (held : Files) (replies : List ℕ) → job_of (words_of words.now) ≡ Some (Allocate names) → C.files cabinet.old ≡ Some held →
-        IsPlan held (file_names names) replies → (Rose (C.fault_count cabinet.old) (C.fault_count cabinet.new) → ⊥) → (Rose (S.fault_count out.old) (S.fault_count out.new) → ⊥) →
+    // With a command's words, both files in their forms and no rise of a count the work is done, or
+    // memory ran out.
+    ensures complete { (names : List Word) (held : Files) (replies : List ℕ)
+        → job_of (words_of words.now) ≡ Some (Allocate names) → C.files cabinet.old ≡ Some held →
+        IsPlan held (file_names names) replies →
+        (Rose (C.fault_count cabinet.old) (C.fault_count cabinet.new) → ⊥) →
+        (Rose (S.fault_count out.old) (S.fault_count out.new) → ⊥) →
         (result ≡ 0) ⊎ (result ≡ 7) }
 {
     match carry_out(alloc, words, cabinet) {
@@ -85,9 +125,15 @@ pub fn desk<R, C: Cabinet, S: Sink>(
 
 /// Does the work that the words ask for, and gives what is to be said.
 fn carry_out<C: Cabinet>(alloc: Global, words: &[String], cabinet: &mut C) -> Result<Answer, Memory>
-    ensures answer { IfOk result (λ a. IsAnswer (job_of (words_of words.now)) (C.files cabinet.old) (C.fault_count cabinet.old) (C.fault_count cabinet.new) a.status (string_bytes a.text) (C.files cabinet.new)) }
-    ensures others { ChangesOnly (C.files cabinet.old) (names_written (job_of (words_of words.now))) (C.files cabinet.new) }
-    ensures refused { job_of (words_of words.now) ≡ None → C.files cabinet.new ≡ C.files cabinet.old }
+    ensures answer { IfOk result (λ a. IsAnswer (job_of (words_of words.now))
+        (world_of C.files C.fault_count C.log cabinet.old) a.status (string_bytes a.text)
+        (world_of C.files C.fault_count C.log cabinet.new)) }
+    ensures others { ChangesOnly (C.files cabinet.old) (names_written (job_of (words_of words.now)))
+        (C.files cabinet.new) }
+    ensures asked { LogGrew (C.log cabinet.old) (OnlyOfJob (job_of (words_of words.now)))
+        (C.log cabinet.new) }
+    ensures refused { job_of (words_of words.now) ≡ None
+        → C.files cabinet.new ≡ C.files cabinet.old }
 {
     match read_words(alloc, words) {
         Ok(Job::Allocate { names }) => carry_out_allocation(alloc, &names, cabinet),
@@ -106,8 +152,13 @@ fn carry_out_allocation<C: Cabinet>(
     cabinet: &mut C,
 ) -> Result<Answer, Memory>
     requires { length names.now ≡ 4 }
-    ensures answer { IfOk result (λ a. IsAnswer (Some (Allocate names.now)) (C.files cabinet.old) (C.fault_count cabinet.old) (C.fault_count cabinet.new) a.status (string_bytes a.text) (C.files cabinet.new)) }
-    ensures others { ChangesOnly (C.files cabinet.old) (names_written (Some (Allocate names.now))) (C.files cabinet.new) }
+    ensures answer { IfOk result (λ a. IsAnswer (Some (Allocate names.now))
+        (world_of C.files C.fault_count C.log cabinet.old) a.status (string_bytes a.text)
+        (world_of C.files C.fault_count C.log cabinet.new)) }
+    ensures others { ChangesOnly (C.files cabinet.old) (names_written (Some (Allocate names.now)))
+        (C.files cabinet.new) }
+    ensures asked { LogGrew (C.log cabinet.old) (OnlyOfJob (Some (Allocate names.now)))
+        (C.log cabinet.new) }
 {
     let names = names_in(names);
     match allocate(alloc, &names, cabinet) {

@@ -21,7 +21,8 @@ pub(crate) fn read_number(text: &[u8], most: u32) -> Option<u32>
 /// The minute of the day that hours and minutes spell.
 pub(crate) fn read_minute(text: &[u8]) -> Option<u32>
     ensures found { IfSome result (λ minute. (minute < 1440) × (text.now ≡ time_text minute)) }
-    ensures only { (minute : ℕ) → minute < 1440 → text.now ≡ time_text minute → result ≡ Some minute }
+    ensures only { (minute : ℕ) → minute < 1440 → text.now ≡ time_text minute
+        → result ≡ Some minute }
 {
     let minute = read_time(text)?;
     Some(u32::from(minute))

@@ -1,19 +1,23 @@
-ghost use Rattle.std.specs.Prelude.{◌≡◌, ◌∷◌, [], ℕ, List, Some, None, Ok, Err, IfOk, IfErr, if◌then◌else◌, codes, length, not, ◌||◌};
+ghost use Rattle.std.specs.Prelude.{◌≡◌, ◌∷◌, [], ℕ, List, Some, None, Ok, Err, IfOk, IfErr};
+ghost use Rattle.std.specs.Prelude.{if◌then◌else◌, codes, length, not, ◌||◌};
 ghost use Rattle.std.specs.Str.{bytes_eq};
 ghost use Rattle.std.specs.String.{string_bytes};
 ghost use Rattle.slot_text.specs.Reads.{GivesOr};
 ghost use Rattle.slot_program.specs.declared.job.Job.{Job};
-ghost use Rattle.slot_program.specs.Words.{Word, words_of, is_dashed, names_among, job_of, HasNames};
+ghost use Rattle.slot_program.specs.Words.{Word, words_of, is_dashed, names_among, job_of};
+ghost use Rattle.slot_program.specs.Words.{HasNames};
 
 use crate::job::{Job, Name, NameList, WordFault};
 use std::alloc::Global;
 
-/// The job that the words of a command line ask for, the program's own name left out. A refusal for want of memory may
-/// come in place of any answer.
+/// The job that the words of a command line ask for, the program's own name left out. A refusal for
+/// want of memory may come in place of any answer.
 pub fn read_words(alloc: Global, words: &[String]) -> Result<Job, WordFault>
     ensures found { IfOk result (λ job. job_of (words_of words.now) ≡ Some job) }
-    ensures only { (job : Job) → job_of (words_of words.now) ≡ Some job → GivesOr WordFault.Memory result (Ok job) }
-    ensures none { job_of (words_of words.now) ≡ None → GivesOr WordFault.Memory result (Err WordFault.Words) }
+    ensures only { (job : Job) → job_of (words_of words.now) ≡ Some job
+        → GivesOr WordFault.Memory result (Ok job) }
+    ensures none { job_of (words_of words.now) ≡ None
+        → GivesOr WordFault.Memory result (Err WordFault.Words) }
     ensures named { IfOk result HasNames }
 {
     let [command, rest @ ..] = words else {
@@ -32,7 +36,8 @@ pub fn read_words(alloc: Global, words: &[String]) -> Result<Job, WordFault>
 /// The names among the words after a command.
 fn read_names(alloc: Global, words: &[String]) -> Result<NameList, WordFault>
     ensures found { IfOk result (λ names. names_among (words_of words.now) ≡ Some names) }
-    ensures none { IfErr result (λ fault. fault ≡ WordFault.Words → names_among (words_of words.now) ≡ None) }
+    ensures none { IfErr result (λ fault. fault ≡ WordFault.Words
+        → names_among (words_of words.now) ≡ None) }
 {
     let mut names = Vec::new(alloc);
     let mut after_options = false;
@@ -48,7 +53,8 @@ fn read_names(alloc: Global, words: &[String]) -> Result<NameList, WordFault>
     Ok(NameList::new(names))
 }
 
-/// Whether a word is a name: it stands after `--`, or doesn't begin with `-`, or is that sign alone.
+/// Whether a word is a name: it stands after `--`, or doesn't begin with `-`, or is that sign
+/// alone.
 fn is_name_word(word: &String, after_options: bool) -> bool
     ensures { result ≡ (after_options || not (is_dashed (string_bytes word.now))) }
 {

@@ -6,3 +6,4 @@ pub mod Stations
 pub mod Texts
 pub mod Ended
 pub mod Forms
+pub mod Spelled

@@ -3,7 +3,7 @@ use Rattle.std.proofs.Common.{◌≡◌, ◌≢◌, ℕ, zero, suc, All, List, [
 use Rattle.std.specs.List.{AllByRecursion, Any}
 use mathlib.Core.Option.{some}
 use lib.ListN.{get_elem?}
-use Rattle.atomic_table.proofs.Lists as lists
+use Rattle.turn_lock.proofs.Places as places
 
 module _ {A : Type 0} (P : A → Type 0) where
   pub every_append : (xs ys : List A) → AllByRecursion P xs → AllByRecursion P ys → AllByRecursion P (xs ++ ys)
@@ -36,11 +36,11 @@ module _ {A : Type 0} (P : A → Type 0) where
   -- an element changed, and the fact holds of the new one and of all others
   pub all_set : (vs : List A) (i : ℕ) (w : A) → ((j : ℕ) (v : A) → j ≢ i → get_elem? vs j ≡ some v → P v) → P w
       → (j : ℕ) (v : A) → get_elem? (set vs i w) j ≡ some v → P v
-  all_set vs i w all now j v e = ⊎_elim (λ (t : (j ≡ i) × (w ≡ v)). subst P t.1 now) (λ (t : (j ≢ i) × (get_elem? vs j ≡ some v)). all j v t.0 t.1) (lists.at_set vs i j w v e)
+  all_set vs i w all now j v e = ⊎_elim (λ (t : (j ≡ i) × (w ≡ v)). subst P t.1 now) (λ (t : (j ≢ i) × (get_elem? vs j ≡ some v)). all j v t.0 t.1) (places.at_set vs i j w v e)
 
   pub all_snoc : (vs : List A) (w : A) → ((j : ℕ) (v : A) → get_elem? vs j ≡ some v → P v) → P w → (j : ℕ) (v : A)
       → get_elem? (vs ++ w ∷ []) j ≡ some v → P v
-  all_snoc vs w all now j v e = ⊎_elim (all j v) (λ (t : w ≡ v). subst P t now) (lists.at_snoc vs w v j e)
+  all_snoc vs w all now j v e = ⊎_elim (all j v) (λ (t : w ≡ v). subst P t now) (places.at_snoc vs w v j e)
 
 module _ {A : Type 0} where
   pub every_as : (P Q : A → Type 0) (xs : List A) → ((x : A) → P x → Q x) → AllByRecursion P xs

@@ -1,15 +1,16 @@
-pub mod HistoryLemmas
-pub mod Sums
-pub mod Every
-pub mod CallerLists
-pub mod OpenKeeps
-pub mod WinKeeps
-pub mod DecideKeeps
-pub mod GiveKeeps
-pub mod PartKeeps
-pub mod Moves
-pub mod Taking
-pub mod Putting
-pub mod NewSeats
-pub mod Uniting
-pub mod Ends
+mod Places
+mod HistoryLemmas
+mod Sums
+mod Every
+mod CallerLists
+mod OpenKeeps
+mod WinKeeps
+mod DecideKeeps
+mod GiveKeeps
+mod PartKeeps
+mod Moves
+mod Taking
+mod Putting
+mod NewSeats
+mod Uniting
+mod Ends

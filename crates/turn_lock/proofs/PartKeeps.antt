@@ -5,7 +5,7 @@ use Rattle.std.proofs.lemmas.List.Sums.{sum_by_push}
 use mathlib.Core.Option.{Option as Maybe, some}
 use lib.ListN.{get_elem?}
 use Rattle.atomic_table.specs.Table.{State, Me, Splits, Joins}
-use Rattle.atomic_table.proofs.Lists as lists
+use Rattle.turn_lock.proofs.Places as places
 use Rattle.turn_lock.specs.declared.view.View.{View}
 use Rattle.turn_lock.specs.Views.{number_count, seen_count, all_but_first, first_alone, united, spent_view}
 use Rattle.turn_lock.specs.Rule.{Knows, ViewHolds, Stands, IsKept}
@@ -61,7 +61,7 @@ module _ {T O E : Type 0} (origin : T → O) (entries : T → List E) (caller : 
         → Holds (set (set vs id (united v u)) other spent_view)
     joins_other other u free free' some_caller apart beside = let w : View O E = united v u in
         let one : List (View O E) = set vs id w in let f = h.views_hold id v at in
-        let was_there : get_elem? vs other ≡ some u = sym (lists.set_else vs id other w apart) ∙ beside in
+        let was_there : get_elem? vs other ≡ some u = sym (places.set_else vs id other w apart) ∙ beside in
         let g = h.views_hold other u was_there in
         let w_free : w.holds ≡ false = ap (λ (b : Bool). b || u.holds) free ∙ free' in
         let none_v = holding_none v free in let none_u = holding_none u free' in

@@ -6,7 +6,7 @@ use native.Mathlib.Decide.{ℕ_discrete}
 use lib.ListN.{get_elem?}
 use prog.Atomic.{either}
 use Rattle.atomic_table.specs.Table.{State, Me, step, Act, keeps, takes, Valid, homes_after, carried_after, Allows}
-use Rattle.atomic_table.proofs.Lists as lists
+use Rattle.turn_lock.proofs.Places as places
 use Rattle.turn_lock.specs.declared.view.Caller.{Caller}
 use Rattle.turn_lock.specs.declared.view.View.{View}
 use Rattle.turn_lock.specs.History.{StartsWith, own}
@@ -99,7 +99,7 @@ module _ {T O E : Type 0} (origin : T → O) (entries : T → List E) (caller : 
     taken_turn slots s k at one = let h = k.stands in let words : s.words ≡ 1 ∷ length k.history ∷ [] = k.words
         ∙ ap (λ (z : ℕ). z ∷ length k.history ∷ []) one in
         let stays : Stands origin entries caller start callers 1 k.history s.homes (set s.views id me.0)
-        = subst (λ (vs : List (View O E)). Stands origin entries caller start callers 1 k.history s.homes vs) (sym (lists.set_again s.views id me.0 at)) (subst (λ (z : ℕ). Stands origin entries caller start callers z k.history s.homes s.views) one h) in
+        = subst (λ (vs : List (View O E)). Stands origin entries caller start callers 1 k.history s.homes vs) (sym (places.set_again s.views id me.0 at)) (subst (λ (z : ℕ). Stands origin entries caller start callers z k.history s.homes s.views) one h) in
         let done : Owes Rule id s.views 0 found (then slots) (1 ∷ length k.history ∷ []) s.homes me.1
         = (me.0, keeps, tt, record { turn = 1; history = k.history; words = refl; stands = stays }, ((λ none_has. absurd (omega arith)), λ other. refl)) in
         subst (λ (ws : List ℕ). Owes Rule id s.views 0 found (then slots) ws s.homes me.1) (sym words) done

@@ -1,4 +1,5 @@
--- Histories: lists of entries that grow at their end alone. `caller` gives the number of an entry's caller.
+-- Histories: lists of entries that grow at their end alone. `caller` gives the number of an entry's
+-- caller.
 use Rattle.std.specs.Prelude.{◌≡◌, ◌⊎◌, ℕ, ◌≤◌, ◌==◌, List, [], ◌∷◌, ◌++◌, length, filter}
 
 module _ {E : Type 0} where
@@ -32,20 +33,30 @@ module _ {E : Type 0} where
 
   -- entries of other callers leave the own entries as they were
   abbrev pub OthersAddNoOwn : (E → ℕ) → Type 0
-  OthersAddNoOwn caller = (number : ℕ) (seen history : List E) → GoesOnFrom caller number seen history
+  OthersAddNoOwn caller = (number : ℕ) (seen history : List E)
+      → GoesOnFrom caller number seen history
       → own caller number history ≡ own caller number seen
 
   -- to go on twice with entries of others is to go on with entries of others
   abbrev pub GoingOnChains : (E → ℕ) → Type 0
-  GoingOnChains caller = (number : ℕ) (seen middle history : List E) → GoesOnFrom caller number seen middle
+  GoingOnChains caller = (number : ℕ) (seen middle history : List E)
+      → GoesOnFrom caller number seen middle
       → GoesOnFrom caller number middle history → GoesOnFrom caller number seen history
 
 -- a beginning of a beginning is a beginning
 abbrev pub BeginningsChain : (E : Type 0) → Type 0
-BeginningsChain E = (history middle seen : List E) → StartsWith history middle → StartsWith middle seen
+BeginningsChain E = (history middle seen : List E) → StartsWith history middle
+    → StartsWith middle seen
     → StartsWith history seen
 
 -- of two beginnings of one history, the shorter begins the longer
 abbrev pub BeginningsNest : (E : Type 0) → Type 0
-BeginningsNest E = (history longer shorter : List E) → StartsWith history longer → StartsWith history shorter
+BeginningsNest E = (history longer shorter : List E) → StartsWith history longer
+    → StartsWith history shorter
     → length shorter ≤ length longer → StartsWith longer shorter
+
+-- a beginning that is as long as the whole is the whole
+abbrev pub FullBeginningIsWhole : (E : Type 0) → Type 0
+FullBeginningIsWhole E = (history seen : List E) → StartsWith history seen
+    → length seen ≡ length history
+    → seen ≡ history

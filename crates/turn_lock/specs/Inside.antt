@@ -19,14 +19,16 @@ module _ {E : Type 0} where
 
   -- the caller of this number, when it has seen the history
   abbrev pub caller_after : (E → ℕ) → ℕ → List E → Caller E
-  caller_after caller number history = record { number = number; seen = history; own = own caller number history }
+  caller_after caller number history =
+      record { number = number; seen = history; own = own caller number history }
 
 -- what a seat says of its caller
 abbrev pub caller_of : {O E : Type 0} → SeatView O E → Caller E
 caller_of seat = record { number = seat.number; seen = seat.seen; own = seat.own }
 
 -- a seat has one caller, and holds the emptied slot while it has the turn
-pub record IsSeat {T O E : Type 0} (caller : E → ℕ) (number taken : ℕ) (me : Me (Option T) (View O E))
+pub record IsSeat {T O E : Type 0} (caller : E → ℕ) (number taken : ℕ)
+    (me : Me (Option T) (View O E))
     : Type 0 where
   pub one : Caller E
   pub alone : me.0.callers ≡ one ∷ []

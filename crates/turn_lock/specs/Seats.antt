@@ -9,8 +9,8 @@ pub record TurnView (O : Type 0) : Type 0 where
   pub origin : O
   pub callers : ℕ
 
--- the turn that a seat is of, the origin that it was made with, its caller's number, the history that it has seen,
--- its own entries, and whether it has the turn
+-- the turn that a seat is of, the origin that it was made with, its caller's number, the history
+-- that it has seen, its own entries, and whether it has the turn
 pub record SeatView (O E : Type 0) : Type 0 where
   pub turn : TableId
   pub origin : Option O
@@ -22,7 +22,8 @@ pub record SeatView (O E : Type 0) : Type 0 where
 module _ {O E : Type 0} where
   -- a seat that has seen nothing
   abbrev pub new_seat : TableId → O → ℕ → SeatView O E
-  new_seat id origin k = record { turn = id; origin = Some origin; number = k; seen = []; own = []; holds = false }
+  new_seat id origin k =
+      record { turn = id; origin = Some origin; number = k; seen = []; own = []; holds = false }
 
   -- the seats of a new turn: n of them, from the number k on
   abbrev pub new_seats : TableId → O → ℕ → ℕ → List (SeatView O E)
@@ -37,9 +38,11 @@ module _ {O E : Type 0} where
   abbrev pub IsAtRest : TurnView O → SeatView O E → Type 0
   IsAtRest turn seat = IsSeatOf turn seat × (seat.holds ≡ false)
 
-  -- the seat has seen a beginning of the history, and its own entries are those of its number in the history
+  -- the seat has seen a beginning of the history, and its own entries are those of its number in
+  -- the history
   abbrev pub HasSeen : (E → ℕ) → List E → SeatView O E → Type 0
-  HasSeen caller history seat = StartsWith history seat.seen × (seat.own ≡ own caller seat.number history)
+  HasSeen caller history seat = StartsWith history seat.seen
+      × (seat.own ≡ own caller seat.number history)
 
   -- one of the seats has this number
   abbrev pub IsNumber : List (SeatView O E) → ℕ → Type 0

@@ -1,6 +1,7 @@
 -- What a seat knows, and how it is cut in two and put together.
 -- A seat has one caller, but while the turn is made or closed.
-use Rattle.std.specs.Prelude.{ℕ, zero, suc, ◌==◌, false, ◌||◌, List, [], ◌∷◌, ◌++◌, length, count_by, Some, None}
+use Rattle.std.specs.Prelude.{ℕ, zero, suc, ◌==◌, false, ◌||◌, List, [], ◌∷◌, ◌++◌, length}
+use Rattle.std.specs.Prelude.{count_by, Some, None}
 use Rattle.turn_lock.specs.declared.view.Caller.{Caller}
 use Rattle.turn_lock.specs.declared.view.View.{View}
 use Rattle.turn_lock.specs.History.{own}
@@ -17,7 +18,8 @@ module _ {E : Type 0} where
 
   -- a caller that has seen the history
   abbrev pub after_seeing : (E → ℕ) → List E → Caller E → Caller E
-  after_seeing caller history c = record { number = c.number; seen = history; own = own caller c.number history }
+  after_seeing caller history c =
+      record { number = c.number; seen = history; own = own caller c.number history }
 
   -- how many of the callers have this number
   abbrev pub number_count : ℕ → List (Caller E) → ℕ
@@ -38,7 +40,8 @@ module _ {E : Type 0} where
 module _ {O E : Type 0} where
   -- the first seat of a turn has all callers
   abbrev pub first_view : O → ℕ → View O E
-  first_view origin callers = record { origin = Some origin; callers = newcomers 0 callers; holds = false }
+  first_view origin callers =
+      record { origin = Some origin; callers = newcomers 0 callers; holds = false }
 
   -- of two halves of a view, the left one
   abbrev pub all_but_first : View O E → View O E
@@ -50,7 +53,11 @@ module _ {O E : Type 0} where
 
   -- what two seats know together, each caller with its own seen list
   abbrev pub united : View O E → View O E → View O E
-  united v w = record { origin = v.origin; callers = w.callers ++ v.callers; holds = v.holds || w.holds }
+  united v w = record {
+    origin = v.origin;
+    callers = w.callers ++ v.callers;
+    holds = v.holds || w.holds;
+  }
 
   -- what is left of a seat that was joined to another: nothing
   abbrev pub spent_view : View O E

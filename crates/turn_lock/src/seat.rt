@@ -10,8 +10,8 @@ use std::marker::Model;
 
 /// The right of one caller to take the turn.
 ///
-/// Contracts see its turn, its number, the origin, the history that it has seen, its own entries, and
-/// whether it has the turn.
+/// Contracts see its turn, its number, the origin, the history that it has seen, its own entries,
+/// and whether it has the turn.
 #[derive(Drop)]
 pub struct TurnSeat<T: Story> {
     pub(crate) seat: Seat<Option<T>, View<T::Origin, T::Entry>>,

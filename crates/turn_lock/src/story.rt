@@ -1,9 +1,11 @@
 //! Values that have a history.
 ghost use Rattle.std.specs.Prelude.{◌≡◌, ℕ, List, length};
 
-/// A value of such a type means an origin and a list of entries, each with the number of its caller.
+/// A value of such a type means an origin and a list of entries, each with the number of its
+/// caller.
 ///
-/// The origin is what the value was made with, as the state before the first entry. No seat changes it.
+/// The origin is what the value was made with, as the state before the first entry. No seat changes
+/// it.
 pub trait Story: Drop {
     /// Proofs alone have values of it.
     type Origin;
@@ -17,8 +19,8 @@ pub trait Story: Drop {
 
     ghost caller: { Self.Entry → ℕ };
 
-    /// The number of entries. Each [`Turn::take`](crate::Turn::take) and [`Turn::give`](crate::Turn::give) asks it
-    /// once, so it should not count them anew.
+    /// The number of entries. Each [`Turn::take`](crate::Turn::take) and
+    /// [`Turn::give`](crate::Turn::give) asks it once, so it should not count them anew.
     fn length(&self) -> u64
         ensures { result ≡ length (entries self.now) };
 }

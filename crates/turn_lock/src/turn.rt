@@ -1,5 +1,6 @@
 //! The turn: one value that callers take, one at a time.
-ghost use Rattle.std.specs.Prelude.{◌≡◌, ◌≤◌, ◌<◌, true, false, [], ◌∷◌, Some, IfOk, IfSome, IfNone, All, Any, map, length};
+ghost use Rattle.std.specs.Prelude.{◌≡◌, ◌≤◌, ◌<◌, true, false, [], ◌∷◌, Some, IfOk, IfSome};
+ghost use Rattle.std.specs.Prelude.{IfNone, All, Any, map, length};
 ghost use Rattle.turn_lock.specs.History.{own, GoesOnFrom, MayGive, Grew};
 ghost use Rattle.turn_lock.specs.Seats.{new_seats, IsSeatOf, IsAtRest, HasSeen, IsNumber};
 ghost use Rattle.turn_lock.specs.Inside.{seen_of, caller_of, caller_after, IsSeat};
@@ -45,13 +46,14 @@ impl<T: Story> Model for Turn<T> {
       callers = t.table.shared.key.callers;
     } };
 
-    ghost invariant = { λ t. (t.table.shared.table_id.words ≡ 2) × (t.table.shared.table_id.slots ≡ 1)
+    ghost invariant = { λ t. (t.table.shared.table_id.words ≡ 2)
+        × (t.table.shared.table_id.slots ≡ 1)
         × (1 ≤ t.table.shared.key.callers) };
 }
 
 impl<T: Story> Turn<T> {
-    /// A turn over a value that has no entries yet, and a seat for each caller, with the numbers from 0 on in
-    /// their order.
+    /// A turn over a value that has no entries yet, and a seat for each caller, with the numbers
+    /// from 0 on in their order.
     ///
     /// Where memory runs out the value is dropped.
     pub fn new(alloc: Global, value: T, callers: u32) -> Result<(Turn<T>, Vec<TurnSeat<T>>), Memory>
@@ -92,9 +94,10 @@ impl<T: Story> Turn<T> {
 
     /// Waits until no seat has the turn, takes it, and hands out the value.
     ///
-    /// The value's history begins with all that this seat had seen, and goes on with entries of other callers.
-    /// While it waits the thread yields and asks again. Which of several waiting seats comes next, and when, is
-    /// open, and a seat that keeps the turn makes all others wait. It takes no memory.
+    /// The value's history begins with all that this seat had seen, and goes on with entries of
+    /// other callers. While it waits the thread yields and asks again. Which of several waiting
+    /// seats comes next, and when, is open, and a seat that keeps the turn makes all others wait.
+    /// It takes no memory.
     pub fn take<R: Wait>(&self, rt: &R, seat: &mut TurnSeat<T>) -> T
         requires rest { IsAtRest self.now seat.old }
         ensures seat { seat.new ≡ record seat.old { seen = T.entries result; holds = true } }
@@ -111,9 +114,11 @@ impl<T: Story> Turn<T> {
         unreachable!()
     }
 
-    /// Gives the turn back, with the value as it was taken, or with one entry more, which has this seat's number.
+    /// Gives the turn back, with the value as it was taken, or with one entry more, which has this
+    /// seat's number.
     ///
-    /// It does not wait, and takes no memory. The history has the new entry from within this call on.
+    /// It does not wait, and takes no memory. The history has the new entry from within this call
+    /// on.
     pub fn give<R>(&self, _rt: &R, seat: &mut TurnSeat<T>, value: T)
         requires of_turn { IsSeatOf self.now seat.old }
         requires holds { seat.old.holds ≡ true }
@@ -130,7 +135,8 @@ impl<T: Story> Turn<T> {
         self.table.shared.swap::<Give<T>>(&mut seat.seat, TURN, 0);
     }
 
-    /// Ends the turn, and hands the value out. The seats are all that were made with it, in any order.
+    /// Ends the turn, and hands the value out. The seats are all that were made with it, in any
+    /// order.
     ///
     /// The time grows with the number of seats.
     pub fn close(self, seats: Vec<TurnSeat<T>>) -> T
@@ -154,10 +160,13 @@ impl<T: Story> Turn<T> {
     fn try_take(&self, seat: &mut TurnSeat<T>) -> Option<T>
         requires rest { IsAtRest self.now seat.old }
         ensures none { IfNone result (seat.new ≡ seat.old) }
-        ensures seat { IfSome result (λ x. seat.new ≡ record seat.old { seen = T.entries x; holds = true }) }
+        ensures seat { IfSome result (λ x. seat.new
+            ≡ record seat.old { seen = T.entries x; holds = true }) }
         ensures origin { IfSome result (λ x. T.origin x ≡ self.now.origin) }
-        ensures longer { IfSome result (λ x. GoesOnFrom T.caller seat.old.number seat.old.seen (T.entries x)) }
-        ensures own { IfSome result (λ x. own T.caller seat.old.number (T.entries x) ≡ seat.old.own) }
+        ensures longer { IfSome result (λ x.
+            GoesOnFrom T.caller seat.old.number seat.old.seen (T.entries x)) }
+        ensures own { IfSome result (λ x. own T.caller seat.old.number (T.entries x)
+            ≡ seat.old.own) }
     {
         let shared = &self.table.shared;
         if shared.compare_exchange::<Win<T>>(&mut seat.seat, TURN, 0, 1) != 0 {
@@ -170,7 +179,8 @@ impl<T: Story> Turn<T> {
         Some(value)
     }
 
-    // Puts the value into the slot. If it has an entry more than were taken, the history has it from now on.
+    // Puts the value into the slot. If it has an entry more than were taken, the history has it
+    // from now on.
     fn put(
         &self,
         seat: &mut Seat<Option<T>, View<T::Origin, T::Entry>>,
@@ -204,7 +214,8 @@ impl<T: Story> Turn<T> {
     fn unite(&self, mut seats: Vec<TurnSeat<T>>) -> Seat<Option<T>, View<T::Origin, T::Entry>>
         requires some { 0 < length seats.items }
         requires rest { All (IsAtRest self.now) seats.items }
-        ensures seat { (result.table_id ≡ self.now.id) × (result.me.1 ≡ []) × (result.me.0.holds ≡ false) }
+        ensures seat { (result.table_id ≡ self.now.id) × (result.me.1 ≡ [])
+            × (result.me.0.holds ≡ false) }
         ensures callers { result.me.0.callers ≡ map caller_of seats.items }
     {
         let Some(first) = seats.pop() else {

@@ -1,1 +1,3 @@
-pub mod CountLemmas
+mod CountLemmas
+mod PlaceLemmas
+mod JointLemmas

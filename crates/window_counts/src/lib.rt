@@ -7,9 +7,11 @@
 mod adding;
 mod counts;
 mod fitting;
-mod taking;
+mod joint;
+mod placing;
 
 pub use counts::Counts;
+pub use placing::{add_alt, add_choice, change_alt, place_alt, take_alt};
 
 #[cfg(test)]
 mod tests;

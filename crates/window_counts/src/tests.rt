@@ -4,7 +4,7 @@ ghost use Rattle.std.specs.Prelude.{◌≡◌, ℕ, ◌≤◌, length, IfOk, IsT
 ghost use Rattle.choice_problem.specs.Strips.{part_uses, IsPartInRange};
 
 use super::*;
-use choice_problem::{Part, Strip};
+use choice_problem::{Part, Strip, strip_list};
 use std::alloc::Global;
 use std::test::Fail;
 
@@ -21,6 +21,7 @@ fn strip(first: u32, width: u32, gap: u32, times: u32) -> Strip {
 fn is_small(strips: &[Strip]) -> bool
     ensures { IsTrue result → (r : ℕ) → part_uses strips.now r ≤ 400 }
 {
+    strip_list();
     for strip in strips {
         if strip.times > 10 {
             return false;

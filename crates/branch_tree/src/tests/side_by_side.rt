@@ -4,7 +4,7 @@ use super::{alt, prices, problem, shifted, shown, walked};
 use crate::plain::plain_visit;
 use crate::{greedy, visit};
 use choice_problem::{Alt, Chooser, Part, Problem, Strip, Vector};
-use dual_bound::price_table;
+use price_table::price_table;
 use std::alloc::Global;
 use std::test::Fail;
 

@@ -3,8 +3,7 @@ use Rattle.std.specs.Prelude.{slice_index_or}
 use Rattle.std.proofs.lemmas.Bool.{cases_lt}
 use Rattle.std.proofs.lemmas.List.{get_or-map}
 use Rattle.choice_problem.specs.declared.vectors.Price.{Price}
-use Rattle.dual_bound.specs.Tables.{TableView}
-use Rattle.branch_tree.specs.Visits.{vectors_of}
+use Rattle.price_table.specs.Tables.{TableView, vectors_of}
 use Rattle.branch_tree.proofs.closings.first_closing.Goals as goal
 
 pub loop-place-preserved : goal.loop-place-preserved

@@ -1,4 +1,5 @@
-use Rattle.branch_tree.specs.Visits.{AreOpen, vectors_of}
+use Rattle.price_table.specs.Tables.{vectors_of}
+use Rattle.branch_tree.specs.Visits.{AreOpen}
 use Rattle.branch_tree.proofs.closings.first_closing.Given as goal
 
 abbrev pub invariant-loop-place : goal.invariant-loop-place

@@ -1,4 +1,4 @@
-use Rattle.choice_problem.proofs.GreedyLemmas.{IsGreedy-feasible, IsGreedyCost-only}
+use Rattle.choice_problem.proofs.GreedyLemmas.{IsGreedy-feasible, IsGreedyCost-only, FitsOn-same}
 use Rattle.choice_problem.proofs.RootLemmas.{IsNodeVector-only, IsNodeVector-IsVector}
 use Rattle.choice_problem.proofs.laws.search_start.Goals as goal
 
@@ -13,3 +13,6 @@ returns-clause-one_vector c = IsNodeVector-only
 
 pub returns-clause-prices : goal.returns-clause-prices
 returns-clause-prices c = IsNodeVector-IsVector
+
+pub returns-clause-same_loads : goal.returns-clause-same_loads
+returns-clause-same_loads c = FitsOn-same

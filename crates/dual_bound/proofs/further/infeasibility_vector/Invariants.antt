@@ -1,4 +1,5 @@
-use Rattle.dual_bound.specs.Loops.{IsPoint, ArePrices}
+use Rattle.price_table.specs.Strips.{ArePrices}
+use Rattle.dual_bound.specs.Loops.{IsPoint}
 use Rattle.dual_bound.proofs.further.infeasibility_vector.Given as goal
 
 abbrev pub invariant-loop-step : goal.invariant-loop-step

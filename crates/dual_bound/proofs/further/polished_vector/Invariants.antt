@@ -1,6 +1,7 @@
 use Rattle.std.proofs.Common.{◌≡◌, length}
 use Rattle.choice_problem.specs.Problems.{resource_count}
-use Rattle.dual_bound.specs.Loops.{IsPoint, ArePrices}
+use Rattle.price_table.specs.Strips.{ArePrices}
+use Rattle.dual_bound.specs.Loops.{IsPoint}
 use Rattle.dual_bound.proofs.further.polished_vector.Given as goal
 
 abbrev pub invariant-loop-step : goal.invariant-loop-step

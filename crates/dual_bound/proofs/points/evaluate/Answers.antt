@@ -1,8 +1,10 @@
 use Rattle.std.proofs.Common.{◌≡◌, ◌++◌, arith, length, take, drop}
+use Rattle.std.specs.Prelude.{slice_index}
 use Rattle.std.proofs.lemmas.Grind.{common_steps}
 use Rattle.std.proofs.lemmas.Int.{ints}
 use Rattle.choice_problem.specs.Problems.{resource_count}
-use Rattle.dual_bound.specs.Loops.{vector_in, IsPricedBy}
+use Rattle.price_table.specs.Strips.{IsPricedBy}
+use Rattle.dual_bound.specs.Loops.{vector_in}
 use Rattle.dual_bound.proofs.StepLemmas.{vector_in-priced}
 use Rattle.dual_bound.proofs.points.evaluate.Goals as goal
 
@@ -10,7 +12,7 @@ pub take_least-requires-clause-priced : goal.take_least-requires-clause-priced
 take_least-requires-clause-priced c =
     let p = c.args.problem.now in
     let prices = c.args.prices.items in
-    (vector_in p prices, vector_in-priced p prices c.in_ok-strips.strips c.requires.prices c.in_ok-strips.ensures.few (rw c.deref.ensures.value at c.in_ok-strips.ensures.sums))
+    (vector_in p prices, vector_in-priced p prices c.in_ok-strips.strips (c.price_vectors.ensures.valid p (λ r. slice_index prices r) c.requires.prices.small) c.requires.prices c.in_ok-strips.ensures.few (rw c.deref.ensures.value at c.in_ok-strips.ensures.sums))
 
 pub returns-clause-point : goal.returns-clause-point
 returns-clause-point c =
@@ -18,7 +20,7 @@ returns-clause-point c =
     let prices = c.args.prices.items in
     let loads = c.take_least.new.loads in
     let priced : IsPricedBy p (vector_in p prices) c.in_ok-strips.strips =
-    vector_in-priced p prices c.in_ok-strips.strips c.requires.prices c.in_ok-strips.ensures.few (rw c.deref.ensures.value at c.in_ok-strips.ensures.sums) in
+    vector_in-priced p prices c.in_ok-strips.strips (c.price_vectors.ensures.valid p (λ r. slice_index prices r) c.requires.prices.small) c.requires.prices c.in_ok-strips.ensures.few (rw c.deref.ensures.value at c.in_ok-strips.ensures.sums) in
     let count : length c.deref_mut.result.now ≡ resource_count p = grind (arith, common_steps) in
     let whole : take c.in_ok-loads.loads.len (loads ++ drop (length loads) c.in_ok-loads.loads.items) ≡ loads = grind (arith, common_steps) in
     let total = c.in_ok-total.ensures.total (vector_in p prices) priced in

@@ -1,7 +1,7 @@
 use Rattle.std.proofs.Common.{◌≡◌, ◌*◌, ◌≤◌, ◌^◌}
 use Rattle.std.specs.Prelude.{slice_index}
 use Rattle.choice_problem.specs.Problems.{limit_of}
-use Rattle.dual_bound.specs.Loops.{worth}
+use Rattle.price_table.specs.Strips.{worth}
 use Rattle.dual_bound.proofs.points.priced_limits.Given as goal
 
 abbrev pub invariant-loop-resource : goal.invariant-loop-resource

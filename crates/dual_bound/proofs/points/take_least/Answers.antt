@@ -3,7 +3,7 @@ use Rattle.finite_sums.specs.Sums.{least_within}
 use Rattle.choice_problem.specs.Problems.{unit_count, alt_uses}
 use Rattle.choice_problem.specs.Bounds.{low_of, high_of, priced_cost}
 use Rattle.finite_sums.proofs.SumLemmas.{sum_below-more}
-use Rattle.dual_bound.specs.Loops.{least_alt}
+use Rattle.price_table.specs.Strips.{least_alt}
 use Rattle.dual_bound.proofs.points.take_least.Goals as goal
 
 pub loop-unit-preserved : goal.loop-unit-preserved

@@ -3,7 +3,8 @@ use Rattle.std.specs.Prelude.{slice_index}
 use Rattle.choice_problem.specs.declared.vectors.Price.{Price}
 use Rattle.finite_sums.specs.Sums.{sum_below, least_within}
 use Rattle.choice_problem.specs.Bounds.{low_of, high_of, priced_cost}
-use Rattle.dual_bound.specs.Loops.{IsPricedBy, least_alt_load}
+use Rattle.price_table.specs.Strips.{IsPricedBy}
+use Rattle.dual_bound.specs.Loops.{least_alt_load}
 use Rattle.dual_bound.proofs.points.take_least.Given as goal
 
 abbrev pub invariant-loop-unit : goal.invariant-loop-unit

@@ -3,7 +3,6 @@ use Rattle.std.specs.Prelude.{slice_index}
 use Rattle.choice_problem.specs.Problems.{resource_count}
 use Rattle.choice_problem.specs.Roots.{vector_of}
 use Rattle.dual_bound.specs.Loops.{vector_in}
-use Rattle.choice_problem.proofs.RootLemmas.{vector_of-IsVector}
 use Rattle.dual_bound.proofs.points.vector_in.Goals as goal
 
 pub returns-clause-valid : goal.returns-clause-valid
@@ -12,4 +11,4 @@ returns-clause-valid c =
     let all : c.loop-resource.resource ≡ resource_count p = omega (arith, c.loop-resource-test.false, c.resources-resource-end.ensures.count, c.loop-resource.auto.resource-end) in
     let value : c.new.result ≡ vector_in p c.args.prices.now =
     c.new.ensures ∙ c.loop-resource.invariant ∙ ap (λ n. vector_of n (λ r. slice_index c.args.prices.now r)) all in
-    rw value (vector_of-IsVector p (λ r. slice_index c.args.prices.now r) c.requires.small)
+    rw value (c.price_vectors.ensures.valid p (λ r. slice_index c.args.prices.now r) c.requires.small)

@@ -1,9 +1,15 @@
-use Rattle.std.proofs.Common.{◌+◌, ◌++◌}
+use Rattle.std.proofs.Common.{◌+◌, ◌++◌, arith}
 use Rattle.std.specs.List.{flat_map}
 use Rattle.season_days.specs.Seasons.{is_on, dates_of}
 use Rattle.series_model.specs.Movements.{movements_on}
 use Rattle.series_model.proofs.DateLemmas.{list_step, list_end}
 use Rattle.series_model.proofs.movements.push_movements.Goals as goal
+
+pub overflow_add-end : goal.overflow_add-end
+overflow_add-end c = let short = (c.lengths.ensures.bounds c.args.season.now).1 in omega (arith, short)
+
+pub push_date-requires : goal.push_date-requires
+push_date-requires c = let short = (c.lengths.ensures.bounds c.args.season.now).1 in omega (arith, short)
 
 pub loop-date-preserved : goal.loop-date-preserved
 loop-date-preserved c =

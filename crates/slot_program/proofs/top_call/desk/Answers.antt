@@ -1,4 +1,4 @@
-use Rattle.std.proofs.Common.{sym, ◌∙◌, subst, inl, inr, Option, Some, ℕ}
+use Rattle.std.proofs.Common.{sym, ◌∙◌, subst, refl, inl, inr, Option, Some, ℕ, arith}
 use Rattle.desk_outside.specs.Files.{Files}
 use Rattle.slot_program.specs.Words.{words_of, job_of}
 use Rattle.slot_program.specs.Desk.{AllocationEnds, file_names, IsStatus}
@@ -15,7 +15,7 @@ returns-in-Ok-put-clause-due g c = λ names held due job told is.
     let count = g.C.Cabinet.fault_count in
     let ends : AllocationEnds (Some held) (file_names names) (count c.args.cabinet.now) (count c.carry_out.new.cabinet) a.report (files c.carry_out.new.cabinet) =
     subst (λ (o : Option Files). AllocationEnds o (file_names names) (count c.args.cabinet.now) (count c.carry_out.new.cabinet) a.report (files c.carry_out.new.cabinet)) told
-    (job_ends (job_of (words_of c.args.words.now)) names (files c.args.cabinet.now) (count c.args.cabinet.now) (count c.carry_out.new.cabinet) a.report (files c.carry_out.new.cabinet) job a.ends) in
+    (job_ends (job_of (words_of c.args.words.now)) names (files c.args.cabinet.now) (count c.args.cabinet.now) (count c.carry_out.new.cabinet) a.report (files c.carry_out.new.cabinet) job a.work.ends) in
     elim (due_answered held (file_names names) (count c.args.cabinet.now) (count c.carry_out.new.cabinet) due a.report (files c.carry_out.new.cabinet) is ends) [
       | inl same ↦ inl (a.status_is ∙ same)
       | inr failed ↦ inr (inl (a.status_is ∙ failed.0, failed.1))
@@ -28,5 +28,8 @@ returns-in-Ok-put-clause-complete g c = λ names held replies job told plan calm
     let count = g.C.Cabinet.fault_count in
     let ends : AllocationEnds (Some held) (file_names names) (count c.args.cabinet.now) (count c.carry_out.new.cabinet) a.report (files c.carry_out.new.cabinet) =
     subst (λ (o : Option Files). AllocationEnds o (file_names names) (count c.args.cabinet.now) (count c.carry_out.new.cabinet) a.report (files c.carry_out.new.cabinet)) told
-    (job_ends (job_of (words_of c.args.words.now)) names (files c.args.cabinet.now) (count c.args.cabinet.now) (count c.carry_out.new.cabinet) a.report (files c.carry_out.new.cabinet) job a.ends) in
+    (job_ends (job_of (words_of c.args.words.now)) names (files c.args.cabinet.now) (count c.args.cabinet.now) (count c.carry_out.new.cabinet) a.report (files c.carry_out.new.cabinet) job a.work.ends) in
     inl (a.status_is ∙ plan_settles held (file_names names) replies (count c.args.cabinet.now) (count c.carry_out.new.cabinet) a.report (files c.carry_out.new.cabinet) plan calm ends)
+
+pub returns-in-Ok-clause-statuses : goal.returns-in-Ok-clause-statuses
+returns-in-Ok-clause-statuses g c = (3, omega arith, refl)

@@ -2,7 +2,6 @@ use Rattle.std.proofs.Common.{arith}
 use Rattle.std.proofs.lemmas.List.Sums.{sum_by_more}
 use Rattle.choice_problem.specs.declared.strips.Strip.{Strip}
 use Rattle.choice_problem.specs.Strips.{strip_uses}
-use Rattle.choice_problem.proofs.StripLemmas.{strip_uses-le}
 use Rattle.window_counts.proofs.CountLemmas.{strip_at}
 use Rattle.window_counts.proofs.tests.is_small.Goals as goal
 
@@ -10,4 +9,4 @@ pub loop-strip-preserved : goal.loop-strip-preserved
 loop-strip-preserved c = λ r.
     let strips = c.args.strips.now in
     let more = sum_by_more (λ (s : Strip). strip_uses s r) strips c.loop-strip.strip-index (record { first = 0; width = 0; gap = 0; times = 0 }) c.loop-strip-test.true in
-    omega (arith, more, c.loop-strip.invariant r, strip_uses-le (strip_at strips c.loop-strip.strip-index) r)
+    omega (arith, more, c.loop-strip.invariant r, c.strip_list.ensures.few (strip_at strips c.loop-strip.strip-index) r)

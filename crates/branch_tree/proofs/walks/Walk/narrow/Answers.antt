@@ -95,6 +95,7 @@ invariant_of-self-2 c =
     rw (c.set.ensures.value, least_back, two_back, zeros_two)
     (IsKept-moved s.problem.now s.ranges s.cheapest.items s.cost s.loads s.least.items s.zeros.items k u there c.args.low c.args.high a c.requires.ordered
     (rw e at c.requires.there) (rw e at c.first_cheapest-alt.ensures.cheapest)
+    (rw c.set.ensures.value at (c.set.ensures.valid s.problem.now k.valid c.requires.ordered (rw e at c.requires.there)))
     (s.cost - c.alt_cost.result + c.alt_cost-2.result) c.change_alt.new.counts c.move_least.new.least c.in_ok-was.was'.items c.in_ok-now.now.items
     (omega (arith, old_cost, new_cost, has)) c.change_alt.ensures.length (omega (arith, least_long))
     changed moved (rw (e, c.low-old_low.ensures, c.high-old_high.ensures) at c.in_ok-was.ensures.least) (rw e at c.in_ok-now.ensures.least))

@@ -14,13 +14,13 @@ invariant_of-result c =
     omega (arith, ap (λ (xs : List ℕ). length xs) c.deref_mut.ensures.value, c.in_ok-least.ensures.len, c.resources-resources.ensures.count) in
     rw (least_back, zeros_back) (record {
       valid = c.requires;
-      few_units = c.load_all-cost.ensures.few;
-      units = c.load_all-cost.ensures.units;
+      few_units = c.add_choice-cost.ensures.few;
+      units = c.add_choice-cost.ensures.units;
       cheapest = c.in_ok-cheapest.ensures.cheapest;
       choice = c.in_ok-cheapest.ensures.choice;
-      cost_is = rw chosen at c.load_all-cost.ensures.cost;
-      loads_count = c.load_all-cost.ensures.count;
-      loads_are = rw chosen at c.load_all-cost.ensures.loads;
+      cost_is = rw chosen at c.add_choice-cost.ensures.cost;
+      loads_count = c.add_choice-cost.ensures.count;
+      loads_are = rw chosen at c.add_choice-cost.ensures.loads;
       least_count = counted;
       least_are = c.in_ok-count_least.ensures.least;
       zeros_count = c.in_ok-count_least.ensures.zeros_count;

@@ -6,7 +6,7 @@ use Rattle.capacity_windows.proofs.windows.Windows.add_band.Given as goal
 
 abbrev pub invariant-loop-weekday : goal.invariant-loop-weekday
 invariant-loop-weekday l = record {
-  uses : (r : ℕ) → part_uses l.strips.items r ≡ part_uses l.initial.strips.items r + weekday_uses l.self.season l.series.period l.series.later l.band l.weekday r;
+  uses : (r : ℕ) → part_uses l.strips.items r ≡ part_uses l.initial.strips.items r + weekday_uses l.self.season l.stop.period l.stop.later l.band l.weekday r;
   wide : All IsWide l.strips.items;
   few : length l.strips.items ≤ length l.initial.strips.items + l.weekday;
 }

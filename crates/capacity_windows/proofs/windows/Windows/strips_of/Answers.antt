@@ -36,7 +36,7 @@ pub returns-clause-few_uses : goal.returns-clause-few_uses
 returns-clause-few_uses c = λ r.
     let self = c.args.self.now in
     let uses : part_uses c.new.result r ≡ window_load self (stop_movements self c.args.kind c.args.minute c.args.later c.args.period) r = returns-clause-uses c r in
-    omega (arith, uses, few_listed self c.args.kind c.args.minute c.args.later c.args.period r c.requires.last)
+    omega (arith, uses, few_listed self c.args.kind c.args.minute c.args.later c.args.period r c.requires.last c.rules-rule-items.ensures.few)
 
 pub returns-clause-few : goal.returns-clause-few
 returns-clause-few c =

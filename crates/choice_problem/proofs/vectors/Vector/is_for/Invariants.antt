@@ -1,6 +1,5 @@
 use Rattle.std.proofs.Common.{ℕ, ◌<◌, ◌≤◌}
-use Rattle.choice_problem.proofs.VectorLemmas.{price_at}
-use Rattle.choice_problem.specs.Bounds.{IsPrice}
+use Rattle.choice_problem.specs.Bounds.{price_at, IsPrice}
 use Rattle.choice_problem.proofs.vectors.Vector.is_for.Given as goal
 
 -- `next` is the least number above the resources so far

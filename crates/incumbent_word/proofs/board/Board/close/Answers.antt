@@ -5,6 +5,7 @@ use Rattle.incumbent_word.specs.declared.view.View.{View}
 use Rattle.incumbent_word.specs.Core.{AtMost, EachOnce}
 use Rattle.incumbent_word.specs.Seats.{BoardView, SeatView, EndsAs}
 use Rattle.incumbent_word.proofs.Ends.{Ended, ends}
+use Rattle.incumbent_word.proofs.Once.{once_length}
 use Rattle.incumbent_word.proofs.board.Board.close.Goals as goal
 
 pub free-requires : goal.free-requires
@@ -22,6 +23,8 @@ returns c = let terms = ap (λ (p : BoardView). p.terms) c.self.view_is in let v
       counts = (omega arith, omega arith);
       pieces = subst (λ (n : ℕ). EachOnce (λ x. count_by (λ y. Rattle.std.proofs.Common.eqb y x) c.args.seat.view.worker.pieces) n) (sym claimed) e'.pieces;
       numbers = subst (λ (n : ℕ). EachOnce (λ x. count_by (λ y. Rattle.std.proofs.Common.eqb y x) c.args.seat.view.worker.numbers) n) (sym taken) e'.numbers;
+      piece_count = once_length c.args.seat.view.worker.pieces _ e'.pieces ∙ sym claimed;
+      number_count = once_length c.args.seat.view.worker.numbers _ e'.numbers ∙ sym taken;
       least = c.read_cost.ensures ∙ e'.least;
       seen = subst (λ (n : Option ℕ). AtMost n c.args.seat.view.worker.seen) (sym c.read_cost.ensures) e'.seen;
       all_pieces = λ marked. claimed ∙ e'.all_pieces marked;

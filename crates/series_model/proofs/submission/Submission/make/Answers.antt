@@ -12,9 +12,7 @@ invariant_of-result c =
     let count : length c.in_ok-units.units.items ≡ c.count_units-count.result = cc (units, c.count_units-count.ensures, c.items-2.ensures) in
     let fits = units_fit c.args.declaration c.args.messages none c.requires.fits c.requires.pairs in
     record {
-      limits = c.requires.limits;
-      price = c.requires.price;
-      share = c.requires.share;
+      keeps = c.requires.keeps;
       declared = c.in_ok-windows.ensures.value;
       units = units;
       few = omega (arith, count, c.if-count-gt-MOST_UNITS.false);

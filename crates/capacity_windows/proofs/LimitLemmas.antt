@@ -1,0 +1,42 @@
+-- Limits by their numbers: one more, those of a line's windows, and the night quota's.
+use Rattle.std.proofs.Common.{◌≡◌, ℕ, ◌+◌, ◌*◌, ◌<◌, ◌≤◌, ap, sym, ◌∙◌, refl, arith, inl, inr, List, [], ◌∷◌, ◌++◌, Some, length, get_or, ℤ, pos, subst}
+use Rattle.std.specs.Prelude.{slice_get, sum_by}
+use Rattle.std.proofs.Math.ListN.{get_or-append}
+use Rattle.std.proofs.Math.Seq.{get_or-append_seam}
+use Rattle.std.proofs.lemmas.Bool.{cases_lt}
+use Rattle.std.proofs.lemmas.List.{length-append}
+use Rattle.std.proofs.lemmas.Option.{slice_get-get_or, get_or_from_slice_get}
+use Rattle.season_days.specs.Seasons.{date_count}
+use Rattle.season_days.specs.declared.declaration.Night.{Night}
+use Rattle.season_days.specs.declared.declaration.Rule.{Rule}
+use Rattle.capacity_windows.specs.Windows.{Capacity, windows_of, resource_at, day_limit, resource_limit, window_limit}
+use Rattle.capacity_windows.specs.Kept.{AreLimits}
+use Rattle.capacity_windows.specs.declared.resource.Resource.TheVariants.{Window}
+use Rattle.capacity_windows.proofs.NumberLemmas.{quota_at}
+
+-- one limit more
+pub next_limit : (c : Capacity) (limits : List ℤ) (limit : ℤ) → AreLimits c limits → pos (window_limit c (length limits)) ≡ limit → AreLimits c (limits ++ limit ∷ [])
+next_limit c limits limit are is r lt =
+    let more = limits ++ limit ∷ [] in
+    let long : length more ≡ length limits + 1 = length-append limits (limit ∷ []) in
+    let at : slice_get more r ≡ Some (get_or more r (pos 0)) = slice_get-get_or more r (pos 0) lt in
+    elim (cases_lt r (length limits)) [
+      | inl before ↦
+          at
+          ∙ ap Some (get_or-append limits (limit ∷ []) (pos 0) r before ∙ get_or_from_slice_get limits r (pos (window_limit c r)) (pos 0) (are r before))
+      | inr past ↦
+          let last : r ≡ length limits = omega (arith, long, lt, past) in
+          at
+          ∙ ap Some (ap (λ (k : ℕ). get_or more k (pos 0)) last ∙ get_or-append_seam limits limit [] (pos 0) ∙ sym is ∙ ap (λ (k : ℕ). pos (window_limit c k)) (sym last))
+    ]
+
+-- the limits of a line's windows on a day, where the windows are numbered day by day
+pub day_limits : (c : Capacity) (rule : Rule) (first day n now start r : ℕ) → ((day start : ℕ) → day < date_count c.season → start < n → resource_at c (first + day * n + start) ≡ Window rule day start)
+    → day < date_count c.season → start < n → now ≡ first + day * n → r ≡ now + start → window_limit c r ≡ day_limit c rule day
+day_limits c rule first day n now start r windows in_season lt is at =
+    let place : r ≡ first + day * n + start = omega arith in
+    ap (λ (k : ℕ). window_limit c k) place ∙ ap (resource_limit c) (windows day start in_season lt)
+
+-- the limit of the night quota
+pub night_limit : (c : Capacity) (r : ℕ) (night : Night) → r ≡ sum_by (windows_of c) c.rules → c.night ≡ Some night → window_limit c r ≡ night.limit
+night_limit c r night is some = ap (resource_limit c) (quota_at c r is night some)

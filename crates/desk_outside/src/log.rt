@@ -1,0 +1,46 @@
+//! What passed through an object of the outside, in proofs alone.
+ghost use Rattle.std.specs.Prelude.{◌≡◌, List, [], ◌∷◌, ◌++◌};
+ghost use Rattle.std.specs.Borrow.{ftrue};
+ghost use Rattle.desk_outside.specs.Passages.{Passage};
+
+use std::marker::Model;
+
+/// The passages so far, the earliest first. It has no bytes at run time, and its methods do nothing
+/// there.
+#[derive(Drop)]
+pub(crate) struct Log {
+    ghost passages: { List Passage },
+}
+
+impl Model for Log {
+    ghost also_owns = { λ _. ftrue };
+}
+
+/// What one call let through.
+#[derive(Clone, Copy, Drop)]
+pub(crate) enum Note<'a> {
+    Read(&'a str, &'a [u8]),
+    Wrote(&'a str, &'a [u8]),
+    WriteFailed(&'a str, &'a [u8]),
+    Put(&'a [u8]),
+    PutFailed(&'a [u8]),
+}
+
+impl Log {
+    ghost use Rattle.desk_outside.specs.Noted.{passage_of};
+
+    /// The log of an object just made.
+    pub(crate) fn new() -> Log
+        ensures { result.passages ≡ [] }
+    {
+        Log {}
+    }
+
+    /// The log with one passage more.
+    #[inline(always)]
+    pub(crate) fn then(&self, _note: &Note<'_>) -> Log
+        ensures { result.passages ≡ self.now.passages ++ passage_of _note.now ∷ [] }
+    {
+        Log {}
+    }
+}

@@ -1,9 +1,0 @@
-use Rattle.std.proofs.Common.{◌≡◌, take}
-use Rattle.dual_bound.specs.Loops.{capped_cost}
-use Rattle.dual_bound.proofs.strips.StripPrices.part.Given as goal
-
-abbrev pub invariant-loop-strip : goal.invariant-loop-strip
-invariant-loop-strip l = record {
-  total : l.total ≡ capped_cost l.fn.self (take l.strip-index l.strip-items);
-  same : l.self ≡ l.fn.self;
-}

@@ -1,9 +1,0 @@
-use Rattle.std.proofs.Common.{◌≡◌, map, take}
-use Rattle.dual_bound.specs.Loops.{capped_cost}
-use Rattle.dual_bound.proofs.strips.StripPrices.unit.Given as goal
-
-abbrev pub invariant-loop-part : goal.invariant-loop-part
-invariant-loop-part l = record {
-  parts : l.parts.items ≡ map (λ strips. capped_cost l.fn.self strips) (take l.part-index l.part-items);
-  same : l.self ≡ l.fn.self;
-}

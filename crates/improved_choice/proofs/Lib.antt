@@ -1,0 +1,2 @@
+mod AllotmentLemmas
+mod RankingLemmas

@@ -1,0 +1,4 @@
+pub mod Improved
+pub mod Allotments
+pub mod Rankings
+pub mod Held

@@ -1,0 +1,5 @@
+pub mod Tables
+pub mod Strips
+pub mod Totals
+pub mod Loops
+pub mod Known

@@ -1,0 +1,239 @@
+//! Prices of strips and parts, by sums of the prices of the resources.
+
+ghost use Rattle.std.specs.Prelude.{◌≡◌, ℕ, ◌+◌, ◌-◌, ◌<◌, ◌≤◌, ◌^◌, IfOk, length, slice_index};
+ghost use Rattle.choice_problem.specs.Strips.{IsStripInRange};
+ghost use Rattle.choice_problem.specs.Problems.{resource_count};
+ghost use Rattle.price_table.specs.Strips.{ArePrices, AreSums, strip_cost};
+
+use crate::bounds::{Least, first_least};
+use choice_problem::{Part, Problem, Ranges, Strip};
+use slot_text::Memory;
+use std::alloc::Global;
+use std::marker::Model;
+
+// What each part of a unit costs.
+#[derive(Drop)]
+pub(crate) struct UnitPrices {
+    parts: Vec<u128>,
+}
+
+impl Model for UnitPrices {
+    ghost use Rattle.std.specs.Prelude.{List, ℕ};
+
+    ghost Value = { List ℕ };
+
+    ghost view = { λ t. t.parts.items };
+}
+
+impl UnitPrices {
+    pub(crate) fn items(&self) -> &[u128]
+        ensures { result.now ≡ self.now }
+    {
+        &self.parts
+    }
+}
+
+// How many strips are kept with their prices.
+const PLACES: usize = 65_536;
+
+// A strip, and what it costs.
+#[derive(Clone, Copy)]
+pub(crate) struct Known {
+    pub(crate) strip: Strip,
+    pub(crate) price: u128,
+}
+
+/// The prices of strips, at one price for each resource: the sums of the prices before each resource, and some strips that
+/// were priced by them, since the strips of many units are the same. Contracts see the sums. 8 bytes a resource and 2 MB.
+#[derive(Drop)]
+pub struct StripPrices {
+    sums: Vec<u64>,
+    known: Vec<Known>,
+}
+
+impl Model for StripPrices {
+    ghost use Rattle.std.specs.Prelude.{List, ℕ};
+    ghost use Rattle.price_table.specs.Known.{AreKnown};
+
+    ghost Value = { List ℕ };
+
+    ghost view = { λ t. t.sums.items };
+
+    ghost invariant = { λ t. AreKnown t.sums.items t.known.items };
+}
+
+impl StripPrices {
+    ghost use Rattle.std.specs.Prelude.{◌≡◌, ◌+◌, ◌-◌, ◌<◌, ◌≤◌, ◌^◌, IfOk, List, length, map};
+    ghost use Rattle.choice_problem.specs.declared.vectors.Price.{Price};
+    ghost use Rattle.choice_problem.specs.Strips.{IsStripInRange, IsPartInRange};
+    ghost use Rattle.choice_problem.specs.Problems.{unit_count, alt_count, resource_count, chooser_at};
+    ghost use Rattle.choice_problem.specs.Bounds.{AreRanges};
+    ghost use Rattle.price_table.specs.Tables.{PricesUnit};
+    ghost use Rattle.price_table.specs.Strips.{ArePrices, AreSums, AreSumsOf, IsPricedBy, strip_cost, capped_cost};
+    ghost use Rattle.price_table.specs.Strips.{least_alt, unit_least};
+
+    /// The sums of these prices, one below 2^40 for each resource, and no strip priced yet: one step a resource.
+    pub fn new(
+        alloc: Global,
+        problem: &Problem,
+        prices: &[u64],
+    ) -> Result<StripPrices, Memory>
+        requires { ArePrices problem.now prices.now }
+        ensures sums { IfOk result (λ sums. AreSums prices.now sums) }
+        ensures few { IfOk result (λ _. resource_count problem.now ≤ 1000000) }
+    {
+        let none = Known {
+            strip: Strip {
+                first: 0,
+                width: 0,
+                gap: 0,
+                times: 0,
+            },
+            price: 0,
+        };
+        let known = vec![in alloc; none; PLACES]?;
+        let sums = sums_of(alloc, problem, prices)?;
+        Ok(StripPrices { sums, known })
+    }
+
+    // What each part of a unit costs.
+    pub(crate) fn unit(
+        &mut self,
+        alloc: Global,
+        problem: &Problem,
+        unit: u32,
+    ) -> Result<UnitPrices, Memory>
+        requires unit { unit < unit_count problem.now }
+        requires sums { length self.old ≡ resource_count problem.now + 1 }
+        ensures parts { IfOk result (λ parts. parts ≡ map (λ strips. capped_cost self.old strips) (chooser_at problem.now unit).parts) }
+        ensures priced { IfOk result (λ parts. (prices : List Price) → AreSumsOf (resource_count problem.now) prices self.old →
+            PricesUnit problem.now prices unit parts) }
+        ensures same { self.new ≡ self.old }
+    {
+        let mut parts = Vec::new(alloc);
+        for part in problem.unit_parts(unit) {
+            parts.push(self.part(part))?;
+        }
+        Ok(UnitPrices { parts })
+    }
+
+    /// The first alternative of a unit's range that is least by `scale` times its cost and its uses at their prices, and
+    /// that sum: one step an alternative in range and a strip of the unit's parts, and one a run of each strip that is
+    /// priced.
+    pub fn first_least(
+        &mut self,
+        alloc: Global,
+        problem: &Problem,
+        ranges: &Ranges,
+        unit: u32,
+        scale: u64,
+    ) -> Result<Least, Memory>
+        requires ranges { AreRanges problem.now ranges.now }
+        requires unit { unit < unit_count problem.now }
+        requires priced { (prices : List Price) × IsPricedBy problem.now prices self.old }
+        requires sums { length self.old ≡ resource_count problem.now + 1 }
+        requires scale { scale < 2 ^ 20 }
+        ensures alt { IfOk result (λ least. (prices : List Price) → IsPricedBy problem.now prices self.old →
+            least.alt ≡ least_alt problem.now ranges.now prices scale unit) }
+        ensures cost { IfOk result (λ least. (prices : List Price) → IsPricedBy problem.now prices self.old →
+            least.cost ≡ unit_least problem.now ranges.now prices scale unit) }
+        ensures there { IfOk result (λ least. least.alt < alt_count problem.now unit) }
+        ensures small { IfOk result (λ least. least.cost < 2 ^ 101) }
+        ensures same { self.new ≡ self.old }
+    {
+        let (low, high) = (ranges.low(unit), ranges.high(unit));
+        let prices = self.unit(alloc, problem, unit)?;
+        let alts = problem.unit_alts(unit);
+        Ok(first_least(alts, low, high, prices.items(), scale))
+    }
+
+    // What a part costs, within 128 bits. Parts that an alternative names stay far below.
+    fn part(&mut self, part: &Part) -> u128
+        requires some { 0 < length self.old }
+        requires there { IsPartInRange (length self.old - 1) part.now }
+        ensures cost { result ≡ capped_cost self.old part.now }
+        ensures same { self.new ≡ self.old }
+    {
+        let mut total: u128 = 0;
+        for strip in part.strips() {
+            total = total.saturating_add(self.strip(strip));
+        }
+        total
+    }
+
+    // What a strip costs.
+    fn strip(&mut self, strip: &Strip) -> u128
+        requires some { 0 < length self.old }
+        requires there { IsStripInRange (length self.old - 1) strip.now }
+        ensures cost { result ≡ strip_cost self.old strip.now }
+        ensures same { self.new ≡ self.old }
+    {
+        let place = place_of(strip);
+        let known = self.known[place];
+        if known.strip == *strip {
+            return known.price;
+        }
+        let price = strip_price(&self.sums, strip);
+        self.known[place] = Known {
+            strip: *strip,
+            price,
+        };
+        price
+    }
+}
+
+// Where a strip is kept, if it is: the high bits of a product that mixes its numbers.
+fn place_of(strip: &Strip) -> usize
+    ensures { result < 65536 }
+{
+    let first = strip.first.wrapping_mul(0x9E37_79B1);
+    let times = strip.times.wrapping_mul(0x85EB_CA77);
+    let gap = strip.gap.wrapping_mul(0xC2B2_AE3D);
+    let width = strip.width.wrapping_mul(0x27D4_EB2F);
+    let mixed = first
+        .wrapping_add(times)
+        .wrapping_add(gap)
+        .wrapping_add(width);
+    (mixed >> 16) as usize
+}
+
+// For each resource the sum of the prices before it, and of all.
+fn sums_of(alloc: Global, problem: &Problem, prices: &[u64]) -> Result<Vec<u64>, Memory>
+    requires { ArePrices problem.now prices.now }
+    ensures sums { IfOk result (λ sums. AreSums prices.now sums.items) }
+    ensures few { IfOk result (λ _. resource_count problem.now ≤ 1000000) }
+{
+    let mut sums = vec![in alloc; 0; problem.resources() as usize + 1]?;
+    add_up(prices, &mut sums);
+    Ok(sums)
+}
+
+// Puts the sum of the numbers before each place, and of all.
+fn add_up(numbers: &[u64], sums: &mut [u64])
+    requires count { length sums.old ≡ length numbers.now + 1 }
+    requires few { length numbers.now ≤ 1000000 }
+    requires small { (r : ℕ) → r < length numbers.now → slice_index numbers.now r < 2 ^ 40 }
+    ensures { AreSums numbers.now sums.new }
+{
+    let mut total = 0;
+    sums[0] = 0;
+    for (place, number) in numbers.iter().enumerate() {
+        total += *number;
+        sums[place + 1] = total;
+    }
+}
+
+// What a strip costs: a run costs the sum up to its end less the sum up to its start.
+fn strip_price(sums: &[u64], strip: &Strip) -> u128
+    requires some { 0 < length sums.now }
+    requires there { IsStripInRange (length sums.now - 1) strip.now }
+    ensures { result ≡ strip_cost sums.now strip.now }
+{
+    let mut total = 0;
+    for i in 0..strip.times {
+        let start = u64::from(strip.first) + u64::from(i) * u64::from(strip.gap);
+        let end = start + u64::from(strip.width);
+        total += u128::from(sums[end as usize].saturating_sub(sums[start as usize]));
+    }
+    total
+}

@@ -1,7 +1,0 @@
-use Rattle.std.proofs.Common.{take}
-use Rattle.scr_reader.specs.Texts.{texts_in}
-use Rattle.scr_reader.specs.Readings.{AreReadings}
-use Rattle.scr_reader.proofs.messages.read_rows.Given as goal
-
-abbrev pub invariant-loop-line : goal.invariant-loop-line
-invariant-loop-line l = AreReadings l.season (texts_in (take l.line-index l.lines)) l.rows.items
