@@ -156,6 +156,13 @@ is_on-week season days x y same =
     let e : weekday_on season x ≡ weekday_on season y = omega (arith, weekday_of_day season x, weekday_of_day season y, same) in
     ap (λ (w : ℕ). eqb ((days / 2 ^ (w - 1)) % 2) 1) e
 
+-- each season begins on the same weekday
+pub is_on-seasons : (season other : Term) (days day : ℕ) → is_on season days day ≡ is_on other days day
+unfolding is_on
+is_on-seasons season other days day =
+    let e : weekday_on season day ≡ weekday_on other day = sym (weekday_of_day season day) ∙ weekday_of_day other day in
+    ap (λ (w : ℕ). eqb ((days / 2 ^ (w - 1)) % 2) 1) e
+
 -- every weekday is in the whole week
 pub is_on-every : (season : Term) (day : ℕ) → is_on season 127 day ≡ true
 unfolding is_on

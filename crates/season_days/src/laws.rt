@@ -54,13 +54,15 @@ pub fn civil_dates()
     ensures listed { (season : Term) (day : ℕ) → day < date_count season →
         slice_get (season_dates season) day ≡ Some (date_at season day) }
     ensures numbers { (season : Term) (day : ℕ) →
-        days_from_civil (pos (date_at season day).year) (date_at season day).month (date_at season day).of_month ≡ first_number season +ℤ pos day }
+        days_from_civil (pos (date_at season day).year) (date_at season day).month
+        (date_at season day).of_month ≡ first_number season +ℤ pos day }
     ensures year_after { (season : Term) → season.year < 100 →
         (date_at season (date_count season)).year ≡ year_after season.half (first_year season) }
     ensures month_after { (season : Term) → season.year < 100 →
         (date_at season (date_count season)).month ≡ month_after season.half }
     ensures sunday_after { (season : Term) → season.year < 100 →
-        IsLastSunday (pos (year_after season.half (first_year season))) (month_after season.half) (date_at season (date_count season)).of_month }
+        IsLastSunday (pos (year_after season.half (first_year season))) (month_after season.half)
+        (date_at season (date_count season)).of_month }
 {}
 
 /// A month and a day of the month name a day of the season exactly where they are those of its
@@ -72,21 +74,27 @@ pub fn named_days()
         × ((date_at season day).of_month ≡ of_month)) }
 {}
 
-/// The same day of the week has the same answer, and the set of all seven weekdays has every day.
+/// The same day of the week has the same answer, also in another season, and the set of all seven
+/// weekdays has every day.
 pub fn weekday_sets()
     ensures week { (season : Term) (days x y : ℕ) → x % 7 ≡ y % 7 →
         is_on season days x ≡ is_on season days y }
+    ensures seasons { (season other : Term) (days day : ℕ) →
+        is_on season days day ≡ is_on other days day }
     ensures every { (season : Term) (day : ℕ) → is_on season 127 day ≡ true }
 {}
 
 /// A day is a date of a period exactly where it lies from the first to the last and its weekday is
-/// in the set, and the dates stand in rising order.
+/// in the set, and the dates stand in rising order. Days are counted from a season's first date, so
+/// another season has the same ones.
 pub fn period_dates()
     ensures members { (season : Term) (period : Period) (day : ℕ) →
         Contains (dates_of season period) day ↔
         ((period.first.0 ≤ day) × (day ≤ period.last.0) × (is_on season period.days day ≡ true)) }
     ensures rising { (season : Term) (period : Period) →
         IsStrictlyIncreasing (dates_of season period) }
+    ensures seasons { (season other : Term) (period : Period) →
+        dates_of season period ≡ dates_of other period }
 {}
 
 /// The parts of a cut have the held dates before the first asked day, those from it to the last
