@@ -5,7 +5,8 @@ use Rattle.finite_sums.specs.Sums.{count_below}
 
 -- alternative a comes before alternative b: it costs less, or as much and has the lower number
 abbrev pub precedes : ProblemView → ℕ → ℕ → ℕ → Bool
-precedes p u a b = nat_lt (alt_cost p u a) (alt_cost p u b) || (alt_cost p u a == alt_cost p u b && nat_lt a b)
+precedes p u a b =
+    nat_lt (alt_cost p u a) (alt_cost p u b) || (alt_cost p u a == alt_cost p u b && nat_lt a b)
 
 -- alternative b comes after the last one, if there is a last one
 abbrev pub follows : ProblemView → ℕ → Option ℕ → ℕ → Bool

@@ -17,8 +17,10 @@ IsRow p u first last = (a r : ℕ) → first ≤ a → a ≤ last → one_uses p
 
 -- the alternatives up to an end have the second parts of those up to the last of a row, as many as the row has
 abbrev pub EndAlike : ProblemView → ℕ → ℕ → ℕ → ℕ → Type 0
-EndAlike p u first last end = (back r : ℕ) → back ≤ last - first → two_uses p u (end - back) r ≡ two_uses p u (last - back) r
+EndAlike p u first last end = (back r : ℕ) → back ≤ last - first → two_uses p u (end - back) r
+    ≡ two_uses p u (last - back) r
 
 -- the list is the least uses of the second parts of a row
 abbrev pub AreLeastTwos : ProblemView → ℕ → ℕ → ℕ → List ℕ → Type 0
-AreLeastTwos p u first last list = (r : ℕ) → times_in list r ≡ least_within first last (λ a. two_uses p u a r)
+AreLeastTwos p u first last list = (r : ℕ) → times_in list r
+    ≡ least_within first last (λ a. two_uses p u a r)

@@ -13,10 +13,12 @@ use Rattle.branch_tree.specs.declared.answers.Visit.TheVariants as answer
 
 -- the first n of these vectors do not close the ranges at scale 1024
 abbrev pub AreOpen : ProblemView → List (List Price) → ℕ → List (ℕ × ℕ) → Option ℕ → Type 0
-AreOpen p vectors n ranges seen = (k : ℕ) → k < n → Closes p ranges (slice_index_or vectors k []) 1024 seen → ⊥
+AreOpen p vectors n ranges seen = (k : ℕ) → k < n →
+    Closes p ranges (slice_index_or vectors k []) 1024 seen → ⊥
 
 -- the first of these vectors that closes the ranges
-pub record IsFirstClosing (p : ProblemView) (vectors : List (List Price)) (ranges : List (ℕ × ℕ)) (seen : Option ℕ) (k : ℕ) : Type 0 where
+pub record IsFirstClosing (p : ProblemView) (vectors : List (List Price)) (ranges : List (ℕ × ℕ))
+    (seen : Option ℕ) (k : ℕ) : Type 0 where
   pub there : k < length vectors
   pub closes : Closes p ranges (slice_index_or vectors k []) 1024 seen
   pub first : AreOpen p vectors k ranges seen
@@ -28,20 +30,23 @@ pub record StaysOpenToAll (p : ProblemView) (root : List Price) (further : List 
   pub no_further : AreOpen p further (length further) ranges seen
 
 -- vector 0 closes
-pub record IsZeroLeaf (p : ProblemView) (ranges : List (ℕ × ℕ)) (seen : Option ℕ) (vector scale : ℕ) : Type 0 where
+pub record IsZeroLeaf (p : ProblemView) (ranges : List (ℕ × ℕ)) (seen : Option ℕ)
+    (vector scale : ℕ) : Type 0 where
   pub vector_is : vector ≡ 0
   pub scale_is : scale ≡ 1
   pub closes : Closes p ranges [] 1 seen
 
 -- vector 0 does not close, and vector 1 does, the root vector
-pub record IsRootLeaf (p : ProblemView) (root : List Price) (ranges : List (ℕ × ℕ)) (seen : Option ℕ) (vector scale : ℕ) : Type 0 where
+pub record IsRootLeaf (p : ProblemView) (root : List Price) (ranges : List (ℕ × ℕ))
+    (seen : Option ℕ) (vector scale : ℕ) : Type 0 where
   pub vector_is : vector ≡ 1
   pub scale_is : scale ≡ 1024
   pub no_zero : Closes p ranges [] 1 seen → ⊥
   pub closes : Closes p ranges root 1024 seen
 
 -- neither closes, and this is the first further vector that does; they are numbered from 2
-pub record IsFurtherLeaf (p : ProblemView) (root : List Price) (further : List (List Price)) (ranges : List (ℕ × ℕ)) (seen : Option ℕ) (vector scale : ℕ) : Type 0 where
+pub record IsFurtherLeaf (p : ProblemView) (root : List Price) (further : List (List Price))
+    (ranges : List (ℕ × ℕ)) (seen : Option ℕ) (vector scale : ℕ) : Type 0 where
   pub place : ℕ
   pub vector_is : vector ≡ place + 2
   pub scale_is : scale ≡ 1024
@@ -50,10 +55,12 @@ pub record IsFurtherLeaf (p : ProblemView) (root : List Price) (further : List (
   pub closes : IsFirstClosing p further ranges seen place
 
 -- the leaf of the first vector that closes the ranges for what was seen
-abbrev pub IsClosingLeaf : ProblemView → List Price → List (List Price) → List (ℕ × ℕ) → Option ℕ → Node → Type 0
+abbrev pub IsClosingLeaf : ProblemView → List Price → List (List Price) → List (ℕ × ℕ) → Option ℕ →
+    Node → Type 0
 IsClosingLeaf p root further ranges seen (node.Leaf vector scale recorded) =
     (recorded ≡ seen) × (IsZeroLeaf p ranges seen vector scale
-    ⊎ (IsRootLeaf p root ranges seen vector scale ⊎ IsFurtherLeaf p root further ranges seen vector scale))
+    ⊎ (IsRootLeaf p root ranges seen vector scale
+    ⊎ IsFurtherLeaf p root further ranges seen vector scale))
 IsClosingLeaf p root further ranges seen (node.Over r) = ⊥
 IsClosingLeaf p root further ranges seen (node.Split unit cut recorded) = ⊥
 IsClosingLeaf p root further ranges seen node.Undone = ⊥
@@ -68,7 +75,8 @@ pub record NeedsPrices (p : ProblemView) (ranges : List (ℕ × ℕ)) (seen : Op
   pub no_zero : Closes p ranges [] 1 seen → ⊥
 
 -- the closing leaf: of the lowest resource that is over, where there is one, and else of the first vector that closes
-abbrev pub ClosesBy : ProblemView → List Price → List (List Price) → List (ℕ × ℕ) → Option ℕ → Node → Type 0
+abbrev pub ClosesBy : ProblemView → List Price → List (List Price) → List (ℕ × ℕ) → Option ℕ →
+    Node → Type 0
 ClosesBy p root further ranges seen (node.Over r) = IsFirstOver p ranges r
 ClosesBy p root further ranges seen (node.Leaf vector scale recorded) =
     NoneOver p ranges × IsClosingLeaf p root further ranges seen (node.Leaf vector scale recorded)
@@ -76,7 +84,8 @@ ClosesBy p root further ranges seen (node.Split unit cut recorded) = ⊥
 ClosesBy p root further ranges seen node.Undone = ⊥
 
 -- the choice of each unit's first cheapest alternative fits, and its leaf is vector 0 at scale 1 with its cost
-pub record IsFound (p : ProblemView) (ranges : List (ℕ × ℕ)) (x : List ℕ) (leaf : Node) : Type 0 where
+pub record IsFound (p : ProblemView) (ranges : List (ℕ × ℕ)) (x : List ℕ)
+    (leaf : Node) : Type 0 where
   pub cheapest : IsCheapest p ranges x
   pub feasible : IsFeasible p x
   pub leaf_is : leaf ≡ node.Leaf 0 1 (Some (choice_cost p x))
@@ -95,7 +104,8 @@ IsFoundOrSplit p ranges (answer.Found x leaf) = IsFound p ranges x leaf
 IsFoundOrSplit p ranges (answer.Split unit cut) = IsSplit p ranges unit cut
 
 -- the answer of a visit with what was seen, the root vector and further vectors: the first case that applies
-abbrev pub IsVisit : ProblemView → List Price → List (List Price) → List (ℕ × ℕ) → Option ℕ → Visit → Type 0
+abbrev pub IsVisit : ProblemView → List Price → List (List Price) → List (ℕ × ℕ) → Option ℕ →
+    Visit → Type 0
 IsVisit p root further ranges seen (answer.Close leaf) = ClosesBy p root further ranges seen leaf
 IsVisit p root further ranges seen (answer.Found x leaf) =
     StaysOpenToAll p root further ranges seen × IsFound p ranges x leaf

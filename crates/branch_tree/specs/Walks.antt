@@ -13,11 +13,13 @@ pub record WalkView : Type 0 where
 
 -- the counts are the least loads
 abbrev pub AreLeast : ProblemView → List (ℕ × ℕ) → List ℕ → Type 0
-AreLeast p ranges counts = (r : ℕ) → r < resource_count p → slice_index counts r ≡ least_load p ranges r
+AreLeast p ranges counts = (r : ℕ) → r < resource_count p → slice_index counts r
+    ≡ least_load p ranges r
 
 -- what a walk keeps of its ranges: each unit's first cheapest alternative, what these cost and use, the least loads, and
 -- room to count in
-pub record IsKept (p : ProblemView) (ranges : List (ℕ × ℕ)) (alts : List ℕ) (cost : ℕ) (loads least zeros : List ℕ) : Type 0 where
+pub record IsKept (p : ProblemView) (ranges : List (ℕ × ℕ)) (alts : List ℕ) (cost : ℕ)
+    (loads least zeros : List ℕ) : Type 0 where
   pub valid : AreRanges p ranges
   pub few_units : unit_count p ≤ 4096
   pub units : (u : ℕ) → u < unit_count p → IsChooser (chooser_at p u)

@@ -18,10 +18,12 @@ use window_counts::{Counts, place_alt};
 /// None exactly where some unit in order finds no alternative. It counts in an array of one number a resource; a unit
 /// takes one step an alternative for each one that it tries, and one step a use and strip of those.
 pub fn greedy(alloc: Global, problem: &Problem) -> Result<Option<Choice>, Memory>
-    ensures some { IfOk result (λ found. IfSome found (IsGreedy problem.now (unit_count problem.now))) }
+    ensures some { IfOk result (λ found. IfSome found
+        (IsGreedy problem.now (unit_count problem.now))) }
     ensures feasible { IfOk result (λ found. IfSome found (IsFeasible problem.now)) }
     ensures none { IfOk result (λ found. IfNone found ((x : List ℕ) × GreedyStops problem.now x)) }
-    ensures cost { IfOk result (λ found. IsGreedyCost problem.now (option_map (choice_cost problem.now) found)) }
+    ensures cost { IfOk result (λ found. IsGreedyCost problem.now
+        (option_map (choice_cost problem.now) found)) }
 {
     search_start();
     let mut counts = Counts::of(alloc, &[], problem.resources())?;
@@ -38,7 +40,8 @@ fn choose_all(problem: &Problem, counts: &mut Counts, alts: &mut Vec<u32>) -> Re
     requires counts { length counts.old ≡ resource_count problem.now }
     requires empty { (r : ℕ) → r < length counts.old → slice_index counts.old r ≡ 0 }
     requires alts { alts.old.items ≡ [] }
-    ensures yes { IfOk result (λ all. IsTrue all → IsGreedy problem.now (unit_count problem.now) alts.new.items) }
+    ensures yes { IfOk result (λ all. IsTrue all →
+        IsGreedy problem.now (unit_count problem.now) alts.new.items) }
     ensures no { IfOk result (λ all. IsTrue all ⊎ GreedyStops problem.now alts.new.items) }
 {
     for unit in 0..problem.units() {
@@ -57,9 +60,11 @@ fn place_cheapest(problem: &Problem, unit: u32, counts: &mut Counts) -> Option<u
     requires room { HasRoom counts.old (λ _. 434) }
     ensures length { length counts.new ≡ length counts.old }
     ensures some { IfSome result (IsGreedyAlt problem.now (λ r. slice_index counts.old r) unit) }
-    ensures placed { IfSome result (λ alt. GrowsBy counts.old counts.new (λ r. alt_uses problem.now unit alt r)) }
+    ensures placed { IfSome result (λ alt. GrowsBy counts.old counts.new
+        (λ r. alt_uses problem.now unit alt r)) }
     ensures few { IfSome result (λ alt. (r : ℕ) → alt_uses problem.now unit alt r ≤ 434) }
-    ensures none { IfNone result ((a : ℕ) → a < alt_count problem.now unit → FitsOn problem.now (λ r. slice_index counts.old r) unit a → ⊥) }
+    ensures none { IfNone result ((a : ℕ) → a < alt_count problem.now unit →
+        FitsOn problem.now (λ r. slice_index counts.old r) unit a → ⊥) }
 {
     let mut next = next_cheapest(problem, unit, None);
     while let Some(alt) = next {

@@ -57,7 +57,8 @@ pub(crate) fn move_least(least: &mut [u32], was: &[u32], now: &[u32])
     requires held { (r : ℕ) → r < length least.old → times_in was.now r ≤ slice_index least.old r }
     requires few { (r : ℕ) → r < length least.old → slice_index least.old r < 2 ^ 31 }
     requires more { (r : ℕ) → r < length least.old → times_in now.now r ≤ 434 }
-    ensures { (r : ℕ) → r < length least.old → slice_index least.new r + times_in was.now r ≡ slice_index least.old r + times_in now.now r }
+    ensures { (r : ℕ) → r < length least.old → slice_index least.new r + times_in was.now r
+        ≡ slice_index least.old r + times_in now.now r }
 {
     take_list(least, was);
     add_list(least, now);

@@ -12,13 +12,17 @@ ghost use Rattle.branch_tree.specs.Visits.{ClosesBy, IsFound, IsSplit, StaysOpen
 /// What a visit answers is a node of a driven tree: the leaf of closed ranges, the leaf of a choice that was found, and the
 /// split with what was seen. The root vector is the first of the tree's vectors, and the further ones follow.
 pub fn visited_nodes()
-    ensures closed { (p : ProblemView) (root : List Price) (further : List (List Price)) (ranges : List (ℕ × ℕ))
+    ensures closed { (p : ProblemView) (root : List Price) (further : List (List Price))
+        (ranges : List (ℕ × ℕ))
         (seen : Option ℕ) (leaf : Node) →
-        ClosesBy p root further ranges seen leaf → IsDrivenNode p (root ∷ further) root ranges leaf }
-    ensures found { (p : ProblemView) (vectors : List (List Price)) (root : List Price) (ranges : List (ℕ × ℕ))
+        ClosesBy p root further ranges seen leaf →
+        IsDrivenNode p (root ∷ further) root ranges leaf }
+    ensures found { (p : ProblemView) (vectors : List (List Price)) (root : List Price)
+        (ranges : List (ℕ × ℕ))
         (x : List ℕ) (leaf : Node) →
         AreRanges p ranges → IsFound p ranges x leaf → IsDrivenNode p vectors root ranges leaf }
-    ensures split { (p : ProblemView) (vectors : List (List Price)) (root : List Price) (further : List (List Price))
+    ensures split { (p : ProblemView) (vectors : List (List Price)) (root : List Price)
+        (further : List (List Price))
         (ranges : List (ℕ × ℕ)) (seen : Option ℕ) (unit cut : ℕ) →
         StaysOpenToAll p root further ranges seen → IsSplit p ranges unit cut →
         IsDrivenNode p vectors root ranges (node.Split unit cut seen) }

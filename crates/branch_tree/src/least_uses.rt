@@ -30,7 +30,8 @@ pub(crate) fn least_list(
     requires there { high < alt_count problem.now unit }
     requires count { length zeros.old ≡ resource_count problem.now }
     requires zeros { AreZero zeros.old }
-    ensures least { IfOk result (λ list. (r : ℕ) → times_in list.items r ≡ least_within low high (λ a. alt_uses problem.now unit a r)) }
+    ensures least { IfOk result (λ list. (r : ℕ) → times_in list.items r
+        ≡ least_within low high (λ a. alt_uses problem.now unit a r)) }
     ensures within { IfOk result (λ list. AreWithin (resource_count problem.now) list.items) }
     ensures same { zeros.new ≡ zeros.old }
     ensures few { (r : ℕ) → least_within low high (λ a. alt_uses problem.now unit a r) ≤ 434 }

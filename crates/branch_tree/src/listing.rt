@@ -21,7 +21,8 @@ pub(crate) fn uses_list(
 ) -> Result<Vec<u32>, Memory>
     requires unit { unit < unit_count problem.now }
     requires alt { alt < alt_count problem.now unit }
-    ensures listed { IfOk result (λ list. (r : ℕ) → times_in list.items r ≡ alt_uses problem.now unit alt r) }
+    ensures listed { IfOk result (λ list. (r : ℕ) → times_in list.items r
+        ≡ alt_uses problem.now unit alt r) }
     ensures within { IfOk result (λ list. AreWithin (resource_count problem.now) list.items) }
     ensures few { (r : ℕ) → alt_uses problem.now unit alt r ≤ 434 }
     ensures alts { alt_count problem.now unit < 2 ^ 32 }
@@ -42,7 +43,8 @@ pub(crate) fn first_list(
 ) -> Result<Vec<u32>, Memory>
     requires unit { unit < unit_count problem.now }
     requires alt { alt < alt_count problem.now unit }
-    ensures listed { IfOk result (λ list. (r : ℕ) → times_in list.items r ≡ one_uses problem.now unit alt r) }
+    ensures listed { IfOk result (λ list. (r : ℕ) → times_in list.items r
+        ≡ one_uses problem.now unit alt r) }
     ensures within { IfOk result (λ list. AreWithin (resource_count problem.now) list.items) }
     ensures few { (r : ℕ) → alt_uses problem.now unit alt r ≤ 434 }
 {
@@ -61,7 +63,8 @@ pub(crate) fn second_list(
 ) -> Result<Vec<u32>, Memory>
     requires unit { unit < unit_count problem.now }
     requires alt { alt < alt_count problem.now unit }
-    ensures listed { IfOk result (λ list. (r : ℕ) → times_in list.items r ≡ two_uses problem.now unit alt r) }
+    ensures listed { IfOk result (λ list. (r : ℕ) → times_in list.items r
+        ≡ two_uses problem.now unit alt r) }
     ensures within { IfOk result (λ list. AreWithin (resource_count problem.now) list.items) }
     ensures few { (r : ℕ) → alt_uses problem.now unit alt r ≤ 434 }
 {
@@ -81,7 +84,8 @@ fn push_named(
     requires unit { unit < unit_count problem.now }
     requires part { ForSome part (λ k. k < part_count problem.now unit) }
     requires within { AreWithin (resource_count problem.now) list.old.items }
-    ensures uses { OnOk result (Appends list.old.items list.new.items (λ r. named_uses (chooser_at problem.now unit) part r)) }
+    ensures uses { OnOk result (Appends list.old.items list.new.items
+        (λ r. named_uses (chooser_at problem.now unit) part r)) }
     ensures within { OnOk result (AreWithin (resource_count problem.now) list.new.items) }
 {
     match part {
@@ -97,7 +101,8 @@ fn push_named(
 fn push_strips(list: &mut Vec<u32>, strips: &[Strip], resources: u32) -> Result<(), Memory>
     requires there { IsPartInRange resources strips.now }
     requires within { AreWithin resources list.old.items }
-    ensures uses { OnOk result (Appends list.old.items list.new.items (λ r. part_uses strips.now r)) }
+    ensures uses { OnOk result (Appends list.old.items list.new.items
+        (λ r. part_uses strips.now r)) }
     ensures within { OnOk result (AreWithin resources list.new.items) }
 {
     for strip in strips {
@@ -109,7 +114,8 @@ fn push_strips(list: &mut Vec<u32>, strips: &[Strip], resources: u32) -> Result<
 fn push_strip(list: &mut Vec<u32>, strip: &Strip, resources: u32) -> Result<(), Memory>
     requires there { IsStripInRange resources strip.now }
     requires within { AreWithin resources list.old.items }
-    ensures uses { OnOk result (Appends list.old.items list.new.items (λ r. strip_uses strip.now r)) }
+    ensures uses { OnOk result (Appends list.old.items list.new.items
+        (λ r. strip_uses strip.now r)) }
     ensures within { OnOk result (AreWithin resources list.new.items) }
 {
     for i in 0..strip.times {

@@ -49,7 +49,8 @@ pub(crate) fn plain_visit(
 fn first_over(problem: &Problem, ranges: &Ranges) -> Option<u32>
     requires { AreRanges problem.now ranges.now }
     ensures some { IfSome result (IsFirstOver problem.now ranges.now) }
-    ensures none { IfNone result ((r : ℕ) → r < resource_count problem.now → IsOver problem.now ranges.now r → ⊥) }
+    ensures none { IfNone result ((r : ℕ) → r < resource_count problem.now →
+        IsOver problem.now ranges.now r → ⊥) }
 {
     for resource in 0..problem.resources() {
         if over_closes(problem, ranges, resource) {

@@ -177,7 +177,8 @@ pub(crate) fn row_list(
     requires row { IsRow problem.now unit row.first row.last }
     requires twos { AreLeastTwos problem.now unit row.first row.last twos.now }
     requires within { AreWithin (resource_count problem.now) twos.now }
-    ensures least { IfOk result (λ list. (r : ℕ) → times_in list.items r ≡ least_within row.first row.last (λ a. alt_uses problem.now unit a r)) }
+    ensures least { IfOk result (λ list. (r : ℕ) → times_in list.items r
+        ≡ least_within row.first row.last (λ a. alt_uses problem.now unit a r)) }
     ensures within { IfOk result (λ list. AreWithin (resource_count problem.now) list.items) }
     ensures few { (r : ℕ) → alt_uses problem.now unit row.last r ≤ 434 }
 {

@@ -33,7 +33,8 @@ pub(crate) fn lower(list: &mut Vec<u32>, other: &[u32], zeros: &mut [u32])
     requires other_within { AreWithin (length zeros.old) other.now }
     requires few { (r : ℕ) → times_in other.now r ≤ 434 }
     requires zeros { AreZero zeros.old }
-    ensures lowered { (r : ℕ) → times_in list.new.items r ≡ min (times_in list.old.items r) (times_in other.now r) }
+    ensures lowered { (r : ℕ) → times_in list.new.items r
+        ≡ min (times_in list.old.items r) (times_in other.now r) }
     ensures within { AreWithin (length zeros.old) list.new.items }
     ensures same { zeros.new ≡ zeros.old }
 {
@@ -46,7 +47,8 @@ pub(crate) fn lower(list: &mut Vec<u32>, other: &[u32], zeros: &mut [u32])
 // Keeps of the list each resource at most as often as its count says, and takes what is kept from the counts.
 pub(crate) fn keep(list: &mut Vec<u32>, counts: &mut [u32])
     requires { AreWithin (length counts.old) list.old.items }
-    ensures kept { (r : ℕ) → times_in list.new.items r ≡ min (times_in list.old.items r) (slice_index counts.old r) }
+    ensures kept { (r : ℕ) → times_in list.new.items r
+        ≡ min (times_in list.old.items r) (slice_index counts.old r) }
     ensures taken { GrowsBy counts.new counts.old (λ r. times_in list.new.items r) }
 {
     let kept = keep_front(list, counts);
@@ -57,7 +59,8 @@ pub(crate) fn keep(list: &mut Vec<u32>, counts: &mut [u32])
 fn keep_front(list: &mut [u32], counts: &mut [u32]) -> usize
     requires { AreWithin (length counts.old) list.old }
     ensures few { result ≤ length list.old }
-    ensures kept { (r : ℕ) → times_in (take result list.new) r ≡ min (times_in list.old r) (slice_index counts.old r) }
+    ensures kept { (r : ℕ) → times_in (take result list.new) r
+        ≡ min (times_in list.old r) (slice_index counts.old r) }
     ensures taken { GrowsBy counts.new counts.old (λ r. times_in (take result list.new) r) }
 {
     let mut kept = 0;

@@ -10,11 +10,11 @@ ghost use Rattle.window_counts.specs.Placed.{AreLoads};
 
 use crate::answers::Visit;
 use crate::branching::found_or_split;
-use crate::closings::{leaf, priced_leaf};
+use crate::closings::{kept_leaf, leaf, priced_leaf};
 use crate::kept::{cheapest, count_least, first_cheapest, move_least};
 use crate::least_uses::least_list;
 use choice_problem::{Node, Problem, Ranges, first_above};
-use price_table::PriceTable;
+use price_table::{PriceTable, Totals};
 use slot_text::Memory;
 use std::alloc::Global;
 use std::marker::Model;
@@ -47,10 +47,11 @@ impl<'a> Model for Walk<'a> {
 }
 
 impl<'a> Walk<'a> {
-    ghost use Rattle.std.specs.Prelude.{◌≡◌, ◌<◌, ◌≤◌, ℕ, List, [], All, length, slice_set, IfOk, IfSome, IfNone, OnOk, OnErr};
+    ghost use Rattle.std.specs.Prelude.{◌≡◌, ◌<◌, ◌≤◌, ℕ, List, [], ◌∷◌, All, length, slice_set, IfOk, IfSome, IfNone, OnOk, OnErr};
     ghost use Rattle.choice_problem.specs.Problems.{unit_count, alt_count};
     ghost use Rattle.choice_problem.specs.Bounds.{AreRanges};
     ghost use Rattle.price_table.specs.Tables.{IsTableFor, vectors_of};
+    ghost use Rattle.price_table.specs.Totals.{AreKeptFor};
     ghost use Rattle.choice_problem.specs.declared.vectors.Price.{Price};
     ghost use Rattle.branch_tree.specs.Visits.{IsVisit, ClosesBy, NeedsPrices};
 
@@ -118,7 +119,8 @@ impl<'a> Walk<'a> {
         requires root { IsTableFor problem.now root.now }
         requires further { All (IsTableFor problem.now) further.now }
         requires few { length further.now ≤ 63 }
-        ensures { IfOk result (IsVisit problem.now root.now.prices (vectors_of further.now) self.now.ranges seen) }
+        ensures { IfOk result (IsVisit problem.now root.now.prices (vectors_of further.now)
+            self.now.ranges seen) }
     {
         if let Some(leaf) = self.unpriced_leaf(problem, seen) {
             return Ok(Visit::Close(leaf));
@@ -159,9 +161,39 @@ impl<'a> Walk<'a> {
         requires further { All (IsTableFor problem.now) further.now }
         requires few { length further.now ≤ 63 }
         requires needs { NeedsPrices problem.now self.now.ranges seen }
-        ensures { IfOk result (IsVisit problem.now root.now.prices (vectors_of further.now) self.now.ranges seen) }
+        ensures { IfOk result (IsVisit problem.now root.now.prices (vectors_of further.now)
+            self.now.ranges seen) }
     {
         if let Some(leaf) = priced_leaf(problem, &self.ranges, root, further, seen) {
+            return Ok(Visit::Close(leaf));
+        }
+        let passed = first_passed(problem, &self.cheapest, &self.loads);
+        found_or_split(alloc, problem, &self.ranges, &self.cheapest, passed)
+    }
+
+    /// The answer of `visit_with` by totals that are kept for the vectors at scale 1024, those of the root vector first,
+    /// while the walk's ranges change: one step a resource and a vector, and none an alternative. Both tables are those
+    /// for which the totals are.
+    pub fn visit_kept(
+        &self,
+        alloc: Global,
+        problem: &Problem,
+        root: &PriceTable,
+        further: &[PriceTable],
+        totals: &[Totals],
+        seen: Option<u64>,
+    ) -> Result<Visit, Memory>
+        requires problem { problem.now ≡ self.now.problem }
+        requires few { length further.now ≤ 63 }
+        requires kept { AreKeptFor problem.now (root.now.prices ∷ vectors_of further.now)
+            self.now.ranges totals.now }
+        ensures { IfOk result (IsVisit problem.now root.now.prices (vectors_of further.now)
+            self.now.ranges seen) }
+    {
+        if let Some(leaf) = self.unpriced_leaf(problem, seen) {
+            return Ok(Visit::Close(leaf));
+        }
+        if let Some(leaf) = kept_leaf(problem, &self.ranges, root, further, totals, seen) {
             return Ok(Visit::Close(leaf));
         }
         let passed = first_passed(problem, &self.cheapest, &self.loads);
@@ -206,7 +238,8 @@ fn first_over(problem: &Problem, ranges: &Ranges, least: &[u32]) -> Option<u32>
     requires count { length least.now ≡ resource_count problem.now }
     requires least { AreLeast problem.now ranges.now least.now }
     ensures some { IfSome result (IsFirstOver problem.now ranges.now) }
-    ensures none { IfNone result ((r : ℕ) → r < resource_count problem.now → IsOver problem.now ranges.now r → ⊥) }
+    ensures none { IfNone result ((r : ℕ) → r < resource_count problem.now →
+        IsOver problem.now ranges.now r → ⊥) }
 {
     let _ranges = ranges;
     first_above(problem, least)

@@ -9,7 +9,7 @@ use Rattle.season_days.specs.declared.declaration.Kind.{Kind}
 use Rattle.season_days.specs.declared.declaration.Rule.{Rule}
 use Rattle.schedule_text.specs.Days.{IsDays}
 use Rattle.schedule_text.specs.Times.{time_text}
-use Rattle.capacity_file.specs.Values.{kind_text}
+use Rattle.schedule_text.specs.Kinds.{kind_text}
 use Rattle.capacity_file.specs.Entries.{word_of, IsAllowedEntry, AreValues}
 use Rattle.capacity_file.specs.Readings.{IsValueOf, IsEntryOf}
 use Rattle.capacity_file.specs.declared.entry.Entry.{Entry}

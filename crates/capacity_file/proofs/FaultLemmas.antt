@@ -14,6 +14,7 @@ use Rattle.capacity_file.specs.declared.fault.CapLimit.{CapLimit}
 use Rattle.capacity_file.specs.declared.fault.CapLimit.TheVariants.{Flex as flex_limit, Caps, Windows}
 use Rattle.capacity_file.specs.declared.fault.CapFault.{CapFault}
 use Rattle.capacity_file.specs.declared.fault.CapFault.TheVariants.{BadLine, Missing, Twice, OverLimit, Memory}
+use Rattle.capacity_file.proofs.SameLemmas.{OneValue}
 use Rattle.capacity_file.proofs.LinesLemmas.{bad_states_nothing, same_line}
 use Rattle.capacity_file.proofs.DeclareLemmas.{declares_same}
 
@@ -96,8 +97,8 @@ missing_declares lines d name missing says = missing.lacks (declares_all lines d
 
 -- ---- the declaration as a whole
 
-uneven_even : (lines : List (List ℕ)) (number : ℕ) (d : Declaration) → IsBrokenStep lines number → Declares lines d → IsWholeSteps d → ⊥
-uneven_even lines number d x says even = x.uneven (rw (declares_same lines x.d d x.clean x.declares says) even)
+uneven_even : (one : OneValue) → (lines : List (List ℕ)) (number : ℕ) (d : Declaration) → IsBrokenStep lines number → Declares lines d → IsWholeSteps d → ⊥
+uneven_even one lines number d x says even = x.uneven (rw (declares_same one lines x.d d x.clean x.declares says) even)
 
 uneven_same : (lines : List (List ℕ)) (m n : ℕ) → IsBrokenStep lines m → IsBrokenStep lines n → m ≡ n
 uneven_same lines m n x y = same_line lines m n (flex_entry x.d.flex) (flex_entry y.d.flex) x.clean x.line y.line refl (λ e. cc)
@@ -118,8 +119,8 @@ over_limits d flex_limit number x within = omega (arith, x.0, within.flex)
 over_limits d Caps number x within = omega (arith, x.1, within.caps)
 over_limits d Windows number x within = omega (arith, x.2, within.windows)
 
-limit_same : (lines : List (List ℕ)) (a b : CapLimit) (m n : ℕ) → IsOverLimit lines a m → IsOverLimit lines b n → OverLimit a m ≡ OverLimit b n
-limit_same lines a b m n x y = over_same y.d a b m n (rw (declares_same lines x.d y.d x.clean x.declares y.declares) at x.over) y.over
+limit_same : (one : OneValue) → (lines : List (List ℕ)) (a b : CapLimit) (m n : ℕ) → IsOverLimit lines a m → IsOverLimit lines b n → OverLimit a m ≡ OverLimit b n
+limit_same one lines a b m n x y = over_same y.d a b m n (rw (declares_same one lines x.d y.d x.clean x.declares y.declares) at x.over) y.over
 
 -- ---- two faults are the same
 
@@ -140,34 +141,34 @@ bad_twice lines m n x y =
       | inr p ↦ p.clean n (inr y.1)
     ]
 
-bad_over : (lines : List (List ℕ)) (m : ℕ) (name : CapLimit) (number : ℕ) → LinesHaveFault lines (BadLine m) → LinesHaveFault lines (OverLimit name number) → ⊥
-bad_over lines m name number x y = elim (x) [ inl p ↦ y.clean m (inl p.1) | inr p ↦ uneven_even lines m y.d p y.declares y.even ]
+bad_over : (one : OneValue) → (lines : List (List ℕ)) (m : ℕ) (name : CapLimit) (number : ℕ) → LinesHaveFault lines (BadLine m) → LinesHaveFault lines (OverLimit name number) → ⊥
+bad_over one lines m name number x y = elim (x) [ inl p ↦ y.clean m (inl p.1) | inr p ↦ uneven_even one lines m y.d p y.declares y.even ]
 
-pub fault_same : (lines : List (List ℕ)) (a b : CapFault) → LinesHaveFault lines a → LinesHaveFault lines b → a ≡ b
-fault_same lines (BadLine m) (BadLine n) x y = ap (λ (k : ℕ). BadLine k) (bad_bad lines m n x y)
-fault_same lines (BadLine m) (Missing name) x y = absurd (bad_missing lines m name x y)
-fault_same lines (BadLine m) (Twice n) x y = absurd (bad_twice lines m n x y)
-fault_same lines (BadLine m) (OverLimit name number) x y = absurd (bad_over lines m name number x y)
-fault_same lines (Missing name) (BadLine n) x y = absurd (bad_missing lines n name y x)
-fault_same lines (Missing a) (Missing b) x y = ap (λ (w : CapWord). Missing w) (missing_same lines a b x.1 y.1)
-fault_same lines (Missing name) (Twice n) x y = absurd (x.0 n (inr y.1))
-fault_same lines (Missing name) (OverLimit limit number) x y = absurd (missing_declares lines y.d name x.1 y.declares)
-fault_same lines (Twice m) (BadLine n) x y = absurd (bad_twice lines n m y x)
-fault_same lines (Twice m) (Missing name) x y = absurd (y.0 m (inr x.1))
-fault_same lines (Twice m) (Twice n) x y = ap (λ (k : ℕ). Twice k) (first_same lines m n x.0 (inr x.1) y.0 (inr y.1))
-fault_same lines (Twice m) (OverLimit name number) x y = absurd (y.clean m (inr x.1))
-fault_same lines (OverLimit name number) (BadLine n) x y = absurd (bad_over lines n name number y x)
-fault_same lines (OverLimit limit number) (Missing name) x y = absurd (missing_declares lines x.d name y.1 x.declares)
-fault_same lines (OverLimit name number) (Twice n) x y = absurd (x.clean n (inr y.1))
-fault_same lines (OverLimit a m) (OverLimit b n) x y = limit_same lines a b m n x y
-fault_same lines Memory b x y = absurd (x)
-fault_same lines a Memory x y = absurd (y)
+pub fault_same : (one : OneValue) → (lines : List (List ℕ)) (a b : CapFault) → LinesHaveFault lines a → LinesHaveFault lines b → a ≡ b
+fault_same one lines (BadLine m) (BadLine n) x y = ap (λ (k : ℕ). BadLine k) (bad_bad lines m n x y)
+fault_same one lines (BadLine m) (Missing name) x y = absurd (bad_missing lines m name x y)
+fault_same one lines (BadLine m) (Twice n) x y = absurd (bad_twice lines m n x y)
+fault_same one lines (BadLine m) (OverLimit name number) x y = absurd (bad_over one lines m name number x y)
+fault_same one lines (Missing name) (BadLine n) x y = absurd (bad_missing lines n name y x)
+fault_same one lines (Missing a) (Missing b) x y = ap (λ (w : CapWord). Missing w) (missing_same lines a b x.1 y.1)
+fault_same one lines (Missing name) (Twice n) x y = absurd (x.0 n (inr y.1))
+fault_same one lines (Missing name) (OverLimit limit number) x y = absurd (missing_declares lines y.d name x.1 y.declares)
+fault_same one lines (Twice m) (BadLine n) x y = absurd (bad_twice lines n m y x)
+fault_same one lines (Twice m) (Missing name) x y = absurd (y.0 m (inr x.1))
+fault_same one lines (Twice m) (Twice n) x y = ap (λ (k : ℕ). Twice k) (first_same lines m n x.0 (inr x.1) y.0 (inr y.1))
+fault_same one lines (Twice m) (OverLimit name number) x y = absurd (y.clean m (inr x.1))
+fault_same one lines (OverLimit name number) (BadLine n) x y = absurd (bad_over one lines n name number y x)
+fault_same one lines (OverLimit limit number) (Missing name) x y = absurd (missing_declares lines x.d name y.1 x.declares)
+fault_same one lines (OverLimit name number) (Twice n) x y = absurd (x.clean n (inr y.1))
+fault_same one lines (OverLimit a m) (OverLimit b n) x y = limit_same one lines a b m n x y
+fault_same one lines Memory b x y = absurd (x)
+fault_same one lines a Memory x y = absurd (y)
 
 -- ---- and a text that makes a declaration has none
 
-pub no_fault : (lines : List (List ℕ)) (d : Declaration) (fault : CapFault) → LinesDeclare lines d → LinesHaveFault lines fault → ⊥
-no_fault lines d (BadLine m) x y = elim (y) [ inl p ↦ x.clean m (inl p.1) | inr p ↦ uneven_even lines m d p x.declares x.even ]
-no_fault lines d (Missing name) x y = missing_declares lines d name y.1 x.declares
-no_fault lines d (Twice m) x y = x.clean m (inr y.1)
-no_fault lines d (OverLimit name number) x y = over_limits d name number (rw (declares_same lines y.d d y.clean y.declares x.declares) at y.over) x.limits
-no_fault lines d Memory x y = y
+pub no_fault : (one : OneValue) → (lines : List (List ℕ)) (d : Declaration) (fault : CapFault) → LinesDeclare lines d → LinesHaveFault lines fault → ⊥
+no_fault one lines d (BadLine m) x y = elim (y) [ inl p ↦ x.clean m (inl p.1) | inr p ↦ uneven_even one lines m d p x.declares x.even ]
+no_fault one lines d (Missing name) x y = missing_declares lines d name y.1 x.declares
+no_fault one lines d (Twice m) x y = x.clean m (inr y.1)
+no_fault one lines d (OverLimit name number) x y = over_limits d name number (rw (declares_same one lines y.d d y.clean y.declares x.declares) at y.over) x.limits
+no_fault one lines d Memory x y = y

@@ -1,9 +1,9 @@
-pub mod SameLemmas
-pub mod LinesLemmas
-pub mod EntryLemmas
-pub mod StepLemmas
-pub mod SingleLemmas
-pub mod DeclareLemmas
-pub mod FaultLemmas
-pub mod FinishLemmas
-pub mod LoopLemmas
+mod SameLemmas
+mod LinesLemmas
+mod EntryLemmas
+mod StepLemmas
+mod SingleLemmas
+mod DeclareLemmas
+mod FaultLemmas
+mod FinishLemmas
+mod LoopLemmas

@@ -7,7 +7,7 @@ use Rattle.capacity_file.specs.Entries.{word_of}
 use Rattle.capacity_file.specs.Lines.{line_at, LineStates, IsStated, IsBad, IsSpoiled, IsClean}
 use Rattle.capacity_file.specs.declared.entry.Entry.{Entry}
 use Rattle.capacity_file.specs.declared.entry.Word.TheVariants.{Cap as cap_word}
-use Rattle.capacity_file.proofs.SameLemmas.{states_same}
+use Rattle.capacity_file.proofs.SameLemmas.{OneValue, states_same, words_same}
 
 -- the lines stand at the numbers from 1 on
 pub at_most : (lines : List (List ℕ)) (number : ℕ) (line : List ℕ) → line_at lines number ≡ Some line → number ≤ length lines
@@ -28,10 +28,16 @@ rest_at (l ∷ lines) zero line rest e = cc
 rest_at (l ∷ lines) (suc count) line rest e = rest_at lines count line rest e
 
 -- a line states one entry
-pub stated_same : (lines : List (List ℕ)) (number : ℕ) (a b : Entry) → LineStates lines number a → LineStates lines number b → a ≡ b
-stated_same lines number a b x y =
+pub stated_same : (one : OneValue) → (lines : List (List ℕ)) (number : ℕ) (a b : Entry) → LineStates lines number a → LineStates lines number b → a ≡ b
+stated_same one lines number a b x y =
     let line : x.line ≡ y.line = same_Some x.line y.line (sym x.stands ∙ y.stands) in
-    states_same y.line a b (rw line at x.states) y.states
+    states_same one y.line a b (rw line at x.states) y.states
+
+-- and one word
+pub stated_words : (lines : List (List ℕ)) (number : ℕ) (a b : Entry) → LineStates lines number a → LineStates lines number b → word_of a ≡ word_of b
+stated_words lines number a b x y =
+    let line : x.line ≡ y.line = same_Some x.line y.line (sym x.stands ∙ y.stands) in
+    words_same y.line a b (rw line at x.states) y.states
 
 -- a bad line states nothing
 pub bad_states_nothing : (lines : List (List ℕ)) (number : ℕ) (entry : Entry) → IsBad lines number → LineStates lines number entry → ⊥
@@ -55,7 +61,7 @@ same_line lines m n a b clean x y same single =
     ]
 
 -- so in a clean text a word, other than CAP, is stated once
-pub once : (lines : List (List ℕ)) (a b : Entry) → IsClean lines → IsStated lines a → IsStated lines b → word_of a ≡ word_of b → word_of b ≢ cap_word → a ≡ b
-once lines a b clean x y same single =
+pub once : (one : OneValue) → (lines : List (List ℕ)) (a b : Entry) → IsClean lines → IsStated lines a → IsStated lines b → word_of a ≡ word_of b → word_of b ≢ cap_word → a ≡ b
+once one lines a b clean x y same single =
     let number : x.0 ≡ y.0 = same_line lines x.0 y.0 a b clean x.1 y.1 same single in
-    stated_same lines y.0 a b (rw number at x.1) y.1
+    stated_same one lines y.0 a b (rw number at x.1) y.1

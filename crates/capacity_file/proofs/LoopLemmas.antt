@@ -3,7 +3,7 @@ use Rattle.std.proofs.Common.{◌≡◌, ℕ, suc, ◌+◌, ◌≤◌, List, [],
 use Rattle.std.specs.Prelude.{◌⊎◌, Result, Ok, Err, IfOk, IfErr, IsErrAnd, MatchResult}
 use Rattle.slot_text.specs.Lines.{lines_of}
 use Rattle.slot_text.specs.Reads.{GivesOr, AnswersBy}
-use Rattle.season_days.specs.Capacity.{capacity_of, IsCapacity}
+use Rattle.season_days.specs.Capacity.{capacity_of, IsCapacity, IsDeclaration}
 use Rattle.season_days.specs.declared.declaration.Declaration.{Declaration}
 use Rattle.season_days.specs.declared.declaration.Rule.{Rule}
 use Rattle.capacity_file.specs.Entries.{States}
@@ -17,7 +17,8 @@ use Rattle.capacity_file.specs.declared.fault.CapFault.{CapFault}
 use Rattle.capacity_file.specs.declared.fault.CapFault.TheVariants.{Twice, Memory}
 use Rattle.capacity_file.proofs.LinesLemmas.{rest_at}
 use Rattle.capacity_file.proofs.SingleLemmas.{after_entry, twice_line}
-use Rattle.capacity_file.proofs.DeclareLemmas.{declares_same, values_allowed, is_capacity}
+use Rattle.capacity_file.proofs.SameLemmas.{OneValue}
+use Rattle.capacity_file.proofs.DeclareLemmas.{declares_same, values_allowed, is_capacity, is_declaration}
 use Rattle.capacity_file.proofs.FaultLemmas.{fault_same, no_fault}
 
 -- ---- one line
@@ -55,25 +56,29 @@ pub answer_fault : (lines : List (List ℕ)) (r : Result Declaration CapFault) �
 answer_fault lines (Ok d) a = tt
 answer_fault lines (Err e) a = a
 
-pub answer_only : (lines : List (List ℕ)) (r : Result Declaration CapFault) → AnswersBy Memory (LinesDeclare lines) (LinesHaveFault lines) r → (d : Declaration) → LinesDeclare lines d → GivesOr Memory r (Ok d)
-answer_only lines (Ok found) a d is = let same : found ≡ d = declares_same lines found d a.clean a.declares is.declares in inl (ap (λ (x : Declaration). let r : Result Declaration CapFault = Ok x in r) same)
-answer_only lines (Err e) a d is =
+pub answer_only : (one : OneValue) → (lines : List (List ℕ)) (r : Result Declaration CapFault) → AnswersBy Memory (LinesDeclare lines) (LinesHaveFault lines) r → (d : Declaration) → LinesDeclare lines d → GivesOr Memory r (Ok d)
+answer_only one lines (Ok found) a d is = let same : found ≡ d = declares_same one lines found d a.clean a.declares is.declares in inl (ap (λ (x : Declaration). let r : Result Declaration CapFault = Ok x in r) same)
+answer_only one lines (Err e) a d is =
     elim (a) [
-      | inl fault ↦ absurd (no_fault lines d e is fault)
+      | inl fault ↦ absurd (no_fault one lines d e is fault)
       | inr memory ↦ inr (ap (λ (x : CapFault). let r : Result Declaration CapFault = Err x in r) memory)
     ]
 
-pub answer_exact : (lines : List (List ℕ)) (r : Result Declaration CapFault) → AnswersBy Memory (LinesDeclare lines) (LinesHaveFault lines) r → (e : CapFault) → LinesHaveFault lines e → GivesOr Memory r (Err e)
-answer_exact lines (Ok found) a e has = absurd (no_fault lines found e a has)
-answer_exact lines (Err f) a e has =
+pub answer_exact : (one : OneValue) → (lines : List (List ℕ)) (r : Result Declaration CapFault) → AnswersBy Memory (LinesDeclare lines) (LinesHaveFault lines) r → (e : CapFault) → LinesHaveFault lines e → GivesOr Memory r (Err e)
+answer_exact one lines (Ok found) a e has = absurd (no_fault one lines found e a has)
+answer_exact one lines (Err f) a e has =
     elim (a) [
-      | inl fault ↦ inl (ap (λ (x : CapFault). let r : Result Declaration CapFault = Err x in r) (fault_same lines f e fault has))
+      | inl fault ↦ inl (ap (λ (x : CapFault). let r : Result Declaration CapFault = Err x in r) (fault_same one lines f e fault has))
       | inr memory ↦ inr (ap (λ (x : CapFault). let r : Result Declaration CapFault = Err x in r) memory)
     ]
 
 pub answer_capacity : (lines : List (List ℕ)) (r : Result Declaration CapFault) → AnswersBy Memory (LinesDeclare lines) (LinesHaveFault lines) r → IfOk r (λ d. IsCapacity (capacity_of d))
 answer_capacity lines (Ok d) a = is_capacity lines d a
 answer_capacity lines (Err e) a = tt
+
+pub answer_keeps : (lines : List (List ℕ)) (r : Result Declaration CapFault) → AnswersBy Memory (LinesDeclare lines) (LinesHaveFault lines) r → IfOk r (λ d. IsDeclaration d)
+answer_keeps lines (Ok d) a = is_declaration lines d a
+answer_keeps lines (Err e) a = tt
 
 pub answer_allowed : (lines : List (List ℕ)) (r : Result Declaration CapFault) → AnswersBy Memory (LinesDeclare lines) (LinesHaveFault lines) r → IfOk r (λ d. HasAllowedValues d)
 answer_allowed lines (Ok d) a = values_allowed lines d a

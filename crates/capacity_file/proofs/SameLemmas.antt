@@ -8,18 +8,24 @@ use Rattle.season_days.specs.Seasons.{season_text, half_letter}
 use Rattle.season_days.specs.declared.season.Half.{Half}
 use Rattle.season_days.specs.declared.season.Half.TheVariants.{Summer, Winter}
 use Rattle.season_days.specs.declared.declaration.Kind.{Kind}
-use Rattle.season_days.specs.declared.declaration.Kind.TheVariants.{Arr, Dep, Tot}
 use Rattle.season_days.specs.declared.declaration.Rule.{Rule}
 use Rattle.season_days.specs.declared.declaration.Night.{Night}
+use Rattle.schedule_text.specs.Days.{IsDays}
+use Rattle.schedule_text.specs.Kinds.{kind_text}
 use Rattle.schedule_text.specs.Times.{time_text}
-use Rattle.capacity_file.specs.Values.{is_step, IsRefusalPrice, kind_text, price_text}
+use Rattle.capacity_file.specs.Values.{is_step, IsRefusalPrice, price_text}
 use Rattle.capacity_file.specs.Words.{word_text}
 use Rattle.capacity_file.specs.Entries.{word_of, IsAllowedEntry, AreValues, IsEmpty, States}
 use Rattle.capacity_file.specs.declared.entry.Entry.{Entry}
 use Rattle.capacity_file.specs.declared.entry.Entry.TheVariants.{Airport, Season, Step, Flex, Ground, Share, Refuse, Night as night_entry, Cap}
 use Rattle.capacity_file.specs.declared.entry.Word.{Word}
 use Rattle.capacity_file.specs.declared.entry.Word.TheVariants.{Airport as airport_word, Season as season_word, Step as step_word, Flex as flex_word, Ground as ground_word, Share as share_word, Refuse as refuse_word, Night as night_word, Cap as cap_word}
-use Rattle.schedule_text.proofs.SameLemmas.{time_same, days_same}
+
+-- the law of the spellings: a text names one time of the day, one set of weekdays and one kind of movements
+pub record OneValue : Type 0 where
+  pub time : (a b : ℕ) → a < 1440 → b < 1440 → time_text a ≡ time_text b → a ≡ b
+  pub days : (text : List ℕ) (a b : ℕ) → IsDays text a → IsDays text b → a ≡ b
+  pub kind : (a b : Kind) → kind_text a ≡ kind_text b → a ≡ b
 
 -- ---- words
 
@@ -45,18 +51,6 @@ pub word_same : (a b : Word) → word_text a ≡ word_text b → a ≡ b
 word_same a b e = sym (word_again a) ∙ ap word_from e ∙ word_again b
 
 -- ---- values
-
-kind_from : List ℕ → Kind
-kind_from text = cond (eqb (get_or text 0 0) 65) Arr (cond (eqb (get_or text 0 0) 68) Dep Tot)
-
-kind_again : (kind : Kind) → kind_from (kind_text kind) ≡ kind
-unfolding kind_from
-kind_again Arr = refl
-kind_again Dep = refl
-kind_again Tot = refl
-
-kind_same : (a b : Kind) → kind_text a ≡ kind_text b → a ≡ b
-kind_same a b e = sym (kind_again a) ∙ ap kind_from e ∙ kind_again b
 
 half_same : (a b : Half) → half_letter a ≡ half_letter b → a ≡ b
 half_same Summer Summer e = refl
@@ -124,21 +118,21 @@ rule_same a b k n f t d l =
 one_same : (x y : List ℕ) (fields : List (List ℕ)) → fields ≡ x ∷ [] → fields ≡ y ∷ [] → x ≡ y
 one_same x y fields e f = cc
 
-pub entry_same : (a b : Entry) (fields : List (List ℕ)) → word_of a ≡ word_of b → IsAllowedEntry a → IsAllowedEntry b → AreValues a fields → AreValues b fields → a ≡ b
-entry_same (Airport a) (Airport b) fields w x y e f = ap (λ (l : List ℕ). Airport (record { 0 = l })) (one_same a.0 b.0 fields e f)
-entry_same (Season a) (Season b) fields w x y e f = ap (λ (t : Term). Season t) (season_same a b x y (one_same _ _ fields e f))
-entry_same (Step a) (Step b) fields w x y e f = ap (λ (n : ℕ). Step n) (number_same a b (omega (arith, step_small a x)) (omega (arith, step_small b y)) (one_same _ _ fields e f))
-entry_same (Flex a) (Flex b) fields w x y e f = ap (λ (n : ℕ). Flex n) (number_same a b x y (one_same _ _ fields e f))
-entry_same (Ground a) (Ground b) fields w x y e f = ap (λ (n : ℕ). Ground n) (number_same a b (omega (arith, x)) (omega (arith, y)) (one_same _ _ fields e f))
-entry_same (Share a) (Share b) fields w x y e f = ap (λ (n : ℕ). Share n) (number_same a b (omega (arith, x)) (omega (arith, y)) (one_same _ _ fields e f))
-entry_same (Refuse a) (Refuse b) fields w x y e f = ap (λ (p : Option ℕ). Refuse p) (price_same a b x y (one_same _ _ fields e f))
-entry_same (night_entry a) (night_entry b) fields w x y e f =
+pub entry_same : (one : OneValue) → (a b : Entry) (fields : List (List ℕ)) → word_of a ≡ word_of b → IsAllowedEntry a → IsAllowedEntry b → AreValues a fields → AreValues b fields → a ≡ b
+entry_same one (Airport a) (Airport b) fields w x y e f = ap (λ (l : List ℕ). Airport (record { 0 = l })) (one_same a.0 b.0 fields e f)
+entry_same one (Season a) (Season b) fields w x y e f = ap (λ (t : Term). Season t) (season_same a b x y (one_same _ _ fields e f))
+entry_same one (Step a) (Step b) fields w x y e f = ap (λ (n : ℕ). Step n) (number_same a b (omega (arith, step_small a x)) (omega (arith, step_small b y)) (one_same _ _ fields e f))
+entry_same one (Flex a) (Flex b) fields w x y e f = ap (λ (n : ℕ). Flex n) (number_same a b x y (one_same _ _ fields e f))
+entry_same one (Ground a) (Ground b) fields w x y e f = ap (λ (n : ℕ). Ground n) (number_same a b (omega (arith, x)) (omega (arith, y)) (one_same _ _ fields e f))
+entry_same one (Share a) (Share b) fields w x y e f = ap (λ (n : ℕ). Share n) (number_same a b (omega (arith, x)) (omega (arith, y)) (one_same _ _ fields e f))
+entry_same one (Refuse a) (Refuse b) fields w x y e f = ap (λ (p : Option ℕ). Refuse p) (price_same a b x y (one_same _ _ fields e f))
+entry_same one (night_entry a) (night_entry b) fields w x y e f =
     let from : time_text a.from ≡ time_text b.from = cc in
     let to : time_text a.to ≡ time_text b.to = cc in
     let limit : decimal a.limit ≡ decimal b.limit = cc in
     ap (λ (n : Night). night_entry n)
-    (night_same a b (time_same a.from b.from x.from y.from from) (time_same a.to b.to x.to y.to to) (number_same a.limit b.limit (omega (arith, x.limit)) (omega (arith, y.limit)) limit))
-entry_same (Cap a) (Cap b) fields w x y e f =
+    (night_same a b (one.time a.from b.from x.from y.from from) (one.time a.to b.to x.to y.to to) (number_same a.limit b.limit (omega (arith, x.limit)) (omega (arith, y.limit)) limit))
+entry_same one (Cap a) (Cap b) fields w x y e f =
     let same = sym e.2 ∙ f.2 in
     let kind : kind_text a.kind ≡ kind_text b.kind = ap (field_of 0) same in
     let minutes : decimal a.length ≡ decimal b.length = ap (field_of 1) same in
@@ -147,19 +141,25 @@ entry_same (Cap a) (Cap b) fields w x y e f =
     let days : e.0 ≡ f.0 = ap (field_of 4) same in
     let limit : decimal a.limit ≡ decimal b.limit = ap (field_of 5) same in
     ap (λ (r : Rule). Cap r)
-    (rule_same a b (kind_same a.kind b.kind kind) (number_same a.length b.length (omega (arith, x.at_most_a_day)) (omega (arith, y.at_most_a_day)) minutes)
-    (time_same a.from b.from (omega (arith, x.ordered, x.in_day)) (omega (arith, y.ordered, y.in_day)) from) (time_same a.to b.to x.in_day y.in_day to)
-    (days_same e.0 a.days b.days e.1 (rw days f.1)) (number_same a.limit b.limit (omega (arith, x.limit)) (omega (arith, y.limit)) limit))
-entry_same a b fields w x y e f = absurd (cc)
+    (rule_same a b (one.kind a.kind b.kind kind) (number_same a.length b.length (omega (arith, x.at_most_a_day)) (omega (arith, y.at_most_a_day)) minutes)
+    (one.time a.from b.from (omega (arith, x.ordered, x.in_day)) (omega (arith, y.ordered, y.in_day)) from) (one.time a.to b.to x.in_day y.in_day to)
+    (one.days e.0 a.days b.days e.1 (rw days f.1)) (number_same a.limit b.limit (omega (arith, x.limit)) (omega (arith, y.limit)) limit))
+entry_same one a b fields w x y e f = absurd (cc)
 
 -- ---- lines
 
-pub states_same : (line : List ℕ) (a b : Entry) → States line a → States line b → a ≡ b
-states_same line a b x y =
+pub words_same : (line : List ℕ) (a b : Entry) → States line a → States line b → word_of a ≡ word_of b
+words_same line a b x y =
+    let whole : word_text (word_of a) ∷ x.values ≡ word_text (word_of b) ∷ y.values = sym x.fields ∙ y.fields in
+    let word : word_text (word_of a) ≡ word_text (word_of b) = cc in
+    word_same (word_of a) (word_of b) word
+
+pub states_same : (one : OneValue) → (line : List ℕ) (a b : Entry) → States line a → States line b → a ≡ b
+states_same one line a b x y =
     let whole : word_text (word_of a) ∷ x.values ≡ word_text (word_of b) ∷ y.values = sym x.fields ∙ y.fields in
     let word : word_text (word_of a) ≡ word_text (word_of b) = cc in
     let values : x.values ≡ y.values = cc in
-    entry_same a b y.values (word_same (word_of a) (word_of b) word) x.allowed y.allowed (rw values at x.spelled) y.spelled
+    entry_same one a b y.values (word_same (word_of a) (word_of b) word) x.allowed y.allowed (rw values at x.spelled) y.spelled
 
 pub empty_states_nothing : (line : List ℕ) (entry : Entry) → IsEmpty line → States line entry → ⊥
 empty_states_nothing line entry empty states =

@@ -15,8 +15,8 @@ use Rattle.capacity_file.specs.declared.entry.Entry.{Entry}
 use Rattle.capacity_file.specs.declared.entry.Entry.TheVariants.{Airport, Season, Step, Flex, Ground, Share, Refuse, Night, Cap}
 use Rattle.capacity_file.specs.declared.entry.Word.{Word}
 use Rattle.capacity_file.specs.declared.entry.Word.TheVariants.{Airport as airport_word, Season as season_word, Step as step_word, Flex as flex_word, Ground as ground_word, Share as share_word, Refuse as refuse_word, Night as night_word, Cap as cap_word}
-use Rattle.capacity_file.proofs.SameLemmas.{states_same}
-use Rattle.capacity_file.proofs.LinesLemmas.{next_at, stated_same, bad_states_nothing}
+use Rattle.capacity_file.proofs.SameLemmas.{words_same}
+use Rattle.capacity_file.proofs.LinesLemmas.{next_at, stated_words, bad_states_nothing}
 use Rattle.capacity_file.proofs.StepLemmas.{IsNext, stated_next, known_next, flex_next, clean_next, caps_skip, after_cap}
 
 -- what stays known of the other words
@@ -31,7 +31,7 @@ record Kept (lines : List (List ℕ)) (number : ℕ) (s : Singles) (entry : Entr
   pub night : word_of entry ≢ night_word → Known lines number night_word (λ x. Night x) s.night
 
 differs : (lines : List (List ℕ)) (number : ℕ) (entry : Entry) (word : Word) → LineStates lines number entry → word_of entry ≢ word → (other : Entry) → LineStates lines number other → word_of other ≢ word
-differs lines number entry word says ne other stated e = ne (ap word_of (stated_same lines number entry other says stated) ∙ e)
+differs lines number entry word says ne other stated e = ne (stated_words lines number entry other says stated ∙ e)
 
 kept : (lines : List (List ℕ)) (count : ℕ) (s : Singles) (rules : List Rule) (entry : Entry) → Collected lines count s rules → LineStates lines (suc count) entry → Kept lines (suc count) s entry
 kept lines count s rules entry k says =
@@ -73,7 +73,7 @@ single_is_clean lines count s rules entry k says single none spoiled =
     elim (spoiled) [
       | inl bad ↦ bad_states_nothing lines (suc count) entry bad says
       | inr again ↦
-          let same : word_of again.other ≡ word_of entry = again.same ∙ ap word_of (stated_same lines (suc count) again.entry entry again.states says) in
+          let same : word_of again.other ≡ word_of entry = again.same ∙ stated_words lines (suc count) again.entry entry again.states says in
           unstated_word lines count s rules entry k single none again.earlier again.other (omega (arith, again.before)) again.stated same
     ]
 
@@ -201,28 +201,28 @@ pub after_entry : (lines : List (List ℕ)) (count number : ℕ) (line : List �
 after_entry lines count number line s after rules more (Cap rule) n next states k adds = rw (adds.0, adds.1) (after_cap lines count line s rules rule next states k)
 after_entry lines count number line s after rules more (Airport x) n next states k adds =
     rw adds.2 (after_single lines count s after rules (Airport x) k (stated_next lines count line (Airport x) next states) (λ e. cc) adds.0 (subst (λ (m : ℕ). Sets m (Airport x) s after) n adds.1)
-    (caps_skip lines count line rules next (λ rule other. let same = states_same line (Airport x) (Cap rule) states other in cc) k.caps))
+    (caps_skip lines count line rules next (λ rule other. let same = words_same line (Airport x) (Cap rule) states other in cc) k.caps))
 after_entry lines count number line s after rules more (Season x) n next states k adds =
     rw adds.2 (after_single lines count s after rules (Season x) k (stated_next lines count line (Season x) next states) (λ e. cc) adds.0 (subst (λ (m : ℕ). Sets m (Season x) s after) n adds.1)
-    (caps_skip lines count line rules next (λ rule other. let same = states_same line (Season x) (Cap rule) states other in cc) k.caps))
+    (caps_skip lines count line rules next (λ rule other. let same = words_same line (Season x) (Cap rule) states other in cc) k.caps))
 after_entry lines count number line s after rules more (Step x) n next states k adds =
     rw adds.2 (after_single lines count s after rules (Step x) k (stated_next lines count line (Step x) next states) (λ e. cc) adds.0 (subst (λ (m : ℕ). Sets m (Step x) s after) n adds.1)
-    (caps_skip lines count line rules next (λ rule other. let same = states_same line (Step x) (Cap rule) states other in cc) k.caps))
+    (caps_skip lines count line rules next (λ rule other. let same = words_same line (Step x) (Cap rule) states other in cc) k.caps))
 after_entry lines count number line s after rules more (Flex x) n next states k adds =
     rw adds.2 (after_single lines count s after rules (Flex x) k (stated_next lines count line (Flex x) next states) (λ e. cc) adds.0 (subst (λ (m : ℕ). Sets m (Flex x) s after) n adds.1)
-    (caps_skip lines count line rules next (λ rule other. let same = states_same line (Flex x) (Cap rule) states other in cc) k.caps))
+    (caps_skip lines count line rules next (λ rule other. let same = words_same line (Flex x) (Cap rule) states other in cc) k.caps))
 after_entry lines count number line s after rules more (Ground x) n next states k adds =
     rw adds.2 (after_single lines count s after rules (Ground x) k (stated_next lines count line (Ground x) next states) (λ e. cc) adds.0 (subst (λ (m : ℕ). Sets m (Ground x) s after) n adds.1)
-    (caps_skip lines count line rules next (λ rule other. let same = states_same line (Ground x) (Cap rule) states other in cc) k.caps))
+    (caps_skip lines count line rules next (λ rule other. let same = words_same line (Ground x) (Cap rule) states other in cc) k.caps))
 after_entry lines count number line s after rules more (Share x) n next states k adds =
     rw adds.2 (after_single lines count s after rules (Share x) k (stated_next lines count line (Share x) next states) (λ e. cc) adds.0 (subst (λ (m : ℕ). Sets m (Share x) s after) n adds.1)
-    (caps_skip lines count line rules next (λ rule other. let same = states_same line (Share x) (Cap rule) states other in cc) k.caps))
+    (caps_skip lines count line rules next (λ rule other. let same = words_same line (Share x) (Cap rule) states other in cc) k.caps))
 after_entry lines count number line s after rules more (Refuse x) n next states k adds =
     rw adds.2 (after_single lines count s after rules (Refuse x) k (stated_next lines count line (Refuse x) next states) (λ e. cc) adds.0 (subst (λ (m : ℕ). Sets m (Refuse x) s after) n adds.1)
-    (caps_skip lines count line rules next (λ rule other. let same = states_same line (Refuse x) (Cap rule) states other in cc) k.caps))
+    (caps_skip lines count line rules next (λ rule other. let same = words_same line (Refuse x) (Cap rule) states other in cc) k.caps))
 after_entry lines count number line s after rules more (Night x) n next states k adds =
     rw adds.2 (after_single lines count s after rules (Night x) k (stated_next lines count line (Night x) next states) (λ e. cc) adds.0 (subst (λ (m : ℕ). Sets m (Night x) s after) n adds.1)
-    (caps_skip lines count line rules next (λ rule other. let same = states_same line (Night x) (Cap rule) states other in cc) k.caps))
+    (caps_skip lines count line rules next (λ rule other. let same = words_same line (Night x) (Cap rule) states other in cc) k.caps))
 
 -- ---- the line that is refused
 

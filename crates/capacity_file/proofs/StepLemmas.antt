@@ -14,7 +14,7 @@ use Rattle.capacity_file.specs.declared.entry.Entry.TheVariants.{Airport, Season
 use Rattle.capacity_file.specs.declared.entry.Word.{Word}
 use Rattle.capacity_file.specs.declared.entry.Word.TheVariants.{Airport as airport_word, Season as season_word, Step as step_word, Flex as flex_word, Ground as ground_word, Share as share_word, Refuse as refuse_word, Night as night_word, Cap as cap_word}
 use Rattle.capacity_file.proofs.SameLemmas.{empty_states_nothing}
-use Rattle.capacity_file.proofs.LinesLemmas.{next_at, stated_same, bad_states_nothing}
+use Rattle.capacity_file.proofs.LinesLemmas.{next_at, stated_words, bad_states_nothing}
 
 -- ---- one line
 
@@ -105,5 +105,5 @@ pub after_cap : (lines : List (List ℕ)) (count : ℕ) (line : List ℕ) (s : S
 after_cap lines count line s rules rule next states k =
     let says = stated_next lines count line (Cap rule) next states in
     after_caps lines count s rules (rules ++ rule ∷ []) k (λ bad. bad_states_nothing lines (suc count) (Cap rule) bad says)
-    (λ entry other. ap word_of (stated_same lines (suc count) entry (Cap rule) other says))
+    (λ entry other. stated_words lines (suc count) entry (Cap rule) other says)
     (caps_add lines count line rules rule next states k.caps)

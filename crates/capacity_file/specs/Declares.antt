@@ -6,7 +6,7 @@ use Rattle.slot_text.specs.Stations.{IsStation}
 use Rattle.season_days.specs.Capacity.{capacity_of, declared_resources}
 use Rattle.season_days.specs.declared.declaration.Declaration.{Declaration}
 use Rattle.season_days.specs.declared.declaration.Rule.{Rule}
-use Rattle.season_days.specs.declared.declaration.TheConstants.{MINUTES_OF_DAY, MOST_RULES, MOST_WINDOWS}
+use Rattle.season_days.specs.declared.declaration.TheConstants.{MINUTES_OF_DAY, MOST_RULES, MOST_WINDOWS, HIGHEST_SHARE}
 use Rattle.capacity_file.specs.Values.{is_step, IsRefusalPrice, IsNight, IsCapacityLine}
 use Rattle.capacity_file.specs.Entries.{States}
 use Rattle.capacity_file.specs.Lines.{IsStated, LacksWord, IsClean}
@@ -18,20 +18,23 @@ use Rattle.capacity_file.specs.declared.entry.Word.TheVariants.{Share as share_w
 abbrev pub AreRules : List (List ℕ) → List Rule → Type 0
 AreRules [] rules = rules ≡ []
 AreRules (line ∷ lines) rules =
-    ((rule : Rule) × (others : List Rule) × States line (Cap rule) × (rules ≡ rule ∷ others) × AreRules lines others)
+    ((rule : Rule) × (others : List Rule) × States line (Cap rule) × (rules ≡ rule ∷ others)
+    × AreRules lines others)
     ⊎ (((rule : Rule) → States line (Cap rule) → ⊥) × AreRules lines rules)
 
--- each value is stated on some line. Where no line states the share it is the usual one, and where none states a night
--- there is no quota
+-- each value is stated on some line. Where no line states the share it is the usual one, and where
+-- none states a night there is no quota
 pub record Declares (lines : List (List ℕ)) (d : Declaration) : Type 0 where
   pub airport : IsStated lines (Airport d.airport)
   pub season : IsStated lines (Season d.season)
   pub step : IsStated lines (Step d.step)
   pub flex : IsStated lines (Flex d.flex)
   pub ground_time : IsStated lines (Ground d.ground)
-  pub share : IsStated lines (Share d.share) ⊎ (LacksWord lines share_word × (d.share ≡ USUAL_SHARE))
+  pub share : IsStated lines (Share d.share)
+      ⊎ (LacksWord lines share_word × (d.share ≡ USUAL_SHARE))
   pub refuse : IsStated lines (Refuse d.refuse)
-  pub night : MatchOption d.night (LacksWord lines night_word) (λ night. IsStated lines (Night night))
+  pub night : MatchOption d.night (LacksWord lines night_word)
+      (λ night. IsStated lines (Night night))
   pub rules : AreRules lines d.rules
 
 -- the flexibility is a whole number of steps
@@ -66,7 +69,7 @@ pub record HasAllowedValues (d : Declaration) : Type 0 where
   pub even : d.flex % d.step ≡ 0
   pub flex : d.flex ≤ MOST_FLEX
   pub ground_time : d.ground ≤ MINUTES_OF_DAY
-  pub share : d.share ≤ 100
+  pub share : d.share ≤ HIGHEST_SHARE
   pub refuse : ForSome d.refuse IsRefusalPrice
   pub night : ForSome d.night IsNight
   pub rules : All IsCapacityLine d.rules

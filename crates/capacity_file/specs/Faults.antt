@@ -46,14 +46,17 @@ pub record IsMissing (lines : List (List ℕ)) (name : CapWord) : Type 0 where
 -- the first limit that these minutes, capacity lines or windows pass, and by which number
 abbrev pub PassesLimit : CapLimit → ℕ → ℕ → ℕ → ℕ → Type 0
 PassesLimit flex_limit number minutes lines resources = (MOST_FLEX < minutes) × (number ≡ minutes)
-PassesLimit Caps number minutes lines resources = (minutes ≤ MOST_FLEX) × (MOST_RULES < lines) × (number ≡ lines)
-PassesLimit Windows number minutes lines resources = (minutes ≤ MOST_FLEX) × (lines ≤ MOST_RULES) × (MOST_WINDOWS < resources) × (number ≡ resources)
+PassesLimit Caps number minutes lines resources = (minutes ≤ MOST_FLEX) × (MOST_RULES < lines)
+    × (number ≡ lines)
+PassesLimit Windows number minutes lines resources = (minutes ≤ MOST_FLEX) × (lines ≤ MOST_RULES)
+    × (MOST_WINDOWS < resources) × (number ≡ resources)
 
 abbrev pub PassesLimitOf : CapLimit → ℕ → Declaration → Type 0
-PassesLimitOf name number d = PassesLimit name number d.flex (length d.rules) (declared_resources (capacity_of d))
+PassesLimitOf name number d =
+    PassesLimit name number d.flex (length d.rules) (declared_resources (capacity_of d))
 
--- ---- the causes, in order: the lowest line that is bad or a repetition; a word that is missing; a flexibility that is no
--- whole number of steps, which is a fault of its line; a limit
+-- ---- the causes, in order: the lowest line that is bad or a repetition; a word that is missing; a
+-- flexibility that is no whole number of steps, which is a fault of its line; a limit
 
 pub record IsBrokenStep (lines : List (List ℕ)) (number : ℕ) : Type 0 where
   pub clean : IsClean lines
@@ -70,7 +73,8 @@ pub record IsOverLimit (lines : List (List ℕ)) (name : CapLimit) (number : ℕ
   pub over : PassesLimitOf name number d
 
 abbrev pub LinesHaveFault : List (List ℕ) → CapFault → Type 0
-LinesHaveFault lines (BadLine number) = (IsCleanBefore lines number × IsBad lines number) ⊎ IsBrokenStep lines number
+LinesHaveFault lines (BadLine number) = (IsCleanBefore lines number × IsBad lines number)
+    ⊎ IsBrokenStep lines number
 LinesHaveFault lines (Missing name) = IsClean lines × IsMissing lines name
 LinesHaveFault lines (Twice number) = IsCleanBefore lines number × IsRepeat lines number
 LinesHaveFault lines (OverLimit name number) = IsOverLimit lines name number

@@ -19,5 +19,7 @@ IsFirstMissing s Airport = s.airport ≡ None
 IsFirstMissing s Season = IsSome s.airport × (s.season ≡ None)
 IsFirstMissing s Step = IsSome s.airport × IsSome s.season × (s.step ≡ None)
 IsFirstMissing s Flex = IsSome s.airport × IsSome s.season × IsSome s.step × (s.flex ≡ None)
-IsFirstMissing s Ground = IsSome s.airport × IsSome s.season × IsSome s.step × IsSome s.flex × (s.ground_time ≡ None)
-IsFirstMissing s Refuse = IsSome s.airport × IsSome s.season × IsSome s.step × IsSome s.flex × IsSome s.ground_time × (s.refuse ≡ None)
+IsFirstMissing s Ground = IsSome s.airport × IsSome s.season × IsSome s.step × IsSome s.flex
+    × (s.ground_time ≡ None)
+IsFirstMissing s Refuse = IsSome s.airport × IsSome s.season × IsSome s.step × IsSome s.flex
+    × IsSome s.ground_time × (s.refuse ≡ None)

@@ -21,13 +21,17 @@ IsValueOf {X} make fields (Some x) = IsAllowedEntry (make x) × AreValues (make 
 
 -- the entry of a word whose values the fields spell
 abbrev pub IsEntryOf : Word → List (List ℕ) → Option Entry → Type 0
-IsEntryOf word fields None = (entry : Entry) → word_of entry ≡ word → IsAllowedEntry entry → AreValues entry fields → ⊥
-IsEntryOf word fields (Some entry) = (word_of entry ≡ word) × IsAllowedEntry entry × AreValues entry fields
+IsEntryOf word fields None = (entry : Entry) → word_of entry ≡ word → IsAllowedEntry entry →
+    AreValues entry fields → ⊥
+IsEntryOf word fields (Some entry) = (word_of entry ≡ word) × IsAllowedEntry entry
+    × AreValues entry fields
 
 -- the entry of a line, by its first field and the others
 abbrev pub IsEntry : List ℕ → List (List ℕ) → Option Entry → Type 0
-IsEntry first fields None = (entry : Entry) → first ≡ word_text (word_of entry) → IsAllowedEntry entry → AreValues entry fields → ⊥
-IsEntry first fields (Some entry) = (first ≡ word_text (word_of entry)) × IsAllowedEntry entry × AreValues entry fields
+IsEntry first fields None = (entry : Entry) → first ≡ word_text (word_of entry) →
+    IsAllowedEntry entry → AreValues entry fields → ⊥
+IsEntry first fields (Some entry) = (first ≡ word_text (word_of entry)) × IsAllowedEntry entry
+    × AreValues entry fields
 
 -- what a line is by itself
 abbrev pub IsLineReading : List ℕ → Reading → Type 0
@@ -38,15 +42,18 @@ IsLineReading line (Stated entry) = States line entry
 -- ---- what the first lines, so many, have stated
 
 abbrev pub Unstated : List (List ℕ) → ℕ → Word → Type 0
-Unstated lines count word = (number : ℕ) (entry : Entry) → number ≤ count → LineStates lines number entry → word_of entry ≢ word
+Unstated lines count word = (number : ℕ) (entry : Entry) → number ≤ count →
+    LineStates lines number entry → word_of entry ≢ word
 
 abbrev pub Known : {X : Type 0} → List (List ℕ) → ℕ → Word → (X → Entry) → Option X → Type 0
 Known lines count word make None = Unstated lines count word
-Known lines count word make (Some x) = (number : ℕ) × (number ≤ count) × LineStates lines number (make x)
+Known lines count word make (Some x) = (number : ℕ) × (number ≤ count)
+    × LineStates lines number (make x)
 
 abbrev pub KnownFlex : List (List ℕ) → ℕ → Option FlexLine → Type 0
 KnownFlex lines count None = Unstated lines count flex_word
-KnownFlex lines count (Some flex) = (flex.line ≤ count) × LineStates lines flex.line (Flex flex.minutes)
+KnownFlex lines count (Some flex) = (flex.line ≤ count)
+    × LineStates lines flex.line (Flex flex.minutes)
 
 pub record Collected (lines : List (List ℕ)) (count : ℕ) (singles : Singles) (rules : List Rule) : Type 0 where
   pub clean : IsCleanBefore lines (suc count)

@@ -22,7 +22,8 @@ abbrev pub Sets : ℕ → Entry → Singles → Singles → Type 0
 Sets number (Airport station) old new = new ≡ record old { airport = Some station }
 Sets number (Season season) old new = new ≡ record old { season = Some season }
 Sets number (Step n) old new = new ≡ record old { step = Some n }
-Sets number (Flex n) old new = new ≡ record old { flex = Some (record { line = number; minutes = n }) }
+Sets number (Flex n) old new =
+    new ≡ record old { flex = Some (record { line = number; minutes = n }) }
 Sets number (Ground n) old new = new ≡ record old { ground_time = Some n }
 Sets number (Share n) old new = new ≡ record old { share = Some n }
 Sets number (Refuse price) old new = new ≡ record old { refuse = Some price }
@@ -32,4 +33,5 @@ Sets number (Cap rule) old new = new ≡ old
 -- the entry is taken in: a capacity line goes behind the others
 abbrev pub AddsEntry : ℕ → Entry → Singles → List Rule → Singles → List Rule → Type 0
 AddsEntry number (Cap rule) old before new after = (new ≡ old) × (after ≡ before ++ rule ∷ [])
-AddsEntry number entry old before new after = (HasSingle old entry → ⊥) × Sets number entry old new × (after ≡ before)
+AddsEntry number entry old before new after = (HasSingle old entry → ⊥)
+    × Sets number entry old new × (after ≡ before)

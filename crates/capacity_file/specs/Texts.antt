@@ -24,8 +24,11 @@ cap_limit_text Caps = codes "CAPS"
 cap_limit_text Windows = codes "WINDOWS"
 
 abbrev pub cap_fault_text : CapFault → List ℕ
-cap_fault_text (BadLine line) = codes "line " ++ (decimal line ++ codes ": no line of a capacity file")
+cap_fault_text (BadLine line) = codes "line "
+    ++ (decimal line ++ codes ": no line of a capacity file")
 cap_fault_text (Missing name) = codes "no " ++ (cap_word_text name ++ codes " line")
-cap_fault_text (Twice line) = codes "line " ++ (decimal line ++ codes ": a word that has a line already")
-cap_fault_text (OverLimit name number) = cap_limit_text name ++ (codes " " ++ (decimal number ++ codes " is over the limit"))
+cap_fault_text (Twice line) = codes "line "
+    ++ (decimal line ++ codes ": a word that has a line already")
+cap_fault_text (OverLimit name number) = cap_limit_text name
+    ++ (codes " " ++ (decimal number ++ codes " is over the limit"))
 cap_fault_text Memory = memory_text

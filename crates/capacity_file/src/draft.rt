@@ -61,8 +61,11 @@ impl Draft {
     /// Takes in the line after the first `count` ones.
     pub(crate) fn add_line(&mut self, count: u32, line: &[u8]) -> Result<(), CapFault>
         requires { count + 1 < 2 ^ 32 }
-        ensures { (lines : List (List ℕ)) → drop count lines ≡ line.now ∷ drop (suc count) lines → Collected lines count self.old.singles self.old.rules.items →
-            MatchResult result (λ _. Collected lines (suc count) self.new.singles self.new.rules.items) (λ e. LinesHaveFault lines e ⊎ (e ≡ NoMemory)) }
+        ensures { (lines : List (List ℕ)) → drop count lines ≡ line.now ∷ drop (suc count) lines →
+            Collected lines count self.old.singles self.old.rules.items →
+            MatchResult result
+            (λ _. Collected lines (suc count) self.new.singles self.new.rules.items)
+            (λ e. LinesHaveFault lines e ⊎ (e ≡ NoMemory)) }
     {
         let number = count + 1;
         match read_line(line) {
@@ -74,7 +77,10 @@ impl Draft {
 
     /// Takes in what the line of a number states.
     fn add_entry(&mut self, number: u32, entry: Entry) -> Result<(), CapFault>
-        ensures { MatchResult result (λ _. AddsEntry number entry self.old.singles self.old.rules.items self.new.singles self.new.rules.items) (λ e. (HasSingle self.old.singles entry × (e ≡ Twice number)) ⊎ (e ≡ NoMemory)) }
+        ensures { MatchResult result
+            (λ _. AddsEntry number entry self.old.singles self.old.rules.items
+            self.new.singles self.new.rules.items)
+            (λ e. (HasSingle self.old.singles entry × (e ≡ Twice number)) ⊎ (e ≡ NoMemory)) }
     {
         match entry {
             Entry::Cap(rule) => {

@@ -5,10 +5,13 @@ ghost use Rattle.capacity_file.specs.declared.entry.Entry.{Entry as EntryValue};
 
 use crate::entry::{Entry, Word};
 use crate::fields::{last_field, night_fields, rule_fields};
-use crate::values::{is_allowed_step, read_kind, read_minute, read_number};
+use crate::values::{is_allowed_step, read_minute, read_number};
 use crate::words::read_word;
-use schedule_text::read_weekdays;
-use season_days::{HIGHEST_WINDOW_LIMIT, HIGHEST_NIGHT_LIMIT, MINUTES_OF_DAY, Night, Rule, Season};
+use schedule_text::{read_kind, read_weekdays};
+use season_days::{
+    HIGHEST_NIGHT_LIMIT, HIGHEST_REFUSAL_PRICE, HIGHEST_SHARE, HIGHEST_WINDOW_LIMIT,
+    MINUTES_OF_DAY, Night, Rule, Season,
+};
 use slot_text::{Station, read_u64};
 
 /// The entry whose word this is, with the values in the fields of the rest.
@@ -73,7 +76,7 @@ fn read_ground(rest: &[u8]) -> Option<u32>
 fn read_share(rest: &[u8]) -> Option<u32>
     ensures { IsValueOf Entry.Share (fields_of rest.now) result }
 {
-    read_number(last_field(rest)?, 100)
+    read_number(last_field(rest)?, HIGHEST_SHARE)
 }
 
 fn read_refuse(rest: &[u8]) -> Option<Option<u32>>
@@ -83,7 +86,7 @@ fn read_refuse(rest: &[u8]) -> Option<Option<u32>>
     if price == b"NONE".as_slice() {
         return Some(None);
     }
-    let price = read_number(price, 9_999)?;
+    let price = read_number(price, HIGHEST_REFUSAL_PRICE)?;
     if price > 0 { Some(Some(price)) } else { None }
 }
 
@@ -117,7 +120,8 @@ fn read_rule(rest: &[u8]) -> Option<Rule>
 
 /// Whether windows have minutes, a start and a weekday.
 fn is_usable(rule: &Rule) -> bool
-    ensures { IsTrue result ↔ ((1 ≤ rule.now.length) × (rule.now.from ≤ rule.now.to) × (1 ≤ rule.now.days)) }
+    ensures { IsTrue result ↔ ((1 ≤ rule.now.length) × (rule.now.from ≤ rule.now.to)
+        × (1 ≤ rule.now.days)) }
 {
     rule.length > 0 && rule.from <= rule.to && rule.days > 0
 }

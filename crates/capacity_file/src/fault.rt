@@ -65,12 +65,14 @@ impl fmt::Display for CapLimit {
 /// `BadLine` of a FLEX that is no multiple of the STEP, and `OverLimit`.
 #[derive(Clone, Copy, Debug, PartialEq, Eq)]
 pub enum CapFault {
-    /// The line, counted from 1, has no known word, not its word's number of fields, a value that is not allowed, a blank
-    /// at an end, or more than 200 bytes. Or it is the FLEX line, and the value is no multiple of the STEP.
+    /// The line, counted from 1, has no known word, not its word's number of fields, a value that
+    /// is not allowed, a blank at an end, or more than 200 bytes. Or it is the FLEX line, and the
+    /// value is no multiple of the STEP.
     BadLine { line: u32 },
     /// No line begins with this word.
     Missing { name: CapWord },
-    /// The line, counted from 1, begins with a word, other than CAP, with which an earlier line begins.
+    /// The line, counted from 1, begins with a word, other than CAP, with which an earlier line
+    /// begins.
     Twice { line: u32 },
     /// The declaration passes a limit, by this number.
     OverLimit { name: CapLimit, number: u64 },

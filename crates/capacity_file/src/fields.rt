@@ -24,7 +24,8 @@ pub(crate) struct RuleFields<'a> {
 
 /// The last field, if one is left and no more.
 pub(crate) fn last_field(text: &[u8]) -> Option<&[u8]>
-    ensures { MatchOption result ((a : List ℕ) → fields_of text.now ≡ a ∷ [] → ⊥) (λ a. fields_of text.now ≡ a.now ∷ []) }
+    ensures { MatchOption result ((a : List ℕ) → fields_of text.now ≡ a ∷ [] → ⊥)
+        (λ a. fields_of text.now ≡ a.now ∷ []) }
 {
     let (field, rest) = split_field(text)?;
     match split_field(rest) {
@@ -35,7 +36,8 @@ pub(crate) fn last_field(text: &[u8]) -> Option<&[u8]>
 
 /// Three fields, if no more are left.
 pub(crate) fn night_fields(text: &[u8]) -> Option<NightFields<'_>>
-    ensures { MatchOption result ((a b c : List ℕ) → fields_of text.now ≡ a ∷ b ∷ c ∷ [] → ⊥) (λ x. fields_of text.now ≡ x.from.now ∷ x.to.now ∷ x.limit.now ∷ []) }
+    ensures { MatchOption result ((a b c : List ℕ) → fields_of text.now ≡ a ∷ b ∷ c ∷ [] → ⊥)
+        (λ x. fields_of text.now ≡ x.from.now ∷ x.to.now ∷ x.limit.now ∷ []) }
 {
     let (from, rest) = split_field(text)?;
     let (to, rest) = split_field(rest)?;
@@ -45,7 +47,10 @@ pub(crate) fn night_fields(text: &[u8]) -> Option<NightFields<'_>>
 
 /// Six fields, if no more are left.
 pub(crate) fn rule_fields(text: &[u8]) -> Option<RuleFields<'_>>
-    ensures { MatchOption result ((a b c d e f : List ℕ) → fields_of text.now ≡ a ∷ b ∷ c ∷ d ∷ e ∷ f ∷ [] → ⊥) (λ x. fields_of text.now ≡ x.kind.now ∷ x.length.now ∷ x.from.now ∷ x.to.now ∷ x.days.now ∷ x.limit.now ∷ []) }
+    ensures { MatchOption result
+        ((a b c d e f : List ℕ) → fields_of text.now ≡ a ∷ b ∷ c ∷ d ∷ e ∷ f ∷ [] → ⊥)
+        (λ x. fields_of text.now ≡ x.kind.now ∷ x.length.now ∷ x.from.now ∷ x.to.now
+        ∷ x.days.now ∷ x.limit.now ∷ []) }
 {
     let (kind, rest) = split_field(text)?;
     let (length, rest) = split_field(rest)?;

@@ -12,7 +12,6 @@ ghost use Rattle.capacity_file.specs.declared.fault.CapFault.TheVariants.{Memory
 use crate::draft::{Draft, FlexLine, Singles};
 use crate::fault::{CapFault, CapLimit, CapWord};
 use crate::limits::{MOST_FLEX, USUAL_SHARE};
-use crate::windows::count_windows;
 use season_days::{Declaration, MOST_RULES, MOST_WINDOWS, Night, Rule, RuleList, Season};
 use slot_text::Station;
 
@@ -31,7 +30,9 @@ pub(crate) struct Needed {
 pub(crate) fn finish(draft: Draft) -> Result<Declaration, CapFault>
     requires step { ForSome draft.singles.step (λ n. 0 < n) }
     requires rules { All IsCapacityLine draft.rules.items }
-    ensures { (lines : List (List ℕ)) → Collected lines (length lines) draft.singles draft.rules.items → AnswersBy NoMemory (LinesDeclare lines) (LinesHaveFault lines) result }
+    ensures { (lines : List (List ℕ)) →
+        Collected lines (length lines) draft.singles draft.rules.items →
+        AnswersBy NoMemory (LinesDeclare lines) (LinesHaveFault lines) result }
 {
     let Draft { singles, rules } = draft;
     let needed = match needed_of(&singles) {
@@ -61,7 +62,8 @@ pub(crate) fn finish(draft: Draft) -> Result<Declaration, CapFault>
 
 /// The values that no declaration lacks, or the first word that is missing.
 fn needed_of(singles: &Singles) -> Result<Needed, CapWord>
-    ensures { MatchResult result (λ needed. AreNeeded singles.now needed) (λ name. IsFirstMissing singles.now name) }
+    ensures { MatchResult result (λ needed. AreNeeded singles.now needed)
+        (λ name. IsFirstMissing singles.now name) }
 {
     Ok(Needed {
         airport: singles.airport.ok_or(CapWord::Airport)?,
@@ -77,8 +79,14 @@ fn needed_of(singles: &Singles) -> Result<Needed, CapWord>
 fn passed_limit(needed: &Needed, night: &Option<Night>, rules: &[Rule]) -> Option<(CapLimit, u64)>
     requires step { 0 < needed.now.step }
     requires rules { All IsCapacityLine rules.now }
-    ensures { let windows = declared_resources (record { season = needed.now.season; step = needed.now.step; night = night.now; rules = rules.now }) in
-        MatchOption result (AreWithinLimits needed.now.flex.minutes (length rules.now) windows) (λ x. PassesLimit x.0 x.1 needed.now.flex.minutes (length rules.now) windows) }
+    ensures { let windows = declared_resources (record {
+      season = needed.now.season;
+      step = needed.now.step;
+      night = night.now;
+      rules = rules.now;
+    }) in
+        MatchOption result (AreWithinLimits needed.now.flex.minutes (length rules.now) windows)
+        (λ x. PassesLimit x.0 x.1 needed.now.flex.minutes (length rules.now) windows) }
 {
     if needed.flex.minutes > MOST_FLEX {
         return Some((CapLimit::Flex, needed.flex.minutes));
@@ -86,7 +94,7 @@ fn passed_limit(needed: &Needed, night: &Option<Night>, rules: &[Rule]) -> Optio
     if rules.len() > MOST_RULES as usize {
         return Some((CapLimit::Caps, rules.len() as u64));
     }
-    let windows = count_windows(&needed.season, needed.step, night, rules);
+    let windows = needed.season.count_windows(needed.step, night, rules);
     if windows > u64::from(MOST_WINDOWS) {
         return Some((CapLimit::Windows, windows));
     }

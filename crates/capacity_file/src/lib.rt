@@ -12,11 +12,10 @@ mod limits;
 mod line;
 mod reading;
 mod values;
-mod windows;
 mod words;
 
 pub use fault::{CapFault, CapLimit, CapWord};
-pub use limits::{MOST_BYTES, MOST_FLEX, USUAL_SHARE};
+pub use limits::{MOST_FLEX, USUAL_SHARE};
 pub use reading::read_capacity;
 
 #[cfg(test)]

@@ -1,6 +1,3 @@
-/// The most bytes of a line that is not empty, without its end.
-pub const MOST_BYTES: usize = 200;
-
 /// The most minutes by which a time may be moved to either side.
 pub const MOST_FLEX: u64 = 120;
 

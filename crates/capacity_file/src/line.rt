@@ -1,12 +1,8 @@
-ghost use Rattle.std.specs.Prelude.{◌≡◌, ◌↔◌, IsTrue};
-ghost use Rattle.slot_text.specs.Fields.{is_blank};
-ghost use Rattle.capacity_file.specs.Entries.{IsTight};
 ghost use Rattle.capacity_file.specs.Readings.{IsLineReading};
 
 use crate::entries::read_entry;
 use crate::entry::Entry;
-use crate::limits::MOST_BYTES;
-use slot_text::split_field;
+use slot_text::{LONGEST_LINE, is_trimmed, split_field};
 
 /// What a line is by itself.
 #[derive(Clone, Copy)]
@@ -23,31 +19,14 @@ pub(crate) fn read_line(line: &[u8]) -> Reading
     let Some((word, rest)) = split_field(line) else {
         return Reading::Empty;
     };
-    if line.len() > MOST_BYTES {
+    if line.len() > LONGEST_LINE {
         return Reading::Bad;
     }
-    if !is_tight(line) {
+    if !is_trimmed(line) {
         return Reading::Bad;
     }
     match read_entry(word, rest) {
         Some(entry) => Reading::Stated(entry),
         None => Reading::Bad,
     }
-}
-
-/// Whether neither end of a line is a blank.
-fn is_tight(line: &[u8]) -> bool
-    ensures { IsTrue result ↔ IsTight line.now }
-{
-    match line {
-        [] => true,
-        [only] => !is_blank_byte(*only),
-        [first, .., last] => !is_blank_byte(*first) && !is_blank_byte(*last),
-    }
-}
-
-fn is_blank_byte(b: u8) -> bool
-    ensures { result ≡ is_blank b }
-{
-    b == b' ' || b == b'\t'
 }

@@ -1,11 +1,10 @@
-ghost use Rattle.std.specs.Prelude.{◌≡◌, ◌<◌, ◌≤◌, ℕ, List, IfSome, Some, MatchOption};
+ghost use Rattle.std.specs.Prelude.{◌≡◌, ◌<◌, ◌≤◌, ℕ, List, IfSome, Some};
 ghost use Rattle.std.specs.Fmt.{decimal};
-ghost use Rattle.season_days.specs.declared.declaration.Kind.{Kind as KindValue};
+ghost use Rattle.season_days.specs.declared.declaration.TheConstants.{MINUTES_OF_DAY};
 ghost use Rattle.schedule_text.specs.Times.{time_text};
-ghost use Rattle.capacity_file.specs.Values.{is_step, kind_text};
+ghost use Rattle.capacity_file.specs.Values.{is_step};
 
 use schedule_text::read_time;
-use season_days::Kind;
 use slot_text::read_u64;
 
 /// The number that the text spells, if it is at most `most`.
@@ -22,8 +21,10 @@ pub(crate) fn read_number(text: &[u8], most: u32) -> Option<u32>
 
 /// The minute of the day that hours and minutes spell.
 pub(crate) fn read_minute(text: &[u8]) -> Option<u32>
-    ensures found { IfSome result (λ minute. (minute < 1440) × (text.now ≡ time_text minute)) }
-    ensures only { (minute : ℕ) → minute < 1440 → text.now ≡ time_text minute → result ≡ Some minute }
+    ensures found { IfSome result
+        (λ minute. (minute < MINUTES_OF_DAY) × (text.now ≡ time_text minute)) }
+    ensures only { (minute : ℕ) → minute < MINUTES_OF_DAY → text.now ≡ time_text minute →
+        result ≡ Some minute }
 {
     let minute = read_time(text)?;
     Some(u32::from(minute))
@@ -34,16 +35,4 @@ pub(crate) fn is_allowed_step(n: u32) -> bool
     ensures { result ≡ is_step n }
 {
     n == 5 || n == 10 || n == 15 || n == 20 || n == 30 || n == 60
-}
-
-/// The movements that a word names.
-pub(crate) fn read_kind(text: &[u8]) -> Option<Kind>
-    ensures { MatchOption result ((kind : KindValue) → text.now ≡ kind_text kind → ⊥) (λ kind. text.now ≡ kind_text kind) }
-{
-    match text {
-        b"ARR" => Some(Kind::Arr),
-        b"DEP" => Some(Kind::Dep),
-        b"TOT" => Some(Kind::Tot),
-        _ => None,
-    }
 }

@@ -6,7 +6,8 @@ use crate::entry::Word;
 
 /// The word that a field is.
 pub(crate) fn read_word(text: &[u8]) -> Option<Word>
-    ensures { MatchOption result ((word : WordValue) → text.now ≡ word_text word → ⊥) (λ word. text.now ≡ word_text word) }
+    ensures { MatchOption result ((word : WordValue) → text.now ≡ word_text word → ⊥)
+        (λ word. text.now ≡ word_text word) }
 {
     match text {
         b"AIRPORT" => Some(Word::Airport),

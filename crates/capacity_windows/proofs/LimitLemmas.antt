@@ -1,17 +1,19 @@
 -- Limits by their numbers: one more, those of a line's windows, and the night quota's.
-use Rattle.std.proofs.Common.{◌≡◌, ℕ, ◌+◌, ◌*◌, ◌<◌, ◌≤◌, ap, sym, ◌∙◌, refl, arith, inl, inr, List, [], ◌∷◌, ◌++◌, Some, length, get_or, ℤ, pos, subst}
-use Rattle.std.specs.Prelude.{slice_get, sum_by}
+use Rattle.std.proofs.Common.{◌≡◌, ℕ, ◌+◌, ◌-◌, ◌*◌, ◌/◌, ◌%◌, ◌<◌, ◌≤◌, Bool, true, false, ap, sym, ◌∙◌, refl, arith, inl, inr, List, [], ◌∷◌, ◌++◌, Some, length, get_or, ℤ, pos, subst}
+use Rattle.std.specs.Prelude.{slice_get, sum_by, All, Option, None, nat_lt, ◌==◌, if◌then◌else◌}
+use Rattle.std.specs.Option.{ForSome}
 use Rattle.std.proofs.Math.ListN.{get_or-append}
 use Rattle.std.proofs.Math.Seq.{get_or-append_seam}
 use Rattle.std.proofs.lemmas.Bool.{cases_lt}
+use Rattle.std.proofs.lemmas.List.Elements.{All-head, All-tail}
 use Rattle.std.proofs.lemmas.List.{length-append}
 use Rattle.std.proofs.lemmas.Option.{slice_get-get_or, get_or_from_slice_get}
-use Rattle.season_days.specs.Seasons.{date_count}
+use Rattle.season_days.specs.Seasons.{date_count, is_on}
 use Rattle.season_days.specs.declared.declaration.Night.{Night}
 use Rattle.season_days.specs.declared.declaration.Rule.{Rule}
-use Rattle.capacity_windows.specs.Windows.{Capacity, windows_of, resource_at, day_limit, resource_limit, window_limit}
+use Rattle.capacity_windows.specs.Windows.{Capacity, IsRule, starts_of, windows_of, quota_from, resource_from, resource_at, day_limit, resource_limit, window_limit}
 use Rattle.capacity_windows.specs.Kept.{AreLimits}
-use Rattle.capacity_windows.specs.declared.resource.Resource.TheVariants.{Window}
+use Rattle.capacity_windows.specs.declared.resource.Resource.TheVariants.{Window, Quota, Nothing}
 use Rattle.capacity_windows.proofs.NumberLemmas.{quota_at}
 
 -- one limit more
@@ -40,3 +42,27 @@ day_limits c rule first day n now start r windows in_season lt is at =
 -- the limit of the night quota
 pub night_limit : (c : Capacity) (r : ℕ) (night : Night) → r ≡ sum_by (windows_of c) c.rules → c.night ≡ Some night → window_limit c r ≡ night.limit
 night_limit c r night is some = ap (resource_limit c) (quota_at c r is night some)
+
+-- limits are small
+quota_small : (c : Capacity) (night : Option Night) (r : ℕ) → ForSome night (λ n. n.limit ≤ 999999) → resource_limit c (quota_from night r) ≤ 999999
+quota_small c None r few = omega arith
+quota_small c (Some night) r few =
+    elim (r == 0) as (λ b. resource_limit c (if b then Quota night else Nothing) ≤ 999999) [
+      | true ↦ few night refl
+      | false ↦ omega arith
+    ]
+
+day_small : (c : Capacity) (rule : Rule) (day : ℕ) → rule.limit ≤ 999999 → day_limit c rule day ≤ 999999
+day_small c rule day few =
+    elim (is_on c.season rule.days day) as (λ b. (if b then rule.limit else 0) ≤ 999999) [
+      | true ↦ few
+      | false ↦ omega arith
+    ]
+
+pub limit_small : (c : Capacity) (rules : List Rule) (r : ℕ) → All IsRule rules → ForSome c.night (λ n. n.limit ≤ 999999) → resource_limit c (resource_from c rules r) ≤ 999999
+limit_small c [] r are few = quota_small c c.night r few
+limit_small c (rule ∷ rules) r are few =
+    elim (nat_lt r (windows_of c rule)) as (λ b. resource_limit c (if b then Window rule (r / starts_of c.step rule) (r % starts_of c.step rule) else resource_from c rules (r - windows_of c rule)) ≤ 999999) [
+      | true ↦ let head = All-head IsRule rule rules are in day_small c rule (r / starts_of c.step rule) (omega (arith, head.limit))
+      | false ↦ limit_small c rules (r - windows_of c rule) (All-tail IsRule rule rules are) few
+    ]

@@ -1,7 +1,8 @@
 //! The limits of all resources at once.
 
-ghost use Rattle.std.specs.Prelude.{◌≡◌, ◌+◌, ◌*◌, ◌<◌, ℕ, IfOk, OnOk, Some, slice_get, length, sum_by, pos};
+ghost use Rattle.std.specs.Prelude.{◌≡◌, ◌+◌, ◌*◌, ◌<◌, ◌≤◌, ℕ, IfOk, OnOk, Some, slice_get, length, sum_by, pos};
 ghost use Rattle.season_days.specs.Seasons.{date_count};
+ghost use Rattle.season_days.specs.declared.declaration.TheConstants.{HIGHEST_NIGHT_LIMIT};
 ghost use Rattle.capacity_windows.specs.Windows.{IsRule, starts_of, windows_of, resource_at, day_limit, window_limit, declared_resources};
 ghost use Rattle.capacity_windows.specs.Kept.{AreLimits};
 ghost use Rattle.capacity_windows.specs.declared.resource.Resource.TheVariants.{Window};
@@ -19,6 +20,7 @@ impl Windows {
         ensures count { IfOk result (λ limits. length limits.items ≡ declared_resources self.now) }
         ensures each { IfOk result (λ limits. (r : ℕ) → r < declared_resources self.now →
             slice_get limits.items r ≡ Some (pos (window_limit self.now r))) }
+        ensures few { OnOk result ((r : ℕ) → window_limit self.now r ≤ HIGHEST_NIGHT_LIMIT) }
     {
         let mut limits = Vec::new(alloc);
         for rule in self.rules() {

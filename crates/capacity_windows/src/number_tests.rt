@@ -100,6 +100,29 @@ fn windows_are_numbered_line_by_line(rt: HostRuntime) -> Result<(), Fail> {
     Ok(())
 }
 
+// All limits at once, of a copy.
+#[test]
+fn limits_stand_line_by_line(rt: HostRuntime) -> Result<(), Fail> {
+    let alloc = rt.alloc();
+    let windows = three_lines(alloc)?.copy(alloc)?;
+    let limits = windows.limits(alloc)?;
+    assert_eq!(rt; (windows.lines(), limits.len()), (3, 1051));
+    let table: [(usize, Option<i64>); 8] = [
+        (0, Some(1)),
+        (629, Some(1)),
+        (630, Some(2)),
+        (840, Some(3)),
+        (841, Some(0)),
+        (1049, Some(3)),
+        (1050, Some(4)),
+        (1051, None),
+    ];
+    for (resource, want) in table {
+        assert_eq!(rt; limits.get(resource).copied(), want);
+    }
+    Ok(())
+}
+
 // The resources that hold a movement.
 fn holders(alloc: Global, windows: &Windows, movement: Movement) -> Result<Vec<u32>, Fail> {
     if movement.minute >= MINUTES_OF_DAY {

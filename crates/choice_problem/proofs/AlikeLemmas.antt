@@ -1,19 +1,19 @@
 -- Problems with the same numbers: what is said of one holds of the other.
-use Rattle.std.proofs.Common.{◌≡◌, ℕ, zero, suc, ◌+◌, ◌-◌, ◌*◌, ◌<◌, ◌≤◌, refl, sym, ◌∙◌, ap, subst, arith, inl, inr, List, [], ◌∷◌, ◌++◌, length, get_or, Option, Some, None, pos}
+use Rattle.std.proofs.Common.{◌≡◌, ℕ, ◌+◌, ◌-◌, ◌*◌, ◌<◌, ◌≤◌, refl, sym, ◌∙◌, ap, subst, arith, inl, inr, List, [], ◌∷◌, length, get_or, Option, Some, None, pos}
 use Rattle.std.proofs.Math.Path.{fun_ext}
-use Rattle.std.specs.Prelude.{slice_index, map, All, ℤ, ◌-ℤ◌, ◌*ℤ◌, ◌<ℤ◌, ◌≤ℤ◌, IfSome}
+use Rattle.std.specs.Prelude.{slice_index, ℤ, ◌-ℤ◌, ◌*ℤ◌, ◌<ℤ◌}
 use Rattle.std.specs.List.{AllZip}
-use Rattle.std.proofs.lemmas.List.{get_or_past, get_or-map, get_or_default, length-map, same_lists}
+use Rattle.std.proofs.lemmas.List.{get_or_past, get_or-map, length-map, same_lists}
 use Rattle.std.proofs.lemmas.Bool.{cases_lt}
 use Rattle.choice_problem.specs.declared.problems.Alt.{Alt}
 use Rattle.choice_problem.specs.declared.vectors.Price.{Price}
 use Rattle.choice_problem.specs.declared.nodes.Node.{Node}
 use Rattle.choice_problem.specs.declared.nodes.Node.TheVariants.{Split, Leaf, Over, Undone}
-use Rattle.finite_sums.specs.Sums.{sum_below, least_within, first_least, IsFirstLeast}
+use Rattle.finite_sums.specs.Sums.{sum_below, least_within}
 use Rattle.choice_problem.specs.Problems.{ProblemView, ChooserView, chooser_at, alt_at, named_uses, chooser_uses, unit_count, alt_count, resource_count, limit_of, alt_cost, alt_uses}
-use Rattle.choice_problem.specs.Choices.{IsChoice, Fits, IsFeasible, IsBest, HasNone, IsFirstPassed, choice_cost}
+use Rattle.choice_problem.specs.Choices.{IsFeasible, IsBest, HasNone, choice_cost}
 use Rattle.choice_problem.specs.Bounds.{AreRanges, IsPrice, IsVector, Closes, IsOver, bound_of, priced, whole_of, low_of, high_of}
-use Rattle.choice_problem.specs.Trees.{AreTrees, AreSound, NodeHolds, LeafHolds, OverHolds, CanSplit, vector_at, parts_of}
+use Rattle.choice_problem.specs.Trees.{AreSound, NodeHolds, LeafHolds, OverHolds, vector_at}
 use Rattle.choice_problem.specs.Floors.{IsClosedNode, AreClosed, IsFloored, AreFloors}
 use Rattle.choice_problem.specs.Grafts.{open_ranges}
 use Rattle.choice_problem.specs.Alike.{AreAlike}

@@ -7,16 +7,16 @@ use Rattle.choice_problem.specs.declared.vectors.Price.{Price}
 use Rattle.choice_problem.specs.declared.nodes.Node.{Node}
 use Rattle.choice_problem.specs.declared.nodes.Node.TheVariants.{Split, Leaf, Over, Undone}
 use Rattle.finite_sums.specs.Sums.{sum_below, least_within, first_least, IsFirstLeast}
-use Rattle.choice_problem.specs.Problems.{ProblemView, unit_count, alt_count, resource_count, limit_of, alt_cost, alt_uses}
+use Rattle.choice_problem.specs.Problems.{ProblemView, unit_count, alt_count, resource_count, limit_of}
 use Rattle.choice_problem.specs.Choices.{IsFirstPassed}
 use Rattle.choice_problem.specs.Bounds.{bound_of, priced, whole_of, low_of, high_of}
 use Rattle.choice_problem.specs.Greedy.{FitsOn, IsBestBelow, IsGreedy, GreedyStops, IsGreedyCost, load_before}
 use Rattle.choice_problem.specs.Roots.{vector_of, priced_load, step_length, price_after, step_vector, IsNodeVector, IsRootVector}
-use Rattle.choice_problem.specs.Splits.{StaysOpen, IsCheapest, IsSplitAt, cut_at}
-use Rattle.choice_problem.specs.Driven.{IsDrivenNode, AreDriven, IsDrivenFrom, IsDriven}
+use Rattle.choice_problem.specs.Splits.{StaysOpen, IsCheapest, IsSplitAt}
+use Rattle.choice_problem.specs.Driven.{IsDrivenNode, AreDriven, IsDriven}
 use Rattle.choice_problem.specs.Alike.{AreAlike}
 use Rattle.choice_problem.proofs.ShapeLemmas.{AreTrees-map}
-use Rattle.choice_problem.proofs.AlikeLemmas.{Numbers, numbers_of, moved, same_whole, AreAlike-sym, choice_cost-alike, bound_of-alike, Closes-alike, IsOver-alike, LeafHolds-alike, OverHolds-alike}
+use Rattle.choice_problem.proofs.AlikeLemmas.{moved, same_whole, AreAlike-sym, choice_cost-alike, bound_of-alike, Closes-alike, IsOver-alike, LeafHolds-alike, OverHolds-alike}
 
 -- the greedy choice
 FitsOn-alike : (p q : ProblemView) (loads : ℕ → ℕ) (u a : ℕ) → AreAlike p q → FitsOn p loads u a → FitsOn q loads u a

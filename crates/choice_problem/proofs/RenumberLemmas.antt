@@ -1,5 +1,5 @@
 -- Trees over fewer vectors, or over vectors in another order.
-use Rattle.std.proofs.Common.{◌≡◌, ℕ, zero, suc, ◌<◌, ◌≤◌, refl, sym, ◌∙◌, ap, subst, arith, inl, inr, List, [], ◌∷◌, ◌++◌, length, map, get_or, Option, Some, None}
+use Rattle.std.proofs.Common.{◌≡◌, ℕ, ◌≤◌, refl, sym, ◌∙◌, ap, subst, arith, inl, inr, List, [], ◌∷◌, ◌++◌, length, map, get_or, Option, Some}
 use Rattle.std.specs.Prelude.{All, Contains}
 use Rattle.std.specs.List.{AllZip}
 use Rattle.std.proofs.lemmas.List.{get_or-map, length-map}
@@ -9,7 +9,7 @@ use Rattle.choice_problem.specs.declared.nodes.Node.{Node}
 use Rattle.choice_problem.specs.declared.nodes.Node.TheVariants.{Split, Leaf, Over, Undone}
 use Rattle.choice_problem.specs.Problems.{ProblemView}
 use Rattle.choice_problem.specs.Bounds.{whole_of}
-use Rattle.choice_problem.specs.Trees.{AreTrees, AreSound, NodeHolds, LeafHolds, IsWhole, vector_at, parts_of}
+use Rattle.choice_problem.specs.Trees.{AreTrees, AreSound, NodeHolds, LeafHolds, IsWhole, parts_of}
 use Rattle.choice_problem.specs.Grafts.{open_ranges}
 use Rattle.choice_problem.specs.Floors.{AreFloors}
 use Rattle.choice_problem.specs.Driven.{IsDrivenNode, AreDriven, IsDriven, RecordsBetween, Records}

@@ -10,8 +10,8 @@ use Rattle.choice_problem.specs.Bounds.{low_of, high_of, whole_of, priced_cost, 
 abbrev pub vector_of : ℕ → (ℕ → ℕ) → List Price
 vector_of zero prices = []
 vector_of (suc n) prices =
-    if prices n == 0 then vector_of n prices else vector_of n prices
-    ++ record { resource = n; price = pos (prices n) } ∷ []
+    if prices n == 0 then vector_of n prices
+    else vector_of n prices ++ record { resource = n; price = pos (prices n) } ∷ []
 
 -- the unit's first alternative in range that is least by 1024 times its cost and its uses at these prices
 abbrev pub priced_alt : ProblemView → List (ℕ × ℕ) → (ℕ → ℕ) → ℕ → ℕ
@@ -32,7 +32,8 @@ step_length step = 16384 / 2 ^ (step / 8)
 abbrev pub price_after : ProblemView → List (ℕ × ℕ) → ℕ → ℕ → ℕ
 price_after p ranges zero r = 0
 price_after p ranges (suc step) r =
-    (price_after p ranges step r + step_length step * priced_load p ranges (λ q. price_after p ranges step q) r)
+    (price_after p ranges step r
+    + step_length step * priced_load p ranges (λ q. price_after p ranges step q) r)
     - step_length step * limit_of p r
 
 abbrev pub step_vector : ProblemView → List (ℕ × ℕ) → ℕ → List Price

@@ -54,7 +54,8 @@ pub fn few_uses()
 pub fn closing_numbers()
     ensures cost { (p : ProblemView) (ranges : List (ℕ × ℕ)) (prices : List Price) (scale u : ℕ) →
         Closes p ranges prices scale (Some u)
-        ↔ (scale * u + priced prices (λ r. limit_of p r) < least_total p ranges prices scale + scale) }
+        ↔ (scale * u + priced prices (λ r. limit_of p r)
+        < least_total p ranges prices scale + scale) }
     ensures none { (p : ProblemView) (ranges : List (ℕ × ℕ)) (prices : List Price) (scale : ℕ) →
         Closes p ranges prices scale None
         ↔ ((scale ≡ 0) × (priced prices (λ r. limit_of p r) < least_total p ranges prices scale)) }

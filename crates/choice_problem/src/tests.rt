@@ -264,63 +264,64 @@ fn nodes_and_laws(rt: HostRuntime) -> Result<(), Fail> {
     Ok(())
 }
 
-// The ranges of three units.
-fn spans(ranges: &Ranges) -> Option<[(u32, u32); 3]> {
-    if ranges.len() != 3 {
+// The ranges of the three units at a place of the list, if there is one.
+fn spans(pieces: &[Ranges], place: usize) -> Option<[(u32, u32); 3]> {
+    if place >= pieces.len() || pieces[place].len() != 3 {
         return None;
     }
-    Some([0, 1, 2].map(|unit| (ranges.low(unit), ranges.high(unit))))
+    let ranges = &pieces[place];
+    Some([
+        (ranges.low(0), ranges.high(0)),
+        (ranges.low(1), ranges.high(1)),
+        (ranges.low(2), ranges.high(2)),
+    ])
 }
 
-// The ranges of the first undone nodes of a tree on three units of two alternatives, if it is one tree.
+// The first two ranges of undone nodes of a tree on three units of two alternatives, if the nodes are one tree.
 fn pieces(
     alloc: Global,
     nodes: &[Node],
     most: usize,
-) -> Result<Option<Vec<Option<[(u32, u32); 3]>>>, Fail> {
+) -> Result<Option<[Option<[(u32, u32); 3]>; 2]>, Fail> {
     let problem = three(alloc)?;
-    let Some(pieces) = open_pieces(alloc, Ranges::whole(alloc, &problem)?, nodes, most)? else {
-        return Ok(None);
-    };
-    let mut found = Vec::new(alloc);
-    for piece in &pieces {
-        found.push(spans(piece))?;
+    let found = open_pieces(alloc, Ranges::whole(alloc, &problem)?, nodes, most)?;
+    Ok(match &found {
+        Some(pieces) => Some([spans(pieces, 0), spans(pieces, 1)]),
+        None => None,
+    })
+}
+
+fn split(unit: u32) -> Node {
+    Node::Split {
+        unit,
+        cut: 1,
+        seen: None,
     }
-    Ok(Some(found))
 }
 
 #[test]
 fn undone_ranges_of_trees(rt: HostRuntime) -> Result<(), Fail> {
     let alloc = rt.alloc();
-    let split = |unit| Node::Split {
-        unit,
-        cut: 1,
-        seen: None,
-    };
     let over = Node::Over { resource: 0 };
+    // the low part of unit 1, then the high parts of units 1 and 0
     let low = Some([(0, 1), (0, 0), (0, 1)]);
     let high = Some([(1, 1), (1, 1), (0, 1)]);
+    let tree = [split(1), Node::Undone, split(0), over, Node::Undone];
+    let whole = [split(1), over, over];
+    // a split of one alternative, a node too few and one too many
+    let narrow = [split(1), split(1), over, over, over];
+    let short = [split(1), over];
+    let long = [over, over];
     let table = [
-        // the low part of unit 1, then the high parts of units 1 and 0
-        (
-            [split(1), Node::Undone, split(0), over, Node::Undone].as_slice(),
-            9,
-            Some([low, high].as_slice()),
-        ),
-        (
-            &[split(1), Node::Undone, split(0), over, Node::Undone],
-            1,
-            Some(&[low]),
-        ),
-        (&[split(1), over, over], 9, Some(&[])),
-        // a split of one alternative, a node too few and one too many
-        (&[split(1), split(1), over, over, over], 9, None),
-        (&[split(1), over], 9, None),
-        (&[over, over], 9, None),
+        (tree.as_slice(), 9, Some([low, high])),
+        (&tree, 1, Some([low, None])),
+        (&whole, 9, Some([None, None])),
+        (&narrow, 9, None),
+        (&short, 9, None),
+        (&long, 9, None),
     ];
     for (nodes, most, want) in table {
-        let found = pieces(alloc, nodes, most)?;
-        assert_eq!(rt; found.as_deref(), want, "{nodes:?}");
+        assert_eq!(rt; pieces(alloc, nodes, most)?, want, "{nodes:?}");
     }
     Ok(())
 }

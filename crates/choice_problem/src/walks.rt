@@ -140,7 +140,8 @@ fn go_down(
     ensures length { length ranges.new ≡ length ranges.old }
     ensures frames { AreFrames (length ranges.new) frames.new.items }
     ensures walk { IfOk result (λ on. walk_of on ranges.new (reverse frames.new.items) ≡
-        low_part ranges.old unit cut ∷ high_part ranges.old unit cut ∷ pending_of ranges.old (reverse frames.old.items)) }
+        low_part ranges.old unit cut ∷ high_part ranges.old unit cut
+        ∷ pending_of ranges.old (reverse frames.old.items)) }
 {
     let low = ranges.low(unit);
     let high = ranges.high(unit);

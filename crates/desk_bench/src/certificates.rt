@@ -4,7 +4,7 @@ ghost use Rattle.std.specs.Prelude.{IfOk};
 ghost use Rattle.cert_format.specs.Printable.{IsPrintable};
 
 use crate::report::{Size, step};
-use cert_format::{CertFault, Certificate, print_cert, read_cert};
+use cert_format::{CertFault, Certificate, LONGEST_CERT, print_cert, read_cert};
 use slot_text::{Memory, put_number};
 use std::alloc::Global;
 use std::time::Instant;
@@ -50,7 +50,7 @@ fn speed(rt: &HostRuntime, size: Size, bytes: usize, start: Instant) -> anyhow::
 fn read(alloc: Global, text: &[u8]) -> Result<Certificate, CertFault>
     ensures { IfOk result (λ cert. IsPrintable cert) }
 {
-    if text.len() >= 1 << 31 {
+    if text.len() > LONGEST_CERT {
         return Err(CertFault::Memory);
     }
     read_cert(alloc, text)

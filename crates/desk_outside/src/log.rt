@@ -16,6 +16,11 @@ impl Model for Log {
     ghost also_owns = { λ _. ftrue };
 }
 
+// It owns nothing.
+unsafe impl Send for Log {}
+
+unsafe impl Sync for Log {}
+
 /// What one call let through.
 #[derive(Clone, Copy, Drop)]
 pub(crate) enum Note<'a> {

@@ -168,3 +168,17 @@ fn pass<G: Gate>(gate: &G, worker: u32) -> u32 {
 fn the_gate_of_the_program_holds_nobody(rt: HostRuntime) {
     assert_eq!(rt; pass(&RealGate, 0), 2);
 }
+
+/// Takes what may go to another thread and be shared there.
+fn share<T: Send + Sync>(_value: &T) -> bool {
+    true
+}
+
+#[test]
+fn objects_in_memory_may_go_to_other_threads(rt: HostRuntime) -> Result<(), Fail> {
+    let alloc = rt.alloc();
+    let cabinet = MemoryCabinet::new(alloc, 1, 1, Vec::new(alloc))?;
+    let sink = MemorySink::new(alloc, 1, Vec::new(alloc))?;
+    assert!(rt; share(&cabinet) && share(&sink));
+    Ok(())
+}

@@ -1,11 +1,13 @@
 -- Floors of ranges by one vector more.
-use Rattle.std.proofs.Common.{◌≡◌, ℕ, zero, suc, ◌+◌, ◌<◌, ◌≤◌, refl, sym, ◌∙◌, ap, arith, add-one, List, [], inl, inr}
+use Rattle.std.proofs.Common.{◌≡◌, ℕ, zero, suc, ◌+◌, ◌<◌, ◌≤◌, refl, sym, ◌∙◌, ap, arith, add-one, List, [], Option, inl, inr}
 use Rattle.std.specs.Prelude.{slice_index_or}
 use Rattle.std.proofs.lemmas.Bool.{cases_lt}
 use Rattle.choice_problem.specs.declared.vectors.Price.{Price}
 use Rattle.choice_problem.specs.Problems.{ProblemView}
 use Rattle.finite_sums.proofs.SumLemmas.{least_within-one, least_within-more}
-use Rattle.dual_bound.specs.Stated.{IsFloorBy, floor_by, priced_floor}
+use Rattle.choice_problem.specs.Bounds.{Closes}
+use Rattle.choice_problem.specs.Trees.{vector_at}
+use Rattle.dual_bound.specs.Stated.{IsFloorBy, floor_by, priced_floor, scale_at}
 
 pub ruleset least_steps = (least_within-one, least_within-more)
 
@@ -46,3 +48,8 @@ module _ (p : ProblemView) (ranges : List (ℕ × ℕ)) (vectors : List (List Pr
     ];
     first = h.first;
   }
+
+-- what the next vector closes, by its number
+pub closes-next : (p : ProblemView) (ranges : List (ℕ × ℕ)) (vectors : List (List Price)) (n : ℕ) (prices : List Price) (seen : Option ℕ) →
+    slice_index_or vectors n [] ≡ prices → Closes p ranges prices 1024 seen → Closes p ranges (vector_at vectors (n + 1)) (scale_at (n + 1)) seen
+closes-next p ranges vectors n prices seen e h = rw (add-one, e) h

@@ -27,7 +27,8 @@ scale_at zero = 1
 scale_at (suc k) = 1024
 
 -- the greatest floor by vector 0 and the first n listed ones, and the lowest vector that gives it
-pub record IsFloorBy (p : ProblemView) (ranges : List (ℕ × ℕ)) (vectors : List (List Price)) (n floor vector : ℕ) : Type 0 where
+pub record IsFloorBy (p : ProblemView) (ranges : List (ℕ × ℕ)) (vectors : List (List Price))
+    (n floor vector : ℕ) : Type 0 where
   pub there : vector ≤ n
   pub value : floor ≡ floor_by p ranges vectors vector
   pub greatest : (k : ℕ) → k ≤ n → floor_by p ranges vectors k ≤ floor
@@ -35,4 +36,5 @@ pub record IsFloorBy (p : ProblemView) (ranges : List (ℕ × ℕ)) (vectors : L
 
 -- the stated floor of ranges: by all vectors
 abbrev pub IsStatedFloor : ProblemView → List (ℕ × ℕ) → List (List Price) → ℕ → ℕ → Type 0
-IsStatedFloor p ranges vectors floor vector = IsFloorBy p ranges vectors (length vectors) floor vector
+IsStatedFloor p ranges vectors floor vector =
+    IsFloorBy p ranges vectors (length vectors) floor vector

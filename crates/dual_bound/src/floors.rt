@@ -27,7 +27,8 @@ pub fn floor_of(problem: &Problem, ranges: &Ranges, tables: &[PriceTable]) -> Fl
     requires ranges { AreRanges problem.now ranges.now }
     requires tables { All (IsTableFor problem.now) tables.now }
     requires few { length tables.now ≤ 64 }
-    ensures floor { IsStatedFloor problem.now ranges.now (vectors_of tables.now) result.cost result.vector }
+    ensures floor { IsStatedFloor problem.now ranges.now (vectors_of tables.now) result.cost
+        result.vector }
     ensures closes { LeafHolds problem.now (vectors_of tables.now) (Some result.cost) ranges.now
         result.vector (scale_at result.vector) }
 {

@@ -34,7 +34,8 @@ pub(crate) struct Best {
 
 // The prices of a point, as the first best ones.
 pub(crate) fn first_best(alloc: Global, here: &Point) -> Result<Best, Memory>
-    ensures { IfOk result (λ best. (best.prices.items ≡ here.now.prices.items) × (best.bound ≡ here.now.bound)) }
+    ensures { IfOk result (λ best.
+        (best.prices.items ≡ here.now.prices.items) × (best.bound ≡ here.now.bound)) }
 {
     Ok(Best {
         prices: Vec::from_slice(alloc, &here.prices)?,
@@ -45,9 +46,12 @@ pub(crate) fn first_best(alloc: Global, here: &Point) -> Result<Best, Memory>
 // The best prices, or those of a point whose bound is greater.
 pub(crate) fn better(alloc: Global, best: Best, here: &Point) -> Result<Best, Memory>
     ensures greatest { IfOk result (λ better. (p : ProblemView) (ranges : List (ℕ × ℕ)) (n : ℕ) →
-        IsPoint p ranges 1024 here.now.prices.items here.now.loads.items here.now.bound → IsAfter p ranges (n + 1) here.now.prices.items →
-        IsGreatestUpTo p ranges n best.prices.items best.bound → IsGreatestUpTo p ranges (n + 1) better.prices.items better.bound) }
-    ensures prices { IfOk result (λ better. (p : ProblemView) → ArePrices p best.prices.items → ArePrices p here.now.prices.items →
+        IsPoint p ranges 1024 here.now.prices.items here.now.loads.items here.now.bound →
+        IsAfter p ranges (n + 1) here.now.prices.items →
+        IsGreatestUpTo p ranges n best.prices.items best.bound →
+        IsGreatestUpTo p ranges (n + 1) better.prices.items better.bound) }
+    ensures prices { IfOk result (λ better. (p : ProblemView) → ArePrices p best.prices.items →
+        ArePrices p here.now.prices.items →
         ArePrices p better.prices.items) }
 {
     if here.bound > best.bound {
@@ -66,8 +70,10 @@ pub(crate) fn start(
 ) -> Result<Point, Memory>
     requires ranges { AreRanges problem.now ranges.now }
     requires scale { scale < 2 ^ 20 }
-    ensures point { IfOk result (λ point. IsPoint problem.now ranges.now scale point.prices.items point.loads.items point.bound) }
-    ensures free { IfOk result (λ point. (r : ℕ) → r < resource_count problem.now → slice_index point.prices.items r ≡ 0) }
+    ensures point { IfOk result (λ point. IsPoint problem.now ranges.now scale point.prices.items
+        point.loads.items point.bound) }
+    ensures free { IfOk result (λ point. (r : ℕ) → r < resource_count problem.now →
+        slice_index point.prices.items r ≡ 0) }
 {
     let prices = vec![in alloc; 0; problem.resources() as usize]?;
     evaluate(alloc, problem, ranges, prices, scale)
@@ -84,7 +90,8 @@ pub(crate) fn evaluate(
     requires ranges { AreRanges problem.now ranges.now }
     requires prices { ArePrices problem.now prices.items }
     requires scale { scale < 2 ^ 20 }
-    ensures point { IfOk result (λ point. IsPoint problem.now ranges.now scale point.prices.items point.loads.items point.bound) }
+    ensures point { IfOk result (λ point. IsPoint problem.now ranges.now scale point.prices.items
+        point.loads.items point.bound) }
     ensures same { IfOk result (λ point. point.prices.items ≡ prices.items) }
 {
     price_vectors();
@@ -111,7 +118,8 @@ fn difference(one: u128, other: u128) -> i128
 // The limits at their prices.
 fn priced_limits(problem: &Problem, prices: &[u64]) -> u128
     requires { ArePrices problem.now prices.now }
-    ensures value { result ≡ priced (vector_in problem.now prices.now) (λ r. limit_of problem.now r) }
+    ensures value { result ≡ priced (vector_in problem.now prices.now)
+        (λ r. limit_of problem.now r) }
     ensures small { result < 2 ^ 126 }
 {
     let mut total = 0;
@@ -137,11 +145,15 @@ fn take_least(
     requires scale { scale < 2 ^ 20 }
     requires count { length loads.old ≡ resource_count problem.now }
     requires empty { (r : ℕ) → r < length loads.old → slice_index loads.old r ≡ 0 }
-    ensures total { IfOk result (λ total. (prices : List Price) → IsPricedBy problem.now prices strips.old →
+    ensures total { IfOk result (λ total. (prices : List Price) →
+        IsPricedBy problem.now prices strips.old →
         total ≡ least_total problem.now ranges.now prices scale) }
-    ensures loads { IfOk result (λ _. (prices : List Price) → IsPricedBy problem.now prices strips.old → (r : ℕ) → r < length loads.old →
-        slice_index loads.new r ≡ least_alt_load problem.now ranges.now prices scale (unit_count problem.now) r) }
-    ensures few { IfOk result (λ _. (r : ℕ) → r < length loads.old → slice_index loads.new r ≤ 4096 * 434) }
+    ensures loads { IfOk result (λ _. (prices : List Price) →
+        IsPricedBy problem.now prices strips.old → (r : ℕ) → r < length loads.old →
+        slice_index loads.new r ≡ least_alt_load problem.now ranges.now prices scale
+        (unit_count problem.now) r) }
+    ensures few { IfOk result (λ _. (r : ℕ) → r < length loads.old → slice_index loads.new r
+        ≤ 4096 * 434) }
     ensures small { IfOk result (λ total. total < 2 ^ 126) }
     ensures same { strips.new ≡ strips.old }
 {
@@ -169,11 +181,15 @@ fn take_unit(
     requires scale { scale < 2 ^ 20 }
     requires count { length loads.old ≡ resource_count problem.now }
     requires room { HasRoom loads.old (λ _. 434) }
-    ensures cost { IfOk result (λ cost. (prices : List Price) → IsPricedBy problem.now prices strips.old →
+    ensures cost { IfOk result (λ cost. (prices : List Price) →
+        IsPricedBy problem.now prices strips.old →
         cost ≡ unit_least problem.now ranges.now prices scale unit) }
-    ensures loads { IfOk result (λ _. (prices : List Price) → IsPricedBy problem.now prices strips.old →
-        GrowsBy loads.old loads.new (λ r. alt_uses problem.now unit (least_alt problem.now ranges.now prices scale unit) r)) }
-    ensures few { IfOk result (λ _. (r : ℕ) → r < length loads.old → slice_index loads.new r ≤ slice_index loads.old r + 434) }
+    ensures loads { IfOk result (λ _. (prices : List Price) →
+        IsPricedBy problem.now prices strips.old →
+        GrowsBy loads.old loads.new (λ r. alt_uses problem.now unit
+        (least_alt problem.now ranges.now prices scale unit) r)) }
+    ensures few { IfOk result (λ _. (r : ℕ) → r < length loads.old → slice_index loads.new r
+        ≤ slice_index loads.old r + 434) }
     ensures small { IfOk result (λ cost. cost < 2 ^ 101) }
     ensures same { strips.new ≡ strips.old }
 {
@@ -194,7 +210,8 @@ pub(crate) fn move_prices(
     requires prices { ArePrices problem.now prices.now }
     requires count { length loads.now ≡ resource_count problem.now }
     requires step { step ≤ 16384 }
-    ensures moved { IfOk result (λ moved. AreMoved problem.now prices.now loads.now step moved.items) }
+    ensures moved { IfOk result (λ moved. AreMoved problem.now prices.now loads.now step
+        moved.items) }
     ensures prices { IfOk result (λ moved. ArePrices problem.now moved.items) }
 {
     let mut moved = Vec::with_capacity(alloc, prices.len())?;

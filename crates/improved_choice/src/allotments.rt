@@ -105,7 +105,8 @@ impl<'a> Allotment<'a> {
         requires alt { alt < alt_count self.old.problem unit }
         requires none { taken_at self.old.alts unit ≡ None }
         ensures problem { self.new.problem ≡ self.old.problem }
-        ensures fits { IsTrue result ↔ FitsOn self.old.problem (allotted_load self.old.problem self.old.alts) unit alt }
+        ensures fits { IsTrue result ↔ FitsOn self.old.problem
+            (allotted_load self.old.problem self.old.alts) unit alt }
         ensures placed { IsTrue result → self.new.alts ≡ slice_set self.old.alts unit (Some alt) }
         ensures left { result ≡ false → self.new.alts ≡ self.old.alts }
     {

@@ -37,7 +37,8 @@ pub(crate) fn exchanged(
 ) -> Result<Choice, Memory>
     requires { IsFeasible problem.now choice }
     ensures feasible { IfOk result (IsFeasible problem.now) }
-    ensures cost { IfOk result (λ found. choice_cost problem.now found ≤ choice_cost problem.now choice) }
+    ensures cost { IfOk result (λ found. choice_cost problem.now found
+        ≤ choice_cost problem.now choice) }
 {
     let orders = orders_of(alloc, problem, None)?;
     let mut draws = Draws::new();

@@ -22,7 +22,8 @@ pub(crate) fn draw_group(
     draws: &mut Draws,
 ) -> Result<Vec<u32>, Memory>
     requires { 0 < unit_count allotment.now.problem }
-    ensures { IfOk result (λ group. All (λ unit. unit < unit_count allotment.now.problem) group.items) }
+    ensures { IfOk result (λ group. All
+        (λ unit. unit < unit_count allotment.now.problem) group.items) }
 {
     let unit = draws.below(allotment.problem().units() as usize) as u32;
     let mut group = vec![in alloc; unit]?;

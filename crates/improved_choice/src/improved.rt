@@ -59,7 +59,8 @@ fn cheaper(
     requires start { ForSome (option_copied start) (IsFeasible problem.now) }
     requires found { IfSome found (IsFeasible problem.now) }
     ensures feasible { IfOk result (λ choice. IfSome choice (IsFeasible problem.now)) }
-    ensures start { IfOk result (λ choice. CostsAtMost problem.now (option_copied start.entry) choice) }
+    ensures start { IfOk result (λ choice. CostsAtMost problem.now (option_copied start.entry)
+        choice) }
     ensures found { IfOk result (λ choice. CostsAtMost problem.now found choice) }
 {
     let Some(start) = start else {

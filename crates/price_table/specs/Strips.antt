@@ -25,7 +25,8 @@ pub record IsSpread (n : ℕ) (prices : List Price) (spread : List ℕ) : Type 0
 -- at each place k the first k numbers, added up
 pub record AreSums (numbers sums : List ℕ) : Type 0 where
   pub count : length sums ≡ length numbers + 1
-  pub each : (k : ℕ) → k ≤ length numbers → slice_index sums k ≡ sum_below k (λ r. slice_index numbers r)
+  pub each : (k : ℕ) → k ≤ length numbers → slice_index sums k
+      ≡ sum_below k (λ r. slice_index numbers r)
 
 -- the same for the prices of a vector
 pub record AreSumsOf (n : ℕ) (prices : List Price) (sums : List ℕ) : Type 0 where
@@ -55,8 +56,10 @@ pub record IsPricedBy (p : ProblemView) (prices : List Price) (sums : List ℕ) 
 
 -- the unit's first alternative in range that is least by the scaled cost and the uses at their prices
 abbrev pub least_alt : ProblemView → List (ℕ × ℕ) → List Price → ℕ → ℕ → ℕ
-least_alt p ranges prices scale u = first_least (low_of ranges u) (high_of ranges u) (λ a. priced_cost p prices scale u a)
+least_alt p ranges prices scale u = first_least (low_of ranges u) (high_of ranges u)
+    (λ a. priced_cost p prices scale u a)
 
 -- that least
 abbrev pub unit_least : ProblemView → List (ℕ × ℕ) → List Price → ℕ → ℕ → ℕ
-unit_least p ranges prices scale u = least_within (low_of ranges u) (high_of ranges u) (λ a. priced_cost p prices scale u a)
+unit_least p ranges prices scale u = least_within (low_of ranges u) (high_of ranges u)
+    (λ a. priced_cost p prices scale u a)

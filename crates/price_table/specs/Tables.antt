@@ -25,12 +25,15 @@ named_price parts (Some k) = slice_index parts k
 
 -- what alternative a uses costs
 abbrev pub uses_price : List Alt → List ℕ → ℕ → ℕ
-uses_price alts parts a = named_price parts (alt_in alts a).one + named_price parts (alt_in alts a).two
+uses_price alts parts a =
+    named_price parts (alt_in alts a).one + named_price parts (alt_in alts a).two
 
 -- a number for each part of the unit, such that the uses of each alternative cost what they cost at the prices
-pub record PricesUnit (p : ProblemView) (prices : List Price) (u : ℕ) (parts : List ℕ) : Type 0 where
+pub record PricesUnit (p : ProblemView) (prices : List Price) (u : ℕ)
+    (parts : List ℕ) : Type 0 where
   pub count : length parts ≡ part_count p u
-  pub uses : (a : ℕ) → a < alt_count p u → uses_price (chooser_at p u).alts parts a ≡ priced prices (λ r. alt_uses p u a r)
+  pub uses : (a : ℕ) → a < alt_count p u → uses_price (chooser_at p u).alts parts a
+      ≡ priced prices (λ r. alt_uses p u a r)
 
 -- the table's vector is one for the problem, and all uses and the limits are priced at it
 pub record IsTableFor (p : ProblemView) (t : TableView) : Type 0 where

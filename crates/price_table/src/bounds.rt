@@ -39,7 +39,13 @@ fn least_total(problem: &Problem, ranges: &Ranges, table: &PriceTable, scale: u6
 }
 
 // A unit's least priced cost in its range.
-pub(crate) fn unit_least(problem: &Problem, ranges: &Ranges, table: &PriceTable, unit: u32, scale: u64) -> u128
+pub(crate) fn unit_least(
+    problem: &Problem,
+    ranges: &Ranges,
+    table: &PriceTable,
+    unit: u32,
+    scale: u64,
+) -> u128
     requires ranges { AreRanges problem.now ranges.now }
     requires table { IsTableFor problem.now table.now }
     requires unit { unit < unit_count problem.now }
@@ -73,7 +79,8 @@ pub(crate) fn first_least(alts: &[Alt], low: u32, high: u32, prices: &[u128], sc
     requires priceable { ArePriceable alts.now prices.now }
     requires scale { scale < 2 ^ 20 }
     ensures alt { result.alt ≡ first_least low high (λ a. unit_cost alts.now prices.now scale a) }
-    ensures cost { result.cost ≡ least_within low high (λ a. unit_cost alts.now prices.now scale a) }
+    ensures cost { result.cost ≡ least_within low high
+        (λ a. unit_cost alts.now prices.now scale a) }
     ensures there { result.alt ≤ high }
     ensures small { result.cost < 2 ^ 101 }
 {
@@ -97,7 +104,8 @@ fn priced_cost(alt: &Alt, prices: &[u128], scale: u64) -> u128
     requires two { ForSome alt.now.two (λ k. k < length prices.now) }
     requires uses { named_price prices.now alt.now.one + named_price prices.now alt.now.two < 2 ^ 100 }
     requires scale { scale < 2 ^ 20 }
-    ensures value { result ≡ scale * alt.now.cost + (named_price prices.now alt.now.one + named_price prices.now alt.now.two) }
+    ensures value { result
+        ≡ scale * alt.now.cost + (named_price prices.now alt.now.one + named_price prices.now alt.now.two) }
     ensures small { result < 2 ^ 101 }
 {
     u128::from(scale * alt.cost) + named_prices(alt, prices)

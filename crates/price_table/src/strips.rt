@@ -73,11 +73,7 @@ impl StripPrices {
     ghost use Rattle.price_table.specs.Strips.{least_alt, unit_least};
 
     /// The sums of these prices, one below 2^40 for each resource, and no strip priced yet: one step a resource.
-    pub fn new(
-        alloc: Global,
-        problem: &Problem,
-        prices: &[u64],
-    ) -> Result<StripPrices, Memory>
+    pub fn new(alloc: Global, problem: &Problem, prices: &[u64]) -> Result<StripPrices, Memory>
         requires { ArePrices problem.now prices.now }
         ensures sums { IfOk result (λ sums. AreSums prices.now sums) }
         ensures few { IfOk result (λ _. resource_count problem.now ≤ 1000000) }
@@ -105,8 +101,10 @@ impl StripPrices {
     ) -> Result<UnitPrices, Memory>
         requires unit { unit < unit_count problem.now }
         requires sums { length self.old ≡ resource_count problem.now + 1 }
-        ensures parts { IfOk result (λ parts. parts ≡ map (λ strips. capped_cost self.old strips) (chooser_at problem.now unit).parts) }
-        ensures priced { IfOk result (λ parts. (prices : List Price) → AreSumsOf (resource_count problem.now) prices self.old →
+        ensures parts { IfOk result (λ parts. parts
+            ≡ map (λ strips. capped_cost self.old strips) (chooser_at problem.now unit).parts) }
+        ensures priced { IfOk result (λ parts. (prices : List Price) →
+            AreSumsOf (resource_count problem.now) prices self.old →
             PricesUnit problem.now prices unit parts) }
         ensures same { self.new ≡ self.old }
     {
@@ -133,9 +131,11 @@ impl StripPrices {
         requires priced { (prices : List Price) × IsPricedBy problem.now prices self.old }
         requires sums { length self.old ≡ resource_count problem.now + 1 }
         requires scale { scale < 2 ^ 20 }
-        ensures alt { IfOk result (λ least. (prices : List Price) → IsPricedBy problem.now prices self.old →
+        ensures alt { IfOk result (λ least. (prices : List Price) →
+            IsPricedBy problem.now prices self.old →
             least.alt ≡ least_alt problem.now ranges.now prices scale unit) }
-        ensures cost { IfOk result (λ least. (prices : List Price) → IsPricedBy problem.now prices self.old →
+        ensures cost { IfOk result (λ least. (prices : List Price) →
+            IsPricedBy problem.now prices self.old →
             least.cost ≡ unit_least problem.now ranges.now prices scale unit) }
         ensures there { IfOk result (λ least. least.alt < alt_count problem.now unit) }
         ensures small { IfOk result (λ least. least.cost < 2 ^ 101) }

@@ -1,2 +1,2 @@
-pub mod DayLemmas
-pub mod SameLemmas
+mod DayLemmas
+mod SameLemmas

@@ -1,8 +1,11 @@
--- A text names one time of the day and one set of weekdays.
-use Rattle.std.proofs.Common.{◌≡◌, ℕ, ◌+◌, ◌*◌, ◌/◌, ◌%◌, ◌<◌, List, length, get_or, sym, ap, ◌∙◌, arith, inl, inr}
+-- A text names one time of the day, one set of weekdays and one kind of movements.
+use Rattle.std.proofs.Common.{◌≡◌, ℕ, ◌+◌, ◌*◌, ◌/◌, ◌%◌, ◌<◌, List, length, get_or, eqb, cond, refl, sym, ap, ◌∙◌, arith, inl, inr}
 use Rattle.schedule_text.specs.Days.{days_text, IsDays}
 use Rattle.schedule_text.specs.Bits.{bit_of_place, digit_bits}
 use Rattle.schedule_text.specs.Times.{time_text}
+use Rattle.season_days.specs.declared.declaration.Kind.{Kind}
+use Rattle.season_days.specs.declared.declaration.Kind.TheVariants.{Arr, Dep, Tot}
+use Rattle.schedule_text.specs.Kinds.{kind_text}
 use Rattle.schedule_text.proofs.DayLemmas.{bits_again, rising_again}
 
 pub time_same : (a b : ℕ) → a < 1440 → b < 1440 → time_text a ≡ time_text b → a ≡ b
@@ -35,3 +38,15 @@ days_same text a b x y =
             sym (rising_again a x.week (omega (arith, rising.2, ap length rising.0))) ∙ ap digit_bits (sym rising.0 ∙ other.0) ∙ rising_again b y.week (omega (arith, other.2, ap length other.0))
       ]
     ]
+
+kind_from : List ℕ → Kind
+kind_from text = cond (eqb (get_or text 0 0) 65) Arr (cond (eqb (get_or text 0 0) 68) Dep Tot)
+
+kind_again : (kind : Kind) → kind_from (kind_text kind) ≡ kind
+unfolding kind_from
+kind_again Arr = refl
+kind_again Dep = refl
+kind_again Tot = refl
+
+pub kind_same : (a b : Kind) → kind_text a ≡ kind_text b → a ≡ b
+kind_same a b e = sym (kind_again a) ∙ ap kind_from e ∙ kind_again b

@@ -1,3 +1,4 @@
+pub mod Kinds
 pub mod Times
 pub mod Days
 pub mod Bits

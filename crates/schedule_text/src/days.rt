@@ -2,8 +2,9 @@ ghost use Rattle.std.specs.Prelude.{◌≡◌, ◌<◌, ◌≤◌, ◌↔◌, �
 ghost use Rattle.schedule_text.specs.Days.{IsDays, days_text, place_of_day, rising_text, rising_digit};
 ghost use Rattle.schedule_text.specs.Bits.{bit_of_place, digit_bit, digit_bits};
 
-/// The days of operation that the text names, bit 0 for Monday to bit 6 for Sunday: seven places, each with the digit of its weekday or
-/// 0 (`1030500`), or one to six rising digits (`135`). None for every other text.
+/// The days of operation that the text names, bit 0 for Monday to bit 6 for Sunday: seven places,
+/// each with the digit of its weekday or 0 (`1030500`), or one to six rising digits (`135`). None
+/// for every other text.
 pub fn read_weekdays(text: &[u8]) -> Option<u8>
     ensures found { IfSome result (λ days. IsDays text.now days) }
     ensures only { (days : ℕ) → IsDays text.now days → result ≡ Some days }
@@ -16,8 +17,11 @@ pub fn read_weekdays(text: &[u8]) -> Option<u8>
 
 /// The weekdays of one to six rising digits.
 fn read_rising(text: &[u8]) -> Option<u8>
-    ensures found { IfSome result (λ days. (days < 128) × (text.now ≡ rising_text days) × (1 ≤ length text.now) × (length text.now ≤ 6)) }
-    ensures only { (days : ℕ) → days < 128 → text.now ≡ rising_text days → 1 ≤ length text.now → length text.now ≤ 6 → result ≡ Some days }
+    ensures found { IfSome result
+        (λ days. (days < 128) × (text.now ≡ rising_text days) × (1 ≤ length text.now)
+        × (length text.now ≤ 6)) }
+    ensures only { (days : ℕ) → days < 128 → text.now ≡ rising_text days → 1 ≤ length text.now →
+        length text.now ≤ 6 → result ≡ Some days }
 {
     if text.is_empty() {
         return None;
@@ -103,7 +107,8 @@ fn strip_week(days: u8, text: &[u8]) -> Option<&[u8]>
 fn strip_day(days: u8, weekday: u8, text: &[u8]) -> Option<&[u8]>
     requires { (1 ≤ weekday) × (weekday ≤ 7) }
     ensures found { IfSome result (λ rest. text.now ≡ rising_digit days weekday ++ rest.now) }
-    ensures only { (rest : List ℕ) → text.now ≡ rising_digit days weekday ++ rest → IsSomeAnd result (λ r. r.now ≡ rest) }
+    ensures only { (rest : List ℕ) → text.now ≡ rising_digit days weekday ++ rest →
+        IsSomeAnd result (λ r. r.now ≡ rest) }
 {
     if (days >> (weekday - 1)) % 2 != 1 {
         return Some(text);
@@ -114,8 +119,8 @@ fn strip_day(days: u8, weekday: u8, text: &[u8]) -> Option<&[u8]>
     }
 }
 
-/// The days of operation that seven places name, bit 0 for Monday: each place has the digit of its weekday or 0 (`1030500`). None for
-/// every other text.
+/// The days of operation that seven places name, bit 0 for Monday: each place has the digit of its
+/// weekday or 0 (`1030500`). None for every other text.
 pub fn read_places(text: &[u8]) -> Option<u8>
     ensures found { IfSome result (λ days. (days < 128) × (text.now ≡ days_text days)) }
     ensures only { (days : ℕ) → days < 128 → text.now ≡ days_text days → result ≡ Some days }

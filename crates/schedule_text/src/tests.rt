@@ -1,4 +1,5 @@
 use super::*;
+use season_days::Kind;
 
 #[test]
 fn times_are_four_digits_of_a_day(rt: HostRuntime) {
@@ -44,4 +45,19 @@ fn weekdays_have_two_spellings(rt: HostRuntime) {
     assert_eq!(rt; read_places(b"1030500"), Some(21));
     assert_eq!(rt; read_places(b"135"), None);
     assert_eq!(rt; places_of(21), *b"1030500");
+}
+
+#[test]
+fn kinds_have_words(rt: HostRuntime) {
+    for (text, want) in [
+        ("ARR", Some(Kind::Arr)),
+        ("DEP", Some(Kind::Dep)),
+        ("TOT", Some(Kind::Tot)),
+        ("arr", None),
+        ("ARRX", None),
+        ("", None),
+    ] {
+        assert_eq!(rt; read_kind(text.as_bytes()), want, "at {text}");
+    }
+    assert_eq!(rt; kind_text(Kind::Dep), *b"DEP");
 }

@@ -1,13 +1,18 @@
 ghost use Rattle.std.specs.Prelude.{◌≡◌, ◌<◌, ℕ, IfSome, Some};
+ghost use Rattle.season_days.specs.declared.declaration.TheConstants.{MINUTES_OF_DAY};
 ghost use Rattle.schedule_text.specs.Times.{two_digits, time_text};
 
 const HOURS_OF_DAY: u8 = 24;
 
-/// The minute of the day that the text names: two digits of hours and two of minutes, from `0000` to `2359`. None for every
-/// other text.
+const MINUTES_OF_HOUR: u8 = 60;
+
+/// The minute of the day that the text names: two digits of hours and two of minutes, from `0000`
+/// to `2359`. None for every other text.
 pub fn read_time(text: &[u8]) -> Option<u16>
-    ensures found { IfSome result (λ minute. (minute < 1440) × (text.now ≡ time_text minute)) }
-    ensures only { (minute : ℕ) → minute < 1440 → text.now ≡ time_text minute → result ≡ Some minute }
+    ensures found { IfSome result
+        (λ minute. (minute < MINUTES_OF_DAY) × (text.now ≡ time_text minute)) }
+    ensures only { (minute : ℕ) → minute < MINUTES_OF_DAY → text.now ≡ time_text minute →
+        result ≡ Some minute }
 {
     if text.len() != 4 {
         return None;
@@ -18,10 +23,10 @@ pub fn read_time(text: &[u8]) -> Option<u16>
     if hour >= HOURS_OF_DAY {
         return None;
     }
-    if minute >= 60 {
+    if minute >= MINUTES_OF_HOUR {
         return None;
     }
-    Some(60 * u16::from(hour) + u16::from(minute))
+    Some(u16::from(MINUTES_OF_HOUR) * u16::from(hour) + u16::from(minute))
 }
 
 /// The number below 100 that exactly two digits spell, as `07`. None for every other text.

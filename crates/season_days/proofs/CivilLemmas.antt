@@ -4,7 +4,7 @@ use Rattle.std.specs.Int.{IsInRange}
 use Rattle.std.proofs.lemmas.Bool.{lt-ltb, le-ltb, le-leb, lt-leb, ne_eqb, eq-eqb, cases_lt, cases_eq}
 use Rattle.jiff_core.specs.declared.civil.date.Date.{Date}
 use Rattle.jiff_core.specs.Calendar.{day_count, days_from_civil, days_in_month, IsYear, IsCivilDate, IsEpochDay}
-use Rattle.jiff_core.proofs.SignedLemmas.{signed_arith}
+use Rattle.std.proofs.lemmas.Int.{ints}
 use Rattle.jiff_core.proofs.CalendarLemmas.{days_from_civil-day_count, days_in_month_bounds, day_count_bounds, day_count-lt_month, day_count-year_is, day_count-next_year, day_count-day_of_year, day_of_year_bound}
 use Rattle.jiff_core.proofs.DateLemmas.{epoch_day_injective, days_from_civil-day, days_from_civil-next_month, days_from_civil-next_year}
 use Rattle.jiff.specs.Words.{epoch_day}
@@ -28,7 +28,7 @@ next_day : (number : ℤ) (date : CivilDate) → IsAt number date → date.of_mo
     → IsNext number date (record { year = date.year; month = date.month; of_month = date.of_month + 1 })
 next_day number date is lt =
     let moved = days_from_civil-day (pos date.year) date.month date.of_month (date.of_month + 1) is.day_in.0 (omega arith) in
-    (record { month_in = is.month_in; day_in = (omega arith, omega arith); number_is = omega (arith, signed_arith, moved, is.number_is) }, omega arith)
+    (record { month_in = is.month_in; day_in = (omega arith, omega arith); number_is = omega (arith, ints, moved, is.number_is) }, omega arith)
 
 next_month : (number : ℤ) (date : CivilDate) → IsAt number date → days_in_month (pos date.year) date.month ≤ date.of_month → date.month < 12
     → IsNext number date (record { year = date.year; month = date.month + 1; of_month = 1 })
@@ -48,7 +48,7 @@ next_year number date is le december =
     let last : date.of_month ≡ 31 = omega (arith, day_in, long) in
     let number_is : days_from_civil (pos date.year) 12 31 ≡ number = rw (← december, ← last) is.number_is in
     let bounds = days_in_month_bounds (pos (date.year + 1)) 1 in
-    let moved = days_from_civil-next_year (pos date.year) (pos (date.year + 1)) (omega (arith, signed_arith)) (omega (arith, signed_arith)) in
+    let moved = days_from_civil-next_year (pos date.year) (pos (date.year + 1)) (omega (arith, ints)) (omega (arith, ints)) in
     (record { month_in = (omega arith, omega arith); day_in = (omega arith, omega (arith, bounds)); number_is = moved ∙ ap (λ (z : ℤ). z +ℤ pos 1) number_is }, omega arith)
 
 next_at : (number : ℤ) (date : CivilDate) → IsAt number date → IsNext number date (next_date date)
@@ -69,7 +69,7 @@ first_is_at : (season : Term) → IsAt (first_number season +ℤ pos 0) (date_at
 unfolding date_at
 first_is_at season =
     let sunday = is_last_sunday (pos (first_year season)) (first_month season.half) in
-    record { month_in = first_month_in season.half; day_in = sunday.in_month; number_is = omega (arith, signed_arith) }
+    record { month_in = first_month_in season.half; day_in = sunday.in_month; number_is = omega (arith, ints) }
 
 -- each date of the list is a date of the calendar, and the day numbers go up by one
 pub is_at : (season : Term) (day : ℕ) → IsAt (first_number season +ℤ pos day) (date_at season day) × ((date_at season day).year ≤ first_year season + day)
@@ -78,7 +78,7 @@ is_at season zero = (first_is_at season, omega arith)
 is_at season (suc day) =
     let before = is_at season day in
     let after = next_at (first_number season +ℤ pos day) (date_at season day) before.0 in
-    let number : first_number season +ℤ pos day +ℤ pos 1 ≡ first_number season +ℤ pos (suc day) = omega (arith, signed_arith) in
+    let number : first_number season +ℤ pos day +ℤ pos 1 ≡ first_number season +ℤ pos (suc day) = omega (arith, ints) in
     (subst (λ (z : ℤ). IsAt z (next_date (date_at season day))) number after.0, omega (arith, after.1, before.1))
 
 -- the library's date of the first day
@@ -91,7 +91,7 @@ civil_at : (season : Term) (day : ℕ) → season.year < 100 → day ≤ date_co
 civil_at season day small le =
     let at = is_at season day in
     let few = date_count_small season in
-    ((omega (arith, signed_arith), omega (arith, signed_arith, at.1, few, le, small)), at.0.month_in, at.0.day_in)
+    ((omega (arith, ints), omega (arith, ints, at.1, few, le, small)), at.0.month_in, at.0.day_in)
 
 date_from : (y : ℤ) (m d : ℕ) → IsCivilDate y m d → Date
 date_from y m d civil = record { year = y; month = m; day = d; year_in = civil.0; month_in = civil.1; day_in = civil.2 }
@@ -106,7 +106,7 @@ in_calendar season day n small lt e =
     let civil = civil_at season day small (omega (arith, lt)) in
     let bounds = day_count_bounds _ _ _ civil in
     let number = (is_at season day).0.number_is in
-    (omega (arith, signed_arith, days_from_civil-day_count, bounds, number, e), omega (arith, signed_arith, days_from_civil-day_count, bounds, number, e))
+    (omega (arith, ints, days_from_civil-day_count, bounds, number, e), omega (arith, ints, days_from_civil-day_count, bounds, number, e))
 
 -- the library's date with the day number is the civil date
 pub date_is : (season : Term) (day : ℕ) (d : Date) → season.year < 100 → day ≤ date_count season → epoch_day d ≡ first_number season +ℤ pos day → HasDate d (date_at season day)
@@ -129,20 +129,20 @@ date_after_is season small =
     let sunday = is_last_sunday (pos (year_after season.half (first_year season))) (month_after season.half) in
     let year = year_after_small season.half (first_year season) in
     let same = same_date _ _ _ (pos (year_after season.half (first_year season))) (month_after season.half) _ (civil_at season (date_count season) small (omega arith))
-    ((omega (arith, signed_arith), omega (arith, signed_arith, year, small)), month_after_in season.half, sunday.in_month)
+    ((omega (arith, ints), omega (arith, ints, year, small)), month_after_in season.half, sunday.in_month)
     ((is_at season (date_count season)).0.number_is ∙ date_count-after season) in
     let year_is = same.0 in
-    (omega (arith, signed_arith, year_is), same.1, same.2)
+    (omega (arith, ints, year_is), same.1, same.2)
 
 -- ---- the year of a date
 
 count_at : (season : Term) (day : ℕ) → day_count (pos (date_at season day).year) (date_at season day).month (date_at season day).of_month
     ≡ day_count (pos (first_year season)) (first_month season.half) (last_sunday (pos (first_year season)) (first_month season.half)) + day
-count_at season day = let number = (is_at season day).0.number_is in omega (arith, signed_arith, days_from_civil-day_count, number)
+count_at season day = let number = (is_at season day).0.number_is in omega (arith, ints, days_from_civil-day_count, number)
 
 count_after : (season : Term) → day_count (pos (year_after season.half (first_year season))) (month_after season.half) (last_sunday (pos (year_after season.half (first_year season))) (month_after season.half))
     ≡ day_count (pos (first_year season)) (first_month season.half) (last_sunday (pos (first_year season)) (first_month season.half)) + date_count season
-count_after season = let after = date_count-after season in omega (arith, signed_arith, days_from_civil-day_count, after)
+count_after season = let after = date_count-after season in omega (arith, ints, days_from_civil-day_count, after)
 
 -- a date from a last Sunday of the year on, and before another one or the year's end
 in_year : (y y₂ : ℤ) (m d : ℕ) → IsYear y → IsCivilDate y₂ m d → day_count y 1 1 ≤ day_count y₂ m d → (later : ℕ) → IsInRange 1 12 later → day_count y₂ m d < day_count y later (last_sunday y later) → y₂ ≡ y
@@ -160,7 +160,7 @@ year_begins y m low =
     omega (arith, day_count-day_of_year y m (last_sunday y m) range.2, range.2)
 
 is_year : (n : ℕ) → n ≤ 2100 → IsYear (pos n)
-is_year n le = (omega (arith, signed_arith), omega (arith, signed_arith, le))
+is_year n le = (omega (arith, ints), omega (arith, ints, le))
 
 -- a date of a year that is not before the last Sunday of a month is of that month or a later one
 month_from : (y y₂ : ℤ) (m d first : ℕ) → y₂ ≡ y → IsCivilDate y₂ m d → day_count y first (last_sunday y first) ≤ day_count y₂ m d → first ≤ m
@@ -199,7 +199,7 @@ year_of Summer y date is =
     let small = is.small in
     let from = is.from in
     let e = in_year (pos y) (pos date.year) date.month date.of_month (is_year y (omega (arith, small))) is.civil (omega (arith, begins, from)) 10 (omega arith, omega arith) is.to in
-    omega (arith, signed_arith, e)
+    omega (arith, ints, e)
 year_of Winter y date is =
     let small = is.small in
     let from = is.from in
@@ -208,14 +208,14 @@ year_of Winter y date is =
     elim (cases_lt (day_count (pos date.year) date.month date.of_month) (day_count (pos (y + 1)) 1 1)) [
       | inl before ↦
           let begins = year_begins (pos y) 10 (omega arith) in
-          let turn = day_count-next_year (pos y) (pos (y + 1)) (omega (arith, signed_arith)) (omega (arith, signed_arith)) in
+          let turn = day_count-next_year (pos y) (pos (y + 1)) (omega (arith, ints)) (omega (arith, ints)) in
           let e = day_count-year_is (pos y) (pos date.year) date.month date.of_month year is.civil (omega (arith, begins, from)) (omega (arith, before, turn)) in
           let late = month_from (pos y) (pos date.year) date.month date.of_month 10 e is.civil from in
-          rw (lt-leb date.month 6 (omega (arith, late))) (omega (arith, signed_arith, e))
+          rw (lt-leb date.month 6 (omega (arith, late))) (omega (arith, ints, e))
       | inr after ↦
           let e = in_year (pos (y + 1)) (pos date.year) date.month date.of_month next is.civil after 3 (omega arith, omega arith) is.to in
           let early = month_to (pos (y + 1)) (pos date.year) date.month date.of_month 3 e next (omega arith, omega arith) is.civil.2.0 is.to in
-          rw (le-leb date.month 6 (omega (arith, early))) (omega (arith, signed_arith, e))
+          rw (le-leb date.month 6 (omega (arith, early))) (omega (arith, ints, e))
     ]
 
 year_at : (season : Term) (day : ℕ) → season.year < 100 → day < date_count season → (date_at season day).year ≡ year_of_month season.half (first_year season) (date_at season day).month
@@ -231,7 +231,7 @@ civil_named : (season : Term) (month of_month : ℕ) → NamesDate season month 
 civil_named season month of_month named =
     let month_in = named.1 in
     let day_in = named.2 in
-    (named.0, (omega (arith, signed_arith, month_in), omega (arith, signed_arith, month_in)), (omega (arith, signed_arith, day_in), omega (arith, signed_arith, day_in)))
+    (named.0, (omega (arith, ints, month_in), omega (arith, ints, month_in)), (omega (arith, ints, day_in), omega (arith, ints, day_in)))
 
 -- the civil date of the day that a month and a day of the month name
 pub named_at : (season : Term) (month of_month day : ℕ) → season.year < 100 → IsDayNamed season month of_month day → ((date_at season day).month ≡ month) × ((date_at season day).of_month ≡ of_month)
@@ -250,7 +250,7 @@ at_named season day small lt =
     let is_year : IsYear (pos (year_of_month season.half (first_year season) (date_at season day).month)) = rw (← year) civil.0 in
     let number : days_from_civil (pos (date_at season day).year) (date_at season day).month (date_at season day).of_month ≡ number_named season (date_at season day).month (date_at season day).of_month =
     ap (λ (y : ℕ). days_from_civil (pos y) (date_at season day).month (date_at season day).of_month) year in (
-      (is_year, (omega (arith, signed_arith, month_in), omega (arith, signed_arith, month_in)), (omega (arith, signed_arith, day_in), omega (arith, signed_arith, day_in))),
+      (is_year, (omega (arith, ints, month_in), omega (arith, ints, month_in)), (omega (arith, ints, day_in), omega (arith, ints, day_in))),
       sym (is_at season day).0.number_is ∙ number,
       lt,
     )
@@ -263,4 +263,4 @@ pub outside_after : (season : Term) (month of_month n : ℕ) (first date : Date)
     → days ≡ epoch_day date -ℤ epoch_day first → days ≡ pos n → date_count season ≤ n → IsOutside season (number_named season month of_month)
 outside_after season month of_month n first date days f d e same le =
     let after = date_count-after season in
-    inr (omega (arith, signed_arith, f, d, e, same, le, after))
+    inr (omega (arith, ints, f, d, e, same, le, after))

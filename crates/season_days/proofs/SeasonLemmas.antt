@@ -4,7 +4,7 @@ use Rattle.std.proofs.Common.{true}
 use Rattle.std.proofs.lemmas.Bool.{agree_below_at}
 use Rattle.jiff_core.specs.declared.civil.date.Date.{Date}
 use Rattle.jiff_core.specs.Calendar.{days_from_civil, days_in_month, days_of_months, weekday_number}
-use Rattle.jiff_core.proofs.SignedLemmas.{signed_arith}
+use Rattle.std.proofs.lemmas.Int.{ints}
 use Rattle.jiff_core.proofs.CalendarLemmas.{days_from_civil-day_count, day_count-day_of_year, days_of_months_more, days_of_months-zero, days_in_month_bounds, weekday_number-add, weekday_number_bound}
 use Rattle.jiff_core.proofs.DateLemmas.{weekday_number-day, days_from_civil-next_year}
 use Rattle.jiff.specs.Words.{epoch_day, IsNthWeekdayOfMonth}
@@ -48,7 +48,7 @@ autumn_months y = omega (arith, days_of_months_more y 11 (omega arith), days_of_
 
 -- what the library says of the last Sunday of a date's month
 pub found_last_sunday : (within d : Date) → IsNthWeekdayOfMonth within (negsuc 0) Sunday d → (d.year ≡ within.year) × (d.month ≡ within.month) × IsLastSunday d.year d.month d.day
-found_last_sunday within d is = (is.0.0, is.0.1, record { in_month = d.day_in; sunday = is.0.2; last = omega (arith, signed_arith, is.1.0, d.day_in.1) })
+found_last_sunday within d is = (is.0.0, is.0.1, record { in_month = d.day_in; sunday = is.0.2; last = omega (arith, ints, is.1.0, d.day_in.1) })
 
 -- the day number of a last Sunday
 pub last_sunday_at : (y : ℤ) (m : ℕ) (d : Date) → d.year ≡ y → d.month ≡ m → IsLastSunday d.year d.month d.day → epoch_day d ≡ last_sunday_number y m
@@ -59,13 +59,13 @@ last_sunday_at y m d year month is =
 
 -- a day number by its place in the year
 by_place : (y : ℤ) (m d : ℕ) → 1 ≤ d → days_from_civil y m d +ℤ pos 1 ≡ days_from_civil y 1 1 +ℤ pos (days_of_months y (m - 1) + d)
-by_place y m d low = omega (arith, signed_arith, days_from_civil-day_count, day_count-day_of_year y m d low)
+by_place y m d low = omega (arith, ints, days_from_civil-day_count, day_count-day_of_year y m d low)
 
 -- 1 January of the next year
 next_january : (y : ℕ) → days_from_civil (pos (y + 1)) 1 1 ≡ days_from_civil (pos y) 1 1 +ℤ pos (days_of_months (pos y) 11 + 31)
 next_january y =
-    let first = days_from_civil-next_year (pos y) (pos (y + 1)) (omega (arith, signed_arith)) (omega (arith, signed_arith)) in
-    omega (arith, signed_arith, first, by_place (pos y) 12 31 (omega arith))
+    let first = days_from_civil-next_year (pos y) (pos (y + 1)) (omega (arith, ints)) (omega (arith, ints)) in
+    omega (arith, ints, first, by_place (pos y) 12 31 (omega arith))
 
 early_months : (y : ℤ) → days_of_months y 2 ≡ 31 + days_in_month y 2
 early_months y = omega (arith, days_of_months_more y 2 (omega arith), days_of_months_more y 1 (omega arith), days_of_months-zero y)
@@ -80,7 +80,7 @@ summer_length y =
     let b = last_sunday_range y 10 in
     let n = 214 + last_sunday y 10 - last_sunday y 3 in
     let e : last_sunday_number y 10 ≡ last_sunday_number y 3 +ℤ pos n =
-    omega (arith, signed_arith, by_place y 3 (last_sunday y 3) a.2, by_place y 10 (last_sunday y 10) b.2, summer_months y, a.0, a.1, b.0, b.1) in
+    omega (arith, ints, by_place y 3 (last_sunday y 3) a.2, by_place y 10 (last_sunday y 10) b.2, summer_months y, a.0, a.1, b.0, b.1) in
     let weeks = whole_weeks _ _ n (is_sunday y 3) (is_sunday y 10) e in
     (n, (sym e, omega (arith, weeks, a.0, a.1, b.0, b.1), omega (arith, weeks, a.0, a.1, b.0, b.1)))
 
@@ -91,7 +91,7 @@ winter_length y =
     let early = early_months (pos (y + 1)) in
     let n = (92 + days_of_months (pos (y + 1)) 2 + last_sunday (pos (y + 1)) 3) - last_sunday (pos y) 10 in
     let e : last_sunday_number (pos (y + 1)) 3 ≡ last_sunday_number (pos y) 10 +ℤ pos n =
-    omega (arith, signed_arith, by_place (pos y) 10 (last_sunday (pos y) 10) a.2, by_place (pos (y + 1)) 3 (last_sunday (pos (y + 1)) 3) b.2, next_january y, autumn_months (pos y), a.0, a.1, b.0, b.1, early, days_in_month_bounds (pos (y + 1)) 2) in
+    omega (arith, ints, by_place (pos y) 10 (last_sunday (pos y) 10) a.2, by_place (pos (y + 1)) 3 (last_sunday (pos (y + 1)) 3) b.2, next_january y, autumn_months (pos y), a.0, a.1, b.0, b.1, early, days_in_month_bounds (pos (y + 1)) 2) in
     let weeks = whole_weeks _ _ n (is_sunday (pos y) 10) (is_sunday (pos (y + 1)) 3) e in
     (n, (sym e, omega (arith, weeks, a.0, a.1, b.0, b.1, early, days_in_month_bounds (pos (y + 1)) 2), omega (arith, weeks, a.0, a.1, b.0, b.1, early, days_in_month_bounds (pos (y + 1)) 2)))
 
@@ -111,7 +111,7 @@ season_length season = half_length season.half (first_year season)
 pub length_from : (season : Term) (first after : Date) (days : ℤ) → epoch_day first ≡ first_number season → epoch_day after ≡ number_after season → days ≡ epoch_day after -ℤ epoch_day first → (n : ℕ) × ((days ≡ pos n) × HasLength season n × (n ≤ 217) × (147 ≤ n))
 length_from season first after days f a d =
     let n = season_length season in
-    (n.0, (omega (arith, signed_arith, f, a, d, n.1.0), n.1.0, n.1.1, n.1.2))
+    (n.0, (omega (arith, ints, f, a, d, n.1.0), n.1.0, n.1.1, n.1.2))
 
 -- the first date of a season is a Sunday
 pub weekday_of_day : (season : Term) (day : ℕ) → (day % 7 + 6) % 7 + 1 ≡ weekday_on season day
@@ -123,7 +123,7 @@ weekday_of_day season day =
 -- the number of dates is the length
 pub date_count-is : (season : Term) (n : ℕ) → HasLength season n → n ≡ date_count season
 unfolding date_count
-date_count-is season n h = let e : number_after season -ℤ first_number season ≡ pos n = omega (arith, signed_arith, h) in rw e refl
+date_count-is season n h = let e : number_after season -ℤ first_number season ≡ pos n = omega (arith, ints, h) in rw e refl
 
 -- the season that follows begins after so many dates
 pub date_count-after : (season : Term) → first_number season +ℤ pos (date_count season) ≡ number_after season
@@ -154,6 +154,13 @@ pub is_on-week : (season : Term) (days x y : ℕ) → x % 7 ≡ y % 7 → is_on 
 unfolding is_on
 is_on-week season days x y same =
     let e : weekday_on season x ≡ weekday_on season y = omega (arith, weekday_of_day season x, weekday_of_day season y, same) in
+    ap (λ (w : ℕ). eqb ((days / 2 ^ (w - 1)) % 2) 1) e
+
+-- each season begins on the same weekday
+pub is_on-seasons : (season other : Term) (days day : ℕ) → is_on season days day ≡ is_on other days day
+unfolding is_on
+is_on-seasons season other days day =
+    let e : weekday_on season day ≡ weekday_on other day = sym (weekday_of_day season day) ∙ weekday_of_day other day in
     ap (λ (w : ℕ). eqb ((days / 2 ^ (w - 1)) % 2) 1) e
 
 -- every weekday is in the whole week

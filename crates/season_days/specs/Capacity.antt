@@ -1,4 +1,5 @@
--- What of a declaration its windows depend on: how many windows there are, and the limits that a declaration keeps.
+-- What of a declaration its windows depend on: how many windows there are, and the limits that a
+-- declaration keeps.
 use Rattle.std.specs.Prelude.{ℕ, ◌+◌, ◌*◌, ◌-◌, ◌/◌, ◌<◌, ◌≤◌, if◌then◌else◌, is_some, List, length, sum_by, All, Option}
 use Rattle.std.specs.Option.{ForSome}
 use Rattle.season_days.specs.Term.{Term}
@@ -16,7 +17,12 @@ pub record Capacity : Type 0 where
   pub rules : List Rule
 
 abbrev pub capacity_of : Declaration → Capacity
-capacity_of declaration = record { season = declaration.season; step = declaration.step; night = declaration.night; rules = declaration.rules }
+capacity_of declaration = record {
+  season = declaration.season;
+  step = declaration.step;
+  night = declaration.night;
+  rules = declaration.rules;
+}
 
 -- a window begins at the rule's first minute, and then each step up to its last
 abbrev pub start_of : ℕ → Rule → ℕ → ℕ
@@ -47,7 +53,8 @@ pub record IsCapacity (c : Capacity) : Type 0 where
   pub night : ForSome c.night (λ night. night.limit ≤ HIGHEST_NIGHT_LIMIT)
   pub few : declared_resources c ≤ MOST_WINDOWS
 
--- what a declaration keeps: the limits of its capacity, and those of the price of a refusal and of the share of new entrants
+-- what a declaration keeps: the limits of its capacity, and those of the price of a refusal and of
+-- the share of new entrants
 pub record IsDeclaration (d : Declaration) : Type 0 where
   pub capacity : IsCapacity (capacity_of d)
   pub price : ForSome d.refuse (λ price. price ≤ HIGHEST_REFUSAL_PRICE)

@@ -1,4 +1,5 @@
--- Periods beside one another: their common dates, and what is left of one where the dates of another are taken out.
+-- Periods beside one another: their common dates, and what is left of one where the dates of
+-- another are taken out.
 use Rattle.std.specs.Prelude.{◌⊎◌, ℕ, ◌+◌, ◌-◌, min, max, nat_lt, if◌then◌else◌, bit_and, bit_xor, List, [], ◌∷◌, All, Contains, Option, Some, None}
 use Rattle.season_days.specs.Term.{Term}
 use Rattle.season_days.specs.Seasons.{dates_of}
@@ -7,11 +8,13 @@ use Rattle.season_days.specs.declared.day.Cut.{Cut}
 
 -- some day is a date of both
 abbrev pub SharesDate : Term → Period → Period → Type 0
-SharesDate season one other = (day : ℕ) × Contains (dates_of season one) day × Contains (dates_of season other) day
+SharesDate season one other = (day : ℕ) × Contains (dates_of season one) day
+    × Contains (dates_of season other) day
 
 -- each date of the period that is asked is one of the period that is held
 abbrev pub HasAllDates : Term → Period → Period → Type 0
-HasAllDates season held asked = (day : ℕ) → Contains (dates_of season asked) day → Contains (dates_of season held) day
+HasAllDates season held asked = (day : ℕ) → Contains (dates_of season asked) day →
+    Contains (dates_of season held) day
 
 -- ---- a cut: the asked period is taken out of the held one
 
@@ -23,7 +26,11 @@ days_without days others = bit_xor days (bit_and days others)
 abbrev pub part_before : Period → Period → Option Period
 part_before held asked =
     if nat_lt held.first.0 asked.first.0
-    then Some (record { first = held.first; last = record { 0 = min held.last.0 (asked.first.0 - 1) }; days = held.days })
+    then Some (record {
+      first = held.first;
+      last = record { 0 = min held.last.0 (asked.first.0 - 1) };
+      days = held.days;
+    })
     else None
 
 -- the held days from the first asked one to the last, on the weekdays that are not asked
@@ -39,7 +46,11 @@ part_between held asked =
 abbrev pub part_after : Period → Period → Option Period
 part_after held asked =
     if nat_lt asked.last.0 held.last.0
-    then Some (record { first = record { 0 = max held.first.0 (asked.last.0 + 1) }; last = held.last; days = held.days })
+    then Some (record {
+      first = record { 0 = max held.first.0 (asked.last.0 + 1) };
+      last = held.last;
+      days = held.days;
+    })
     else None
 
 -- a part that has dates
@@ -69,4 +80,5 @@ part_dates season (Some part) = dates_of season part
 abbrev pub IsInOne : ℕ → List (List ℕ) → Type 0
 IsInOne day [] = ⊥
 IsInOne day (days ∷ lists) =
-    (Contains days day × All (λ others. Contains others day → ⊥) lists) ⊎ ((Contains days day → ⊥) × IsInOne day lists)
+    (Contains days day × All (λ others. Contains others day → ⊥) lists)
+    ⊎ ((Contains days day → ⊥) × IsInOne day lists)

@@ -17,7 +17,8 @@ half_letter Summer = 83
 half_letter Winter = 87
 
 abbrev pub season_text : Term → List ℕ
-season_text season = half_letter season.half ∷ (48 + season.year / 10) ∷ (48 + season.year % 10) ∷ []
+season_text season = half_letter season.half ∷ (48 + season.year / 10) ∷ (48 + season.year % 10)
+    ∷ []
 
 -- the season of the same half one year later
 abbrev pub same_season_next_year : Term → Term
@@ -49,7 +50,8 @@ first_number season = last_sunday_number (pos (first_year season)) (first_month 
 
 -- the day number of the date after the last: the Sunday with which the next season begins
 abbrev pub number_after : Term → ℤ
-number_after season = last_sunday_number (pos (year_after season.half (first_year season))) (month_after season.half)
+number_after season =
+    last_sunday_number (pos (year_after season.half (first_year season))) (month_after season.half)
 
 -- the season that follows: the winter of the same year, or the summer of the next
 abbrev pub half_after : Half → Half
@@ -57,7 +59,10 @@ half_after Summer = Winter
 half_after Winter = Summer
 
 abbrev pub season_after : Term → Term
-season_after season = record { half = half_after season.half; year = year_after season.half season.year }
+season_after season = record {
+  half = half_after season.half;
+  year = year_after season.half season.year;
+}
 
 -- ---- the days of a season. A number is a day of the season where it is below the number of dates
 
@@ -65,9 +70,14 @@ season_after season = record { half = half_after season.half; year = year_after 
 unfoldable pub date_count : Term → ℕ
 date_count season = unsigned_abs (number_after season -ℤ first_number season)
 
--- the civil date of a day: that of day 0 is the season's last Sunday of March or October, and each other one follows the one before
+-- the civil date of a day: that of day 0 is the season's last Sunday of March or October, and each
+-- other one follows the one before
 unfoldable pub date_at : Term → ℕ → CivilDate
-date_at season zero = record { year = first_year season; month = first_month season.half; of_month = last_sunday (pos (first_year season)) (first_month season.half) }
+date_at season zero = record {
+  year = first_year season;
+  month = first_month season.half;
+  of_month = last_sunday (pos (first_year season)) (first_month season.half);
+}
 date_at season (suc day) = next_date (date_at season day)
 
 -- so many days from a first one
@@ -92,15 +102,19 @@ year_of_month Winter year month = if nat_le month 6 then year + 1 else year
 
 -- a month and a day of the month name a date of the calendar, in the season's year of that month
 abbrev pub NamesDate : Term → ℕ → ℕ → Type 0
-NamesDate season month of_month = IsDate (pos (year_of_month season.half (first_year season) month)) (pos month) (pos of_month)
+NamesDate season month of_month =
+    IsDate (pos (year_of_month season.half (first_year season) month)) (pos month) (pos of_month)
 
 -- its day number
 abbrev pub number_named : Term → ℕ → ℕ → ℤ
-number_named season month of_month = days_from_civil (pos (year_of_month season.half (first_year season) month)) month of_month
+number_named season month of_month =
+    days_from_civil (pos (year_of_month season.half (first_year season) month)) month of_month
 
 -- and the day of the season
 abbrev pub IsDayNamed : Term → ℕ → ℕ → ℕ → Type 0
-IsDayNamed season month of_month day = NamesDate season month of_month × (first_number season +ℤ pos day ≡ number_named season month of_month) × (day < date_count season)
+IsDayNamed season month of_month day = NamesDate season month of_month
+    × (first_number season +ℤ pos day ≡ number_named season month of_month)
+    × (day < date_count season)
 
 -- a date before the first or after the last
 abbrev pub IsOutside : Term → ℤ → Type 0
@@ -125,7 +139,9 @@ is_on season days day = has_weekday days (weekday_on season day)
 
 -- the days from the first to the last whose weekday is in the set
 abbrev pub dates_of : Term → Period → List ℕ
-dates_of season period = filter (is_on season period.days) (days_from period.first.0 (period.last.0 + 1 - period.first.0))
+dates_of season period =
+    filter (is_on season period.days)
+    (days_from period.first.0 (period.last.0 + 1 - period.first.0))
 
 abbrev pub IsDatesFault : DayFault → Type 0
 IsDatesFault NoSuchDate = ⊥

@@ -6,15 +6,20 @@ use crate::season::Season;
 use std::alloc::Global;
 
 impl Season {
-    /// The day of the season that a month (1 to 12) and a day of the month name. In a winter season the months July to
-    /// December are those of the first year and January to June those of the second.
+    /// The day of the season that a month (1 to 12) and a day of the month name. In a winter season
+    /// the months July to December are those of the first year and January to June those of the
+    /// second.
     ///
-    /// `NoSuchDate`: that year has no such date. `OutsideSeason`: it has, before the season's first date or after its last.
+    /// `NoSuchDate`: that year has no such date. `OutsideSeason`: it has, before the season's first
+    /// date or after its last.
     pub fn day_of(&self, month: u8, day: u8) -> Result<Day, DayFault>
         ensures found { IfOk result (λ found. IsDayNamed self.now month day found.0) }
-        ensures only { (found : ℕ) → IsDayNamed self.now month day found → result ≡ Ok (record { 0 = found }) }
-        ensures no_such_date { IsErrOf result DayFault.NoSuchDate ↔ ¬ (NamesDate self.now month day) }
-        ensures outside { IsErrOf result DayFault.OutsideSeason → NamesDate self.now month day × IsOutside self.now (number_named self.now month day) }
+        ensures only { (found : ℕ) → IsDayNamed self.now month day found →
+            result ≡ Ok (record { 0 = found }) }
+        ensures no_such_date { IsErrOf result DayFault.NoSuchDate ↔
+            ¬ (NamesDate self.now month day) }
+        ensures outside { IsErrOf result DayFault.OutsideSeason → NamesDate self.now month day
+            × IsOutside self.now (number_named self.now month day) }
         ensures no_other { IfErr result IsDayOfFault }
     {
         let Some(date) = self.date_named(month, day) else {
@@ -42,14 +47,16 @@ impl Season {
         (date.month, date.day)
     }
 
-    /// The dates of a period, in rising order: the days from first to last whose weekday is in the set. Time in
-    /// proportion to the number of days from first to last.
+    /// The dates of a period, in rising order: the days from first to last whose weekday is in the
+    /// set. Time in proportion to the number of days from first to last.
     ///
-    /// `Reversed`: the first day is after the last. `NoDates`: no day from first to last has one of the weekdays.
+    /// `Reversed`: the first day is after the last. `NoDates`: no day from first to last has one of
+    /// the weekdays.
     pub fn dates_of(&self, alloc: Global, period: Period) -> Result<Vec<Day>, DayFault>
         requires first { period.first.0 < date_count self.now }
         requires last { period.last.0 < date_count self.now }
-        ensures found { IfOk result (λ days. map (λ day. day.0) days.items ≡ dates_of self.now period) }
+        ensures found { IfOk result
+            (λ days. map (λ day. day.0) days.items ≡ dates_of self.now period) }
         ensures some { IfOk result (λ days. dates_of self.now period ≢ []) }
         ensures reversed { IsErrOf result DayFault.Reversed ↔ (period.last.0 < period.first.0) }
         ensures no_dates { IsErrOf result DayFault.NoDates → dates_of self.now period ≡ [] }

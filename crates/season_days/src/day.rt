@@ -10,7 +10,8 @@ use std::fmt;
 #[derive(Clone, Copy, Debug, PartialEq, Eq)]
 pub struct Day(pub u32);
 
-/// The days from first to last, both included, on some weekdays: bit 0 of `days` is Monday and bit 6 Sunday.
+/// The days from first to last, both included, on some weekdays: bit 0 of `days` is Monday and bit
+/// 6 Sunday.
 #[derive(Clone, Copy, Debug, PartialEq, Eq)]
 pub struct Period {
     pub first: Day,
@@ -18,9 +19,10 @@ pub struct Period {
     pub days: u8,
 }
 
-/// What is left of a period where the dates of another are taken out: its days before the other's first, those from the
-/// other's first to its last on the weekdays that the other lacks, and those after the other's last. None: that part has
-/// no date. The first and the last day of a part need not be dates of it.
+/// What is left of a period where the dates of another are taken out: its days before the other's
+/// first, those from the other's first to its last on the weekdays that the other lacks, and those
+/// after the other's last. None: that part has no date. The first and the last day of a part need
+/// not be dates of it.
 #[derive(Clone, Copy, Debug, PartialEq, Eq)]
 pub struct Cut {
     pub before: Option<Period>,

@@ -34,9 +34,9 @@ pub enum Kind {
     Tot,
 }
 
-/// A capacity line. On each day of the season whose weekday is in `days` (bit 0 is Monday) it has windows of `length`
-/// minutes, the first from minute `from` of the day and then one each step of the declaration up to minute `to`. No
-/// window may have more than `limit` movements of the kind.
+/// A capacity line. On each day of the season whose weekday is in `days` (bit 0 is Monday) it has
+/// windows of `length` minutes, the first from minute `from` of the day and then one each step of
+/// the declaration up to minute `to`. No window may have more than `limit` movements of the kind.
 #[derive(Clone, Copy, Debug, PartialEq, Eq)]
 pub struct Rule {
     pub kind: Kind,
@@ -47,8 +47,8 @@ pub struct Rule {
     pub limit: u32,
 }
 
-/// A quota of movements at night over the whole season. The night begins at minute `from` of the day and ends before
-/// minute `to`; where `from` is the later one it reaches over midnight.
+/// A quota of movements at night over the whole season. The night begins at minute `from` of the
+/// day and ends before minute `to`; where `from` is the later one it reaches over midnight.
 #[derive(Clone, Copy, Debug, PartialEq, Eq)]
 pub struct Night {
     pub from: u32,
@@ -99,7 +99,8 @@ impl RuleList {
 pub struct Declaration {
     pub airport: Station,
     pub season: Season,
-    /// Minutes between two times that may be offered, and between the starts of two windows of a line.
+    /// Minutes between two times that may be offered, and between the starts of two windows of a
+    /// line.
     pub step: u32,
     /// How many minutes at most a new request may be moved to either side.
     pub flex: u32,
@@ -107,7 +108,8 @@ pub struct Declaration {
     pub ground: u32,
     /// The part of the remaining capacity that new entrants may have first, in per cent.
     pub share: u32,
-    /// The price of a refused movement on one date, in minutes. Where there is none, nothing may be refused.
+    /// The price of a refused movement on one date, in minutes. Where there is none, nothing may be
+    /// refused.
     pub refuse: Option<u32>,
     pub night: Option<Night>,
     pub rules: RuleList,

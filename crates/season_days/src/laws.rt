@@ -10,21 +10,27 @@ ghost use Rattle.season_days.specs.Periods.{part_dates, cut_of, IsInOne};
 ghost use Rattle.season_days.specs.declared.day.Period.{Period};
 ghost use Rattle.season_days.specs.declared.season.TheConstants.{MOST_DATES};
 
-/// The number that `last_sunday` gives is the last Sunday of the month, and no other day of the month is.
+/// The number that `last_sunday` gives is the last Sunday of the month, and no other day of the
+/// month is.
 pub fn last_sundays()
-    ensures { (year : ℤ) (month of_month : ℕ) → IsLastSunday year month of_month ↔ (of_month ≡ last_sunday year month) }
+    ensures { (year : ℤ) (month of_month : ℕ) → IsLastSunday year month of_month ↔
+        (of_month ≡ last_sunday year month) }
 {}
 
 /// A month has from 28 to 31 days.
 pub fn month_lengths()
-    ensures { (year : ℤ) (month : ℕ) → (28 ≤ days_in_month year month) × (days_in_month year month ≤ 31) }
+    ensures { (year : ℤ) (month : ℕ) → (28 ≤ days_in_month year month)
+        × (days_in_month year month ≤ 31) }
 {}
 
-/// A season has from 147 to 217 dates, which are whole weeks, and the next season begins on the date after them.
+/// A season has from 147 to 217 dates, which are whole weeks, and the next season begins on the
+/// date after them.
 pub fn lengths()
-    ensures bounds { (season : Term) → (147 ≤ date_count season) × (date_count season ≤ MOST_DATES) }
+    ensures bounds { (season : Term) → (147 ≤ date_count season)
+        × (date_count season ≤ MOST_DATES) }
     ensures weeks { (season : Term) → date_count season % 7 ≡ 0 }
-    ensures after { (season : Term) → first_number season +ℤ pos (date_count season) ≡ number_after season }
+    ensures after { (season : Term) →
+        first_number season +ℤ pos (date_count season) ≡ number_after season }
 {}
 
 /// The date after a season's last is the first of the season that follows.
@@ -35,52 +41,79 @@ pub fn seasons_follow()
 /// Each season begins on a Sunday, and the weekdays follow one another.
 pub fn weekdays()
     ensures first { (season : Term) → weekday_on season 0 ≡ 7 }
-    ensures next { (season : Term) (day : ℕ) → weekday_on season (day + 1) ≡ weekday_on season day % 7 + 1 }
-    ensures bounds { (season : Term) (day : ℕ) → (1 ≤ weekday_on season day) × (weekday_on season day ≤ 7) }
+    ensures next { (season : Term) (day : ℕ) →
+        weekday_on season (day + 1) ≡ weekday_on season day % 7 + 1 }
+    ensures bounds { (season : Term) (day : ℕ) → (1 ≤ weekday_on season day)
+        × (weekday_on season day ≤ 7) }
 {}
 
-/// The list of a season's civil dates has them by their days. They have the day numbers from its first on, and after the last of them comes the last Sunday
-/// with which the next season begins.
+/// The list of a season's civil dates has them by their days. They have the day numbers from its
+/// first on, and after the last of them comes the last Sunday with which the next season begins.
 pub fn civil_dates()
     ensures count { (season : Term) → length (season_dates season) ≡ date_count season }
-    ensures listed { (season : Term) (day : ℕ) → day < date_count season → slice_get (season_dates season) day ≡ Some (date_at season day) }
-    ensures numbers { (season : Term) (day : ℕ) → days_from_civil (pos (date_at season day).year) (date_at season day).month (date_at season day).of_month ≡ first_number season +ℤ pos day }
-    ensures year_after { (season : Term) → season.year < 100 → (date_at season (date_count season)).year ≡ year_after season.half (first_year season) }
-    ensures month_after { (season : Term) → season.year < 100 → (date_at season (date_count season)).month ≡ month_after season.half }
-    ensures sunday_after { (season : Term) → season.year < 100 → IsLastSunday (pos (year_after season.half (first_year season))) (month_after season.half) (date_at season (date_count season)).of_month }
+    ensures listed { (season : Term) (day : ℕ) → day < date_count season →
+        slice_get (season_dates season) day ≡ Some (date_at season day) }
+    ensures numbers { (season : Term) (day : ℕ) →
+        days_from_civil (pos (date_at season day).year) (date_at season day).month
+        (date_at season day).of_month ≡ first_number season +ℤ pos day }
+    ensures year_after { (season : Term) → season.year < 100 →
+        (date_at season (date_count season)).year ≡ year_after season.half (first_year season) }
+    ensures month_after { (season : Term) → season.year < 100 →
+        (date_at season (date_count season)).month ≡ month_after season.half }
+    ensures sunday_after { (season : Term) → season.year < 100 →
+        IsLastSunday (pos (year_after season.half (first_year season))) (month_after season.half)
+        (date_at season (date_count season)).of_month }
 {}
 
-/// A month and a day of the month name a day of the season exactly where they are those of its civil date.
+/// A month and a day of the month name a day of the season exactly where they are those of its
+/// civil date.
 pub fn named_days()
     ensures { (season : Term) (month of_month day : ℕ) → season.year < 100 →
-        IsDayNamed season month of_month day ↔ ((day < date_count season) × ((date_at season day).month ≡ month) × ((date_at season day).of_month ≡ of_month)) }
+        IsDayNamed season month of_month day ↔
+        ((day < date_count season) × ((date_at season day).month ≡ month)
+        × ((date_at season day).of_month ≡ of_month)) }
 {}
 
-/// The same day of the week has the same answer, and the set of all seven weekdays has every day.
+/// The same day of the week has the same answer, also in another season, and the set of all seven
+/// weekdays has every day.
 pub fn weekday_sets()
-    ensures week { (season : Term) (days x y : ℕ) → x % 7 ≡ y % 7 → is_on season days x ≡ is_on season days y }
+    ensures week { (season : Term) (days x y : ℕ) → x % 7 ≡ y % 7 →
+        is_on season days x ≡ is_on season days y }
+    ensures seasons { (season other : Term) (days day : ℕ) →
+        is_on season days day ≡ is_on other days day }
     ensures every { (season : Term) (day : ℕ) → is_on season 127 day ≡ true }
 {}
 
-/// A day is a date of a period exactly where it lies from the first to the last and its weekday is in the set, and the
-/// dates stand in rising order.
+/// A day is a date of a period exactly where it lies from the first to the last and its weekday is
+/// in the set, and the dates stand in rising order. Days are counted from a season's first date, so
+/// another season has the same ones.
 pub fn period_dates()
-    ensures members { (season : Term) (period : Period) (day : ℕ) → Contains (dates_of season period) day ↔ ((period.first.0 ≤ day) × (day ≤ period.last.0) × (is_on season period.days day ≡ true)) }
-    ensures rising { (season : Term) (period : Period) → IsStrictlyIncreasing (dates_of season period) }
+    ensures members { (season : Term) (period : Period) (day : ℕ) →
+        Contains (dates_of season period) day ↔
+        ((period.first.0 ≤ day) × (day ≤ period.last.0) × (is_on season period.days day ≡ true)) }
+    ensures rising { (season : Term) (period : Period) →
+        IsStrictlyIncreasing (dates_of season period) }
+    ensures seasons { (season other : Term) (period : Period) →
+        dates_of season period ≡ dates_of other period }
 {}
 
-/// The parts of a cut have the held dates before the first asked day, those from it to the last asked day that are not
-/// asked, and those after it. So each held date is in exactly one of the asked period and the three parts.
+/// The parts of a cut have the held dates before the first asked day, those from it to the last
+/// asked day that are not asked, and those after it. So each held date is in exactly one of the
+/// asked period and the three parts.
 pub fn cuts()
     ensures before { (season : Term) (held asked : Period) (day : ℕ) →
-        Contains (part_dates season (cut_of season held asked).before) day ↔ (Contains (dates_of season held) day × (day < asked.first.0)) }
+        Contains (part_dates season (cut_of season held asked).before) day ↔
+        (Contains (dates_of season held) day × (day < asked.first.0)) }
     ensures between { (season : Term) (held asked : Period) (day : ℕ) →
         Contains (part_dates season (cut_of season held asked).between) day ↔
-        (Contains (dates_of season held) day × (asked.first.0 ≤ day) × (day ≤ asked.last.0) × (Contains (dates_of season asked) day → ⊥)) }
+        (Contains (dates_of season held) day × (asked.first.0 ≤ day) × (day ≤ asked.last.0)
+        × (Contains (dates_of season asked) day → ⊥)) }
     ensures after { (season : Term) (held asked : Period) (day : ℕ) →
-        Contains (part_dates season (cut_of season held asked).after) day ↔ (Contains (dates_of season held) day × (asked.last.0 < day)) }
+        Contains (part_dates season (cut_of season held asked).after) day ↔
+        (Contains (dates_of season held) day × (asked.last.0 < day)) }
     ensures once { (season : Term) (held asked : Period) (day : ℕ) →
         asked.first.0 ≤ asked.last.0 → Contains (dates_of season held) day →
         IsInOne day (dates_of season asked ∷ part_dates season (cut_of season held asked).before
-        ∷ part_dates season (cut_of season held asked).between ∷ part_dates season (cut_of season held asked).after ∷ []) }
+        ∷ part_dates season (cut_of season held asked).between
+        ∷ part_dates season (cut_of season held asked).after ∷ []) }
 {}

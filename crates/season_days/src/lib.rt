@@ -1,5 +1,5 @@
-//! The calendar of a season: its civil dates, counted from 0, their weekdays, and the dates of a period.
-//! The types of a capacity declaration stand here too.
+//! The calendar of a season: its civil dates, counted from 0, their weekdays, and the dates of a
+//! period. The types of a capacity declaration stand here too.
 #![tactic(auto)]
 
 mod dates;

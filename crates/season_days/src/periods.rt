@@ -75,7 +75,8 @@ impl Season {
         })
     }
 
-    /// Whether each date of the asked period is one of the held period. Time in proportion to the asked days.
+    /// Whether each date of the asked period is one of the held period. Time in proportion to the
+    /// asked days.
     pub fn has_all_dates(&self, held: Period, asked: Period) -> bool
         ensures { IsTrue result ↔ HasAllDates self.now held asked }
     {
@@ -92,12 +93,14 @@ impl Season {
 
     /// Whether a day has a weekday of a set, and is no date of a period.
     fn lacks(&self, held: Period, days: u8, day: Day) -> bool
-        ensures { IsTrue result ↔ ((is_on self.now days day.0 ≡ true) × (Contains (dates_of self.now held) day.0 → ⊥)) }
+        ensures { IsTrue result ↔
+            ((is_on self.now days day.0 ≡ true) × (Contains (dates_of self.now held) day.0 → ⊥)) }
     {
         self.is_on(days, day) && !self.has_date(held, day)
     }
 
-    /// The held period without the dates of the asked one, in up to three parts. Time in proportion to the held days.
+    /// The held period without the dates of the asked one, in up to three parts. Time in proportion
+    /// to the held days.
     pub fn cut(&self, held: Period, asked: Period) -> Cut
         ensures { result ≡ cut_of self.now held asked }
     {

@@ -16,11 +16,13 @@ pub const MOST_DATES: u32 = 217;
 pub enum Half {
     /// From the last Sunday of March to the Saturday before the last Sunday of October.
     Summer,
-    /// From the last Sunday of October to the Saturday before the last Sunday of March of the next year.
+    /// From the last Sunday of October to the Saturday before the last Sunday of March of the next
+    /// year.
     Winter,
 }
 
-/// A scheduling season of the Worldwide Airport Slot Guidelines: its half, and the year from 2000 to 2099 in which it begins.
+/// A scheduling season of the Worldwide Airport Slot Guidelines: its half, and the year from 2000
+/// to 2099 in which it begins.
 #[derive(Clone, Copy, Debug, PartialEq, Eq)]
 pub struct Season {
     half: Half,
@@ -41,11 +43,13 @@ impl Model for Season {
 }
 
 impl Season {
-    /// The season that a letter, `S` or `W`, and the last two digits of the year name. No other text names a season.
+    /// The season that a letter, `S` or `W`, and the last two digits of the year name. No other
+    /// text names a season.
     pub fn read(text: &[u8]) -> Option<Season>
         ensures found { IfSome result (λ season. text.now ≡ season_text season) }
         ensures digits { IfSome result (λ season. season.year < 100) }
-        ensures only { (season : Term) → season.year < 100 → text.now ≡ season_text season → result ≡ Some season }
+        ensures only { (season : Term) → season.year < 100 → text.now ≡ season_text season →
+            result ≡ Some season }
     {
         let [letter, tens @ b'0'..=b'9', ones @ b'0'..=b'9'] = text else {
             return None;
@@ -155,7 +159,9 @@ impl Season {
 
     /// The date that a month and a day of the month name, in the season's year of that month.
     pub(crate) fn date_named(&self, month: u8, day: u8) -> Option<Date>
-        ensures found { IfSome result (λ date. NamesDate self.now month day × (epoch_day date ≡ number_named self.now month day)) }
+        ensures found { IfSome result
+            (λ date. NamesDate self.now month day
+            × (epoch_day date ≡ number_named self.now month day)) }
         ensures none { IfNone result (¬ (NamesDate self.now month day)) }
     {
         let year = match self.half {

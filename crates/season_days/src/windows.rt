@@ -5,12 +5,18 @@ use crate::declaration::{MINUTES_OF_DAY, MOST_RULES, Night, Rule};
 use crate::season::{MOST_DATES, Season};
 
 impl Season {
-    /// How many windows the season has, the night quota counted as one, where times are so many minutes apart.
+    /// How many windows the season has, the night quota counted as one, where times are so many
+    /// minutes apart.
     pub fn count_windows(&self, step: u32, night: &Option<Night>, rules: &[Rule]) -> u64
         requires step { 0 < step }
         requires few { length rules.now ≤ MOST_RULES }
         requires rules { All IsRule rules.now }
-        ensures { result ≡ declared_resources (record { season = self.now; step = step; night = night.now; rules = rules.now }) }
+        ensures { result ≡ declared_resources (record {
+          season = self.now;
+          step = step;
+          night = night.now;
+          rules = rules.now;
+        }) }
     {
         let days = self.length();
         let mut count: u64 = 0;

@@ -37,7 +37,7 @@ date_below : (nights : ℕ) → All (λ x. x < 1440 * nights + 1440) (date_minut
 unfolding date_minutes
 date_below nights = range_below (1440 * nights) 1440
 
-shifts_below : (d : Declaration) (nights most : ℕ) (stop : Stop) → 1440 * nights + 1440 ≤ most → All (λ x. x < most) (stop_shifts d nights stop)
+pub shifts_below : (d : Declaration) (nights most : ℕ) (stop : Stop) → 1440 * nights + 1440 ≤ most → All (λ x. x < most) (stop_shifts d nights stop)
 shifts_below d nights most stop le =
     All-weaker (λ x. x < 1440 * nights + 1440) (λ x. x < most) (λ x lt. omega (arith, lt, le)) (stop_shifts d nights stop)
     (All-filter (is_shift d.step d.flex (1440 * nights + stop.minute)) (λ x. x < 1440 * nights + 1440) (date_minutes nights) (date_below nights))
@@ -68,18 +68,18 @@ shifts_good d price nights (Some coming) (Some going) few =
     pairs_good price (least_ground d coming.minute (1440 * nights + going.minute)) (stop_shifts d 0 coming) (stop_shifts d nights going)
     (shifts_below d 0 1440 coming (omega arith)) (shifts_below d nights 14400 going (omega (arith, few)))
 
-few_nights : (line : Line) (a g : Option Stop) → StopsFit line a g → line.nights < 10
+pub few_nights : (line : Line) (a g : Option Stop) → StopsFit line a g → line.nights < 10
 few_nights line None None fits = absurd fits
 few_nights line (Some coming) None fits = omega (arith, fits.1)
 few_nights line None (Some going) fits = omega (arith, fits.1)
 few_nights line (Some coming) (Some going) fits = fits.2
 
-arrives_early : (line : Line) (a g : Option Stop) → StopsFit line a g → relative_minute 0 a < 1440
+pub arrives_early : (line : Line) (a g : Option Stop) → StopsFit line a g → relative_minute 0 a < 1440
 arrives_early line None g fits = omega arith
 arrives_early line (Some coming) None fits = omega (arith, fits.0.minute)
 arrives_early line (Some coming) (Some going) fits = omega (arith, fits.0.minute)
 
-leaves_early : (line : Line) (a g : Option Stop) → line.nights < 10 → StopsFit line a g → relative_minute line.nights g < 14400
+pub leaves_early : (line : Line) (a g : Option Stop) → line.nights < 10 → StopsFit line a g → relative_minute line.nights g < 14400
 leaves_early line a None few fits = omega arith
 leaves_early line None (Some going) few fits = omega (arith, few, fits.0.minute)
 leaves_early line (Some coming) (Some going) few fits = omega (arith, few, fits.1.minute)

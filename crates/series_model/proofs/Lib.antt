@@ -10,3 +10,4 @@ mod FitLemmas
 mod BoundLemmas
 mod FewLemmas
 mod StageLemmas
+mod TimedLemmas

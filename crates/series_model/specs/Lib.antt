@@ -1,6 +1,7 @@
 pub mod Units
 pub mod Submissions
 pub mod Options
+pub mod TimedLines
 pub mod Movements
 pub mod Displacement
 pub mod Allotments

@@ -1,8 +1,9 @@
 //! What an alternative costs.
 
 ghost use Rattle.std.specs.Prelude.{◌≡◌, ◌+◌, ◌*◌, ◌<◌, ◌≤◌, ◌^◌};
+ghost use Rattle.scr_reader.specs.Printed.{LineFits};
 ghost use Rattle.series_model.specs.Units.{UnitFits};
-ghost use Rattle.series_model.specs.Displacement.{stop_change, line_change, stop_count, line_dates, displacement_of};
+ghost use Rattle.series_model.specs.Displacement.{stop_change, line_change, stop_count, line_dates, cost_at, displacement_of};
 
 use crate::shifts::minute_after;
 use crate::times::Times;
@@ -18,13 +19,21 @@ pub fn displacement(unit: &Unit, times: Times, declaration: &Declaration) -> u64
     requires { UnitFits declaration.now.season unit.now }
     ensures { result ≡ displacement_of declaration.now unit.now times }
 {
-    let dates = u64::from(declaration.season.count_dates(unit.request.period));
+    line_displacement(&unit.request, times, declaration)
+}
+
+/// The same of a line that asks for times, in a unit or by itself.
+pub fn line_displacement(line: &Line, times: Times, declaration: &Declaration) -> u64
+    requires { LineFits declaration.now.season line.now }
+    ensures { result ≡ cost_at declaration.now line.now times }
+{
+    let dates = u64::from(declaration.season.count_dates(line.period));
     match times {
         Times::Refused => {
             let price = u64::from(declaration.refuse.unwrap_or(0));
-            price * count_stops(&unit.request) * dates
+            price * count_stops(line) * dates
         }
-        Times::At { arrival, departure } => dates * line_change(&unit.request, arrival, departure),
+        Times::At { arrival, departure } => dates * line_change(line, arrival, departure),
     }
 }
 

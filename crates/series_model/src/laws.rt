@@ -7,12 +7,14 @@ ghost use Rattle.season_days.specs.declared.declaration.Declaration.{Declaration
 ghost use Rattle.season_days.specs.declared.declaration.Kind.TheVariants.{Arr, Dep};
 ghost use Rattle.season_days.specs.declared.declaration.TheConstants.{MINUTES_OF_DAY, HIGHEST_REFUSAL_PRICE, HIGHEST_SHARE};
 ghost use Rattle.scr_reader.specs.Messages.{ReadsAll};
+ghost use Rattle.scr_reader.specs.Printed.{LineFits};
 ghost use Rattle.scr_reader.specs.declared.line.Line.{Line as LineValue};
 ghost use Rattle.scr_reader.specs.declared.message.Message.{Message as MessageValue};
 ghost use Rattle.capacity_windows.specs.Windows.{Capacity, window_load};
 ghost use Rattle.series_model.specs.Units.{UnitFits};
 ghost use Rattle.series_model.specs.Options.{options_of, TimesFit};
 ghost use Rattle.series_model.specs.Displacement.{displacement_of};
+ghost use Rattle.series_model.specs.TimedLines.{line_at};
 ghost use Rattle.series_model.specs.Submissions.{HasNumbers, MessagePairs, item_count};
 ghost use Rattle.series_model.specs.Movements.{movements_at, stop_load};
 ghost use Rattle.series_model.specs.declared.times.Times.TheVariants.{At as at_times};
@@ -63,6 +65,13 @@ pub fn option_bounds()
 {
     lengths();
 }
+
+/// At each of its alternatives the line that a unit asks with has a spelling, so that an offer can be
+/// printed.
+pub fn spelled_alternatives()
+    ensures { (d : DeclarationValue) (unit : SlotUnit) → UnitFits d.season unit →
+        All (λ times. LineFits d.season (line_at unit.request times)) (options_of d unit) }
+{}
 
 /// What the stages give fits. Before the first stage nothing is given. Where all that was given
 /// fits the declared limits, and a stage gives a feasible allotment, all that is given after it

@@ -16,17 +16,19 @@ mod options;
 mod shifts;
 mod state;
 mod submission;
+mod timed_line;
 mod times;
 mod unit;
 mod units;
 
-pub use costs::displacement;
+pub use costs::{displacement, line_displacement};
 pub use fault::ModelFault;
 pub use group::Group;
 pub use movements::movements_of;
-pub use options::options_of;
+pub use options::{options_of, shifts_of};
 pub use state::UnitState;
 pub use submission::{MOST_UNITS, Submission};
+pub use timed_line::line_at;
 pub use times::Times;
 pub use unit::Unit;
 

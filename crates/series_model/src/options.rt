@@ -40,29 +40,46 @@ pub fn options_of(
         Group::F => options.push(line_times(&unit.request))?,
         Group::R => push_flexible(&mut options, declaration, &unit.request, unit.historic)?,
         Group::L => push_either(&mut options, &unit.request, unit.historic)?,
-        Group::B | Group::N => push_new(&mut options, declaration, &unit.request)?,
+        Group::B | Group::N => return new_options(alloc, &unit.request, declaration),
     }
     Ok(options)
 }
 
-// All shifts, and then the refusal.
-fn push_new(
-    options: &mut Vec<Times>,
+/// All shifts of a line that asks for times, in their order, without a refusal. One step for each
+/// and for each shift of an arrival; the one fault is want of memory.
+pub fn shifts_of(
+    alloc: Global,
+    line: &Line,
     declaration: &Declaration,
+) -> Result<Vec<Times>, Memory>
+    requires step { 0 < declaration.now.step }
+    requires line { LineFits declaration.now.season line.now }
+    ensures { IfOk result (λ shifts. shifts.items ≡ shifts_of declaration.now line.now) }
+{
+    let mut shifts = Vec::new(alloc);
+    let coming_in = Span::of_date(0);
+    let going_in = Span::of_date(line.nights);
+    push_shifts(&mut shifts, declaration, line, coming_in, going_in)?;
+    Ok(shifts)
+}
+
+// All shifts, and then the refusal.
+fn new_options(
+    alloc: Global,
     request: &Line,
-) -> Result<(), Memory>
+    declaration: &Declaration,
+) -> Result<Vec<Times>, Memory>
     requires step { 0 < declaration.now.step }
     requires request { LineFits declaration.now.season request.now }
-    requires empty { options.old.items ≡ [] }
-    ensures { OnOk result (options.new.items ≡ new_options declaration.now request.now) }
+    ensures { IfOk result (λ options. options.items ≡ new_options declaration.now request.now) }
 {
-    let coming_in = Span::of_date(0);
-    let going_in = Span::of_date(request.nights);
-    push_shifts(options, declaration, request, coming_in, going_in)?;
-    if declaration.refuse.is_some() {
-        options.push(Times::Refused)?;
+    let mut options = shifts_of(alloc, request, declaration)?;
+    let refusable = declaration.refuse.is_some();
+    if !refusable {
+        return Ok(options);
     }
-    Ok(())
+    options.push(Times::Refused)?;
+    Ok(options)
 }
 
 // The shifts between the historic and the requested times, and then the historic ones.

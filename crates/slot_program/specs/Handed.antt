@@ -33,7 +33,8 @@ pub record IsHanded (files : Option Files) (name : Word) (bytes : List ℕ) : Ty
   pub short : length bytes ≤ longest_file
 
 -- both files were handed out in their forms, and these are the replies
-pub record IsHandedPlan (files : Option Files) (names : FileNames) (capacity requests replies : List ℕ) : Type 0 where
+pub record IsHandedPlan (files : Option Files) (names : FileNames)
+    (capacity requests replies : List ℕ) : Type 0 where
   pub declaration : Declaration
   pub message : Message
   pub capacity_handed : IsHanded files names.capacity capacity
@@ -46,6 +47,17 @@ pub record IsHandedPlan (files : Option Files) (names : FileNames) (capacity req
 abbrev pub certificate_bytes : List ℕ
 certificate_bytes = certificate_text settled_stages
 
+-- the capacity file and the requests were read, and then this passed
+abbrev pub reads_then : FileNames → List ℕ → List ℕ → List Passage → List Passage
+reads_then names capacity requests rest =
+    read names.capacity capacity ∷ read names.requests requests ∷ rest
+
+abbrev pub certificate_written : FileNames → Passage
+certificate_written names = wrote names.certificate certificate_bytes
+
+abbrev pub certificate_failed : FileNames → Passage
+certificate_failed names = write_failed names.certificate certificate_bytes
+
 -- Done: the capacity file and the requests were read, then the certificate and the replies were
 -- written. What the certificate says is so of the two texts that were read, and the replies confirm
 -- the one line of the second.
@@ -54,10 +66,8 @@ PassedWhole files names passed =
     (capacity requests replies : List ℕ)
     × (plan : IsHandedPlan files names capacity requests replies)
     × FitsEveryWindow plan.declaration plan.historic.asked
-    × (passed
-    ≡ read names.capacity capacity ∷ read names.requests requests
-    ∷ wrote names.certificate certificate_bytes
-    ∷ wrote names.replies replies ∷ [])
+    × (passed ≡ reads_then names capacity requests
+    (certificate_written names ∷ wrote names.replies replies ∷ []))
 
 -- a file was not handed out: the capacity file, or the requests after a capacity file in its form
 abbrev pub PassedBefore : Option Files → FileNames → Word → List Passage → Type 0
@@ -77,19 +87,17 @@ PassedBad files names name line passed =
     × IsHanded files names.capacity capacity × IsCapacityText capacity declaration
     × IsHanded files names.requests requests
     × IsFirstBadLine (IsHistoricText declaration.season declaration.airport) requests line
-    × (passed ≡ read names.capacity capacity ∷ read names.requests requests ∷ [])))
+    × (passed ≡ reads_then names capacity requests [])))
 
 -- a write failed: that of the certificate, or that of the replies after it
 abbrev pub PassedPart : Option Files → FileNames → Word → List Passage → Type 0
 PassedPart files names name passed =
     (capacity requests replies : List ℕ) × IsHandedPlan files names capacity requests replies
-    × (((name ≡ names.certificate) × (passed
-    ≡ read names.capacity capacity ∷ read names.requests requests
-    ∷ write_failed names.certificate certificate_bytes ∷ []))
-    ⊎ ((name ≡ names.replies) × (passed
-    ≡ read names.capacity capacity ∷ read names.requests requests
-    ∷ wrote names.certificate certificate_bytes
-    ∷ write_failed names.replies replies ∷ [])))
+    × (((name ≡ names.certificate)
+    × (passed ≡ reads_then names capacity requests (certificate_failed names ∷ [])))
+    ⊎ ((name ≡ names.replies)
+    × (passed ≡ reads_then names capacity requests
+    (certificate_written names ∷ write_failed names.replies replies ∷ []))))
 
 -- what passed in an allocation that ends with this report, from first to last
 abbrev pub AllocationPassed : Option Files → FileNames → Report → List Passage → Type 0
@@ -140,7 +148,8 @@ pub record WorkEnds (job : Option Job) (before : World) (report : Report) (after
   pub passed : LogGrew before.log (JobPassed job before.files report) after.log
 
 -- it ends with a report of this status and text
-pub record IsAnswer (job : Option Job) (before : World) (status : ℕ) (text : List ℕ) (after : World) : Type 0 where
+pub record IsAnswer (job : Option Job) (before : World) (status : ℕ) (text : List ℕ)
+    (after : World) : Type 0 where
   pub report : Report
   pub status_is : status ≡ status_of report
   pub text_is : text ≡ text_of report

@@ -14,14 +14,16 @@ pub fn lines_of_parts()
 
 /// A line without control bytes, and its LF, are read as that line.
 pub fn spelled_lines()
-    ensures { (line rest : List ℕ) → IsLineText line → lines_of (line ++ 10 ∷ rest) ≡ line ∷ lines_of rest }
+    ensures { (line rest : List ℕ) → IsLineText line → lines_of (line ++ 10 ∷ rest) ≡ line
+        ∷ lines_of rest }
 {}
 
-/// A field without blanks and control bytes is read as that field, before a space and at the end of a line. The digits
-/// of a number are such a field.
+/// A field without blanks and control bytes is read as that field, before a space and at the end of
+/// a line. The digits of a number are such a field.
 pub fn spelled_fields()
     ensures inside { (field rest : List ℕ) → IsFieldText field → field ≢ [] →
         fields_of (field ++ 32 ∷ rest) ≡ field ∷ fields_of rest }
-    ensures last { (field : List ℕ) → IsFieldText field → field ≢ [] → fields_of field ≡ field ∷ [] }
+    ensures last { (field : List ℕ) → IsFieldText field → field ≢ [] → fields_of field ≡ field
+        ∷ [] }
     ensures digits { (n : ℕ) → n < 2 ^ 64 → IsFieldText (decimal n) }
 {}

@@ -1,5 +1,5 @@
 -- Kept counts: the uses that they count, and what keeps the limits.
-use Rattle.std.specs.Prelude.{◌≡◌, ℕ, ◌+◌, ◌<◌, ◌≤◌, List, length, slice_index, sum_by, ℤ, pos, ◌≤ℤ◌}
+use Rattle.std.specs.Prelude.{◌≡◌, ℕ, ◌+◌, ◌<◌, ◌≤◌, List, length, slice_index, sum_by, ℤ, pos, ◌≤ℤ◌, Option, Some, None}
 use Rattle.choice_problem.specs.declared.strips.Strip.{Strip}
 use Rattle.choice_problem.specs.Strips.{part_uses}
 use Rattle.choice_problem.specs.Counts.{limit_at}
@@ -19,3 +19,17 @@ KeepsLimit counts uses limits r = pos (slice_index counts r + uses r) ≤ℤ lim
 -- so at each resource that is used further
 abbrev pub FitsWith : List ℕ → (ℕ → ℕ) → List ℤ → Type 0
 FitsWith counts uses limits = (r : ℕ) → 0 < uses r → KeepsLimit counts uses limits r
+
+-- how often a part that may be there uses the resource
+abbrev pub some_uses : Option (List Strip) → ℕ → ℕ
+some_uses None r = 0
+some_uses (Some strips) r = part_uses strips r
+
+-- the uses of two parts that may be there, together
+abbrev pub both_uses : Option (List Strip) → Option (List Strip) → ℕ → ℕ
+both_uses one two r = some_uses one r + some_uses two r
+
+-- no count is above its limit
+abbrev pub AreWithin : List ℕ → List ℤ → Type 0
+AreWithin counts limits =
+    (r : ℕ) → r < length counts → pos (slice_index counts r) ≤ℤ limit_at limits r

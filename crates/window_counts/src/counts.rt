@@ -7,6 +7,7 @@ ghost use Rattle.window_counts.specs.Counts.{listed_uses};
 
 use crate::adding::add_all;
 use crate::fitting::part_fits;
+use crate::joint::add_both;
 use choice_problem::{Part, first_above_limit};
 use slot_text::Memory;
 use std::alloc::Global;
@@ -30,11 +31,12 @@ impl Model for Counts {
 }
 
 impl Counts {
-    ghost use Rattle.std.specs.Prelude.{◌≡◌, ◌↔◌, ℕ, ◌+◌, ◌^◌, ◌<◌, ◌≤◌, List, [], ◌++◌, ◌∷◌, length, slice_index, All, IsTrue, IfOk, IfSome, IfNone, pos, ◌≤ℤ◌, ◌<ℤ◌};
+    ghost use Rattle.std.specs.Prelude.{◌≡◌, ◌↔◌, ℕ, ◌+◌, ◌^◌, ◌<◌, ◌≤◌, List, [], ◌++◌, ◌∷◌, length, slice_index, All, IsTrue, IfOk, IfSome, IfNone, option_copied, pos, ◌≤ℤ◌, ◌<ℤ◌};
     ghost use Rattle.choice_problem.specs.declared.strips.Strip.{Strip};
     ghost use Rattle.choice_problem.specs.Strips.{part_uses, IsPartInRange};
     ghost use Rattle.choice_problem.specs.Counts.{GrowsBy, HasRoom, HasUses, IsFirstAbove, limit_at};
-    ghost use Rattle.window_counts.specs.Counts.{listed_uses, AreCountsOf, FitsWith};
+    ghost use Rattle.window_counts.specs.Counts.{listed_uses, both_uses, AreCountsOf, AreWithin, FitsWith};
+    ghost use Rattle.std.specs.Option.{ForSome};
 
     /// The counts of these parts: one step a resource and a use. The resources are numbered from 0; the parts stay within
     /// them, and each is used fewer than 2^32 times.
@@ -64,7 +66,8 @@ impl Counts {
         requires room { HasRoom self.old (λ r. part_uses part.now r) }
         ensures length { length self.new ≡ length self.old }
         ensures uses { GrowsBy self.old self.new (λ r. part_uses part.now r) }
-        ensures listed { (parts : List (List Strip)) → AreCountsOf parts self.old → AreCountsOf (parts ++ part.now ∷ []) self.new }
+        ensures listed { (parts : List (List Strip)) → AreCountsOf parts self.old →
+            AreCountsOf (parts ++ part.now ∷ []) self.new }
     {
         part.add_uses(&mut self.counts);
     }
@@ -75,9 +78,33 @@ impl Counts {
         requires added { HasUses self.old (λ r. part_uses part.now r) }
         ensures length { length self.new ≡ length self.old }
         ensures uses { GrowsBy self.new self.old (λ r. part_uses part.now r) }
-        ensures listed { (before after : List (List Strip)) → AreCountsOf (before ++ part.now ∷ after) self.old → AreCountsOf (before ++ after) self.new }
+        ensures listed { (before after : List (List Strip)) →
+            AreCountsOf (before ++ part.now ∷ after) self.old →
+            AreCountsOf (before ++ after) self.new }
     {
         part.take_uses(&mut self.counts);
+    }
+
+    /// Adds the uses of two parts, of which each may be missing, where both fit together: where at each resource that they
+    /// use, the count and the uses of both are together at most the limit. Else the counts stay. So counts within limits
+    /// stay within them. No count reaches 2^32 with both. At most four steps a use.
+    pub fn add_if_fits(&mut self, one: Option<&Part>, two: Option<&Part>, limits: &[i64]) -> bool
+        requires one { ForSome (option_copied one) (IsPartInRange (length self.old)) }
+        requires two { ForSome (option_copied two) (IsPartInRange (length self.old)) }
+        requires room { HasRoom self.old (λ r. both_uses (option_copied one)
+            (option_copied two) r) }
+        requires limits { length limits.now ≡ length self.old }
+        ensures length { length self.new ≡ length self.old }
+        ensures exact { IsTrue result
+            ↔ FitsWith self.old (λ r. both_uses (option_copied one.entry)
+            (option_copied two.entry) r) limits.now }
+        ensures added { IsTrue result →
+            GrowsBy self.old self.new (λ r. both_uses (option_copied one.entry)
+            (option_copied two.entry) r) }
+        ensures left { (IsTrue result → ⊥) → self.new ≡ self.old }
+        ensures within { AreWithin self.old limits.now → AreWithin self.new limits.now }
+    {
+        add_both(&mut self.counts, one, two, limits)
     }
 
     /// Whether the part fits beside what is counted: whether at each resource that it uses, the count and the part's uses
@@ -90,7 +117,7 @@ impl Counts {
         requires limits { length limits.now ≡ length self.now }
         ensures { IsTrue result ↔ FitsWith self.now (λ r. part_uses part.now r) limits.now }
     {
-        part_fits(&self.counts, part, limits)
+        part_fits(&self.counts, part, Some(part), limits)
     }
 
     /// How often a resource is used.
@@ -105,7 +132,8 @@ impl Counts {
     pub fn first_over(&self, limits: &[i64]) -> Option<u32>
         requires { length limits.now ≡ length self.now }
         ensures some { IfSome result (IsFirstAbove self.now limits.now) }
-        ensures none { IfNone result ((r : ℕ) → r < length self.now → pos (slice_index self.now r) ≤ℤ limit_at limits.now r) }
+        ensures none { IfNone result ((r : ℕ) → r < length self.now → pos (slice_index self.now r)
+            ≤ℤ limit_at limits.now r) }
     {
         first_above_limit(&self.counts, limits)
     }

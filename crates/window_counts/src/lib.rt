@@ -7,6 +7,7 @@
 mod adding;
 mod counts;
 mod fitting;
+mod joint;
 mod placing;
 
 pub use counts::Counts;

@@ -29,7 +29,8 @@ pub fn place_alt(problem: &Problem, unit: u32, alt: u32, counts: &mut Counts) ->
     requires room { HasRoom counts.old (λ _. 434) }
     ensures length { length counts.new ≡ length counts.old }
     ensures fits { IsTrue result ↔ FitsOn problem.now (λ r. slice_index counts.old r) unit alt }
-    ensures placed { IsTrue result → GrowsBy counts.old counts.new (λ r. alt_uses problem.now unit alt r) }
+    ensures placed { IsTrue result →
+        GrowsBy counts.old counts.new (λ r. alt_uses problem.now unit alt r) }
     ensures few { (r : ℕ) → alt_uses problem.now unit alt r ≤ 434 }
     ensures left { result ≡ false → counts.new ≡ counts.old }
 {
@@ -75,7 +76,8 @@ fn add_named(problem: &Problem, unit: u32, part: Option<u32>, counts: &mut Count
     requires counts { length counts.old ≡ resource_count problem.now }
     requires room { HasRoom counts.old (λ r. named_uses (chooser_at problem.now unit) part r) }
     ensures length { length counts.new ≡ length counts.old }
-    ensures placed { GrowsBy counts.old counts.new (λ r. named_uses (chooser_at problem.now unit) part r) }
+    ensures placed { GrowsBy counts.old counts.new
+        (λ r. named_uses (chooser_at problem.now unit) part r) }
 {
     if let Some(n) = part {
         counts.add(problem.part(unit, n));
@@ -89,7 +91,8 @@ fn take_named(problem: &Problem, unit: u32, part: Option<u32>, counts: &mut Coun
     requires counts { length counts.old ≡ resource_count problem.now }
     requires added { HasUses counts.old (λ r. named_uses (chooser_at problem.now unit) part r) }
     ensures length { length counts.new ≡ length counts.old }
-    ensures taken { GrowsBy counts.new counts.old (λ r. named_uses (chooser_at problem.now unit) part r) }
+    ensures taken { GrowsBy counts.new counts.old
+        (λ r. named_uses (chooser_at problem.now unit) part r) }
 {
     if let Some(n) = part {
         counts.take(problem.part(unit, n));

@@ -1,7 +1,6 @@
-use Rattle.std.proofs.Common.{◌≡◌, ◌<◌, ◌≤◌, ◌^◌, ◌∙◌, sym, length, arith, map, pos, ap}
+use Rattle.std.proofs.Common.{◌∙◌, sym, length, pos, ap}
 use Rattle.std.specs.Prelude.{ℤ}
 use Rattle.std.proofs.lemmas.List.{length-map}
-use Rattle.choice_problem.specs.Problems.{resource_count}
 use Rattle.choice_problem.proofs.LimitLemmas.{above-there, above-passes, above-first, none-above}
 use Rattle.choice_problem.proofs.choices.first_above.Goals as goal
 

@@ -1,4 +1,4 @@
-use Rattle.std.proofs.Common.{◌≡◌, ◌++◌, ◌∙◌, ap, sym, get_or, drop, take, rules, ◌+◌, List, ℕ}
+use Rattle.std.proofs.Common.{◌++◌, ◌∙◌, ap, sym, get_or, drop, take, rules, ◌+◌, List, ℕ}
 use Rattle.std.specs.Prelude.{IsTrue}
 use Rattle.choice_problem.specs.Grafts.{open_ranges}
 use Rattle.choice_problem.specs.Walks.{IsStep}

@@ -1,4 +1,4 @@
-use Rattle.std.proofs.Common.{◌≡◌, reverse, true, refl, rules, arith}
+use Rattle.std.proofs.Common.{◌≡◌, reverse, true, refl, arith}
 use Rattle.std.proofs.lemmas.Grind.{common_steps}
 use Rattle.choice_problem.proofs.WalkLemmas.{on_valid}
 use Rattle.choice_problem.proofs.walks.RangeWalk.advance.Goals as goal

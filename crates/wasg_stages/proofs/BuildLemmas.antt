@@ -1,0 +1,87 @@
+-- The units and the limits of a stage's problem.
+use Rattle.std.proofs.Common.{◌≡◌, ℕ, zero, suc, ◌+◌, ◌-◌, ◌*◌, ◌<◌, ◌≤◌, Bool, true, false, refl, sym, ◌∙◌, ap, subst, arith, List, [], ◌∷◌, ◌++◌, length, get_or, drop, inl, inr}
+use Rattle.std.specs.Prelude.{All, ℤ, pos, map, Some, slice_get, if◌then◌else◌}
+use Rattle.std.proofs.lemmas.Option.{get_or_from_slice_get}
+use Rattle.std.specs.List.{AllZip}
+use Rattle.std.proofs.lemmas.List.{append_assoc, get_or_append_left}
+use Rattle.std.proofs.lemmas.Bool.{cases_lt}
+use Rattle.std.proofs.Common.{length-append}
+use Rattle.season_days.specs.declared.declaration.Declaration.{Declaration}
+use Rattle.capacity_windows.specs.Windows.{capacity_of, declared_resources, window_limit}
+use Rattle.choice_problem.specs.Problems.{ChooserView, ArePartsInRange}
+use Rattle.series_model.specs.declared.state.UnitState.{UnitState}
+use Rattle.series_model.specs.Stages.{is_due_state, stage_units}
+use Rattle.wasg_stages.specs.StageProblems.{IsChooserOf}
+use Rattle.wasg_stages.specs.Steps.{AddsDue, AreChoosers, AreLimits, share_at}
+use Rattle.wasg_stages.proofs.StepLemmas.{drop-cons, units_by}
+
+-- ---- units
+
+pub adds-due : (d : Declaration) (stage : ℕ) (state : UnitState) (old : List ChooserView) (m : ChooserView) → is_due_state stage state ≡ true → IsChooserOf d state.unit m → AddsDue d stage state old (old ++ m ∷ [])
+adds-due d stage state old m due chooser rest tail zip = (
+  m ∷ tail,
+  subst (λ (b : Bool). AllZip (IsChooserOf d) (units_by stage state rest b) (m ∷ tail)) (sym due) (chooser, zip),
+  append_assoc old (m ∷ []) tail,
+)
+
+pub adds-none : (d : Declaration) (stage : ℕ) (state : UnitState) (old : List ChooserView) → is_due_state stage state ≡ false → AddsDue d stage state old old
+adds-none d stage state old due rest tail zip =
+    (tail, subst (λ (b : Bool). AllZip (IsChooserOf d) (units_by stage state rest b) tail) (sym due) zip, refl)
+
+pub AreChoosers-on : (d : Declaration) (stage : ℕ) (states : List UnitState) (old new : List ChooserView) (i : ℕ) (e : UnitState) → i < length states → AreChoosers d stage states old i →
+    AddsDue d stage (get_or states i e) old new → All (ArePartsInRange (declared_resources (capacity_of d))) new → length new ≤ length old + 1 → AreChoosers d stage states new (i + 1)
+AreChoosers-on d stage states old new i e lt are adds range few = record {
+  whole = λ tail zip.
+      let added = adds (drop (i + 1) states) tail zip in
+      let head = drop-cons states i e lt in
+      let all = are.whole added.0 (subst (λ (s : List UnitState). AllZip (IsChooserOf d) (stage_units stage s) added.0) (sym head) added.1) in
+      subst (λ (ms : List ChooserView). AllZip (IsChooserOf d) (stage_units stage states) ms) (sym added.2) all;
+  range = range;
+  few = omega (arith, few, are.few);
+}
+
+-- ---- limits
+
+-- what is read of a list at a place
+pub declared_at : (declared : List ℤ) (r : ℕ) (x y : ℤ) → x ≡ get_or declared r x → slice_get declared r ≡ Some y → x ≡ y
+declared_at declared r x y at is = at ∙ get_or_from_slice_get declared r y x is
+
+last_limit : (limits : List ℤ) (z d : ℤ) → get_or (limits ++ z ∷ []) (length limits) d ≡ z
+last_limit [] z d = refl
+last_limit (x ∷ limits) z d = last_limit limits z d
+
+pub AreLimits-push : (d : Declaration) (stage : ℕ) (loads : List ℕ) (limits : List ℤ) (n : ℕ) (z : ℤ) → AreLimits d stage loads limits n →
+    z ≡ pos (share_at d.share stage (window_limit (capacity_of d) n - get_or loads n 0)) → share_at d.share stage (window_limit (capacity_of d) n - get_or loads n 0) ≤ 999999 →
+    AreLimits d stage loads (limits ++ z ∷ []) (n + 1)
+AreLimits-push d stage loads limits n z are is small = record {
+  count = omega (arith, length-append limits (z ∷ []), are.count);
+  each = λ r lt. elim (cases_lt r n) [
+    | inl before ↦ get_or_append_left limits (z ∷ []) (pos 0) r (omega (arith, are.count)) ∙ are.each r before
+    | inr last ↦
+        let same : r ≡ n = omega arith in
+        let at : get_or (limits ++ z ∷ []) n (pos 0) ≡ z = ap (λ (i : ℕ). get_or (limits ++ z ∷ []) i (pos 0)) (sym are.count) ∙ last_limit limits z (pos 0) in
+        subst (λ (k : ℕ). get_or (limits ++ z ∷ []) k (pos 0) ≡ pos (share_at d.share stage (window_limit (capacity_of d) k - get_or loads k 0))) (sym same) (at ∙ is)
+  ];
+  few = λ r lt. elim (cases_lt r n) [
+    | inl before ↦ are.few r before
+    | inr last ↦
+        let same : r ≡ n = omega arith in
+        subst (λ (k : ℕ). share_at d.share stage (window_limit (capacity_of d) k - get_or loads k 0) ≤ 999999) (sym same) small
+  ];
+}
+
+drop-past : {X : Type 0} (xs : List X) (i : ℕ) → length xs ≤ i → drop i xs ≡ []
+drop-past [] zero le = refl
+drop-past [] (suc i) le = refl
+drop-past (x ∷ xs) zero le = absurd (omega arith)
+drop-past (x ∷ xs) (suc i) le = drop-past xs i (omega arith)
+
+append_none : {X : Type 0} (xs : List X) → xs ++ [] ≡ xs
+append_none [] = refl
+append_none (x ∷ xs) = ap (λ ys. x ∷ ys) (append_none xs)
+
+pub AreChoosers-all : (d : Declaration) (stage : ℕ) (states : List UnitState) (choosers : List ChooserView) (i : ℕ) → AreChoosers d stage states choosers i → length states ≤ i →
+    AllZip (IsChooserOf d) (stage_units stage states) choosers
+AreChoosers-all d stage states choosers i are le =
+    let none : AllZip (IsChooserOf d) (stage_units stage (drop i states)) [] = subst (λ (s : List UnitState). AllZip (IsChooserOf d) (stage_units stage s) []) (sym (drop-past states i le)) tt in
+    subst (λ (ms : List ChooserView). AllZip (IsChooserOf d) (stage_units stage states) ms) (append_none choosers) (are.whole [] none)

@@ -1,0 +1,52 @@
+-- Units in a loop over stages. Contracts of private functions alone cite them.
+use Rattle.std.specs.Prelude.{◌≡◌, ℕ, ◌-◌, ◌<◌, ◌≤◌, ◌==◌, if◌then◌else◌, List, ◌∷◌, ◌++◌, length, All, drop, slice_index, slice_index_or, ℤ, pos}
+use Rattle.std.specs.List.{AllZip}
+use Rattle.season_days.specs.declared.declaration.Declaration.{Declaration}
+use Rattle.series_model.specs.Units.{UnitFits}
+use Rattle.series_model.specs.declared.state.UnitState.{UnitState}
+use Rattle.series_model.specs.Stages.{after_allotment, stage_times, stage_units, share_of}
+use Rattle.capacity_windows.specs.Windows.{capacity_of, declared_resources, window_limit}
+use Rattle.choice_problem.specs.Problems.{ChooserView, ArePartsInRange}
+use Rattle.wasg_stages.specs.StageProblems.{IsChooserOf}
+
+-- the units' lines have a spelling in the season
+abbrev pub AreFitting : Declaration → List UnitState → Type 0
+AreFitting d states = All (λ (state : UnitState). UnitFits d.season state.unit) states
+
+-- the unit first in line is so after the stage, and takes so many of the numbers
+abbrev pub Advances : Declaration → ℕ → UnitState → List ℕ → UnitState → ℕ → Type 0
+Advances d stage state numbers after taken =
+    (rest : List UnitState) →
+    after_allotment stage (state ∷ rest) (stage_times d stage (state ∷ rest) numbers)
+    ≡ after ∷ after_allotment stage rest (stage_times d stage rest (drop taken numbers))
+
+-- what a stage may use of what is left
+abbrev pub share_at : ℕ → ℕ → ℕ → ℕ
+share_at share stage left = if stage == 3 then share_of share left else left
+
+-- the limits of a stage, where resources have these loads
+pub record AreLimits (d : Declaration) (stage : ℕ) (loads : List ℕ) (limits : List ℤ)
+    (n : ℕ) : Type 0 where
+  pub count : length limits ≡ n
+  pub each : (r : ℕ) → r < n →
+      slice_index_or limits r (pos 0)
+      ≡ pos (share_at d.share stage (window_limit (capacity_of d) r - slice_index loads r))
+  pub few : (r : ℕ) → r < n →
+      share_at d.share stage (window_limit (capacity_of d) r - slice_index loads r) ≤ 999999
+
+-- the unit first in line is added where it is one of the stage's
+abbrev pub AddsDue : Declaration → ℕ → UnitState → List ChooserView → List ChooserView → Type 0
+AddsDue d stage state old new =
+    (rest : List UnitState) (tail : List ChooserView) →
+    AllZip (IsChooserOf d) (stage_units stage rest) tail →
+    (more : List ChooserView) × AllZip (IsChooserOf d) (stage_units stage (state ∷ rest)) more
+    × (new ++ tail ≡ old ++ more)
+
+-- the units of the stage made so far: what is still to come completes them
+pub record AreChoosers (d : Declaration) (stage : ℕ) (states : List UnitState)
+    (choosers : List ChooserView) (i : ℕ) : Type 0 where
+  pub whole : (tail : List ChooserView) →
+      AllZip (IsChooserOf d) (stage_units stage (drop i states)) tail →
+      AllZip (IsChooserOf d) (stage_units stage states) (choosers ++ tail)
+  pub range : All (ArePartsInRange (declared_resources (capacity_of d))) choosers
+  pub few : length choosers ≤ i

@@ -1,0 +1,169 @@
+//! The problem of a stage.
+
+ghost use Rattle.std.specs.Prelude.{◌≡◌, ◌+◌, ◌<◌, ◌≤◌, ℕ, List, All, length, slice_index_or, IfOk, OnOk, pos};
+ghost use Rattle.std.specs.List.{AllZip};
+ghost use Rattle.season_days.specs.Capacity.{IsDeclaration};
+ghost use Rattle.capacity_windows.specs.Windows.{capacity_of, declared_resources};
+ghost use Rattle.choice_problem.specs.Problems.{ArePartsInRange};
+ghost use Rattle.series_model.specs.Units.{UnitFits};
+ghost use Rattle.series_model.specs.Stages.{first_states, after_stage, states_after, stage_units, stage_positions};
+ghost use Rattle.wasg_stages.specs.StageProblems.{IsChooserOf, IsStageProblem, AreStates};
+ghost use Rattle.wasg_stages.specs.Steps.{AreFitting, AddsDue, AreChoosers};
+
+use crate::choosers::chooser_of;
+use crate::limits::stage_limits;
+use crate::states::{Earlier, after_one, is_due, positions_of, states_after};
+use capacity_windows::Windows;
+use choice_problem::{Choice, Chooser, Problem};
+use season_days::Declaration;
+use series_model::{Submission, UnitState};
+use slot_text::Memory;
+use std::alloc::Global;
+
+// Adds the unit, where it is one of the stage's.
+fn add_due(
+    alloc: Global,
+    windows: &Windows,
+    declaration: &Declaration,
+    stage: u32,
+    state: &UnitState,
+    choosers: &mut Vec<Chooser>,
+) -> Result<(), Memory>
+    requires windows { windows.now ≡ capacity_of declaration.now }
+    requires keeps { IsDeclaration declaration.now }
+    requires unit { UnitFits declaration.now.season state.now.unit }
+    requires range { All (ArePartsInRange
+        (declared_resources (capacity_of declaration.now))) choosers.old.items }
+    ensures adds { OnOk result
+        (AddsDue declaration.now stage state.now choosers.old.items choosers.new.items) }
+    ensures range { OnOk result
+        (All (ArePartsInRange
+        (declared_resources (capacity_of declaration.now))) choosers.new.items) }
+    ensures few { OnOk result (length choosers.new.items ≤ length choosers.old.items + 1) }
+{
+    if is_due(stage, state) {
+        let chooser = chooser_of(alloc, windows, declaration, &state.unit)?;
+        choosers.push(chooser)?;
+    }
+    Ok(())
+}
+
+// The units of a stage.
+fn choosers_of(
+    alloc: Global,
+    windows: &Windows,
+    declaration: &Declaration,
+    stage: u32,
+    states: &[UnitState],
+) -> Result<Vec<Chooser>, Memory>
+    requires windows { windows.now ≡ capacity_of declaration.now }
+    requires keeps { IsDeclaration declaration.now }
+    requires units { AreFitting declaration.now states.now }
+    ensures units { IfOk result
+        (λ choosers.
+        AllZip (IsChooserOf declaration.now) (stage_units stage states.now) choosers.items) }
+    ensures range { IfOk result
+        (λ choosers.
+        All (ArePartsInRange (declared_resources (capacity_of declaration.now))) choosers.items) }
+    ensures few { IfOk result (λ choosers. length choosers.items ≤ length states.now) }
+{
+    let mut choosers = Vec::new(alloc);
+    for state in states {
+        add_due(alloc, windows, declaration, stage, state, &mut choosers)?;
+    }
+    Ok(choosers)
+}
+
+/// The units of a submission before the first stage. One step a unit.
+pub fn states_of(alloc: Global, submission: &Submission) -> Result<Vec<UnitState>, Memory>
+    ensures states { IfOk result (λ states. states.items ≡ first_states submission.now.units) }
+    ensures fit { IfOk result (λ states. AreStates submission.now states.items) }
+{
+    let declaration = submission.declaration();
+    states_after(alloc, declaration, submission.units(), &[])
+}
+
+/// The units of a submission after one more stage, which may have no choice. The alternatives of
+/// the stage's units are listed.
+pub fn after_stage(
+    alloc: Global,
+    submission: &Submission,
+    stage: u32,
+    states: Vec<UnitState>,
+    choice: &Option<Choice>,
+) -> Result<Vec<UnitState>, Memory>
+    requires { AreStates submission.now states.items }
+    ensures after { IfOk result
+        (λ after. after.items
+        ≡ after_stage submission.now.declaration stage states.items choice.now) }
+    ensures fit { IfOk result (λ after. AreStates submission.now after.items) }
+{
+    let declaration = submission.declaration();
+    after_one(alloc, declaration, stage, states, choice)
+}
+
+/// The problem of a stage, after what its units were given: its units with their alternatives and
+/// costs, and of each resource what is left of its limit, in stage 3 the share of new entrants of
+/// that.
+///
+/// The time is that of listing the alternatives of the stage's units, and one step for each
+/// resource and capacity line. A part is kept once for each minute at which a movement of the unit
+/// may be.
+pub fn problem_after(
+    alloc: Global,
+    submission: &Submission,
+    stage: u32,
+    states: &[UnitState],
+) -> Result<Problem, Memory>
+    requires { AreStates submission.now states.now }
+    ensures { IfOk result
+        (λ problem. IsStageProblem submission.now.declaration stage states.now problem) }
+{
+    let declaration = submission.declaration();
+    let windows = submission.windows();
+    let units = choosers_of(alloc, windows, declaration, stage, states)?;
+    let limits = stage_limits(alloc, declaration, windows, stage, states)?;
+    Ok(Problem::new(units, limits))
+}
+
+/// The positions of a stage's units among those of the submission, in the order of the file, after
+/// these choices of the stages before it.
+pub fn units_of_stage(
+    alloc: Global,
+    submission: &Submission,
+    stage: u32,
+    earlier: &Earlier,
+) -> Result<Vec<u32>, Memory>
+    requires { length earlier.now ≤ 3 }
+    ensures { IfOk result
+        (λ positions. positions.items
+        ≡ stage_positions stage
+        (states_after submission.now.declaration submission.now.units earlier.now)) }
+{
+    let declaration = submission.declaration();
+    let states = states_after(alloc, declaration, submission.units(), earlier.items())?;
+    positions_of(alloc, stage, &states)
+}
+
+/// The problem of a stage, after these choices of the stages before it: its units with their
+/// alternatives and costs, and of each resource what is left of its limit, in stage 3 the share of
+/// new entrants of that.
+///
+/// The time is that of listing the alternatives of all units once and of a stage's units twice, and
+/// one step for each resource and capacity line. A part is kept once for each minute at which a
+/// movement of the unit may be.
+pub fn stage_problem(
+    alloc: Global,
+    submission: &Submission,
+    stage: u32,
+    earlier: &Earlier,
+) -> Result<Problem, Memory>
+    requires { length earlier.now ≤ 3 }
+    ensures { IfOk result
+        (λ problem. IsStageProblem submission.now.declaration stage
+        (states_after submission.now.declaration submission.now.units earlier.now) problem) }
+{
+    let declaration = submission.declaration();
+    let states = states_after(alloc, declaration, submission.units(), earlier.items())?;
+    problem_after(alloc, submission, stage, &states)
+}

@@ -1,0 +1,219 @@
+//! What the units of a submission have been given.
+
+ghost use Rattle.std.specs.Prelude.{◌≡◌, ◌+◌, ◌<◌, ◌≤◌, ℕ, All, length, Option, Some, None, IfOk, OnOk, slice_index_or};
+ghost use Rattle.series_model.specs.Units.{UnitFits};
+ghost use Rattle.series_model.specs.Options.{options_of};
+ghost use Rattle.series_model.specs.declared.submission.TheConstants.{MOST_UNITS};
+ghost use Rattle.series_model.specs.declared.times.Times.TheVariants.{Refused};
+ghost use Rattle.series_model.specs.Stages.{first_states, has_slots, is_due_state, after_stage, stage_positions, states_after};
+ghost use Rattle.wasg_stages.specs.Steps.{AreFitting, Advances};
+
+use choice_problem::Choice;
+use season_days::Declaration;
+use series_model::{Group, Times, Unit, UnitState, options_of};
+use slot_text::Memory;
+use std::alloc::Global;
+use std::marker::Model;
+
+/// The choices of the stages that were done, one item a stage, from stage 1 on.
+#[derive(Drop)]
+pub struct Earlier {
+    choices: Vec<Option<Choice>>,
+}
+
+impl Model for Earlier {
+    ghost use Rattle.std.specs.Prelude.{List, ℕ, Option};
+
+    ghost Value = { List (Option (List ℕ)) };
+
+    ghost view = { λ e. e.choices.items };
+}
+
+impl Earlier {
+    /// The list of these choices, at most three.
+    pub fn new(choices: Vec<Option<Choice>>) -> Earlier
+        requires { length choices.items ≤ 3 }
+        ensures { result ≡ choices.items }
+    {
+        Earlier { choices }
+    }
+
+    /// The choices, that of stage 1 first.
+    pub fn items(&self) -> &[Option<Choice>]
+        ensures { result.now ≡ self.now }
+    {
+        &self.choices
+    }
+}
+
+// Before the first stage.
+pub(crate) fn first_states(alloc: Global, units: &[Unit]) -> Result<Vec<UnitState>, Memory>
+    ensures { IfOk result (λ states. states.items ≡ first_states units.now) }
+{
+    let mut states = Vec::new(alloc);
+    for unit in units {
+        states.push(UnitState {
+            unit: *unit,
+            given: None,
+        })?;
+    }
+    Ok(states)
+}
+
+// Whether slots were given.
+fn has_slots(given: Option<Times>) -> bool
+    ensures { result ≡ has_slots given }
+{
+    match given {
+        Some(Times::At { .. }) => true,
+        Some(Times::Refused) | None => false,
+    }
+}
+
+// Whether the unit is one of the stage's.
+pub(crate) fn is_due(stage: u32, state: &UnitState) -> bool
+    ensures { result ≡ is_due_state stage state.now }
+{
+    match state.unit.group {
+        Group::F => stage == 1,
+        Group::R | Group::L => stage == 2,
+        Group::B => stage == 3 || (stage == 4 && !has_slots(state.given)),
+        Group::N => stage == 4,
+    }
+}
+
+// The times of a number among a unit's alternatives.
+fn times_of(
+    alloc: Global,
+    declaration: &Declaration,
+    unit: &Unit,
+    number: u32,
+) -> Result<Times, Memory>
+    requires step { 0 < declaration.now.step }
+    requires unit { UnitFits declaration.now.season unit.now }
+    ensures { IfOk result
+        (λ times. times ≡ slice_index_or (options_of declaration.now unit.now) number Refused) }
+{
+    let options = options_of(alloc, unit, declaration)?;
+    if (number as usize) < options.len() {
+        Ok(options[number as usize])
+    } else {
+        Ok(Times::Refused)
+    }
+}
+
+// A unit after the stage, where these numbers are left for it and the units after it, and how many
+// of them it takes.
+fn advanced(
+    alloc: Global,
+    declaration: &Declaration,
+    stage: u32,
+    state: &UnitState,
+    numbers: &[u32],
+) -> Result<(UnitState, usize), Memory>
+    requires step { 0 < declaration.now.step }
+    requires unit { UnitFits declaration.now.season state.now.unit }
+    ensures few { IfOk result (λ x. x.1 ≤ length numbers.now) }
+    ensures after { IfOk result (λ x. Advances declaration.now stage state.now numbers.now x.0 x.1) }
+{
+    if !is_due(stage, state) {
+        return Ok((*state, 0));
+    }
+    if numbers.is_empty() {
+        return Ok((*state, 0));
+    }
+    let times = times_of(alloc, declaration, &state.unit, numbers[0])?;
+    let after = UnitState {
+        unit: state.unit,
+        given: Some(times),
+    };
+    Ok((after, 1))
+}
+
+// What the units have after a stage with a choice.
+pub(crate) fn with_choice(
+    alloc: Global,
+    declaration: &Declaration,
+    stage: u32,
+    states: &[UnitState],
+    numbers: &[u32],
+) -> Result<Vec<UnitState>, Memory>
+    requires step { 0 < declaration.now.step }
+    requires units { AreFitting declaration.now states.now }
+    ensures { IfOk result
+        (λ after. after.items ≡ after_stage declaration.now stage states.now (Some numbers.now)) }
+{
+    let mut after = Vec::new(alloc);
+    let mut next = 0;
+    for state in states {
+        let (state_after, taken) = advanced(alloc, declaration, stage, state, &numbers[next..])?;
+        after.push(state_after)?;
+        next += taken;
+    }
+    Ok(after)
+}
+
+// What the units have after one more stage, which may have no choice.
+pub(crate) fn after_one(
+    alloc: Global,
+    declaration: &Declaration,
+    stage: u32,
+    states: Vec<UnitState>,
+    choice: &Option<Choice>,
+) -> Result<Vec<UnitState>, Memory>
+    requires step { 0 < declaration.now.step }
+    requires units { AreFitting declaration.now states.items }
+    ensures after { IfOk result
+        (λ after. after.items ≡ after_stage declaration.now stage states.items choice.now) }
+    ensures fit { IfOk result (λ after. AreFitting declaration.now after.items) }
+    ensures count { IfOk result (λ after. length after.items ≡ length states.items) }
+{
+    match choice {
+        Some(choice) => {
+            let after = with_choice(alloc, declaration, stage, &states, choice.items())?;
+            Ok(after)
+        }
+        None => Ok(states),
+    }
+}
+
+// What the units have after stages from stage 1 on.
+pub(crate) fn states_after(
+    alloc: Global,
+    declaration: &Declaration,
+    units: &[Unit],
+    choices: &[Option<Choice>],
+) -> Result<Vec<UnitState>, Memory>
+    requires step { 0 < declaration.now.step }
+    requires units { All (UnitFits declaration.now.season) units.now }
+    requires few { length choices.now ≤ 4 }
+    ensures after { IfOk result (λ states. states.items ≡ states_after declaration.now units.now choices.now) }
+    ensures fit { IfOk result (λ states. AreFitting declaration.now states.items) }
+    ensures count { IfOk result (λ states. length states.items ≡ length units.now) }
+{
+    let mut states = first_states(alloc, units)?;
+    let mut stage = 1;
+    for choice in choices {
+        states = after_one(alloc, declaration, stage, states, choice)?;
+        stage += 1;
+    }
+    Ok(states)
+}
+
+// The positions of a stage's units.
+pub(crate) fn positions_of(
+    alloc: Global,
+    stage: u32,
+    states: &[UnitState],
+) -> Result<Vec<u32>, Memory>
+    requires { length states.now ≤ MOST_UNITS }
+    ensures { IfOk result (λ positions. positions.items ≡ stage_positions stage states.now) }
+{
+    let mut positions = Vec::new(alloc);
+    for (i, state) in states.iter().enumerate() {
+        if is_due(stage, state) {
+            positions.push(i as u32)?;
+        }
+    }
+    Ok(positions)
+}
