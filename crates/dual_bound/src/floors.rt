@@ -14,7 +14,7 @@ use price_table::{PriceTable, bound};
 /// A cost, and the number of the vector whose bound shows that no feasible choice costs less: 0 is the vector without
 /// prices, at scale 1, and others are meant at scale 1024.
 #[derive(Clone, Copy, Debug, PartialEq, Eq)]
-pub struct Floor {
+pub struct StatedFloor {
     pub cost: u64,
     pub vector: u32,
 }
@@ -23,7 +23,7 @@ pub struct Floor {
 /// greatest of the sum of the least costs, which is the bound of vector 0 at scale 1, and of each other bound at scale 1024,
 /// divided by 1024 and rounded up. It names the lowest vector that gives it; that vector closes the ranges for the cost. One
 /// step an alternative in range for each vector.
-pub fn floor_of(problem: &Problem, ranges: &Ranges, tables: &[PriceTable]) -> Floor
+pub fn floor_of(problem: &Problem, ranges: &Ranges, tables: &[PriceTable]) -> StatedFloor
     requires ranges { AreRanges problem.now ranges.now }
     requires tables { All (IsTableFor problem.now) tables.now }
     requires few { length tables.now ≤ 64 }
@@ -32,7 +32,7 @@ pub fn floor_of(problem: &Problem, ranges: &Ranges, tables: &[PriceTable]) -> Fl
     ensures closes { LeafHolds problem.now (vectors_of tables.now) (Some result.cost) ranges.now
         result.vector (scale_at result.vector) }
 {
-    let mut floor = Floor {
+    let mut floor = StatedFloor {
         cost: least_costs(problem, ranges),
         vector: 0,
     };
@@ -40,7 +40,7 @@ pub fn floor_of(problem: &Problem, ranges: &Ranges, tables: &[PriceTable]) -> Fl
         let cost = priced_floor(problem, ranges, &tables[place]);
         if floor.cost < cost {
             let vector = place as u32 + 1;
-            floor = Floor { cost, vector };
+            floor = StatedFloor { cost, vector };
         }
     }
     floor

@@ -12,7 +12,7 @@ mod momentum;
 mod points;
 mod roots;
 
-pub use floors::{Floor, floor_of};
+pub use floors::{StatedFloor, floor_of};
 pub use further::{infeasibility_vector, polished_vector};
 pub use roots::{node_vector, root_vector};
 

@@ -1,7 +1,7 @@
-pub mod PartLemmas
-pub mod FieldLemmas
-pub mod CleanLemmas
-pub mod DateLemmas
-pub mod ArrivalLemmas
-pub mod LineLemmas
-pub mod HistoricLemmas
+mod PartLemmas
+mod FieldLemmas
+mod CleanLemmas
+mod DateLemmas
+mod ArrivalLemmas
+mod LineLemmas
+mod HistoricLemmas
