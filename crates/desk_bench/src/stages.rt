@@ -25,11 +25,22 @@ fn season(rt: &HostRuntime, alloc: Global, size: Size, codes: [u8; 4]) -> anyhow
     let (units, rules) = scale_of(size);
     let made = submission(alloc, units, rules, codes)?.ok_or(Memory)?;
     let start = Instant::now(rt)?;
-    let mut states = states_of(alloc, &made)?;
-    for stage in 1..5 {
-        states = one_stage(rt, alloc, size, &made, stage, states)?;
-    }
+    four_stages(rt, alloc, size, &made)?;
     step(rt, size, "four stages", start)
+}
+
+// The stages of a submission, one after the other.
+fn four_stages(
+    rt: &HostRuntime,
+    alloc: Global,
+    size: Size,
+    made: &Submission,
+) -> anyhow::Result<()> {
+    let mut states = states_of(alloc, made)?;
+    for stage in 1..5 {
+        states = one_stage(rt, alloc, size, made, stage, states)?;
+    }
+    Ok(())
 }
 
 // Makes the problem of a stage; answers what the units have after it.
