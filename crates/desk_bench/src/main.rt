@@ -11,6 +11,7 @@ mod messages;
 mod prices;
 mod report;
 mod seasons;
+mod stages;
 mod turn;
 mod units;
 mod walks;
@@ -28,6 +29,7 @@ fn main(rt: HostRuntime) -> anyhow::Result<()> {
         Some("messages") => messages::run(&rt, rt.alloc(), Size::Full),
         Some("capacity") => capacity::run(&rt, rt.alloc(), Size::Full),
         Some("units") => units::run(&rt, rt.alloc(), Size::Full),
+        Some("stages") => stages::run(&rt, rt.alloc(), Size::Full),
         Some("prices") => prices::run(&rt, rt.alloc(), Size::Full),
         Some("seasons") => seasons::run(&rt, rt.alloc(), Size::Full),
         Some("walks") => walks::run(&rt, rt.alloc(), Size::Full),
@@ -39,13 +41,14 @@ fn main(rt: HostRuntime) -> anyhow::Result<()> {
             messages::run(&rt, rt.alloc(), Size::Short)?;
             capacity::run(&rt, rt.alloc(), Size::Short)?;
             units::run(&rt, rt.alloc(), Size::Short)?;
+            stages::run(&rt, rt.alloc(), Size::Short)?;
             prices::run(&rt, rt.alloc(), Size::Short)?;
             seasons::run(&rt, rt.alloc(), Size::Short)?;
             walks::run(&rt, rt.alloc(), Size::Short)
         }
         _ => {
             println!(rt;
-                "desk_bench WORD: bounds, certificates, board, turn, messages, capacity, units, prices, seasons, walks, short"
+                "desk_bench WORD: bounds, certificates, board, turn, messages, capacity, units, stages, prices, seasons, walks, short"
             )?;
             Ok(())
         }

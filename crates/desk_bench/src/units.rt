@@ -23,8 +23,8 @@ use std::time::Instant;
 // Texts stay below this length.
 const MOST_BYTES: usize = 10_000_000;
 
-// How many daily turnarounds, and how many capacity lines with a window of an hour each five minutes.
-fn scale_of(size: Size) -> (u32, u32) {
+/// How many daily turnarounds, and how many capacity lines with a window of an hour each five minutes.
+pub fn scale_of(size: Size) -> (u32, u32) {
     match size {
         Size::Short => (10, 2),
         Size::Full => (500, 16),
@@ -36,7 +36,7 @@ fn scale_of(size: Size) -> (u32, u32) {
 pub fn run(rt: &HostRuntime, alloc: Global, size: Size) -> anyhow::Result<()> {
     let (units, rules) = scale_of(size);
     let start = Instant::now(rt)?;
-    let made = submission(alloc, units, rules)?.ok_or(Memory)?;
+    let made = submission(alloc, units, rules, *b"NNNN")?.ok_or(Memory)?;
     step(rt, size, "reading", start)?;
     let start = Instant::now(rt)?;
     let built = build(alloc, &made)?;
@@ -47,10 +47,16 @@ pub fn run(rt: &HostRuntime, alloc: Global, size: Size) -> anyhow::Result<()> {
     Ok(())
 }
 
-// The submission of so many units under so many capacity lines, unless a text has a fault.
-fn submission(alloc: Global, units: u32, rules: u32) -> Result<Option<Submission>, Memory> {
+/// The submission of so many units, which have these action codes in turn, under so many capacity lines, unless a text has a
+/// fault.
+pub fn submission(
+    alloc: Global,
+    units: u32,
+    rules: u32,
+    codes: [u8; 4],
+) -> Result<Option<Submission>, Memory> {
     let capacity = capacity_text(alloc, rules)?;
-    let requests = request_text(alloc, units)?;
+    let requests = request_text(alloc, units, codes)?;
     read(alloc, &capacity, &requests)
 }
 
@@ -80,14 +86,15 @@ fn capacity_text(alloc: Global, rules: u32) -> Result<Vec<u8>, Memory> {
     Ok(text)
 }
 
-// A message of daily turnarounds of two hours, spread over the day.
-fn request_text(alloc: Global, units: u32) -> Result<Vec<u8>, Memory> {
+// A message of daily turnarounds of two hours, spread over the day, with these action codes in turn.
+fn request_text(alloc: Global, units: u32, codes: [u8; 4]) -> Result<Vec<u8>, Memory> {
     let mut text = Vec::new(alloc);
     text.extend_from_slice(b"SCR\nS25\n20NOV\nABC\n")?;
     for number in 0..units {
         let hour = 4 + u64::from(number % 15);
         let minute = 5 * u64::from(number % 12);
-        text.extend_from_slice(b"NBA")?;
+        text.push(codes[(number % 4) as usize])?;
+        text.extend_from_slice(b"BA")?;
         put_padded(alloc, &mut text, u64::from(number), 4)?;
         text.extend_from_slice(b" BA")?;
         put_padded(alloc, &mut text, u64::from(number), 4)?;

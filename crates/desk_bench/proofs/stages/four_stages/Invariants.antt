@@ -1,0 +1,5 @@
+use Rattle.wasg_stages.specs.StageProblems.{AreStates}
+use Rattle.desk_bench.proofs.stages.four_stages.Given as goal
+
+abbrev pub invariant-loop-stage : goal.invariant-loop-stage
+invariant-loop-stage l = AreStates l.made l.states.items
