@@ -1,0 +1,5 @@
+mod LineLemmas
+mod VerdictLemmas
+mod PassLemmas
+mod ShapedLemmas
+mod NodeLemmas

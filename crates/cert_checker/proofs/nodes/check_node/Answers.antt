@@ -1,0 +1,22 @@
+use Rattle.std.proofs.Common.{rules, ◌≡◌, true, false, drop}
+use Rattle.std.specs.Prelude.{IsTrue, is_some}
+use Rattle.cert_checker.specs.Tests.{Passes, node_line}
+use Rattle.cert_checker.proofs.NodeLemmas.{node-passed, fault-refuses, fault-passes}
+use Rattle.cert_checker.proofs.nodes.check_node.Goals as goal
+
+pub returns-then-is_some-clause-fault : goal.returns-then-is_some-clause-fault
+returns-then-is_some-clause-fault c =
+    let some : c.is_some.result ≡ true = search rules in
+    let found : is_some c.node_fault-fault.result ≡ true = search rules in
+    fault-refuses c.args.problem.now c.args.cert.now c.args.walk.now c.args.walk.now c.ranges-2.result.now c.args.node c.args.floors.now c.node_fault-fault.result found c.ranges-2.ensures c.node_fault-fault.ensures
+
+pub returns-then-branch-clause-fault : goal.returns-then-branch-clause-fault
+returns-then-branch-clause-fault c =
+    let p = c.args.problem.now in
+    let cert = c.args.cert.now in
+    let walk = c.args.walk.now in
+    let ranges = c.ranges-2.result.now in
+    let none : is_some c.node_fault-fault.result ≡ false = search rules in
+    let yes : IsTrue c.in_ok-advance.field-0 = search rules in
+    let pass = fault-passes (Passes p cert) (node_line ranges c.args.node c.args.floors.now) c.node_fault-fault.result none c.node_fault-fault.ensures in
+    node-passed p cert walk (drop 1 walk) c.advance.new.self ranges c.args.node c.args.floors.now c.ranges-2.ensures pass (c.in_ok-advance.ensures.step yes)

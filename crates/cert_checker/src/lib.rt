@@ -1,0 +1,16 @@
+//! Checks certificates of a season: no line of one fails, or the first that does is named with its
+//! reason.
+//!
+//! Nothing here searches, and nothing trusts who made the certificate.
+#![tactic(auto)]
+
+mod checks;
+mod laws;
+mod lines;
+mod nodes;
+mod trees;
+mod verdict;
+
+pub use checks::check_stage;
+pub use laws::{passing_lines, tested_lines};
+pub use verdict::{Reason, Verdict};
