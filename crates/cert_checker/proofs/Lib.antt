@@ -3,3 +3,6 @@ mod VerdictLemmas
 mod PassLemmas
 mod ShapedLemmas
 mod NodeLemmas
+mod AlikeLemmas
+mod CertificateLemmas
+mod KeptLemmas

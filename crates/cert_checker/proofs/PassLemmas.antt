@@ -374,7 +374,6 @@ nodes-pass p c Infeasible mark_is sound marked = whole-nodes-pass p c c.tree (wh
 nodes-pass p c Unsettled mark_is sound marked = open-nodes-pass p c c.bound refl (subst MayBeUndone (sym mark_is) tt) sound marked.1
 nodes-pass p c NotTried mark_is sound marked = absurd marked
 
-
 abbrev pub ShapeLaw : Type 0
 ShapeLaw = (p : ProblemView) (vectors : List (List Price)) (cost : Option ℕ) (ranges : List (ℕ × ℕ)) (nodes : List Node) → IsSound p vectors cost ranges nodes → IsTree nodes
 

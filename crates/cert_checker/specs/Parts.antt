@@ -53,4 +53,4 @@ GoesOnBy p c old node floors new None =
 GoesOnBy p c old node floors new (Some reason) =
     (nodes : List Node) (at number next : ℕ) (lines : List (List Test)) →
     Leads p c at (node_tests old (node ∷ nodes) floors) number lines →
-        IsPart p c number lines (No at reason) next
+    IsPart p c number lines (No at reason) next

@@ -23,7 +23,7 @@ abbrev pub IsFirstFailing : (Test → Type 0) → ℕ → List (List Test) → �
 IsFirstFailing Holds number [] line reason = ⊥
 IsFirstFailing Holds number (tests ∷ lines) line reason =
     ((line ≡ number) × FailsFirst Holds tests reason)
-        ⊎ (AllByRecursion Holds tests × IsFirstFailing Holds (suc number) lines line reason)
+    ⊎ (AllByRecursion Holds tests × IsFirstFailing Holds (suc number) lines line reason)
 
 -- the verdict on lines
 abbrev pub IsVerdict : (Test → Type 0) → ℕ → List (List Test) → Verdict → Type 0

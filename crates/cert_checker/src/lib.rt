@@ -5,12 +5,16 @@
 #![tactic(auto)]
 
 mod checks;
+mod kept;
 mod laws;
 mod lines;
 mod nodes;
 mod trees;
 mod verdict;
 
-pub use checks::check_stage;
-pub use laws::{passing_lines, tested_lines};
+pub use checks::{check, check_stage};
+pub use laws::{alike_proofs, one_verdict, passing_lines, tested_lines};
 pub use verdict::{Reason, Verdict};
+
+#[cfg(test)]
+mod tests;

@@ -4,17 +4,17 @@ ghost use Rattle.std.specs.Prelude.{◌≡◌, ◌↔◌, ◌+◌, ◌<◌, ◌�
 ghost use Rattle.std.specs.List.{AllByRecursion};
 ghost use Rattle.choice_problem.specs.Problems.{unit_count};
 ghost use Rattle.choice_problem.specs.Bounds.{AreRanges, IsVector, whole_of};
-ghost use Rattle.choice_problem.specs.Trees.{CanSplit, LeafHolds, OverHolds, IsWhole};
+ghost use Rattle.choice_problem.specs.Trees.{CanSplit, OverHolds, IsWhole};
 ghost use Rattle.cert_checker.specs.Tests.{MayBeUndone, Passes, undone_tests, node_line, node_tests, floors_after};
+ghost use Rattle.cert_checker.specs.Kept.{AreKept};
 ghost use Rattle.cert_checker.specs.Parts.{IsLineFault, GoesOnBy, IsPart, tree_part};
 
+use crate::kept::{KeptBound, empty_kept, leaf_holds};
 use crate::lines::Judged;
 use crate::trees::{is_tree, is_whole};
 use crate::verdict::Reason;
 use cert_format::{Floor, Mark, StageCert};
-use choice_problem::{
-    Node, Problem, RangeWalk, Ranges, Vector, VectorList, leaf_closes, over_closes,
-};
+use choice_problem::{Node, Problem, RangeWalk, Ranges, over_closes};
 use slot_text::Memory;
 use std::alloc::Global;
 
@@ -24,31 +24,6 @@ fn can_split(problem: &Problem, ranges: &Ranges, unit: u32, cut: u32) -> bool
     ensures { IsTrue result ↔ CanSplit ranges.now unit cut }
 {
     unit < problem.units() && ranges.low(unit) < cut && cut <= ranges.high(unit)
-}
-
-// Whether a leaf's bound closes its ranges for a cost, or for none.
-fn leaf_holds(
-    alloc: Global,
-    problem: &Problem,
-    vectors: &VectorList,
-    cost: Option<u64>,
-    ranges: &Ranges,
-    vector: u32,
-    scale: u64,
-) -> bool
-    requires ranges { AreRanges problem.now ranges.now }
-    requires vectors { All (IsVector problem.now) vectors.now }
-    ensures { IsTrue result ↔ LeafHolds problem.now vectors.now cost ranges.now vector scale }
-{
-    let vectors = vectors.items();
-    if vector as usize > vectors.len() || scale >= 1 << 20 {
-        return false;
-    }
-    if vector == 0 {
-        let zero = Vector::new(Vec::new(alloc));
-        return leaf_closes(problem, ranges, &zero, scale, cost);
-    }
-    leaf_closes(problem, ranges, &vectors[vector as usize - 1], scale, cost)
 }
 
 // Whether a resource is there, and its least load passes its limit.
@@ -80,16 +55,19 @@ fn undone_fault(
     alloc: Global,
     problem: &Problem,
     cert: &StageCert,
+    kept: &mut Vec<Option<KeptBound>>,
     ranges: &Ranges,
     floors: &[Floor],
-) -> Option<Reason>
+) -> Result<Option<Reason>, Memory>
     requires ranges { AreRanges problem.now ranges.now }
     requires vectors { All (IsVector problem.now) cert.now.vectors }
-    ensures { IsLineFault (Passes problem.now cert.now) (undone_tests ranges.now floors.now)
-        result }
+    requires kept { AreKept problem.now cert.now.vectors kept.old.items }
+    ensures kept { IfOk result (λ fault. AreKept problem.now cert.now.vectors kept.new.items) }
+    ensures fault { IfOk result (λ fault. IsLineFault (Passes problem.now cert.now)
+        (undone_tests ranges.now floors.now) fault) }
 {
     if !may_be_undone(cert.mark) {
-        return Some(Reason::Undone);
+        return Ok(Some(Reason::Undone));
     }
     match (floors, cert.bound) {
         ([floor, ..], Some(bound)) => {
@@ -99,14 +77,15 @@ fn undone_fault(
                 alloc,
                 problem,
                 vectors,
+                kept,
                 stated,
                 ranges,
                 floor.vector,
                 floor.scale,
-            );
-            fault_unless(holds, Reason::Floor)
+            )?;
+            Ok(fault_unless(holds, Reason::Floor))
         }
-        _ => None,
+        _ => Ok(None),
     }
 }
 
@@ -115,28 +94,34 @@ fn node_fault(
     alloc: Global,
     problem: &Problem,
     cert: &StageCert,
+    kept: &mut Vec<Option<KeptBound>>,
     ranges: &Ranges,
     node: Node,
     floors: &[Floor],
-) -> Option<Reason>
+) -> Result<Option<Reason>, Memory>
     requires ranges { AreRanges problem.now ranges.now }
     requires vectors { All (IsVector problem.now) cert.now.vectors }
-    ensures { IsLineFault (Passes problem.now cert.now) (node_line ranges.now node floors.now)
-        result }
+    requires kept { AreKept problem.now cert.now.vectors kept.old.items }
+    ensures kept { IfOk result (λ fault. AreKept problem.now cert.now.vectors kept.new.items) }
+    ensures fault { IfOk result (λ fault. IsLineFault (Passes problem.now cert.now)
+        (node_line ranges.now node floors.now) fault) }
 {
     match node {
-        Node::Split { unit, cut, .. } => {
-            fault_unless(can_split(problem, ranges, unit, cut), Reason::Split)
-        }
+        Node::Split { unit, cut, .. } => Ok(fault_unless(
+            can_split(problem, ranges, unit, cut),
+            Reason::Split,
+        )),
         Node::Leaf { vector, scale, .. } => {
             let vectors = &cert.vectors;
-            let holds = leaf_holds(alloc, problem, vectors, cert.cost, ranges, vector, scale);
-            fault_unless(holds, Reason::Leaf)
+            let cost = cert.cost;
+            let holds = leaf_holds(alloc, problem, vectors, kept, cost, ranges, vector, scale)?;
+            Ok(fault_unless(holds, Reason::Leaf))
         }
-        Node::Over { resource } => {
-            fault_unless(over_holds(problem, ranges, resource), Reason::Over)
-        }
-        Node::Undone => undone_fault(alloc, problem, cert, ranges, floors),
+        Node::Over { resource } => Ok(fault_unless(
+            over_holds(problem, ranges, resource),
+            Reason::Over,
+        )),
+        Node::Undone => undone_fault(alloc, problem, cert, kept, ranges, floors),
     }
 }
 
@@ -155,18 +140,21 @@ fn check_node(
     alloc: Global,
     problem: &Problem,
     cert: &StageCert,
+    kept: &mut Vec<Option<KeptBound>>,
     walk: &mut RangeWalk,
     node: Node,
     floors: &[Floor],
 ) -> Result<Option<Reason>, Memory>
     requires vectors { All (IsVector problem.now) cert.now.vectors }
+    requires kept { AreKept problem.now cert.now.vectors kept.old.items }
     requires some { 0 < length walk.old }
     requires ranges { All (AreRanges problem.now) walk.old }
+    ensures kept { IfOk result (λ fault. AreKept problem.now cert.now.vectors kept.new.items) }
     ensures ranges { IfOk result (λ fault. All (AreRanges problem.now) walk.new) }
     ensures fault { IfOk result (λ fault.
         GoesOnBy problem.now cert.now walk.old node floors.now walk.new fault) }
 {
-    let fault = node_fault(alloc, problem, cert, walk.ranges(), node, floors);
+    let fault = node_fault(alloc, problem, cert, kept, walk.ranges(), node, floors)?;
     if fault.is_some() {
         return Ok(fault);
     }
@@ -192,6 +180,7 @@ fn check_nodes(
 {
     let whole = Ranges::whole(alloc, problem)?;
     let mut walk = RangeWalk::new(alloc, whole);
+    let mut kept = empty_kept(alloc, &cert.vectors)?;
     let mut floors = cert.floors.items();
     let nodes = cert.tree.items();
     let mut at = line;
@@ -199,7 +188,8 @@ fn check_nodes(
         if walk.is_done() {
             return Ok(Judged::passed(line + nodes.len() as u32));
         }
-        if let Some(reason) = check_node(alloc, problem, cert, &mut walk, *node, floors)? {
+        let fault = check_node(alloc, problem, cert, &mut kept, &mut walk, *node, floors)?;
+        if let Some(reason) = fault {
             return Ok(Judged::refused(at, reason));
         }
         floors = floors_after(*node, floors);

@@ -37,11 +37,11 @@ returns-in-Some c =
     let same : length c.items-nodes.result.now ≡ length cert.tree = ap (λ (nodes : List Node). length nodes) c.items-nodes.ensures in
     let lt : i < length cert.tree = omega (arith, there, same) in
     let node : get_or c.items-nodes.result.now i no_node ≡ get_or cert.tree i no_node = ap (λ (nodes : List Node). get_or nodes i no_node) c.items-nodes.ensures in
-    let found : c.in_ok-reason.field-0 ≡ Some c.in-Some.reason = search rules in
+    let found : c.in_ok-fault.fault ≡ Some c.in-Some.reason = search rules in
     let goes : GoesOnBy p cert c.loop-node.walk (get_or c.items-nodes.result.now i no_node) c.loop-node.floors.now c.check_node.new.walk (Some c.in-Some.reason) =
-        subst (λ (o : Option Reason). GoesOnBy p cert c.loop-node.walk (get_or c.items-nodes.result.now i no_node) c.loop-node.floors.now c.check_node.new.walk o) found c.in_ok-reason.ensures.fault in
+    subst (λ (o : Option Reason). GoesOnBy p cert c.loop-node.walk (get_or c.items-nodes.result.now i no_node) c.loop-node.floors.now c.check_node.new.walk o) found c.in_ok-fault.ensures.fault in
     let there_goes : GoesOnBy p cert c.loop-node.walk (get_or cert.tree i no_node) c.loop-node.floors.now c.check_node.new.walk (Some c.in-Some.reason) =
-        subst (λ (n : Node). GoesOnBy p cert c.loop-node.walk n c.loop-node.floors.now c.check_node.new.walk (Some c.in-Some.reason)) node goes in
+    subst (λ (n : Node). GoesOnBy p cert c.loop-node.walk n c.loop-node.floors.now c.check_node.new.walk (Some c.in-Some.reason)) node goes in
     subst (λ (j : Judged). IsPart p cert c.args.line lines j.verdict j.next) (sym c.refused.ensures)
     (nodes-refused p cert c.args.line c.loop-node.at i c.loop-node.at c.loop-node.walk c.check_node.new.walk cert.tree c.loop-node.floors.now lines no_node c.in-Some.reason lt there_goes c.loop-node.invariant.leads)
 
@@ -55,16 +55,17 @@ loop-node-preserved c =
     let same : length c.items-nodes.result.now ≡ length cert.tree = ap (λ (nodes : List Node). length nodes) c.items-nodes.ensures in
     let lt : i < length cert.tree = omega (arith, there, same) in
     let node : get_or c.items-nodes.result.now i no_node ≡ get_or cert.tree i no_node = ap (λ (nodes : List Node). get_or nodes i no_node) c.items-nodes.ensures in
-    let found : c.in_ok-reason.field-0 ≡ None = search rules in
+    let found : c.in_ok-fault.fault ≡ None = search rules in
     let goes : GoesOnBy p cert c.loop-node.walk (get_or c.items-nodes.result.now i no_node) c.loop-node.floors.now c.check_node.new.walk None =
-        subst (λ (o : Option Reason). GoesOnBy p cert c.loop-node.walk (get_or c.items-nodes.result.now i no_node) c.loop-node.floors.now c.check_node.new.walk o) found c.in_ok-reason.ensures.fault in
+    subst (λ (o : Option Reason). GoesOnBy p cert c.loop-node.walk (get_or c.items-nodes.result.now i no_node) c.loop-node.floors.now c.check_node.new.walk o) found c.in_ok-fault.ensures.fault in
     let there_goes : GoesOnBy p cert c.loop-node.walk (get_or cert.tree i no_node) c.loop-node.floors.now c.check_node.new.walk None =
-        subst (λ (n : Node). GoesOnBy p cert c.loop-node.walk n c.loop-node.floors.now c.check_node.new.walk None) node goes in
+    subst (λ (n : Node). GoesOnBy p cert c.loop-node.walk n c.loop-node.floors.now c.check_node.new.walk None) node goes in
     let floors : floors_after (get_or cert.tree i no_node) c.loop-node.floors.now ≡ c.floors_after-floors.result.now =
-        ap (λ (n : Node). floors_after n c.loop-node.floors.now) (sym node) ∙ sym c.floors_after-floors.ensures in
+    ap (λ (n : Node). floors_after n c.loop-node.floors.now) (sym node) ∙ sym c.floors_after-floors.ensures in
     record {
       at = omega (arith, c.loop-node.invariant.at);
-      ranges = c.in_ok-reason.ensures.ranges;
+      ranges = c.in_ok-fault.ensures.ranges;
+      kept = c.in_ok-fault.ensures.kept;
       leads = subst (λ (fs : List Floor). Leads p cert (c.loop-node.at + 1) (node_tests c.check_node.new.walk (drop (i + 1) cert.tree) fs) c.args.line lines) floors
           (nodes-next p cert c.args.line c.loop-node.at i c.loop-node.walk c.check_node.new.walk cert.tree c.loop-node.floors.now lines no_node lt there_goes c.loop-node.invariant.leads);
     }

@@ -1,10 +1,10 @@
 use Rattle.std.proofs.Common.{rules, ◌-◌, ◌<◌, List, length, get_or, sym, ap, ◌∙◌, subst, arith}
 use Rattle.choice_problem.specs.declared.vectors.Price.{Price}
 use Rattle.choice_problem.specs.Bounds.{IsVector}
-use Rattle.cert_checker.proofs.nodes.leaf_holds.Goals as goal
+use Rattle.cert_checker.proofs.kept.first_kept.Goals as goal
 
-pub leaf_closes-requires-2-clause-vector : goal.leaf_closes-requires-2-clause-vector
-leaf_closes-requires-2-clause-vector c =
+pub keep-requires-2-clause-vector : goal.keep-requires-2-clause-vector
+keep-requires-2-clause-vector c =
     let vector = c.index-vectors-vector.result in
     let k = c.args.vector - 1 in
     let there : k < length c.items-vectors.result.now = search rules in
