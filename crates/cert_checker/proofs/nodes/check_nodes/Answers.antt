@@ -1,8 +1,9 @@
-use Rattle.std.proofs.Common.{rules, ◌≡◌, ◌+◌, ◌<◌, ◌≤◌, ◌∷◌, [], List, length, drop, get_or, true, false, Some, None, sym, ap, ◌∙◌, subst, arith, length-drop}
-use Rattle.std.specs.Prelude.{Option}
+use Rattle.std.proofs.Common.{rules, ℕ, ◌≡◌, ◌+◌, ◌<◌, ◌≤◌, ◌∷◌, [], List, length, drop, get_or, true, false, Some, None, sym, ap, ◌∙◌, subst, arith, length-drop}
+use Rattle.std.specs.Prelude.{Option, All}
+use Rattle.std.proofs.lemmas.List.Elements.{All-cons, All-nil}
 use Rattle.choice_problem.specs.declared.nodes.Node.{Node}
 use Rattle.choice_problem.specs.declared.nodes.Node.TheVariants.{Split}
-use Rattle.choice_problem.specs.Bounds.{whole_of}
+use Rattle.choice_problem.specs.Bounds.{AreRanges, whole_of}
 use Rattle.cert_checker.specs.declared.lines.Judged.{Judged}
 use Rattle.cert_checker.specs.declared.verdict.Reason.{Reason}
 use Rattle.cert_checker.specs.Tests.{node_tests, floors_after}
@@ -13,6 +14,21 @@ use Rattle.cert_checker.proofs.nodes.check_nodes.Goals as goal
 
 abbrev no_node : Node
 no_node = Split 0 0 None
+
+pub loop-node-init : goal.loop-node-init
+loop-node-init c =
+    let p = c.args.problem.now in
+    let cert = c.args.cert.now in
+    let walk_is : c.new-walk.result ≡ whole_of p ∷ [] = c.new-walk.ensures ∙ ap (λ (w : List (ℕ × ℕ)). w ∷ []) c.in_ok-whole.ensures.value in
+    record {
+      at = omega arith;
+      ranges = subst (All (AreRanges p)) (sym c.new-walk.ensures)
+          (All-cons (AreRanges p) c.in_ok-whole.whole [] c.in_ok-whole.ensures.there (All-nil (AreRanges p)));
+      kept = c.in_ok-kept.ensures p;
+      leads = λ verdict next part.
+          subst (λ (fs : List Floor). IsPart p cert c.args.line (node_tests (whole_of p ∷ []) cert.tree fs) verdict next) c.items-floors.ensures
+          (subst (λ (w : List (List (ℕ × ℕ))). IsPart p cert c.args.line (node_tests w cert.tree c.items-floors.result.now) verdict next) walk_is part);
+    }
 
 pub returns-then-is_done : goal.returns-then-is_done
 returns-then-is_done c =
