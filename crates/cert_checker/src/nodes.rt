@@ -158,7 +158,8 @@ fn check_node(
     if fault.is_some() {
         return Ok(fault);
     }
-    if walk.advance(node)? {
+    let mut changed = Vec::new(alloc);
+    if walk.advance(node, &mut changed)? {
         Ok(None)
     } else {
         Ok(Some(Reason::Split))
