@@ -47,10 +47,21 @@ const NIGHT: Night = Night {
     limit: 4,
 };
 
+// The season S25, which has 210 dates.
+fn season() -> Result<Season, Fail>
+    ensures { IfOk result (λ season. date_count season ≡ 210) }
+{
+    let season = Season::read(b"S25").ok_or("season")?;
+    if season.length() != 210 {
+        return Err("length".into());
+    }
+    Ok(season)
+}
+
 fn three_lines(alloc: Global) -> Result<Windows, Fail>
     ensures { IfOk result (λ windows. length windows.rules ≡ 3) }
 {
-    let season = Season::read(b"S25").ok_or("season")?;
+    let season = season()?;
     let rules = vec![in alloc; ARRIVALS, SEVEN, EIGHT]?;
     let declaration = declaration(season, rules, Some(NIGHT));
     Ok(Windows::new(alloc, &declaration)?)
@@ -232,7 +243,7 @@ const EIGHT_ALONE: Rule = Rule {
 #[test]
 fn each_two_of_three_turnarounds_share_a_window(rt: HostRuntime) -> Result<(), Fail> {
     let alloc = rt.alloc();
-    let season = Season::read(b"S25").ok_or("season")?;
+    let season = season()?;
     let rules = vec![in alloc; SIX_ALONE, SEVEN_ALONE, EIGHT_ALONE]?;
     let windows = Windows::new(alloc, &declaration(season, rules, None))?;
     assert_eq!(rt; (windows.resources(), windows.night()), (630, None));

@@ -1,8 +1,8 @@
 -- The walk in place.
 use Rattle.std.proofs.Common.{◌≡◌, ℕ, zero, suc, ◌+◌, ◌-◌, ◌<◌, refl, sym, ◌∙◌, ap, arith, List, [], ◌∷◌, ◌++◌, length, get_or, set, reverse, take, drop, Bool, true, false, None}
 use Rattle.std.specs.Prelude.{All}
-use Rattle.std.proofs.lemmas.List.Elements.{All-append, All-head, All-tail, All-cons, All-nil}
-use Rattle.std.proofs.lemmas.List.{reverse-append, set-get_or, drop_more}
+use Rattle.std.proofs.lemmas.List.Elements.{All-append, All-head, All-tail, All-cons, All-nil, Contains-push, Contains-append_left}
+use Rattle.std.proofs.lemmas.List.{reverse-append, set-get_or, get_or-set_other, append-nil, append_assoc, drop_more}
 use Rattle.std.proofs.Math.Seq.{take-append_seam}
 use Rattle.choice_problem.specs.declared.nodes.Node.{Node}
 use Rattle.choice_problem.specs.declared.nodes.Node.TheVariants.{Split, Leaf, Over, Undone}
@@ -10,7 +10,7 @@ use Rattle.choice_problem.specs.declared.walks.Frame.{Frame}
 use Rattle.choice_problem.specs.Problems.{ProblemView}
 use Rattle.choice_problem.specs.Bounds.{low_of, high_of, AreRanges}
 use Rattle.choice_problem.specs.Trees.{low_part, high_part, parts_of}
-use Rattle.choice_problem.specs.Walks.{CanStand, AreWalkable, IsStep, CanStep, pending_of, walk_of}
+use Rattle.choice_problem.specs.Walks.{CanStand, AreWalkable, IsStep, CanStep, AreChanges, ChangesFirst, pending_of, walk_of}
 use Rattle.choice_problem.specs.Grafts.{open_ranges}
 use Rattle.choice_problem.specs.Loops.{opened}
 use Rattle.choice_problem.proofs.TreeLemmas.{AreRanges-low_part, AreRanges-high_part}
@@ -134,3 +134,31 @@ pub walk_first : (on : Bool) (spans : List (ℕ × ℕ)) (frames : List Frame) �
     walk_of on spans frames ≡ spans ∷ drop 1 (walk_of on spans frames)
 walk_first true spans frames l = refl
 walk_first false spans frames l = absurd (omega arith)
+
+-- nothing has changed yet
+pub changed_none : (spans : List (ℕ × ℕ)) (list : List ℕ) → AreChanges spans spans list list
+changed_none spans list = record {
+  more = [];
+  after_is = sym (append-nil list);
+  there = All-nil (λ u. u < length spans);
+  same = λ u out. refl;
+}
+
+-- one more range is replaced
+pub changed_more : (old spans : List (ℕ × ℕ)) (before mid after : List ℕ) (unit : ℕ) (range : ℕ × ℕ) → AreChanges old spans before mid → unit < length old →
+    after ≡ mid ++ unit ∷ [] → AreChanges old (set spans unit range) before after
+changed_more old spans before mid after unit range h there e = record {
+  more = h.more ++ unit ∷ [];
+  after_is = e ∙ ap (λ xs. xs ++ unit ∷ []) h.after_is ∙ append_assoc before h.more (unit ∷ []);
+  there = All-append (λ u. u < length old) h.more (unit ∷ []) h.there (All-cons (λ u. u < length old) unit [] there (All-nil (λ u. u < length old)));
+  same = λ u out.
+      get_or-set_other spans unit u range (0, 0) (λ (q : u ≡ unit). out (rw q (Contains-push h.more unit)))
+      ∙ h.same u (λ k. out (Contains-append_left h.more (unit ∷ []) u k));
+}
+
+-- so of the first of what is pending
+pub changed_first : (was on : Bool) (old spans : List (ℕ × ℕ)) (frames later : List Frame) (before after : List ℕ) → AreChanges old spans before after →
+    ChangesFirst (walk_of was old frames) (walk_of on spans later) before after
+changed_first false on old spans frames later before after h = tt
+changed_first true false old spans frames later before after h = tt
+changed_first true true old spans frames later before after h = h

@@ -1,5 +1,5 @@
 -- A walk over the nodes of trees: the ranges that trees are still to come for, those in place first.
-use Rattle.std.specs.Prelude.{◌≡◌, ℕ, ◌<◌, Bool, true, false, List, [], ◌∷◌, ◌++◌, slice_set, if◌then◌else◌, All}
+use Rattle.std.specs.Prelude.{◌≡◌, ℕ, ◌<◌, Bool, true, false, List, [], ◌∷◌, ◌++◌, length, slice_index_or, slice_set, if◌then◌else◌, All, Contains}
 use Rattle.choice_problem.specs.declared.nodes.Node.{Node}
 use Rattle.choice_problem.specs.declared.nodes.Node.TheVariants.{Split, Leaf, Over, Undone}
 use Rattle.choice_problem.specs.declared.walks.Frame.{Frame}
@@ -29,6 +29,20 @@ pub record IsStep (old : List (List (ℕ × ℕ))) (node : Node)
 abbrev pub CanStep : List (List (ℕ × ℕ)) → Node → Type 0
 CanStep [] node = ⊥
 CanStep (ranges ∷ rest) node = CanStand ranges node
+
+-- the units that were added to a list; the ranges of all others are as before
+pub record AreChanges (old new : List (ℕ × ℕ)) (before after : List ℕ) : Type 0 where
+  pub more : List ℕ
+  pub after_is : after ≡ before ++ more
+  pub there : All (λ u. u < length old) more
+  pub same : (u : ℕ) → (Contains more u → ⊥) → slice_index_or new u (0, 0)
+      ≡ slice_index_or old u (0, 0)
+
+-- where ranges are pending before and after, the added units are what changed in the first of them
+abbrev pub ChangesFirst : List (List (ℕ × ℕ)) → List (List (ℕ × ℕ)) → List ℕ → List ℕ → Type 0
+ChangesFirst [] new before after = Unit {0}
+ChangesFirst (old ∷ rest) [] before after = Unit {0}
+ChangesFirst (old ∷ rest) (new ∷ others) before after = AreChanges old new before after
 
 -- what a walk stands for. A split in whose low part the walk is has its high part pending; the frames are listed from the
 -- last split on

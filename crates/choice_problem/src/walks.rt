@@ -1,11 +1,11 @@
 //! A walk over the nodes of a search tree, with the ranges of alternatives in place.
 
-ghost use Rattle.std.specs.Prelude.{◌≡◌, ◌↔◌, ◌<◌, ◌≤◌, ◌∷◌, ◌++◌, [], ℕ, List, length, take, reverse, IsTrue, IsSome, IfOk, IfSome, OnOk};
+ghost use Rattle.std.specs.Prelude.{◌≡◌, ◌↔◌, ◌<◌, ◌≤◌, ◌∷◌, ◌++◌, [], ℕ, List, length, take, reverse, slice_set, IsTrue, IsSome, IfOk, IfSome, OnOk};
 ghost use Rattle.choice_problem.specs.Bounds.{low_of, high_of};
 ghost use Rattle.choice_problem.specs.Grafts.{open_ranges};
 ghost use Rattle.choice_problem.specs.Loops.{opened};
 ghost use Rattle.choice_problem.specs.Trees.{CanSplit, low_part, high_part, parts_of};
-ghost use Rattle.choice_problem.specs.Walks.{CanStand, AreWalkable, AreFrames, pending_of, walk_of};
+ghost use Rattle.choice_problem.specs.Walks.{CanStand, AreWalkable, AreFrames, AreChanges, pending_of, walk_of};
 
 use crate::nodes::Node;
 use crate::spans::Ranges;
@@ -49,7 +49,7 @@ impl RangeWalk {
     ghost use Rattle.std.specs.Prelude.{◌≡◌, ◌↔◌, ◌<◌, ◌∷◌, [], ℕ, length, drop, All, IsTrue, IfOk};
     ghost use Rattle.choice_problem.specs.Problems.{ProblemView};
     ghost use Rattle.choice_problem.specs.Bounds.{AreRanges};
-    ghost use Rattle.choice_problem.specs.Walks.{IsStep, CanStep};
+    ghost use Rattle.choice_problem.specs.Walks.{IsStep, CanStep, ChangesFirst};
 
     /// The walk over one tree on these ranges, before its first node.
     pub fn new(alloc: Global, ranges: Ranges) -> RangeWalk
@@ -77,21 +77,29 @@ impl RangeWalk {
         &self.ranges
     }
 
-    /// Goes on by a node: after a split to its low part, after another node to the high part of the last split in whose low
-    /// part the walk was, or to the end. It answers false, and stays, where the tree is at its end or a split is not
-    /// possible. A step costs what it changes: one range a split that it enters or leaves, which over a whole tree is
-    /// three ranges a split. After want of memory nothing is said of where the walk stands.
-    pub fn advance(&mut self, node: Node) -> Result<bool, Memory>
+    /// Goes on by a node: after a split to its low part, after another node to the high part of the
+    /// last split in whose low part the walk was, or to the end. It answers false, and stays, where
+    /// the tree is at its end or a split is not possible. The list gets the units whose ranges the
+    /// step changed: after a split its unit, otherwise one unit for each split that the step leaves
+    /// or whose high part it enters. A unit may come more than once, and where the answer is false
+    /// none is added. A step costs what it changes: one range and 4 bytes of the list a split that
+    /// it enters or leaves, which over a whole tree is three ranges a split. After want of memory
+    /// nothing is said of where the walk stands or of the list.
+    pub fn advance(&mut self, node: Node, changed: &mut Vec<u32>) -> Result<bool, Memory>
         ensures step { IfOk result (λ yes. IsTrue yes → IsStep self.old node self.new) }
         ensures stop { IfOk result (λ yes. CanStep self.old node → IsTrue yes) }
         ensures same { IfOk result (λ yes. (IsTrue yes → ⊥) → self.new ≡ self.old) }
         ensures valid { IfOk result (λ yes. (p : ProblemView) →
             All (AreRanges p) self.old → All (AreRanges p) self.new) }
+        ensures changed { IfOk result (λ yes. IsTrue yes →
+            ChangesFirst self.old self.new changed.old.items changed.new.items) }
+        ensures none { IfOk result (λ yes. (IsTrue yes → ⊥) →
+            changed.new.items ≡ changed.old.items) }
     {
         if !self.is_on || !can_stand(&self.ranges, node) {
             return Ok(false);
         }
-        self.is_on = go_on(&mut self.ranges, &mut self.frames, node)?;
+        self.is_on = go_on(&mut self.ranges, &mut self.frames, node, changed)?;
         Ok(true)
     }
 }
@@ -114,17 +122,24 @@ fn can_split(ranges: &Ranges, unit: u32, cut: u32) -> bool
 }
 
 // Goes below a split, or on to the ranges after another node; whether there are any.
-fn go_on(ranges: &mut Ranges, frames: &mut Vec<Frame>, node: Node) -> Result<bool, Memory>
+fn go_on(
+    ranges: &mut Ranges,
+    frames: &mut Vec<Frame>,
+    node: Node,
+    changed: &mut Vec<u32>,
+) -> Result<bool, Memory>
     requires frames { AreFrames (length ranges.old) frames.old.items }
     requires stands { CanStand ranges.old node }
     ensures length { length ranges.new ≡ length ranges.old }
     ensures frames { AreFrames (length ranges.new) frames.new.items }
     ensures walk { IfOk result (λ on. walk_of on ranges.new (reverse frames.new.items) ≡
         parts_of ranges.old node ++ pending_of ranges.old (reverse frames.old.items)) }
+    ensures changed { OnOk result (AreChanges ranges.old ranges.new
+        changed.old.items changed.new.items) }
 {
     match node {
-        Node::Split { unit, cut, .. } => go_down(ranges, frames, unit, cut),
-        _ => go_up(ranges, frames),
+        Node::Split { unit, cut, .. } => go_down(ranges, frames, unit, cut, changed),
+        _ => go_up(ranges, frames, changed),
     }
 }
 
@@ -134,6 +149,7 @@ fn go_down(
     frames: &mut Vec<Frame>,
     unit: u32,
     cut: u32,
+    changed: &mut Vec<u32>,
 ) -> Result<bool, Memory>
     requires frames { AreFrames (length ranges.old) frames.old.items }
     requires split { CanSplit ranges.old unit cut }
@@ -142,6 +158,8 @@ fn go_down(
     ensures walk { IfOk result (λ on. walk_of on ranges.new (reverse frames.new.items) ≡
         low_part ranges.old unit cut ∷ high_part ranges.old unit cut
         ∷ pending_of ranges.old (reverse frames.old.items)) }
+    ensures changed { OnOk result (AreChanges ranges.old ranges.new
+        changed.old.items changed.new.items) }
 {
     let low = ranges.low(unit);
     let high = ranges.high(unit);
@@ -152,30 +170,52 @@ fn go_down(
         cut,
         in_high: false,
     })?;
-    ranges.set(unit, low, cut - 1);
+    change(ranges, changed, unit, (low, cut - 1))?;
     Ok(true)
 }
 
 // Goes up to the last split in whose low part the walk was, and into its high part; whether there is one.
-fn go_up(ranges: &mut Ranges, frames: &mut Vec<Frame>) -> Result<bool, Memory>
+fn go_up(
+    ranges: &mut Ranges,
+    frames: &mut Vec<Frame>,
+    changed: &mut Vec<u32>,
+) -> Result<bool, Memory>
     requires frames { AreFrames (length ranges.old) frames.old.items }
     ensures length { length ranges.new ≡ length ranges.old }
     ensures frames { AreFrames (length ranges.new) frames.new.items }
     ensures walk { IfOk result (λ on. walk_of on ranges.new (reverse frames.new.items) ≡
         pending_of ranges.old (reverse frames.old.items)) }
+    ensures changed { OnOk result (AreChanges ranges.old ranges.new
+        changed.old.items changed.new.items) }
 {
     while let Some(frame) = frames.pop() {
         if !frame.in_high {
-            ranges.set(frame.unit, frame.cut, frame.high);
+            change(ranges, changed, frame.unit, (frame.cut, frame.high))?;
             frames.push(Frame {
                 in_high: true,
                 ..frame
             })?;
             return Ok(true);
         }
-        ranges.set(frame.unit, frame.low, frame.high);
+        change(ranges, changed, frame.unit, (frame.low, frame.high))?;
     }
     Ok(false)
+}
+
+// Replaces the range of a unit, and adds the unit to the list.
+fn change(
+    ranges: &mut Ranges,
+    changed: &mut Vec<u32>,
+    unit: u32,
+    range: (u32, u32),
+) -> Result<(), Memory>
+    requires { unit < length ranges.old }
+    ensures value { ranges.new ≡ slice_set ranges.old unit range }
+    ensures added { OnOk result (changed.new.items ≡ changed.old.items ++ (unit ∷ [])) }
+{
+    ranges.set(unit, range.0, range.1);
+    changed.push(unit)?;
+    Ok(())
 }
 
 /// The ranges of the first undone nodes of a tree on these ranges, at most so many, in preorder; None exactly where the
@@ -193,9 +233,11 @@ pub fn open_pieces(
 {
     let mut walk = RangeWalk::new(alloc, ranges);
     let mut pieces = Vec::new(alloc);
+    let mut changed = Vec::new(alloc);
     for node in tree {
         keep_piece(alloc, &walk, *node, most, &mut pieces)?;
-        let goes_on = walk.advance(*node)?;
+        changed.clear();
+        let goes_on = walk.advance(*node, &mut changed)?;
         if !goes_on {
             return Ok(None);
         }

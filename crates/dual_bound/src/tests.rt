@@ -7,6 +7,7 @@ ghost use Rattle.price_table.specs.Tables.{IsTableFor};
 
 use super::*;
 use choice_problem::{Alt, Chooser, Part, Price, Problem, Ranges, Strip, Vector, leaf_closes};
+use price_table::{PriceTable, Totals, bound, price_table};
 use std::alloc::Global;
 use std::test::Fail;
 
@@ -178,10 +179,12 @@ fn judged(
 {
     let tables = [table_of(alloc, problem, vector)?];
     let floor = floor_of(problem, ranges, &tables);
-    Ok((
-        bound(problem, ranges, &tables[0], 1024),
-        (floor.cost, floor.vector),
-    ))
+    let scaled = bound(problem, ranges, &tables[0], 1024);
+    let totals = Totals::of(alloc, problem, ranges, &tables[0], 1024)?;
+    if totals.bound() != scaled {
+        return Err("totals".into());
+    }
+    Ok((scaled, (floor.cost, floor.vector)))
 }
 
 #[test]

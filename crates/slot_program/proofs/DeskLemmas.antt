@@ -1,13 +1,10 @@
 -- How an allocation ends, from what its steps answered.
 use Rattle.std.proofs.Common.{◌≡◌, ℕ, ◌<◌, ◌≤◌, List, [], ◌∷◌, length, Option, Some, None, refl, sym, ap, subst, ◌∙◌, arith, inl, inr}
 use Rattle.std.specs.Prelude.{Contains, IfSome, IsSomeAnd, ◌⊎◌}
-use Rattle.std.specs.Str.{bytes_eq}
-use Rattle.std.proofs.lemmas.Bool.{cases_Bool}
-use Rattle.std.proofs.lemmas.Slice.Eq.{bytes_eq-Decides}
 use Rattle.std.proofs.lemmas.Option.{none-some}
 use Rattle.slot_text.specs.Forms.{IsFirstBadLine}
 use Rattle.desk_outside.specs.Cause.{Rose}
-use Rattle.desk_outside.specs.Files.{Files, with_file, Writes, WritesPart, ChangesOnly}
+use Rattle.desk_outside.specs.Files.{Files, with_file, Writes, WritesPart}
 use Rattle.season_days.specs.declared.declaration.Declaration.{Declaration}
 use Rattle.scr_reader.specs.Printed.{message_text}
 use Rattle.historic_reader.specs.Historic.{IsHistoricMessage, IsHistoricText}

@@ -1,6 +1,6 @@
 -- What passed between an allocation and the cabinet, from what its steps answered.
-use Rattle.std.proofs.Common.{◌≡◌, ℕ, ◌≤◌, List, [], ◌∷◌, ◌++◌, length, Option, Some, None, refl, sym, ap, ◌∙◌, subst, append_assoc, arith, inl, inr}
-use Rattle.std.specs.Prelude.{All, Contains, ◌⊎◌}
+use Rattle.std.proofs.Common.{◌≡◌, ℕ, List, [], ◌∷◌, ◌++◌, Option, Some, None, refl, sym, ap, ◌∙◌, subst, append_assoc, arith, inl, inr}
+use Rattle.std.specs.Prelude.{All}
 use Rattle.std.proofs.lemmas.List.{append-nil}
 use Rattle.std.proofs.lemmas.List.Elements.{All-nil, All-cons}
 use Rattle.slot_text.specs.Forms.{IsFirstBadLine}
@@ -10,14 +10,13 @@ use Rattle.season_days.specs.declared.declaration.Declaration.{Declaration}
 use Rattle.historic_reader.specs.Historic.{IsHistoricText}
 use Rattle.slot_program.specs.Words.{Word}
 use Rattle.slot_program.specs.Capacity.{IsCapacityText, IsCapacityForm}
-use Rattle.slot_program.specs.Reports.{Report, settled, no_command, missing, large, unread, unwritten, unbuilt, status_of, text_of}
-use Rattle.slot_program.specs.Desk.{FileNames, file_names, FitsEveryWindow}
+use Rattle.slot_program.specs.Reports.{Report, settled, no_command, missing, large, unread, unwritten, unbuilt, status_of}
+use Rattle.slot_program.specs.Desk.{FileNames, file_names}
 use Rattle.slot_program.specs.Handed.{LogGrew, IsHanded, IsHandedPlan, PassedWhole, PassedBefore, PassedBad, PassedPart, AllocationPassed, IsOfAllocation, JobPassed, OnlyOfJob, World, WorkEnds, certificate_bytes}
 use Rattle.slot_program.specs.HandedStops.{StopPassed}
 use Rattle.slot_program.specs.Stops.{name_of, report_of, IsReadStop, IsFormStop}
 use Rattle.slot_program.specs.declared.job.Job.{Job}
 use Rattle.slot_program.specs.declared.job.Job.TheVariants.{Allocate}
-use Rattle.slot_program.specs.declared.refusal.File.{File}
 use Rattle.slot_program.specs.declared.refusal.File.TheVariants.{Capacity, Requests}
 use Rattle.slot_program.specs.declared.refusal.Refusal.TheVariants.{Missing, Large, Unread, Unwritten, Unbuilt}
 use Rattle.slot_program.specs.declared.refusal.Stop.{Stop}

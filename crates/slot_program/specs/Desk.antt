@@ -14,7 +14,7 @@ use Rattle.slot_program.specs.Words.{Word}
 use Rattle.slot_program.specs.Capacity.{IsCapacityText}
 use Rattle.slot_program.specs.Texts.{certificate_text, settled_stages, confirmation}
 use Rattle.slot_program.specs.Reports.{Report, settled, no_command, missing, large, unread}
-use Rattle.slot_program.specs.Reports.{unwritten, unbuilt, status_of, text_of}
+use Rattle.slot_program.specs.Reports.{unwritten, unbuilt}
 use Rattle.slot_program.specs.Order.{Step, reads, judges_capacity, judges_message, FirstDue}
 use Rattle.slot_program.specs.Order.{Reaches}
 use Rattle.slot_program.specs.Writing.{Write, with_writes, StopsAt}

@@ -143,7 +143,8 @@ world_of files faults log cabinet =
     record { files = files cabinet; faults = faults cabinet; log = log cabinet }
 
 -- the work of the job ends with this report
-pub record WorkEnds (job : Option Job) (before : World) (report : Report) (after : World) : Type 0 where
+pub record WorkEnds (job : Option Job) (before : World) (report : Report)
+    (after : World) : Type 0 where
   pub ends : Ends job before.files before.faults after.faults report after.files
   pub passed : LogGrew before.log (JobPassed job before.files report) after.log
 

@@ -74,7 +74,8 @@ fn read_file<C: Cabinet>(
     ensures held { IfOk result (λ bytes. Holds (C.files cabinet.old)
         (name_of (names_of names.now) file) bytes.items × (length bytes.items ≤ longest_file)) }
     ensures stop { IfErr result (IsReadStop (C.files cabinet.old)
-        (name_of (names_of names.now) file) file (C.fault_count cabinet.old) (C.fault_count cabinet.new)) }
+        (name_of (names_of names.now) file) file
+        (C.fault_count cabinet.old) (C.fault_count cabinet.new)) }
     ensures passed { IfOk result (λ bytes. C.log cabinet.new
         ≡ C.log cabinet.old ++ read (name_of (names_of names.now) file) bytes.items ∷ []) }
     ensures none_passed { OnErr result (C.log cabinet.new ≡ C.log cabinet.old) }
@@ -117,7 +118,8 @@ fn write_file<C: Cabinet>(
 /// The declaration of a capacity file.
 fn judge_capacity(alloc: Global, bytes: &[u8]) -> Result<Declaration, Stop>
     ensures declared { IfOk result (IsCapacityText bytes.now) }
-    ensures stop { IfErr result (IsFormStop File.Capacity (IsFirstBadLine IsCapacityForm bytes.now)) }
+    ensures stop { IfErr result
+        (IsFormStop File.Capacity (IsFirstBadLine IsCapacityForm bytes.now)) }
 {
     match read_capacity(alloc, bytes) {
         Ok(declaration) => Ok(declaration),
@@ -135,7 +137,8 @@ fn judge_message(alloc: Global, declaration: &Declaration, bytes: &[u8]) -> Resu
         IsHistoricMessage declaration.now.season declaration.now.airport message
         × (bytes.now ≡ message_text message)) }
     ensures stop { IfErr result (IsFormStop File.Requests
-        (IsFirstBadLine (IsHistoricText declaration.now.season declaration.now.airport) bytes.now)) }
+        (IsFirstBadLine (IsHistoricText declaration.now.season declaration.now.airport)
+        bytes.now)) }
 {
     match read_historic_message(alloc, &declaration.season, declaration.airport, bytes) {
         Ok(message) => Ok(message),

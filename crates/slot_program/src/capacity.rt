@@ -27,7 +27,8 @@ pub(crate) enum CapacityFault {
 
 /// The declaration of a capacity file of seven lines.
 pub(crate) fn read_capacity(alloc: Global, text: &[u8]) -> Result<Declaration, CapacityFault>
-    ensures { AnswersBy CapacityFault.Memory (IsCapacityText text.now) (HasCapacityFault text.now) result }
+    ensures { AnswersBy CapacityFault.Memory (IsCapacityText text.now)
+        (HasCapacityFault text.now) result }
 {
     let Some((airport, rest)) = airport_of(text) else {
         return Err(CapacityFault::BadLine { line: 1 });

@@ -13,7 +13,10 @@ ghost use Rattle.slot_program.specs.Windows.{arrivals_in};
 /// fit: no window of the capacity line, on whatever day and from whatever minute, holds more of
 /// them than its limit. So the line keeps its times, which costs nothing, and nothing costs less.
 pub fn one_line_fits()
-    ensures { (text : List ℕ) (declaration : Declaration) (message : Message) (historic : IsHistoricMessage declaration.season declaration.airport message) (rule : Rule) (day start minute : ℕ) →
-        IsCapacityText text declaration → declaration.rules ≡ rule ∷ [] →
-        arrivals_in (1440 * day + start) rule.length minute (dates_of declaration.season historic.asked.period) ≤ rule.limit }
+    ensures { (text : List ℕ) (declaration : Declaration) (message : Message)
+        (historic : IsHistoricMessage declaration.season declaration.airport message)
+        (rule : Rule) (day start minute : ℕ)
+        → IsCapacityText text declaration → declaration.rules ≡ rule ∷ []
+        → arrivals_in (1440 * day + start) rule.length minute
+        (dates_of declaration.season historic.asked.period) ≤ rule.limit }
 {}

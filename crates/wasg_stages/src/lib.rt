@@ -15,6 +15,3 @@ mod states;
 
 pub use problems::{after_stage, problem_after, stage_problem, states_of, units_of_stage};
 pub use states::Earlier;
-
-#[cfg(test)]
-mod tests;

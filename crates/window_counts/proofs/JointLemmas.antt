@@ -1,5 +1,5 @@
 -- Two parts that are added together: what the counts with both of them say of those before.
-use Rattle.std.proofs.Common.{◌≡◌, ℕ, ◌+◌, ◌<◌, ◌≤◌, refl, sym, ◌∙◌, subst, arith, inl, inr, ◌⊎◌, List, length}
+use Rattle.std.proofs.Common.{◌≡◌, ℕ, ◌+◌, ◌<◌, ◌≤◌, refl, sym, subst, arith, inl, inr, ◌⊎◌, List, length}
 use Rattle.std.specs.Prelude.{slice_index, Option, Some, None, ℤ, pos, ◌≤ℤ◌}
 use Rattle.std.specs.Option.{ForSome}
 use Rattle.std.proofs.lemmas.Bool.{cases_lt}

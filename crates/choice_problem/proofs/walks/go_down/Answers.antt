@@ -12,5 +12,5 @@ returns-clause-walk c =
     let pushed : c.push.new.self.items ≡ c.args.frames.now.items ++
     record { unit = unit; low = low_of spans unit; high = high_of spans unit; cut = cut; in_high = false } ∷ [] =
     rw (c.low-low.ensures, c.high-high.ensures) at c.in_ok-push.ensures.items in
-    rw (c.set.ensures.value, c.low-low.ensures)
+    rw (c.change.ensures.value, c.low-low.ensures)
     (ap (λ s. low_part spans unit cut ∷ s) (split_below spans c.args.frames.now.items c.push.new.self.items unit cut pushed))

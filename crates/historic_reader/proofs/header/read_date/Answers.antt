@@ -1,6 +1,5 @@
-use Rattle.std.proofs.Common.{◌≡◌, ℕ, ◌<◌, ◌≤◌, ◌∙◌, arith, refl, pos}
+use Rattle.std.proofs.Common.{◌≡◌, ◌≤◌, ◌∙◌, arith, refl}
 use Rattle.std.proofs.lemmas.Option.{none-some, same_Some}
-use Rattle.scr_reader.specs.Parts.{IsDayOfMonth}
 use Rattle.historic_reader.proofs.DateLemmas.{few_days, front_is}
 use Rattle.historic_reader.proofs.header.read_date.Goals as goal
 

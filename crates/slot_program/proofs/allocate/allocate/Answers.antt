@@ -1,13 +1,12 @@
-use Rattle.std.proofs.Common.{◌≡◌, List, [], ◌∷◌, ◌++◌, ℕ, refl, ap, subst, ◌∙◌}
+use Rattle.std.proofs.Common.{◌≡◌, List, [], ◌∷◌, ◌++◌, ℕ, subst, ◌∙◌}
 use Rattle.desk_outside.specs.Files.{Writes, WritesPart}
 use Rattle.slot_program.proofs.TextLemmas.{certificate_is}
 use Rattle.std.proofs.lemmas.Result.{err_from_is_err_and}
 use Rattle.slot_program.specs.Desk.{written_names}
 use Rattle.slot_program.specs.Stops.{names_of}
 use Rattle.slot_program.proofs.DeskLemmas.{stop_capacity, stop_message, planned, stop_first_write, stop_second_write, both_written, first_written, second_written}
-use Rattle.desk_outside.specs.Passages.{Passage, read, wrote, write_failed}
+use Rattle.desk_outside.specs.Passages.{read, wrote, write_failed}
 use Rattle.slot_program.specs.Handed.{IsHanded, IsHandedPlan, certificate_bytes}
-use Rattle.slot_program.specs.Capacity.{IsCapacityText}
 use Rattle.slot_program.proofs.HandedLemmas.{one_longer, unread_capacity, bad_capacity, unread_requests, bad_requests, two_of, failed_certificate, failed_replies, whole}
 use Rattle.slot_program.proofs.allocate.allocate.Goals as goal
 

@@ -1,5 +1,4 @@
 use Rattle.std.proofs.Common.{◌≡◌, sym, subst, refl, Option, None}
-use Rattle.desk_outside.specs.Passages.{Passage}
 use Rattle.slot_program.specs.Words.{words_of, job_of}
 use Rattle.slot_program.specs.Reports.{no_command}
 use Rattle.slot_program.specs.Handed.{World, world_of, WorkEnds}

@@ -1,4 +1,4 @@
-use Rattle.std.proofs.Common.{◌≡◌, ◌<◌, length, arith, refl, sym, subst, List, ℕ}
+use Rattle.std.proofs.Common.{◌≡◌, length, arith, refl, sym, subst, List, ℕ}
 use Rattle.std.specs.Prelude.{option_copied}
 use Rattle.choice_problem.specs.Counts.{GrowsBy}
 use Rattle.window_counts.specs.Counts.{some_uses, both_uses, AreWithin}
