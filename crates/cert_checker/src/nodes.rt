@@ -6,7 +6,7 @@ ghost use Rattle.choice_problem.specs.Problems.{unit_count};
 ghost use Rattle.choice_problem.specs.Bounds.{AreRanges, IsVector, whole_of};
 ghost use Rattle.choice_problem.specs.Trees.{CanSplit, OverHolds, IsWhole};
 ghost use Rattle.cert_checker.specs.Tests.{MayBeUndone, Passes, undone_tests, node_line, node_tests, floors_after};
-ghost use Rattle.cert_checker.specs.Kept.{AreKept};
+ghost use Rattle.cert_checker.specs.Kept.{AreKept, AreKeptFirst};
 ghost use Rattle.cert_checker.specs.Parts.{IsLineFault, GoesOnBy, IsPart, tree_part};
 
 use crate::kept::{KeptBound, empty_kept, leaf_holds};
@@ -57,12 +57,14 @@ fn undone_fault(
     cert: &StageCert,
     kept: &mut Vec<Option<KeptBound>>,
     ranges: &Ranges,
+    changes: &[u32],
     floors: &[Floor],
 ) -> Result<Option<Reason>, Memory>
     requires ranges { AreRanges problem.now ranges.now }
     requires vectors { All (IsVector problem.now) cert.now.vectors }
-    requires kept { AreKept problem.now cert.now.vectors kept.old.items }
-    ensures kept { IfOk result (λ fault. AreKept problem.now cert.now.vectors kept.new.items) }
+    requires kept { AreKept problem.now cert.now.vectors ranges.now changes.now kept.old.items }
+    ensures kept { IfOk result
+        (λ fault. AreKept problem.now cert.now.vectors ranges.now changes.now kept.new.items) }
     ensures fault { IfOk result (λ fault. IsLineFault (Passes problem.now cert.now)
         (undone_tests ranges.now floors.now) fault) }
 {
@@ -80,6 +82,7 @@ fn undone_fault(
                 kept,
                 stated,
                 ranges,
+                changes,
                 floor.vector,
                 floor.scale,
             )?;
@@ -96,13 +99,15 @@ fn node_fault(
     cert: &StageCert,
     kept: &mut Vec<Option<KeptBound>>,
     ranges: &Ranges,
+    changes: &[u32],
     node: Node,
     floors: &[Floor],
 ) -> Result<Option<Reason>, Memory>
     requires ranges { AreRanges problem.now ranges.now }
     requires vectors { All (IsVector problem.now) cert.now.vectors }
-    requires kept { AreKept problem.now cert.now.vectors kept.old.items }
-    ensures kept { IfOk result (λ fault. AreKept problem.now cert.now.vectors kept.new.items) }
+    requires kept { AreKept problem.now cert.now.vectors ranges.now changes.now kept.old.items }
+    ensures kept { IfOk result
+        (λ fault. AreKept problem.now cert.now.vectors ranges.now changes.now kept.new.items) }
     ensures fault { IfOk result (λ fault. IsLineFault (Passes problem.now cert.now)
         (node_line ranges.now node floors.now) fault) }
 {
@@ -114,14 +119,16 @@ fn node_fault(
         Node::Leaf { vector, scale, .. } => {
             let vectors = &cert.vectors;
             let cost = cert.cost;
-            let holds = leaf_holds(alloc, problem, vectors, kept, cost, ranges, vector, scale)?;
+            let holds = leaf_holds(
+                alloc, problem, vectors, kept, cost, ranges, changes, vector, scale,
+            )?;
             Ok(fault_unless(holds, Reason::Leaf))
         }
         Node::Over { resource } => Ok(fault_unless(
             over_holds(problem, ranges, resource),
             Reason::Over,
         )),
-        Node::Undone => undone_fault(alloc, problem, cert, kept, ranges, floors),
+        Node::Undone => undone_fault(alloc, problem, cert, kept, ranges, changes, floors),
     }
 }
 
@@ -142,24 +149,35 @@ fn check_node(
     cert: &StageCert,
     kept: &mut Vec<Option<KeptBound>>,
     walk: &mut RangeWalk,
+    changes: &mut Vec<u32>,
     node: Node,
     floors: &[Floor],
 ) -> Result<Option<Reason>, Memory>
     requires vectors { All (IsVector problem.now) cert.now.vectors }
-    requires kept { AreKept problem.now cert.now.vectors kept.old.items }
+    requires kept { AreKeptFirst problem.now cert.now.vectors walk.old changes.old.items
+        kept.old.items }
     requires some { 0 < length walk.old }
     requires ranges { All (AreRanges problem.now) walk.old }
-    ensures kept { IfOk result (λ fault. AreKept problem.now cert.now.vectors kept.new.items) }
+    ensures kept { IfOk result (λ fault.
+        AreKeptFirst problem.now cert.now.vectors walk.new changes.new.items kept.new.items) }
     ensures ranges { IfOk result (λ fault. All (AreRanges problem.now) walk.new) }
     ensures fault { IfOk result (λ fault.
         GoesOnBy problem.now cert.now walk.old node floors.now walk.new fault) }
 {
-    let fault = node_fault(alloc, problem, cert, kept, walk.ranges(), node, floors)?;
+    let fault = node_fault(
+        alloc,
+        problem,
+        cert,
+        kept,
+        walk.ranges(),
+        changes,
+        node,
+        floors,
+    )?;
     if fault.is_some() {
         return Ok(fault);
     }
-    let mut changed = Vec::new(alloc);
-    if walk.advance(node, &mut changed)? {
+    if walk.advance(node, changes)? {
         Ok(None)
     } else {
         Ok(Some(Reason::Split))
@@ -181,6 +199,7 @@ fn check_nodes(
 {
     let whole = Ranges::whole(alloc, problem)?;
     let mut walk = RangeWalk::new(alloc, whole);
+    let mut changes = Vec::new(alloc);
     let mut kept = empty_kept(alloc, &cert.vectors)?;
     let mut floors = cert.floors.items();
     let nodes = cert.tree.items();
@@ -189,7 +208,16 @@ fn check_nodes(
         if walk.is_done() {
             return Ok(Judged::passed(line + nodes.len() as u32));
         }
-        let fault = check_node(alloc, problem, cert, &mut kept, &mut walk, *node, floors)?;
+        let fault = check_node(
+            alloc,
+            problem,
+            cert,
+            &mut kept,
+            &mut walk,
+            &mut changes,
+            *node,
+            floors,
+        )?;
         if let Some(reason) = fault {
             return Ok(Judged::refused(at, reason));
         }

@@ -9,6 +9,8 @@ use Rattle.cert_checker.specs.declared.verdict.Reason.{Reason}
 use Rattle.cert_checker.specs.Tests.{node_tests, floors_after}
 use Rattle.cert_checker.specs.Parts.{IsPart, GoesOnBy, Leads}
 use Rattle.cert_format.specs.declared.cert.Floor.{Floor}
+use Rattle.cert_checker.specs.Kept.{AreKept}
+use Rattle.cert_checker.proofs.KeptLemmas.{kept-back}
 use Rattle.cert_checker.proofs.NodeLemmas.{nodes-done, nodes-next, nodes-refused, nodes-end}
 use Rattle.cert_checker.proofs.nodes.check_nodes.Goals as goal
 
@@ -19,12 +21,14 @@ pub loop-node-init : goal.loop-node-init
 loop-node-init c =
     let p = c.args.problem.now in
     let cert = c.args.cert.now in
+    let empty : c.new-changes.result.items ≡ [] = search rules in
     let walk_is : c.new-walk.result ≡ whole_of p ∷ [] = c.new-walk.ensures ∙ ap (λ (w : List (ℕ × ℕ)). w ∷ []) c.in_ok-whole.ensures.value in
     record {
       at = omega arith;
       ranges = subst (All (AreRanges p)) (sym c.new-walk.ensures)
           (All-cons (AreRanges p) c.in_ok-whole.whole [] c.in_ok-whole.ensures.there (All-nil (AreRanges p)));
-      kept = c.in_ok-kept.ensures p;
+      kept = kept-back p cert.vectors c.new-walk.result c.in_ok-whole.whole [] c.new-changes.result.items c.in_ok-kept.kept.items c.new-walk.ensures
+          (subst (λ (xs : List ℕ). AreKept p cert.vectors c.in_ok-whole.whole xs c.in_ok-kept.kept.items) (sym empty) (c.in_ok-kept.ensures p c.in_ok-whole.whole));
       leads = λ verdict next part.
           subst (λ (fs : List Floor). IsPart p cert c.args.line (node_tests (whole_of p ∷ []) cert.tree fs) verdict next) c.items-floors.ensures
           (subst (λ (w : List (List (ℕ × ℕ))). IsPart p cert c.args.line (node_tests w cert.tree c.items-floors.result.now) verdict next) walk_is part);
