@@ -1,12 +1,12 @@
 -- Two problems of one stage are alike, and a proof on one is a proof on the other.
-use Rattle.std.proofs.Common.{◌≡◌, ℕ, zero, suc, ◌+◌, ◌<◌, refl, sym, ◌∙◌, ap, subst, arith, List, [], ◌∷◌, length, get_or}
-use Rattle.std.specs.Prelude.{Option, Some, None, IfSome, option_map, All}
+use Rattle.std.proofs.Common.{◌≡◌, ℕ, zero, suc, ◌+◌, ◌<◌, refl, sym, ◌∙◌, ap, subst, List, [], ◌∷◌, length, get_or}
+use Rattle.std.specs.Prelude.{Option, Some, None, IfSome, option_map}
 use Rattle.std.specs.List.{AllZip}
 use Rattle.season_days.specs.declared.declaration.Declaration.{Declaration}
 use Rattle.choice_problem.specs.declared.problems.Alt.{Alt}
 use Rattle.choice_problem.specs.declared.vectors.Price.{Price}
 use Rattle.choice_problem.specs.declared.nodes.Node.{Node}
-use Rattle.choice_problem.specs.Problems.{ProblemView, ChooserView, alt_at, named_uses, chooser_uses, alt_count, alt_cost, alt_uses}
+use Rattle.choice_problem.specs.Problems.{ProblemView, ChooserView, alt_at, named_uses, chooser_uses}
 use Rattle.choice_problem.specs.Alike.{AreAlike}
 use Rattle.choice_problem.specs.Choices.{IsFeasible as IsFeasibleFor, choice_cost}
 use Rattle.choice_problem.specs.Bounds.{IsVector, whole_of}

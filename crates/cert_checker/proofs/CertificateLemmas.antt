@@ -7,7 +7,6 @@ use Rattle.season_days.specs.declared.declaration.Declaration.{Declaration}
 use Rattle.choice_problem.specs.Problems.{ProblemView}
 use Rattle.cert_format.specs.declared.cert.StageCert.{StageCert}
 use Rattle.cert_format.specs.declared.cert.Certificate.{Certificate}
-use Rattle.cert_format.specs.declared.cert.TheConstants.{MOST_LINES}
 use Rattle.cert_format.specs.Printable.{IsPrintable, IsPrintableProof, IsPrintableStage, IsPrintableAs}
 use Rattle.cert_format.specs.Proofs.{IsProof}
 use Rattle.cert_format.specs.Spelling.{is_tried, stage_lines, proof_lines, numbered}

@@ -1,6 +1,6 @@
 -- Where no line of a stage fails, the stage is a proof.
-use Rattle.std.proofs.Common.{◌≡◌, ℕ, zero, suc, ◌+◌, ◌<◌, ◌≤◌, refl, sym, ◌∙◌, ap, subst, arith, List, [], ◌∷◌, ◌++◌, length, get_or, length-append}
-use Rattle.std.specs.Prelude.{Option, Some, None, IfSome, IsSome, IsNone, is_some, option_map, flat_map, All, AllPairs, Bool, true, false, if◌then◌else◌, pos, ◌==◌}
+use Rattle.std.proofs.Common.{◌≡◌, ℕ, zero, suc, ◌+◌, ◌<◌, refl, sym, ◌∙◌, ap, subst, arith, List, [], ◌∷◌, ◌++◌, length, get_or}
+use Rattle.std.specs.Prelude.{Option, Some, None, IfSome, is_some, option_map, flat_map, All, Bool, true, false, if◌then◌else◌, ◌==◌}
 use Rattle.std.specs.List.{AllByRecursion, AllZip}
 use Rattle.std.proofs.lemmas.List.Kept.{AllPairs-cons}
 use Rattle.choice_problem.specs.declared.vectors.Price.{Price}
@@ -11,7 +11,7 @@ use Rattle.choice_problem.specs.Choices.{IsChoice, Fits, IsFeasible as IsFeasibl
 use Rattle.choice_problem.specs.Bounds.{IsPrice, IsVector, whole_of}
 use Rattle.choice_problem.specs.Trees.{AreTrees, AreSound, NodeHolds, LeafHolds, IsSound, IsTree, IsWhole, parts_of}
 use Rattle.choice_problem.specs.Grafts.{open_ranges}
-use Rattle.choice_problem.specs.Floors.{AreFloors, IsAtMost}
+use Rattle.choice_problem.specs.Floors.{IsAtMost}
 use Rattle.cert_format.specs.declared.cert.Floor.{Floor}
 use Rattle.cert_format.specs.declared.cert.Mark.{Mark}
 use Rattle.cert_format.specs.declared.cert.Mark.TheVariants.{Optimal, Infeasible, Unsettled, NotTried}

@@ -1,8 +1,8 @@
 -- The shape of trees by a count.
-use Rattle.std.proofs.Common.{◌≡◌, ℕ, zero, suc, ◌+◌, ◌-◌, ◌<◌, ◌≤◌, refl, sym, ◌∙◌, ap, subst, arith, List, [], ◌∷◌, ◌++◌, length, get_or, drop, Option}
+use Rattle.std.proofs.Common.{◌≡◌, ℕ, zero, suc, ◌+◌, ◌-◌, ◌<◌, ◌≤◌, refl, sym, subst, arith, List, [], ◌∷◌, ◌++◌, length, get_or, drop, Option}
 use Rattle.choice_problem.specs.declared.nodes.Node.{Node}
 use Rattle.choice_problem.specs.declared.nodes.Node.TheVariants.{Split, Leaf, Over, Undone}
-use Rattle.choice_problem.specs.Trees.{AreTrees, IsTree, IsWhole, parts_of}
+use Rattle.choice_problem.specs.Trees.{AreTrees, IsTree, parts_of}
 use Rattle.std.proofs.lemmas.List.{drop_more}
 use Rattle.cert_checker.specs.Shapes.{IsShaped, GoesOn, IsLeft}
 

@@ -1,6 +1,6 @@
 -- Verdicts on lines one after the other.
 use Rattle.std.proofs.Common.{◌≡◌, ℕ, zero, suc, ◌+◌, refl, sym, ◌∙◌, ap, subst, arith, List, [], ◌∷◌, ◌++◌, length, inl, inr}
-use Rattle.std.specs.Prelude.{◌⊎◌, Option, Some, None, IfSome, option_map, unwrap_or, flat_map}
+use Rattle.std.specs.Prelude.{Option, Some, None, IfSome, option_map, unwrap_or, flat_map}
 use Rattle.choice_problem.specs.declared.vectors.Price.{Price}
 use Rattle.choice_problem.specs.Bounds.{IsPrice}
 use Rattle.std.proofs.lemmas.List.{drop_more}

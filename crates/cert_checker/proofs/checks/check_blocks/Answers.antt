@@ -1,4 +1,4 @@
-use Rattle.std.proofs.Common.{rules, ◌≡◌, ◌+◌, ◌<◌, ◌≤◌, ℕ, length, List, ◌∷◌, get_or, drop, refl, sym, ◌∙◌, ap, subst, arith, false}
+use Rattle.std.proofs.Common.{rules, ◌≡◌, ◌+◌, ◌<◌, ◌≤◌, length, List, get_or, drop, refl, ◌∙◌, ap, subst, arith}
 use Rattle.cert_format.specs.declared.cert.StageCert.{StageCert}
 use Rattle.series_model.specs.declared.state.UnitState.{UnitState}
 use Rattle.cert_checker.specs.declared.verdict.Verdict.TheVariants.{Yes}

@@ -1,8 +1,6 @@
-use Rattle.std.proofs.Common.{rules, ◌≡◌, ◌+◌, ◌≤◌, ◌∷◌, ◌++◌, [], List, length, length-append, ap, None, zero, suc, refl, arith}
-use Rattle.std.specs.Prelude.{Option}
+use Rattle.std.proofs.Common.{rules, ◌≤◌, List, length, ap, arith}
 use Rattle.choice_problem.specs.declared.vectors.Price.{Price}
-use Rattle.cert_checker.specs.declared.kept.KeptBound.{KeptBound}
-use Rattle.cert_checker.proofs.KeptLemmas.{push-none, none-kept}
+use Rattle.cert_checker.proofs.KeptLemmas.{none-kept}
 use Rattle.cert_checker.proofs.kept.empty_kept.Goals as goal
 
 pub returns : goal.returns

@@ -1,4 +1,4 @@
-use Rattle.std.proofs.Common.{rules, ◌≡◌, ◌<◌, ◌≤◌, length, get_or, refl, sym, ◌∙◌, arith}
+use Rattle.std.proofs.Common.{rules, ◌<◌, ◌≤◌, length, get_or, refl, sym, ◌∙◌, arith}
 use Rattle.cert_checker.proofs.KeptLemmas.{agree-next, agree-all}
 use Rattle.cert_checker.proofs.kept.follow.Goals as goal
 

@@ -1,4 +1,4 @@
-use Rattle.std.proofs.Common.{rules, ◌≡◌, ◌<◌, ◌≤◌, List, length, ap, ◌∙◌, arith}
+use Rattle.std.proofs.Common.{rules, ◌<◌, ◌≤◌, List, length, ap, ◌∙◌, arith}
 use Rattle.choice_problem.specs.declared.vectors.Price.{Price}
 use Rattle.choice_problem.specs.declared.closing.TheConstants.{SCALE_BOUND}
 use Rattle.cert_checker.proofs.KeptLemmas.{kept-again, seen-all, leaf-by_totals}

@@ -1,4 +1,4 @@
-use Rattle.std.proofs.Common.{rules, ◌≡◌, ◌+◌, ◌<◌, ℕ, length, get_or, sym, ◌∙◌, ap, subst, arith}
+use Rattle.std.proofs.Common.{◌≡◌, ◌+◌, ◌<◌, ℕ, length, get_or, sym, subst, arith}
 use Rattle.choice_problem.specs.Problems.{alt_count}
 use Rattle.cert_checker.specs.declared.lines.Judged.{Judged}
 use Rattle.cert_checker.specs.declared.verdict.Verdict.TheVariants.{Yes}

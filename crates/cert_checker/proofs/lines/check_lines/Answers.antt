@@ -1,10 +1,8 @@
-use Rattle.std.proofs.Common.{rules, ◌≡◌, ◌+◌, ◌<◌, ◌^◌, ℕ, suc, length, ◌++◌, true, false, refl, sym, ◌∙◌, ap, subst, arith, length-append}
-use Rattle.cert_format.specs.Spelling.{proof_lines}
+use Rattle.std.proofs.Common.{rules, ◌≡◌, ◌+◌, ℕ, suc, true, false, refl, subst, arith, length-append}
 use Rattle.cert_checker.specs.declared.verdict.Verdict.{Verdict}
-use Rattle.cert_checker.specs.declared.verdict.Verdict.TheVariants.{Yes}
 use Rattle.cert_checker.specs.Tests.{Passes, choice_tests, proof_tests}
 use Rattle.cert_checker.specs.Verdicts.{IsVerdict}
-use Rattle.cert_checker.specs.Parts.{IsPart, cost_part}
+use Rattle.cert_checker.specs.Parts.{cost_part}
 use Rattle.cert_checker.proofs.LineLemmas.{proof_tests-length}
 use Rattle.cert_checker.proofs.PassLemmas.{tested-choice}
 use Rattle.cert_checker.proofs.VerdictLemmas.{IsPart-then, IsPart-stop}

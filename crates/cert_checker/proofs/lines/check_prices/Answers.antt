@@ -1,4 +1,4 @@
-use Rattle.std.proofs.Common.{rules, ◌≡◌, ◌+◌, ◌<◌, ◌≤◌, ℕ, ℤ, None, Some, length, get_or, drop, true, false, pos, sym, subst, arith}
+use Rattle.std.proofs.Common.{rules, ◌≡◌, ◌<◌, ◌≤◌, None, length, get_or, true, false, pos, sym, subst, arith}
 use Rattle.choice_problem.specs.declared.vectors.Price.{Price}
 use Rattle.choice_problem.specs.Bounds.{IsPrice}
 use Rattle.cert_checker.specs.declared.lines.Judged.{Judged}

@@ -1,4 +1,4 @@
-use Rattle.std.proofs.Common.{◌≡◌, ◌+◌, ℕ, None, drop}
+use Rattle.std.proofs.Common.{◌≡◌, ◌+◌, None, drop}
 use Rattle.cert_checker.specs.Tests.{price_tests}
 use Rattle.cert_checker.specs.Parts.{Leads}
 use Rattle.cert_checker.proofs.lines.check_prices.Given as goal

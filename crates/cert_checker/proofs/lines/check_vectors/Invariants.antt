@@ -1,4 +1,4 @@
-use Rattle.std.proofs.Common.{◌≡◌, ◌+◌, ◌<◌, ◌^◌, ℕ, drop, length}
+use Rattle.std.proofs.Common.{◌+◌, ◌<◌, ◌^◌, drop, length}
 use Rattle.std.specs.Prelude.{flat_map}
 use Rattle.cert_checker.specs.Tests.{vector_tests}
 use Rattle.cert_checker.specs.Parts.{Leads}

@@ -1,6 +1,5 @@
-use Rattle.std.proofs.Common.{rules, ◌≡◌, ◌+◌, true, false, List, ◌∷◌, []}
+use Rattle.std.proofs.Common.{rules, ◌≡◌, ◌+◌, true, false}
 use Rattle.std.specs.Prelude.{flat_map}
-use Rattle.cert_checker.specs.declared.verdict.Verdict.TheVariants.{Yes}
 use Rattle.cert_checker.specs.Tests.{vector_tests}
 use Rattle.cert_checker.specs.Parts.{tree_part}
 use Rattle.cert_checker.proofs.VerdictLemmas.{IsPart-then, IsPart-stop, IsPart-untested}

@@ -3,7 +3,7 @@ use Rattle.std.specs.Prelude.{IsTrue, is_some}
 use Rattle.cert_checker.specs.Tests.{Passes, node_line}
 use Rattle.choice_problem.specs.Bounds.{AreRanges}
 use Rattle.cert_checker.specs.Kept.{AreKept}
-use Rattle.cert_checker.proofs.KeptLemmas.{kept-first, kept-back, kept-step, kept-same}
+use Rattle.cert_checker.proofs.KeptLemmas.{kept-first, kept-back, kept-step}
 use Rattle.cert_checker.proofs.NodeLemmas.{node-passed, fault-refuses, fault-passes, head-holds}
 use Rattle.cert_checker.proofs.nodes.check_node.Goals as goal
 
