@@ -1,0 +1,20 @@
+//! Checks certificates of a season: no line of one fails, or the first that does is named with its
+//! reason.
+//!
+//! Nothing here searches, and nothing trusts who made the certificate.
+#![tactic(auto)]
+
+mod checks;
+mod kept;
+mod laws;
+mod lines;
+mod nodes;
+mod trees;
+mod verdict;
+
+pub use checks::{check, check_stage};
+pub use laws::{alike_proofs, one_verdict, passing_lines, tested_lines};
+pub use verdict::{Reason, Verdict};
+
+#[cfg(test)]
+mod tests;
