@@ -388,13 +388,13 @@ fn stuck(alloc: Global, out: &[(u64, Option<u32>, Option<u32>)]) -> Result<Probl
 fn infeasibility_is_found(rt: HostRuntime) -> Result<(), Fail> {
     let alloc = rt.alloc();
     let table = [
-        (stuck(alloc, &[(0, Some(0), Some(1))])?, 1),
+        (stuck(alloc, &[(0, Some(0), Some(1))])?, true),
         (
             stuck(alloc, &[(0, Some(0), Some(1)), (20, None, None)])?,
             true,
         ),
-        (three(alloc)?, 0),
-        (two(alloc, &[0, 0])?, 0),
+        (three(alloc)?, false),
+        (two(alloc, &[0, 0])?, false),
     ];
     for (problem, want) in &table {
         let ranges = narrowed(alloc, problem, &[])?;
