@@ -1,11 +1,11 @@
 //! Totals that are kept while ranges change.
 
-ghost use Rattle.std.specs.Prelude.{◌≡◌, ◌^◌, ◌<◌, ◌≤◌, ℕ, IfOk, length, slice_index, slice_set, pos, ◌-ℤ◌};
-ghost use Rattle.choice_problem.specs.Problems.{unit_count};
+ghost use Rattle.std.specs.Prelude.{◌≡◌, ◌^◌, ◌<◌, ◌≤◌, ℕ, All, IfOk, length, slice_index, slice_set, pos, ◌-ℤ◌};
+ghost use Rattle.choice_problem.specs.Problems.{unit_count, alt_count};
 ghost use Rattle.choice_problem.specs.Bounds.{AreRanges};
-ghost use Rattle.price_table.specs.Tables.{IsTableFor};
+ghost use Rattle.price_table.specs.Tables.{IsTableFor, vectors_of};
 ghost use Rattle.price_table.specs.Strips.{unit_least};
-ghost use Rattle.price_table.specs.Totals.{AreSummed, sum_of};
+ghost use Rattle.price_table.specs.Totals.{AreKeptFor, AreSummed, sum_of};
 
 use crate::bounds::unit_least;
 use crate::tables::PriceTable;
@@ -115,6 +115,31 @@ impl Totals {
             result ≡ bound_of p self.now.ranges prices self.now.scale }
     {
         difference(self.total, self.limits)
+    }
+}
+
+/// Replaces the range of a unit in the totals that are kept for these tables' vectors in ranges: one step an alternative in
+/// the new range for each vector.
+pub fn set_kept(
+    problem: &Problem,
+    ranges: &Ranges,
+    unit: u32,
+    low: u32,
+    high: u32,
+    tables: &[PriceTable],
+    totals: &mut [Totals],
+)
+    requires tables { All (IsTableFor problem.now) tables.now }
+    requires kept { AreKeptFor problem.now (vectors_of tables.now) ranges.now totals.old }
+    requires unit { unit < unit_count problem.now }
+    requires ordered { low ≤ high }
+    requires there { high < alt_count problem.now unit }
+    ensures { AreKeptFor problem.now (vectors_of tables.now) (slice_set ranges.now unit (low, high))
+        totals.new }
+{
+    let _ranges = ranges;
+    for place in 0..totals.len() {
+        totals[place].set(problem, unit, low, high, &tables[place]);
     }
 }
 
