@@ -1,8 +1,8 @@
 //! Capacity files. The declarations and faults are worked by hand.
 
-use crate::rows::{Case, cut, number, say, show, walk};
+use crate::rows::{Case, ascii, cut, number, say, walk};
 use capacity_file::{CapFault, read_capacity};
-use season_days::Declaration;
+use season_days::{Declaration, Rule};
 use slot_text::Lines;
 use std::alloc::Global;
 use std::test::Fail;
@@ -38,28 +38,33 @@ impl Case for Files {
 }
 
 fn say_declaration(alloc: Global, out: &mut Vec<u8>, found: &Declaration) -> Result<(), Fail> {
-    out.extend_from_slice(&found.airport.0)?;
-    out.push(b' ')?;
-    out.extend_from_slice(&found.season.text())?;
+    let season = found.season.text();
+    let (airport, season) = (ascii(&found.airport.0), ascii(&season));
     let (step, flex, ground, share) = (found.step, found.flex, found.ground, found.share);
-    say(alloc, out, format_args!(" {step} {flex} {ground} {share} "))?;
-    show(alloc, out, found.refuse)?;
-    out.push(b' ')?;
-    show(alloc, out, found.night)?;
+    say(
+        alloc,
+        out,
+        format_args!("{airport} {season} {step} {flex} {ground} {share} "),
+    )?;
+    say(
+        alloc,
+        out,
+        format_args!("{:?} {:?}", found.refuse, found.night),
+    )?;
     for rule in found.rules.items() {
-        let days = rule.days;
-        say(
-            alloc,
-            out,
-            format_args!(", {:?} {} ", rule.kind, rule.length),
-        )?;
-        say(
-            alloc,
-            out,
-            format_args!("{} {} {days} {}", rule.from, rule.to, rule.limit),
-        )?;
+        say_rule(alloc, out, rule)?;
     }
     Ok(())
+}
+
+fn say_rule(alloc: Global, out: &mut Vec<u8>, rule: &Rule) -> Result<(), Fail> {
+    let (kind, length, from, to) = (rule.kind, rule.length, rule.from, rule.to);
+    let (days, limit) = (rule.days, rule.limit);
+    say(
+        alloc,
+        out,
+        format_args!(", {kind:?} {length} {from} {to} {days} {limit}"),
+    )
 }
 
 const FILES: &[u8] = b"\
@@ -295,10 +300,7 @@ const LIMITS: &[u8] = b"\
 fn files_and_their_limits(rt: HostRuntime) -> Result<(), Fail> {
     let alloc = rt.alloc();
     walk(alloc, &mut Files, FILES)?;
-    walk(alloc, &mut Limits, LIMITS)?;
-    let memory = format!(in alloc; "{}", CapFault::Memory)?;
-    assert_eq!(rt; memory.as_str(), "out of memory");
-    Ok(())
+    walk(alloc, &mut Limits, LIMITS)
 }
 
 #[test]

@@ -2,8 +2,8 @@
 
 use crate::rows::{Case, cut, number, say, show, walk};
 use desk_outside::{
-    Cabinet, CabinetFault, Failure, Gate, MemoryCabinet, MemorySink, RealCabinet, RealGate,
-    RealSink, Sink, SinkFault,
+    Cabinet, Failure, Gate, MemoryCabinet, MemorySink, RealCabinet, RealGate, RealSink, Sink,
+    SinkFault,
 };
 use std::alloc::Global;
 use std::fmt::Display;
@@ -118,28 +118,59 @@ fn objects_in_memory_fail_where_listed_or_full(rt: HostRuntime) -> Result<(), Fa
     walk(alloc, &mut SinkCalls { sink }, SINK_CALLS)
 }
 
+/// Calls of the real cabinet under one name, one a row: what each answers, and the count of faults.
+#[derive(Drop)]
+struct RealCalls<'a, C: Cabinet + Drop> {
+    cabinet: C,
+    name: &'a str,
+}
+
+impl<C: Cabinet + Drop> Case for RealCalls<'_, C> {
+    fn find(&mut self, alloc: Global, given: &[u8], out: &mut Vec<u8>) -> Result<(), Fail> {
+        let (call, bytes) = cut(given, b' ');
+        match call {
+            b"write" => show(alloc, out, self.cabinet.write(self.name, bytes))?,
+            b"read" => read(alloc, out, &mut self.cabinet, self.name, bytes)?,
+            _ => return Err("no such call".into()),
+        }
+        say(alloc, out, format_args!(" {}", self.cabinet.faults()))
+    }
+}
+
+const FILE_CALLS: &[u8] = b"\
+write SCR;S25;|Ok(()) 0
+read 8|SCR;S25; 0
+read 7|Err(Larger) 1
+";
+
+const CALLS_WITHOUT_FILE: &[u8] = b"\
+read 8|Err(Missing) 2
+";
+
+const FOLDER_CALLS: &[u8] = b"\
+read 9|Err(Failed) 1
+write x|Err(Failed) 2
+";
+
 #[test]
-fn the_system_keeps_a_file_and_refuses_a_folder(rt: HostRuntime) -> Result<(), Fail> {
+fn the_system_keeps_a_file(rt: HostRuntime) -> Result<(), Fail> {
     let alloc = rt.alloc();
-    let folder = env::temp_dir(&rt)?;
     let file = format!(in alloc; "desk-outside-test-{}", process::id(rt.process()))?;
-    let path = folder.join(alloc, file.as_str())?;
+    let path = env::temp_dir(&rt)?.join(alloc, file.as_str())?;
     let name = path.as_path().to_str().ok_or("path")?;
-    let mut cabinet = RealCabinet::new(&rt);
-    let mut out = Vec::new(alloc);
-    assert_eq!(rt; cabinet.write(name, b"SCR\nS25\n"), Ok(()));
-    read(alloc, &mut out, &mut cabinet, name, b"8")?;
-    read(alloc, &mut out, &mut cabinet, name, b"7")?;
+    let cabinet = RealCabinet::new(&rt);
+    let mut calls = RealCalls { cabinet, name };
+    walk(alloc, &mut calls, FILE_CALLS)?;
     fs::remove_file(&rt, name)?;
-    read(alloc, &mut out, &mut cabinet, name, b"8")?;
-    assert_eq!(rt; cabinet.faults(), 2);
-    let folder = folder.as_path().to_str().ok_or("path")?;
-    read(alloc, &mut out, &mut cabinet, folder, b"9")?;
-    assert_eq!(rt; cabinet.write(folder, b"x"), Err(CabinetFault::Failed));
-    assert_eq!(rt; cabinet.faults(), 4);
-    let wanted = b"SCR\nS25\nErr(Larger)Err(Missing)Err(Failed)";
-    assert_eq!(rt; out.as_slice(), wanted.as_slice());
-    Ok(())
+    walk(alloc, &mut calls, CALLS_WITHOUT_FILE)
+}
+
+#[test]
+fn the_system_refuses_a_folder(rt: HostRuntime) -> Result<(), Fail> {
+    let folder = env::temp_dir(&rt)?;
+    let name = folder.as_path().to_str().ok_or("path")?;
+    let cabinet = RealCabinet::new(&rt);
+    walk(rt.alloc(), &mut RealCalls { cabinet, name }, FOLDER_CALLS)
 }
 
 /// An output that takes nothing.

@@ -107,6 +107,11 @@ pub(crate) fn show<D: Debug + Drop>(
     Ok(())
 }
 
+/// Bytes as text. A mark stands for bytes that are none.
+pub(crate) fn ascii(bytes: &[u8]) -> &str {
+    str::from_utf8(bytes).unwrap_or("?")
+}
+
 /// The word for a truth.
 pub(crate) fn yes_no(truth: bool) -> &'static str {
     if truth { "yes" } else { "no" }

@@ -1,6 +1,7 @@
 //! Seasons, their dates and the dates of periods. The rows are worked by hand.
 
-use crate::rows::{Case, number, say, show, walk, yes_no};
+use crate::rows::{Case, ascii, number, say, walk, yes_no};
+use jiff::civil::Date;
 use season_days::{Day, Declaration, Kind, Night, Period, Rule, RuleList, Season};
 use slot_text::{Station, field};
 use std::alloc::Global;
@@ -16,22 +17,26 @@ impl Case for Seasons {
         let Some(season) = Season::read(given) else {
             return say(alloc, out, "-");
         };
-        let (first, last) = (season.first(), season.last());
-        for date in [first, last] {
-            let (year, month, day) = (date.year(), date.month(), date.day());
-            say(alloc, out, format_args!("{year}-{month}-{day} "))?;
-        }
-        say(alloc, out, season.length())?;
-        out.push(b' ')?;
-        out.extend_from_slice(&season.text())?;
-        out.push(b' ')?;
-        match season.next() {
-            Some(next) => out.extend_from_slice(&next.text())?,
-            None => out.push(b'-')?,
-        }
-        let (half, year) = (season.half(), season.year());
-        say(alloc, out, format_args!(" {half:?} {year}"))
+        say_date(alloc, out, season.first())?;
+        say_date(alloc, out, season.last())?;
+        let (length, half, year) = (season.length(), season.half(), season.year());
+        let name = season.text();
+        let next = match season.next() {
+            Some(next) => next.text(),
+            None => *b"---",
+        };
+        let (name, next) = (ascii(&name), ascii(&next));
+        say(
+            alloc,
+            out,
+            format_args!("{length} {name} {next} {half:?} {year}"),
+        )
     }
+}
+
+fn say_date(alloc: Global, out: &mut Vec<u8>, date: Date) -> Result<(), Fail> {
+    let (year, month, day) = (date.year(), date.month(), date.day());
+    say(alloc, out, format_args!("{year}-{month}-{day} "))
 }
 
 // Weekdays are counted from Saturday 1 January 2000.
@@ -48,7 +53,7 @@ const SEASONS: &[u8] = b"\
 S25|2025-3-30 2025-10-25 210 S25 S26 Summer 2025
 W25|2025-10-26 2026-3-28 154 W25 W26 Winter 2025
 S01|2001-3-25 2001-10-27 217 S01 S02 Summer 2001
-W99|2099-10-25 2100-3-27 154 W99 - Winter 2099
+W99|2099-10-25 2100-3-27 154 W99 --- Winter 2099
 s25|-
 X25|-
 S2|-

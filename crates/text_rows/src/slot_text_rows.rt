@@ -2,8 +2,8 @@
 
 use crate::rows::{Case, cut, number, say, walk, yes_no};
 use slot_text::{
-    Lines, Memory, Station, field, is_blank_byte, is_blank_line, is_trimmed, put_number,
-    put_padded, read_u64,
+    Lines, Station, field, is_blank_byte, is_blank_line, is_trimmed, put_number, put_padded,
+    read_u64,
 };
 use std::alloc::Global;
 use std::test::Fail;
@@ -194,7 +194,5 @@ fn numbers_and_stations(rt: HostRuntime) -> Result<(), Fail> {
     let alloc = rt.alloc();
     walk(alloc, &mut Numbers, NUMBERS)?;
     walk(alloc, &mut Digits, DIGITS)?;
-    walk(alloc, &mut Stations, STATIONS)?;
-    assert_eq!(rt; format!(in alloc; "{}", Memory)?.as_str(), "out of memory");
-    Ok(())
+    walk(alloc, &mut Stations, STATIONS)
 }
