@@ -1,11 +1,11 @@
 -- The job that words ask for, and what clap finds in them.
-use Rattle.std.proofs.Common.{◌≡◌, ℕ, ◌<◌, ◌≤◌, ◌^◌, ◌⊎◌, eqb, List, [], ◌∷◌, length, Option, Some, None, Result, Ok, Err, refl, sym, ap, subst, ◌∙◌, arith, inl, inr}
+use Rattle.std.proofs.Common.{◌≡◌, ℕ, ◌≤◌, eqb, List, [], ◌∷◌, length, Option, Some, None, Result, Ok, Err, refl, sym, ap, subst, ◌∙◌, arith, inl, inr}
 use Rattle.std.specs.Prelude.{nat_le, ◌&&◌, option_map, option_and_then, IfOk, Box}
 use Rattle.std.specs.Fmt.{decimal}
 use Rattle.std.specs.List.{AllByRecursion}
 use Rattle.std.specs.Str.{bytes_eq, IsUtf8}
 use Rattle.std.specs.Str.Parse.{digits_value}
-use Rattle.std.proofs.lemmas.Fmt.{decimal_is_IsNumeral, decimal_injective}
+use Rattle.std.proofs.lemmas.Fmt.{decimal_is_IsNumeral}
 use Rattle.std.proofs.lemmas.Slice.Eq.{bytes_eq-Decides}
 use Rattle.std.proofs.lemmas.Bool.{cases_Bool, and_parts, leb-true, le-leb, eqb-true}
 use Rattle.std.proofs.lemmas.Option.{cond_some, option_and_then_some}
@@ -63,20 +63,6 @@ number_read least most n w number above below =
     let v : digits_value 10 (decimal n) ≡ n = (decimal_is_IsNumeral n number.0).1 in
     let same = (bytes_eq-Decides (decimal n) (decimal n)).1 refl in
     rw (number.1, v, same, le-leb least n above, le-leb n most below) refl
-
-pub number_outside : (least most n : ℕ) (w : Word) → most < 2 ^ 32 → IsNumber w n → ((n < least) ⊎ (most < n)) → number_within least most w ≡ None
-number_outside least most n w small number outside =
-    is_none (number_within least most w) (λ m e.
-    let p = number_takes least most m w e in
-    let same : n ≡ m = decimal_injective n m number.0 (omega (arith, p.below, small)) (sym number.1 ∙ p.spelled) in
-    elim outside [ inl low ↦ omega (arith, same, p.above, low) | inr high ↦ omega (arith, same, p.below, high) ])
-
-pub number_none : {E : Type 0} (least most : ℕ) (w : Word) (e : E) → most < 2 ^ 32 → ((n : ℕ) → IsNumber w n → ◌≡◌ {A = Result ℕ E} (Err e) (Ok n)) → number_within least most w ≡ None
-number_none least most w e small only =
-    is_none (number_within least most w) (λ n read.
-    let p = number_takes least most n w read in
-    let bad = only n (omega (arith, p.below, small), p.spelled) in
-    absurd cc)
 
 -- ---- the words of a job
 

@@ -1,7 +1,7 @@
 ghost use Rattle.std.specs.Prelude.{◌≡◌, ◌≢◌, None, Some, Ok, Err, IfOk, IfErr, map};
 ghost use Rattle.std.specs.List.{AllByRecursion};
 ghost use Rattle.std.specs.Str.{IsUtf8};
-ghost use Rattle.clap.specs.Words.{rows_of, found_of, first_of, rows_of};
+ghost use Rattle.clap.specs.Words.{rows_of, found_of, first_of};
 ghost use Rattle.slot_text.specs.Reads.{GivesOr};
 ghost use Rattle.command_words.specs.declared.job.Job.{Job};
 ghost use Rattle.command_words.specs.Words.{Word, words_of};
