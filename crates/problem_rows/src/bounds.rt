@@ -1,6 +1,5 @@
 //! Vectors, their bounds, and floors.
 
-ghost use Rattle.std.specs.Prelude.{◌^◌, ◌<◌};
 ghost use Rattle.choice_problem.specs.Bounds.{AreRanges};
 
 use crate::problems::{problem, ranges, table, table_of, vector};

@@ -1,7 +1,7 @@
 //! Problems, choices and trees.
 
 use crate::problems::{problem, read_problem, strips};
-use crate::texts::{NONE, at, halves, numbers, piece, small_at};
+use crate::texts::{halves, numbers, piece, small_at};
 use choice_problem::{
     Choice, Node, Problem, Ranges, Tree, alike_problems, closed_ranges, closing_numbers, cost_of,
     count_nodes, driven_tree, few_uses, fewer_vectors, first_passed, fits, floored_tree,

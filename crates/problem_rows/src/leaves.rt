@@ -4,7 +4,7 @@ ghost use Rattle.choice_problem.specs.Bounds.{AreRanges};
 
 use crate::choices::choice;
 use crate::problems::{problem, ranges, vector};
-use crate::texts::{at, halves, numbers, piece, seen, small_at};
+use crate::texts::{halves, piece, seen};
 use choice_problem::{
     Problem, Ranges, SCALE_BOUND, Vector, VectorList, fits, leaf_closes, over_closes,
 };
