@@ -7,3 +7,6 @@ mod AlikeLemmas
 mod CertificateLemmas
 mod KeptLemmas
 mod UniqueLemmas
+mod MarkedLemmas
+mod LoadLemmas
+mod StateLemmas

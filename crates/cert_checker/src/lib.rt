@@ -8,7 +8,10 @@ mod checks;
 mod kept;
 mod laws;
 mod lines;
+mod loads;
+mod marked;
 mod nodes;
+mod states;
 mod trees;
 mod verdict;
 
