@@ -1,13 +1,12 @@
 -- Least loads that are kept while the ranges change.
-use Rattle.std.proofs.Common.{◌≡◌, ℕ, zero, suc, ◌+◌, ◌<◌, ◌≤◌, refl, sym, ◌∙◌, ap, subst, arith, List, [], ◌∷◌, ◌++◌, length, get_or, set, inl, inr}
-use Rattle.std.specs.Prelude.{All, drop, slice_set, slice_index_or, Option, Some, None, IfSome}
+use Rattle.std.proofs.Common.{◌≡◌, ℕ, zero, suc, ◌+◌, ◌<◌, ◌≤◌, refl, sym, ◌∙◌, ap, subst, arith, List, [], ◌∷◌, ◌++◌, length, get_or, set}
+use Rattle.std.specs.Prelude.{All, drop}
 use Rattle.std.specs.List.{Contains}
-use Rattle.std.proofs.lemmas.Bool.{cases_lt}
 use Rattle.std.proofs.lemmas.List.{get_or-set_same, get_or-set_other, length-set, drop_more}
 use Rattle.finite_sums.specs.Sums.{least_within}
 use Rattle.finite_sums.proofs.ChangeLemmas.{sum_below-change, term-le}
-use Rattle.choice_problem.specs.Problems.{ProblemView, unit_count, resource_count, alt_uses}
-use Rattle.choice_problem.specs.Bounds.{AreRanges, low_of, high_of, least_load, whole_of}
+use Rattle.choice_problem.specs.Problems.{ProblemView, unit_count, alt_uses}
+use Rattle.choice_problem.specs.Bounds.{AreRanges, low_of, high_of, least_load}
 use Rattle.choice_problem.specs.Walks.{AreChanges}
 use Rattle.cert_checker.specs.declared.loads.Loads.{Loads}
 use Rattle.cert_checker.specs.Kept.{AgreeBut}

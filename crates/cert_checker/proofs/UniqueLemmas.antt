@@ -1,6 +1,6 @@
 -- The first failing line of a certificate is one: two problems of one stage pass the same tests.
-use Rattle.std.proofs.Common.{◌≡◌, ℕ, zero, suc, ◌+◌, ◌<◌, ◌≤◌, refl, sym, ◌∙◌, ap, subst, arith, List, [], ◌∷◌, ◌++◌, length, get_or, inl, inr, Bool, true, false}
-use Rattle.std.specs.Prelude.{Option, Some, None, IfSome, flat_map}
+use Rattle.std.proofs.Common.{◌≡◌, ℕ, suc, ◌+◌, ◌<◌, sym, ◌∙◌, ap, subst, arith, List, [], ◌∷◌, ◌++◌, length, get_or, inl, inr, Bool, true, false}
+use Rattle.std.specs.Prelude.{Option, Some, None, flat_map}
 use Rattle.std.specs.List.{AllByRecursion}
 use Rattle.finite_sums.specs.Sums.{sum_below}
 use Rattle.finite_sums.proofs.SumLemmas.{sum_below-same}
@@ -8,9 +8,9 @@ use Rattle.season_days.specs.declared.declaration.Declaration.{Declaration}
 use Rattle.choice_problem.specs.declared.vectors.Price.{Price}
 use Rattle.choice_problem.specs.declared.nodes.Node.{Node}
 use Rattle.choice_problem.specs.declared.nodes.Node.TheVariants.{Leaf, Over}
-use Rattle.choice_problem.specs.Problems.{ProblemView, unit_count, alt_count, resource_count, alt_uses, limit_of}
+use Rattle.choice_problem.specs.Problems.{ProblemView, unit_count, alt_count, resource_count, alt_uses}
 use Rattle.choice_problem.specs.Choices.{Fits, choice_cost, load_of}
-use Rattle.choice_problem.specs.Bounds.{IsPrice, whole_of}
+use Rattle.choice_problem.specs.Bounds.{whole_of}
 use Rattle.choice_problem.specs.Trees.{NodeHolds, LeafHolds}
 use Rattle.choice_problem.specs.Alike.{AreAlike}
 use Rattle.cert_format.specs.declared.cert.StageCert.{StageCert}

@@ -1,5 +1,5 @@
 -- Bounds that are kept while the ranges change. Contracts of private functions alone cite this.
-use Rattle.std.specs.Prelude.{◌≡◌, ℕ, suc, ◌<◌, ◌≤◌, List, [], ◌∷◌, length, drop, All, Option, None, IfSome, slice_index_or}
+use Rattle.std.specs.Prelude.{◌≡◌, ℕ, suc, ◌<◌, ◌≤◌, List, length, drop, All, Option, None, IfSome, slice_index_or}
 use Rattle.std.specs.List.{Contains}
 use Rattle.choice_problem.specs.declared.vectors.Price.{Price}
 use Rattle.choice_problem.specs.Problems.{ProblemView, unit_count}

@@ -1,12 +1,10 @@
 -- Least loads that are kept while the ranges change. Contracts of private functions alone cite this.
-use Rattle.std.specs.Prelude.{◌≡◌, ℕ, ◌<◌, Bool, true, false, List, length, All, Option, None, IfSome, slice_index_or}
-use Rattle.std.specs.List.{Contains}
+use Rattle.std.specs.Prelude.{◌≡◌, ℕ, List, length, Option, None, IfSome, slice_index_or}
 use Rattle.finite_sums.specs.Sums.{least_within}
 use Rattle.choice_problem.specs.Problems.{ProblemView, unit_count, resource_count, alt_uses}
 use Rattle.choice_problem.specs.Bounds.{AreRanges, low_of, high_of, least_load, whole_of}
 use Rattle.cert_checker.specs.declared.loads.Loads.{Loads}
 use Rattle.cert_checker.specs.Kept.{AgreeBut}
-use Rattle.cert_checker.specs.Marked.{AreOnce}
 
 -- a unit's least number of uses of a resource in its range
 abbrev pub least_at : ProblemView → List (ℕ × ℕ) → ℕ → ℕ → ℕ
