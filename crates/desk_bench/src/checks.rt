@@ -95,7 +95,9 @@ fn print_verdict(
             println!(rt; "checks: {units} units, {count} leaves, {bytes} bytes, valid")?;
         }
         Verdict::No { line, .. } => {
-            println!(rt; "checks: {units} units, {count} leaves, {bytes} bytes, line {line} fails")?;
+            println!(rt;
+                "checks: {units} units, {count} leaves, {bytes} bytes, line {line} fails"
+            )?;
         }
     }
     Ok(())
@@ -198,7 +200,12 @@ fn put_vector(alloc: Global, out: &mut Vec<u8>, prices: u64) -> Result<(), Memor
 
 // A tree of so many leaves: half of them on either side of each split, and one unit at each depth.
 fn put_tree(alloc: Global, out: &mut Vec<u8>, case: Case) -> Result<(), Memory> {
-    put_line(alloc, out, b"TREE", &[case.count.saturating_mul(2).saturating_sub(1)])?;
+    put_line(
+        alloc,
+        out,
+        b"TREE",
+        &[case.count.saturating_mul(2).saturating_sub(1)],
+    )?;
     let mut pending = vec![in alloc; (case.count, 0_u64)]?;
     while let Some((leaves, depth)) = pending.pop() {
         if leaves > 1 {
