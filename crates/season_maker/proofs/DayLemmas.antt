@@ -1,9 +1,9 @@
 -- The dates of the season.
-use Rattle.std.proofs.Common.{◌≡◌, ◌≢◌, ℕ, suc, ◌+◌, ◌-◌, Bool, true, List, [], ◌∷◌, ◌++◌, codes, refl, sym, ap, ◌∙◌, arith, ℤ, pos, ◌+ℤ◌, ◌-ℤ◌}
+use Rattle.std.proofs.Common.{◌≡◌, ◌≢◌, ℕ, suc, Bool, true, List, [], ◌∷◌, codes, refl, sym, ap, ◌∙◌, arith, ℤ, pos, ◌-ℤ◌}
 use Rattle.std.proofs.lemmas.Int.{ints}
 use Rattle.std.specs.List.{filter}
 use Rattle.jiff_core.specs.Calendar.{days_of_years, days_of_months, day_count, days_from_civil, weekday_number}
-use Rattle.season_days.specs.Dates.{CivilDate, last_sunday}
+use Rattle.season_days.specs.Dates.{last_sunday}
 use Rattle.season_days.specs.Seasons.{date_count, date_at, days_from, weekday_on, is_on, dates_of}
 use Rattle.scr_reader.specs.Printed.{dates_text}
 use Rattle.season_maker.specs.Generated.{summer_2025, whole_season}

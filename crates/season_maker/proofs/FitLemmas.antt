@@ -1,19 +1,15 @@
 -- The lines that are requested have a spelling, can be asked, and are numbered.
-use Rattle.std.proofs.Common.{◌≡◌, ℕ, zero, suc, ◌+◌, ◌*◌, ◌%◌, ◌<◌, ◌≤◌, Bool, true, false, List, [], ◌∷◌, Some, None, codes, refl, sym, ap, subst, ◌∙◌, arith, inl, inr}
+use Rattle.std.proofs.Common.{◌≡◌, ℕ, zero, suc, ◌+◌, ◌%◌, ◌<◌, ◌≤◌, Bool, true, false, codes, refl, sym, arith}
 use Rattle.std.specs.Prelude.{◌==◌, if◌then◌else◌}
-use Rattle.std.proofs.lemmas.Bool.{cases_Bool, ltb-true}
 use Rattle.slot_text.specs.Stations.{IsStation}
-use Rattle.season_days.specs.Seasons.{date_count}
-use Rattle.scr_reader.specs.Parts.{IsDayOfMonth}
 use Rattle.scr_reader.specs.declared.line.Line.{Line}
 use Rattle.scr_reader.specs.declared.line.Code.TheVariants.{N, B, F}
 use Rattle.scr_reader.specs.declared.line.Item.TheVariants.{One}
 use Rattle.season_days.specs.declared.declaration.TheConstants.{MINUTES_OF_DAY}
-use Rattle.scr_reader.specs.Printed.{FlightFits, StopFits, StopsFit, LineFits, ItemsFit, IsAsked}
+use Rattle.scr_reader.specs.Printed.{StopFits, LineFits, ItemsFit}
 use Rattle.scr_reader.specs.Again.{IsAskedItem, AreAsked, AreNumbered, IsReadAgain}
 use Rattle.scr_reader.specs.declared.line.Code.{Code}
-use Rattle.season_maker.specs.Draws.{drawn}
-use Rattle.season_maker.specs.Generated.{summer_2025, airline_xy, airline_xz, stop_of, arrival_line, turnaround_line, minute_drawn, stay_drawn, unit_line, placed_lines, generated_message}
+use Rattle.season_maker.specs.Generated.{summer_2025, airline_xy, airline_xz, stop_of, arrival_line, turnaround_line, minute_drawn, unit_line, placed_lines, generated_message}
 use Rattle.season_maker.proofs.DayLemmas.{days, some_date}
 
 letters : IsStation (codes "JFK")

@@ -1,5 +1,5 @@
 -- The files are short.
-use Rattle.std.proofs.Common.{◌≡◌, ℕ, zero, suc, ◌+◌, ◌*◌, ◌^◌, ◌<◌, ◌≤◌, List, [], ◌∷◌, ◌++◌, length, codes, arith}
+use Rattle.std.proofs.Common.{ℕ, zero, suc, ◌+◌, ◌*◌, ◌^◌, ◌<◌, ◌≤◌, List, [], ◌∷◌, ◌++◌, length, codes, arith}
 use Rattle.std.proofs.lemmas.List.{length-append}
 use Rattle.std.proofs.lemmas.Fmt.{length-decimal-le}
 use Rattle.std.specs.Fmt.{decimal}
@@ -12,7 +12,6 @@ use Rattle.scr_reader.specs.declared.line.Line.{Line}
 use Rattle.season_maker.specs.Generated.{summer_2025, hourly_limit, unit_line, placed_lines, generated_message}
 use Rattle.season_maker.specs.Texts.{generated_capacity, generated_requests}
 use Rattle.season_maker.proofs.FitLemmas.{unit_fits}
-use Rattle.season_maker.proofs.TextLemmas.{ended_append}
 
 -- a law of printed lines
 abbrev pub ShortLaw : Type 0

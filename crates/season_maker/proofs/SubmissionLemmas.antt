@@ -1,5 +1,5 @@
 -- A submission of the generated season refuses nothing.
-use Rattle.std.proofs.Common.{◌≡◌, ℕ, zero, suc, ◌+◌, ◌%◌, ◌≤◌, Bool, true, false, List, [], ◌∷◌, ◌++◌, length, Option, Some, None, is_some, is_none, Result, Ok, refl, sym, ap, subst, ◌∙◌, arith}
+use Rattle.std.proofs.Common.{◌≡◌, ℕ, zero, suc, ◌+◌, ◌%◌, ◌≤◌, Bool, true, false, List, [], ◌∷◌, length, Option, Some, None, is_some, is_none, Ok, refl, ap, ◌∙◌}
 use Rattle.std.specs.Prelude.{◌==◌, if◌then◌else◌, nat_lt}
 use Rattle.std.specs.Option.{option_or}
 use Rattle.std.specs.List.{filter_map, cons_option}
@@ -15,8 +15,8 @@ use Rattle.series_model.specs.declared.fault.ModelFault.{ModelFault}
 use Rattle.series_model.specs.declared.fault.ModelFault.TheVariants.{OtherSeason, OtherAirport}
 use Rattle.series_model.specs.declared.unit.Unit.{Unit as SlotUnit}
 use Rattle.series_model.specs.Units.{unit_of, placed_unit, units_of}
-use Rattle.series_model.specs.Submissions.{is_season, is_station, item_fault, items_fault, message_fault, first_fault, too_many, refusal, answer_by, submission_of, submission_answer, SubmissionView}
-use Rattle.season_maker.specs.Generated.{summer_2025, airport_abc, unit_line, placed_unit_line, placed_lines, generated_message, IsGeneratedDeclaration}
+use Rattle.series_model.specs.Submissions.{is_season, is_station, item_fault, items_fault, message_fault, first_fault, too_many, refusal, answer_by, submission_of, submission_answer}
+use Rattle.season_maker.specs.Generated.{summer_2025, airport_abc, placed_unit_line, placed_lines, generated_message, IsGeneratedDeclaration}
 
 by_cases : (P : Line → Type 0) (test : Bool) (one other : Line) → P one → P other → P (if test then one else other)
 by_cases P true one other is is_other = is

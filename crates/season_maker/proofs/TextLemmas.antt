@@ -3,7 +3,7 @@ use Rattle.std.proofs.Common.{◌≡◌, ℕ, suc, ◌+◌, ◌-◌, ◌<◌, Li
 use Rattle.std.proofs.lemmas.List.{append-nil}
 use Rattle.slot_text.specs.Ended.{ended}
 use Rattle.season_days.specs.Term.{Term}
-use Rattle.scr_reader.specs.Printed.{item_lines, item_text, items_lines, header_lines, message_text}
+use Rattle.scr_reader.specs.Printed.{item_lines, item_text, items_lines, header_lines}
 use Rattle.scr_reader.specs.Messages.{header_of}
 use Rattle.scr_reader.specs.declared.line.Item.TheVariants.{One}
 use Rattle.scr_reader.specs.declared.message.Placed.{Placed}

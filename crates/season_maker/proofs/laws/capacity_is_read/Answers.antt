@@ -1,4 +1,4 @@
-use Rattle.std.proofs.Common.{sym, subst}
+use Rattle.std.proofs.Common.{subst}
 use Rattle.season_days.specs.declared.declaration.Declaration.{Declaration}
 use Rattle.season_maker.specs.Generated.{IsGeneratedDeclaration}
 use Rattle.season_maker.specs.Texts.{generated_capacity}
