@@ -4,6 +4,8 @@
 #[cfg(test)]
 mod capacity_rows;
 #[cfg(test)]
+mod generated_rows;
+#[cfg(test)]
 mod message_rows;
 #[cfg(test)]
 mod outside_rows;
