@@ -3,13 +3,13 @@ pub mod Faults
 pub mod Capacity
 pub mod Texts
 pub mod Reports
-pub mod Order
+pub mod Judgements
+pub mod Steps
 pub mod Writing
+pub mod Jobs
 pub mod Desk
+pub mod Leads
 pub mod Messages
-pub mod Stops
-pub mod Handed
-pub mod HandedStops
 pub mod CapacityFaults
 pub mod Cutting
 pub mod Windows
