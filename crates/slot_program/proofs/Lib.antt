@@ -4,7 +4,9 @@ mod HighLemmas
 mod EndedLemmas
 mod CapacityLemmas
 mod LengthLemmas
-mod DeskLemmas
 mod TextLemmas
 mod WindowLemmas
-mod HandedLemmas
+mod LeadLemmas
+mod JudgementLemmas
+mod AnswerLemmas
+mod DeskLemmas

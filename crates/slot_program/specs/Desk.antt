@@ -1,13 +1,13 @@
 -- How a command ends: what it reports, why, what passed between it and the cabinet, and which files
 -- it leaves.
-use Rattle.std.specs.Prelude.{◌≡◌, ◌⊎◌, ℕ, List, [], ◌∷◌, ◌++◌, map, Option, Some, None, All}
+use Rattle.std.specs.Prelude.{◌≡◌, ℕ, List, [], ◌∷◌, ◌++◌, map, Option, Some, None, All}
 use Rattle.std.specs.Prelude.{Contains}
 use Rattle.desk_outside.specs.Cause.{Rose}
 use Rattle.desk_outside.specs.Files.{Files}
 use Rattle.desk_outside.specs.Passages.{Passage, read, wrote, write_failed, put, put_failed}
 use Rattle.slot_program.specs.Words.{Word}
 use Rattle.slot_program.specs.Reports.{Report, Refusal, no_command, refused, unread, unwritten}
-use Rattle.slot_program.specs.Reports.{finished, status_of, text_of}
+use Rattle.slot_program.specs.Reports.{finished}
 use Rattle.slot_program.specs.Judgements.{NamedBytes}
 use Rattle.slot_program.specs.Steps.{names_read, AllPass, RefuseFrom, ReachFrom}
 use Rattle.slot_program.specs.Writing.{read_of, written_of, AreWritten, StopsAt}
@@ -81,14 +81,6 @@ JobEnds job w (finished status text) v = IsFinished job w status text v
 abbrev pub Ends : Option Job → World → Report → World → Type 0
 Ends None w report v = (report ≡ no_command) × (v ≡ w)
 Ends (Some job) w report v = JobEnds job w report v
-
--- it ends with a report of this status and text
-pub record IsAnswer (job : Option Job) (w : World) (status : ℕ) (text : List ℕ) (v : World) : Type 0
-  where
-    pub report : Report
-    pub status_is : status ≡ status_of report
-    pub text_is : text ≡ text_of report
-    pub ends : Ends job w report v
 
 -- the log of an object grew by passages with the property
 abbrev pub LogGrew : List Passage → (List Passage → Type 0) → List Passage → Type 0

@@ -35,29 +35,35 @@ allocate_steps names =
     reads (name_at names 0) LONGEST_FILE ∷ judges served_capacity (name_at names 0)
     ∷ reads (name_at names 1) LONGEST_FILE ∷ judges served_requests (name_at names 1) ∷ []
 
--- the capacity file, then the requests, and then the certificate, each read and judged before the
--- next is read; and last whether the certificate is valid
-abbrev pub check_steps : List Word → List Step
-check_steps names =
+-- a season is read: the capacity file, and then the requests, each judged before the next is read
+abbrev pub season_steps : List Word → List Step → List Step
+season_steps names steps =
     reads (name_at names 0) LONGEST_FILE ∷ judges capacity_form (name_at names 0)
-    ∷ reads (name_at names 1) LONGEST_FILE ∷ judges requests_form (name_at names 1)
-    ∷ reads (name_at names 2) LONGEST_CERT_FILE ∷ judges certificate_form (name_at names 2)
-    ∷ judges valid_certificate (name_at names 2) ∷ []
+    ∷ reads (name_at names 1) LONGEST_FILE ∷ judges requests_form (name_at names 1) ∷ steps
+
+-- a certificate of the season is read: its form is judged, and then whether it is valid
+abbrev pub certificate_steps : List Word → List Step → List Step
+certificate_steps names steps =
+    reads (name_at names 2) LONGEST_CERT_FILE ∷ judges certificate_form (name_at names 2)
+    ∷ judges valid_certificate (name_at names 2) ∷ steps
+
+abbrev pub check_steps : List Word → List Step
+check_steps names = season_steps names (certificate_steps names [])
 
 abbrev pub steps_of : Job → List Step
-steps_of (Allocate names) = allocate_steps names
+steps_of (Allocate names nodes workers) = allocate_steps names
 steps_of (Check names) = check_steps names
 
 -- ---- the files that are written
 
 abbrev pub names_written : Job → List Word
-names_written (Allocate names) = name_at names 2 ∷ name_at names 3 ∷ []
+names_written (Allocate names nodes workers) = name_at names 2 ∷ name_at names 3 ∷ []
 names_written (Check names) = []
 
 -- ---- the statuses of a job whose work is done
 
 abbrev pub finishing_of : Job → List ℕ
-finishing_of (Allocate names) = 0 ∷ []
+finishing_of (Allocate names nodes workers) = 0 ∷ []
 finishing_of (Check names) = 0 ∷ []
 
 -- ---- the work
@@ -86,7 +92,7 @@ pub record IsAllocation (names : List Word) (capacity requests : List ℕ)
 
 -- of the files that were read, these are the writes, and the status and the text at the end
 abbrev pub Works : Job → List NamedBytes → List NamedBytes → ℕ → List ℕ → Type 0
-Works (Allocate names) (capacity ∷ requests ∷ []) writes status text =
+Works (Allocate names nodes workers) (capacity ∷ requests ∷ []) writes status text =
     (status ≡ 0) × IsAllocation names capacity.bytes requests.bytes writes text
 Works (Check names) (capacity ∷ requests ∷ certificate ∷ []) writes status text =
     (status ≡ 0) × (writes ≡ []) × (text ≡ codes "YES\n")
@@ -99,7 +105,8 @@ Works job read writes status text = ⊥
 -- each marked INFEASIBLE has none, and no allotment of one marked OPEN displaces less than its
 -- bound. Of `allocate`: the choice fits under every capacity line, at no displacement.
 abbrev pub MarksAreTrue : Job → List NamedBytes → List NamedBytes → Type 0
-MarksAreTrue (Allocate names) (capacity ∷ requests ∷ []) (certificate ∷ replies ∷ []) =
+MarksAreTrue (Allocate names nodes workers) (capacity ∷ requests ∷ [])
+    (certificate ∷ replies ∷ []) =
     (declaration : Declaration) × (message : Message)
     × IsCapacityText capacity.bytes declaration
     × (historic : IsHistoricMessage declaration.season declaration.airport message)

@@ -53,3 +53,35 @@ pub record Leads (w : World) (all : List Step) (before : List NamedBytes) (steps
   pub told : IfSome w.files (λ held. ToldLead held all before steps)
   pub asked : (name : Word) → Contains (names_read steps) name → Contains (names_read all) name
   pub named : All (λ (file : NamedBytes). Contains (names_read all) file.name) before
+
+-- ---- where a job stopped
+
+-- from told files alone: nothing else is due, not every step passes, and where all files are in
+-- their forms the certificate is not valid
+pub record ToldRefused (held : Files) (all : List Step) (refusal : Refusal) : Type 0 where
+  pub alone : (other : Refusal) → FirstDue held all other → other ≡ refusal
+  pub broken : (read : List NamedBytes) → AllPass (Some held) all read → ⊥
+  pub forms : (read : List NamedBytes) → AllPass (Some held) (form_steps all) read →
+      refusal_status refusal ≡ 1
+
+pub record RefusedLead (w : World) (all : List Step) (refusal : Refusal) (v : World) : Type 0 where
+  pub read : List NamedBytes
+  pub due : RefuseFrom w.files w.faults v.faults [] all refusal read
+  pub log : v.log ≡ w.log ++ map read_of read
+  pub files : v.files ≡ w.files
+  pub told : IfSome w.files (λ held. ToldRefused held all refusal)
+  pub named : All (λ (file : NamedBytes). Contains (names_read all) file.name) read
+
+pub record UnreadLead (w : World) (all : List Step) (name : Word) (v : World) : Type 0 where
+  pub read : List NamedBytes
+  pub reached : ReachFrom w.files [] all name read
+  pub rose : Rose w.faults v.faults
+  pub log : v.log ≡ w.log ++ map read_of read
+  pub files : v.files ≡ w.files
+  pub named : All (λ (file : NamedBytes). Contains (names_read all) file.name) read
+
+-- memory ran out while files were read
+pub record MemoryLead (w : World) (all : List Step) (v : World) : Type 0 where
+  pub read : List NamedBytes
+  pub log : v.log ≡ w.log ++ map read_of read
+  pub named : All (λ (file : NamedBytes). Contains (names_read all) file.name) read

@@ -9,6 +9,9 @@ pub mod Writing
 pub mod Jobs
 pub mod Desk
 pub mod Leads
+pub mod Stops
+pub mod Allocations
+pub mod Answers
 pub mod Messages
 pub mod CapacityFaults
 pub mod Cutting

@@ -5,7 +5,7 @@ use Rattle.std.specs.String.{string_bytes}
 use Rattle.std.specs.Str.{bytes_eq}
 use Rattle.std.specs.Global.{Global}
 use Rattle.slot_program.specs.declared.job.Job.{Job}
-use Rattle.slot_program.specs.declared.job.Job.TheVariants.{Allocate}
+use Rattle.slot_program.specs.declared.job.Job.TheVariants.{Allocate, Check}
 
 -- a word by its bytes
 abbrev pub Word : Type 0
@@ -32,14 +32,20 @@ names_among (word ∷ words) =
 -- a command has exactly its number of names
 abbrev pub allocate_job : Option (List Word) → Option Job
 allocate_job None = None
-allocate_job (Some names) = if length names == 4 then Some (Allocate names) else None
+allocate_job (Some names) = if length names == 4 then Some (Allocate names 100000 4) else None
+
+abbrev pub check_job : Option (List Word) → Option Job
+check_job None = None
+check_job (Some names) = if length names == 3 then Some (Check names) else None
 
 -- the job that the words ask for, if they are a command's
 abbrev pub job_of : List Word → Option Job
 job_of [] = None
 job_of (command ∷ words) =
-    if bytes_eq command (codes "allocate") then allocate_job (names_among words) else None
+    if bytes_eq command (codes "allocate") then allocate_job (names_among words)
+    else (if bytes_eq command (codes "check") then check_job (names_among words) else None)
 
 -- a job has as many names as its command takes
 abbrev pub HasNames : Job → Type 0
-HasNames (Allocate names) = length names ≡ 4
+HasNames (Allocate names nodes workers) = length names ≡ 4
+HasNames (Check names) = length names ≡ 3

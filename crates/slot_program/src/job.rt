@@ -73,7 +73,14 @@ impl NameList {
 pub enum Job {
     /// Allot the requests of a file within the capacity of another. The names are those of the
     /// capacity file, the requests, the certificate and the replies.
-    Allocate { names: NameList },
+    Allocate {
+        names: NameList,
+        nodes: u32,
+        workers: u32,
+    },
+    /// Check the certificate of a season. The names are those of the capacity file, the requests
+    /// and the certificate.
+    Check { names: NameList },
 }
 
 /// Why words are no job.

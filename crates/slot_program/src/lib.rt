@@ -4,11 +4,14 @@
 
 mod allocate;
 mod capacity;
+mod check;
 mod cutting;
+mod files;
 mod job;
 pub mod laws;
-mod refusal;
 mod rule;
+mod season;
+mod stop;
 mod top_call;
 mod values;
 mod words;

@@ -10,28 +10,26 @@ ghost use Rattle.slot_program.specs.Reports.{Report, Refusal, refused, finished,
 ghost use Rattle.slot_program.specs.Judgements.{NamedBytes};
 ghost use Rattle.slot_program.specs.Steps.{AllPass, FirstDue, form_steps};
 ghost use Rattle.slot_program.specs.Writing.{read_of, written_of};
-ghost use Rattle.slot_program.specs.Jobs.{steps_of, finishing_of, MarksAreTrue};
-ghost use Rattle.slot_program.specs.Desk.{LogGrew, OnlyOfJob, world_of, Ends, IsAnswer, IsFinished};
+ghost use Rattle.slot_program.specs.Jobs.{name_at, steps_of, finishing_of, MarksAreTrue};
+ghost use Rattle.slot_program.specs.Desk.{LogGrew, OnlyOfJob, world_of, Ends, IsFinished};
 ghost use Rattle.slot_program.specs.Desk.{names_changed, IsStatus};
+ghost use Rattle.slot_program.specs.Answers.{IsAnswer};
 ghost use Rattle.slot_program.specs.declared.job.Job.{Job as JobValue};
+ghost use Rattle.slot_program.specs.declared.job.Job.TheVariants.{Allocate as AllocateJob};
+ghost use Rattle.slot_program.specs.declared.job.Job.TheVariants.{Check as CheckJob};
 
 use crate::allocate::allocate;
+use crate::check::check;
 use crate::job::{Job, NameList, WordFault};
-use crate::refusal::{Names, Stop};
+use crate::stop::Answer;
 use crate::words::read_words;
 use desk_outside::{Cabinet, Sink};
 use slot_text::Memory;
 use std::alloc::Global;
+use wasg_stages::laws::valid_marks;
 
 const STAGE_LINES: &str =
     "STAGE 1 OPTIMAL 0\nSTAGE 2 OPTIMAL 0\nSTAGE 3 OPTIMAL 0\nSTAGE 4 OPTIMAL 0\n";
-
-/// A status, and the text that goes with it.
-#[derive(Drop)]
-struct Answer {
-    status: u8,
-    text: String,
-}
 
 /// Does what the words of a command line ask, on the files of a cabinet, and says the result to a
 /// sink.
@@ -129,6 +127,7 @@ pub fn desk<R, C: Cabinet, S: Sink>(
         (Rose (S.fault_count out.old) (S.fault_count out.new) → ⊥) →
         (result ≡ 1) ⊎ (Contains (finishing_of job) result ⊎ (result ≡ 7)) }
 {
+    valid_marks();
     match carry_out(alloc, words, cabinet) {
         Ok(answer) => match out.put(answer.text.as_bytes()) {
             Ok(()) => answer.status,
@@ -143,15 +142,17 @@ fn carry_out<C: Cabinet>(alloc: Global, words: &[String], cabinet: &mut C) -> Re
     ensures answer { IfOk result (λ a. IsAnswer (job_of (words_of words.now))
         (world_of C.files C.fault_count C.log cabinet.old) a.status (string_bytes a.text)
         (world_of C.files C.fault_count C.log cabinet.new)) }
-    ensures others { ChangesOnly (C.files cabinet.old) (names_written (job_of (words_of words.now)))
+    ensures others { ChangesOnly (C.files cabinet.old) (names_changed (job_of (words_of words.now)))
         (C.files cabinet.new) }
     ensures asked { LogGrew (C.log cabinet.old) (OnlyOfJob (job_of (words_of words.now)))
         (C.log cabinet.new) }
-    ensures refused { job_of (words_of words.now) ≡ None
-        → C.files cabinet.new ≡ C.files cabinet.old }
+    ensures refused { job_of (words_of words.now) ≡ None →
+        world_of C.files C.fault_count C.log cabinet.new
+        ≡ world_of C.files C.fault_count C.log cabinet.old }
 {
     match read_words(alloc, words) {
-        Ok(Job::Allocate { names }) => carry_out_allocation(alloc, &names, cabinet),
+        Ok(Job::Allocate { names, .. }) => carry_out_allocation(alloc, &names, cabinet),
+        Ok(Job::Check { names }) => carry_out_check(alloc, &names, cabinet),
         Err(WordFault::Words) => Ok(Answer {
             status: 2,
             text: String::from_str(alloc, "WORDS\n")?,
@@ -166,41 +167,42 @@ fn carry_out_allocation<C: Cabinet>(
     names: &NameList,
     cabinet: &mut C,
 ) -> Result<Answer, Memory>
-    requires { length names.now ≡ 4 }
-    ensures answer { IfOk result (λ a. IsAnswer (Some (Allocate names.now))
+    ensures answer { IfOk result (λ a. (nodes workers : ℕ) →
+        IsAnswer (Some (AllocateJob names.now nodes workers))
         (world_of C.files C.fault_count C.log cabinet.old) a.status (string_bytes a.text)
         (world_of C.files C.fault_count C.log cabinet.new)) }
-    ensures others { ChangesOnly (C.files cabinet.old) (names_written (Some (Allocate names.now)))
-        (C.files cabinet.new) }
-    ensures asked { LogGrew (C.log cabinet.old) (OnlyOfJob (Some (Allocate names.now)))
-        (C.log cabinet.new) }
+    ensures others { ChangesOnly (C.files cabinet.old)
+        (name_at names.now 2 ∷ name_at names.now 3 ∷ []) (C.files cabinet.new) }
+    ensures asked { (nodes workers : ℕ) → LogGrew (C.log cabinet.old)
+        (OnlyOfJob (Some (AllocateJob names.now nodes workers))) (C.log cabinet.new) }
 {
-    let names = names_in(names);
-    match allocate(alloc, &names, cabinet) {
+    match allocate(alloc, names, cabinet) {
         Ok(()) => Ok(Answer {
             status: 0,
             text: String::from_str(alloc, STAGE_LINES)?,
         }),
-        Err(Stop::Refused(refusal)) => Ok(Answer {
-            status: refusal.status(&names),
-            text: refusal.text(alloc, &names)?,
-        }),
-        Err(Stop::Memory) => Err(Memory),
+        Err(stop) => stop.answer(alloc, names),
     }
 }
 
-/// The four names of an allocation.
-fn names_in(names: &NameList) -> Names<'_>
-    requires { length names.now ≡ 4 }
-    ensures { names_of result ≡ file_names names.now }
+/// Checks a certificate, and gives what is to be said.
+fn carry_out_check<C: Cabinet>(
+    alloc: Global,
+    names: &NameList,
+    cabinet: &mut C,
+) -> Result<Answer, Memory>
+    ensures answer { IfOk result (λ a. IsAnswer (Some (CheckJob names.now))
+        (world_of C.files C.fault_count C.log cabinet.old) a.status (string_bytes a.text)
+        (world_of C.files C.fault_count C.log cabinet.new)) }
+    ensures unchanged { C.files cabinet.new ≡ C.files cabinet.old }
+    ensures asked { LogGrew (C.log cabinet.old) (OnlyOfJob (Some (CheckJob names.now)))
+        (C.log cabinet.new) }
 {
-    let [capacity, requests, certificate, replies] = names.items() else {
-        unreachable!()
-    };
-    Names {
-        capacity: capacity.text(),
-        requests: requests.text(),
-        certificate: certificate.text(),
-        replies: replies.text(),
+    match check(alloc, names, cabinet) {
+        Ok(()) => Ok(Answer {
+            status: 0,
+            text: String::from_str(alloc, "YES\n")?,
+        }),
+        Err(stop) => stop.answer(alloc, names),
     }
 }

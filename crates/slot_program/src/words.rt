@@ -23,14 +23,25 @@ pub fn read_words(alloc: Global, words: &[String]) -> Result<Job, WordFault>
     let [command, rest @ ..] = words else {
         return Err(WordFault::Words);
     };
-    if command.as_str() != "allocate" {
+    if command.as_str() == "allocate" {
+        let names = read_names(alloc, rest)?;
+        if names.items().len() != 4 {
+            return Err(WordFault::Words);
+        }
+        return Ok(Job::Allocate {
+            names,
+            nodes: 100_000,
+            workers: 4,
+        });
+    }
+    if command.as_str() != "check" {
         return Err(WordFault::Words);
     }
     let names = read_names(alloc, rest)?;
-    if names.items().len() != 4 {
+    if names.items().len() != 3 {
         return Err(WordFault::Words);
     }
-    Ok(Job::Allocate { names })
+    Ok(Job::Check { names })
 }
 
 /// The names among the words after a command.

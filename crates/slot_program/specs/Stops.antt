@@ -1,0 +1,65 @@
+-- Why a job stopped, as the code has it. Contracts of private functions alone cite this.
+use Rattle.std.specs.Prelude.{◌≡◌, ℕ, List, Option, Some, None, codes}
+use Rattle.capacity_file.specs.Texts.{cap_limit_text}
+use Rattle.slot_program.specs.Words.{Word}
+use Rattle.slot_program.specs.Reports.{Report, Refusal, refused, unread, unwritten}
+use Rattle.slot_program.specs.Reports.{missing, large, out_of_form, over_limit, not_valid, unbuilt}
+use Rattle.slot_program.specs.Judgements.{NamedBytes, Judgement}
+use Rattle.slot_program.specs.Steps.{Step}
+use Rattle.slot_program.specs.Jobs.{name_at}
+use Rattle.slot_program.specs.Desk.{World}
+use Rattle.slot_program.specs.Leads.{RefusesAlone, RefusedLead, UnreadLead, MemoryLead}
+use Rattle.slot_program.specs.declared.stop.Limit.{Limit}
+use Rattle.slot_program.specs.declared.stop.Limit.TheVariants as limits
+use Rattle.slot_program.specs.declared.stop.Stop.{Stop}
+use Rattle.slot_program.specs.declared.stop.Stop.TheVariants as stops
+
+abbrev pub limit_text : Limit → List ℕ
+limit_text (limits.Capacity limit) = cap_limit_text limit
+limit_text limits.Units = codes "UNITS"
+
+-- what is reported, by the names of the job; want of memory is no report
+abbrev pub report_of : List Word → Stop → Option Report
+report_of names (stops.Missing place) = Some (refused (missing (name_at names place)))
+report_of names (stops.Large place) = Some (refused (large (name_at names place)))
+report_of names (stops.Unread place) = Some (unread (name_at names place))
+report_of names (stops.Unwritten place) = Some (unwritten (name_at names place))
+report_of names (stops.OutOfForm place line) =
+    Some (refused (out_of_form (name_at names place) line))
+report_of names (stops.OverLimit limit number) =
+    Some (refused (over_limit (limit_text limit) number))
+report_of names (stops.NotValid line reason) = Some (refused (not_valid line reason))
+report_of names (stops.Unbuilt place line) = Some (refused (unbuilt (name_at names place) line))
+report_of names stops.Memory = None
+
+-- the stop is a refusal that the property has, or want of memory
+abbrev pub IsRefusalBy : List Word → (Refusal → Type 0) → Stop → Type 0
+IsRefusalBy names Has (stops.Missing place) = ⊥
+IsRefusalBy names Has (stops.Large place) = ⊥
+IsRefusalBy names Has (stops.Unread place) = ⊥
+IsRefusalBy names Has (stops.Unwritten place) = ⊥
+IsRefusalBy names Has (stops.OutOfForm place line) = Has (out_of_form (name_at names place) line)
+IsRefusalBy names Has (stops.OverLimit limit number) = Has (over_limit (limit_text limit) number)
+IsRefusalBy names Has (stops.NotValid line reason) = Has (not_valid line reason)
+IsRefusalBy names Has (stops.Unbuilt place line) = Has (unbuilt (name_at names place) line)
+IsRefusalBy names Has stops.Memory = Unit {0}
+
+-- why files that were read are refused, by a judgement
+abbrev pub IsJudged : List Word → Judgement → Word → List NamedBytes → Stop → Type 0
+IsJudged names j name read stop = IsRefusalBy names (RefusesAlone j name read) stop
+
+-- where a job stopped that has written nothing
+abbrev pub StopLeads : List Word → World → List Step → Stop → World → Type 0
+StopLeads names w all (stops.Missing place) v = RefusedLead w all (missing (name_at names place)) v
+StopLeads names w all (stops.Large place) v = RefusedLead w all (large (name_at names place)) v
+StopLeads names w all (stops.Unread place) v = UnreadLead w all (name_at names place) v
+StopLeads names w all (stops.Unwritten place) v = ⊥
+StopLeads names w all (stops.OutOfForm place line) v =
+    RefusedLead w all (out_of_form (name_at names place) line) v
+StopLeads names w all (stops.OverLimit limit number) v =
+    RefusedLead w all (over_limit (limit_text limit) number) v
+StopLeads names w all (stops.NotValid line reason) v =
+    RefusedLead w all (not_valid line reason) v
+StopLeads names w all (stops.Unbuilt place line) v =
+    RefusedLead w all (unbuilt (name_at names place) line) v
+StopLeads names w all stops.Memory v = MemoryLead w all v
