@@ -44,7 +44,7 @@ module _ (job : Job) (w v : World) where
 
   refused_ended : (refusal : Refusal) → RefusedLead w (steps_of job) refusal v → Ended (refused refusal)
   refused_ended refusal lead =
-      (record { read = lead.read; due = lead.due; log = lead.log; files = lead.files }, refused_exact w.files refusal lead.told)
+      (record { inputs = lead.inputs; due = lead.due; log = lead.log; files = lead.files }, refused_exact w.files refusal lead.told)
 
   -- after a call that failed anything may have been due
   rose_exact : (files : Option Files) (report : Report) → status_of report ≡ 5 → Rose w.faults v.faults → IfSome files (λ held. ToldExact held job w report v)
@@ -58,7 +58,7 @@ module _ (job : Job) (w v : World) where
 
   unread_ended : (name : Word) → UnreadLead w (steps_of job) name v → Ended (unread name)
   unread_ended name lead =
-      (record { read = lead.read; reached = lead.reached; rose = lead.rose; log = lead.log; files = lead.files }, rose_exact w.files (unread name) refl lead.rose)
+      (record { inputs = lead.inputs; reached = lead.reached; rose = lead.rose; log = lead.log; files = lead.files }, rose_exact w.files (unread name) refl lead.rose)
 
   ended_by : (one other : Report) → Some one ≡ Some other → Ended one → Ended other
   ended_by one other e ended = subst Ended (same_Some one other e) ended
@@ -80,8 +80,8 @@ module _ (job : Job) (w v : World) where
   finished_exact (Some held) done status text told one =
       record {
         due = λ other h. absurd (told.due other h.0 h.1);
-        whole = λ read h. inl one;
-        forms = λ read h. inr (inl one);
+        whole = λ done h. inl one;
+        forms = λ done h. inr (inl one);
       }
 
 -- ---- which files passed
@@ -90,15 +90,15 @@ files_asked : (names written : List Word) (done : List NamedBytes) → All (λ (
 files_asked names written done named = All-map (IsOfFiles names written) read_of done named
 
 pub stop_asked : (names : List Word) (w v : World) (all : List Step) (written : List Word) (stop : Stop) → StopLeads names w all stop v → LogGrew w.log (All (IsOfFiles (names_read all) written)) v.log
-stop_asked names w v all written (stops.Missing place) lead = (map read_of lead.read, lead.log, files_asked (names_read all) written lead.read lead.named)
-stop_asked names w v all written (stops.Large place) lead = (map read_of lead.read, lead.log, files_asked (names_read all) written lead.read lead.named)
-stop_asked names w v all written (stops.Unread place) lead = (map read_of lead.read, lead.log, files_asked (names_read all) written lead.read lead.named)
+stop_asked names w v all written (stops.Missing place) lead = (map read_of lead.inputs, lead.log, files_asked (names_read all) written lead.inputs lead.named)
+stop_asked names w v all written (stops.Large place) lead = (map read_of lead.inputs, lead.log, files_asked (names_read all) written lead.inputs lead.named)
+stop_asked names w v all written (stops.Unread place) lead = (map read_of lead.inputs, lead.log, files_asked (names_read all) written lead.inputs lead.named)
 stop_asked names w v all written (stops.Unwritten place) lead = absurd lead
-stop_asked names w v all written (stops.OutOfForm place line) lead = (map read_of lead.read, lead.log, files_asked (names_read all) written lead.read lead.named)
-stop_asked names w v all written (stops.OverLimit limit number) lead = (map read_of lead.read, lead.log, files_asked (names_read all) written lead.read lead.named)
-stop_asked names w v all written (stops.NotValid line reason) lead = (map read_of lead.read, lead.log, files_asked (names_read all) written lead.read lead.named)
-stop_asked names w v all written (stops.Unbuilt place line) lead = (map read_of lead.read, lead.log, files_asked (names_read all) written lead.read lead.named)
-stop_asked names w v all written stops.Memory lead = (map read_of lead.read, lead.log, files_asked (names_read all) written lead.read lead.named)
+stop_asked names w v all written (stops.OutOfForm place line) lead = (map read_of lead.inputs, lead.log, files_asked (names_read all) written lead.inputs lead.named)
+stop_asked names w v all written (stops.OverLimit limit number) lead = (map read_of lead.inputs, lead.log, files_asked (names_read all) written lead.inputs lead.named)
+stop_asked names w v all written (stops.NotValid line reason) lead = (map read_of lead.inputs, lead.log, files_asked (names_read all) written lead.inputs lead.named)
+stop_asked names w v all written (stops.Unbuilt place line) lead = (map read_of lead.inputs, lead.log, files_asked (names_read all) written lead.inputs lead.named)
+stop_asked names w v all written stops.Memory lead = (map read_of lead.inputs, lead.log, files_asked (names_read all) written lead.inputs lead.named)
 
 -- ---- a check
 
@@ -113,7 +113,7 @@ module _ (names : List Word) (w v : World) (capacity requests certificate : Name
   pub check_ended : Ended (Check names) w v (finished 0 (codes "YES\n"))
   check_ended = (
     record {
-      read = capacity ∷ requests ∷ certificate ∷ [];
+      inputs = capacity ∷ requests ∷ certificate ∷ [];
       writes = [];
       passed = lead.pass (capacity ∷ requests ∷ certificate ∷ []) refl;
       work = (refl, refl, refl);
@@ -154,7 +154,7 @@ module _ (names : List Word) (nodes workers : ℕ) (w v : World) where
   pub allocation_ended : IsAllocated names w v → Ended (Allocate names nodes workers) w v (finished 0 (stage_lines 1 settled_stages))
   allocation_ended done = (
     record {
-      read = done.capacity ∷ done.requests ∷ [];
+      inputs = done.capacity ∷ done.requests ∷ [];
       writes = done.writes;
       passed = done.read.leads.pass (done.capacity ∷ done.requests ∷ []) refl;
       work = (refl, done.read.work);
@@ -168,7 +168,7 @@ module _ (names : List Word) (nodes workers : ℕ) (w v : World) where
   cut_ended : (name : Word) → IsCutShort names w name v → Ended (Allocate names nodes workers) w v (unwritten name)
   cut_ended name cut = (
     record {
-      read = cut.capacity ∷ cut.requests ∷ [];
+      inputs = cut.capacity ∷ cut.requests ∷ [];
       writes = cut.writes;
       status = 0;
       text = stage_lines 1 settled_stages;

@@ -70,7 +70,7 @@ refusal_is_status (unbuilt name line) = (8, omega arith, refl)
 
 module _ (job : Job) (w v : World) where
   finished_zero : (status : ℕ) (text : List ℕ) → IsFinished job w status text v → status ≡ 0
-  finished_zero status text done = works_zero job done.read done.writes status text done.work
+  finished_zero status text done = works_zero job done.inputs done.writes status text done.work
 
   job_is_status : (report : Report) → JobEnds job w report v → IsStatus (status_of report)
   job_is_status no_command ends = absurd ends
@@ -154,4 +154,4 @@ module _ (marks : (s : SubmissionView) (c : Certificate) → IsValid s c → Mar
 
   pub marks_true : (job : Job) (w : World) (status : ℕ) (text : List ℕ) (v : World) → IsFinished job w status text v
       → (done writes : List NamedBytes) × (v.log ≡ w.log ++ (map read_of done ++ map written_of writes)) × MarksAreTrue job done writes
-  marks_true job w status text v done = (done.read, done.writes, done.log, work_marks job w.files done.read done.writes status text done.passed done.work)
+  marks_true job w status text v done = (done.inputs, done.writes, done.log, work_marks job w.files done.inputs done.writes status text done.passed done.work)

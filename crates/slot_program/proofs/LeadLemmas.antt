@@ -170,7 +170,7 @@ pub refused_read : (w v u : World) (name : Word) (most : ℕ) (refusal : Refusal
     → IsNotHanded w.files w.faults u.faults name most refusal → u.files ≡ v.files → u.log ≡ v.log → RefusedLead w all refusal u
 refused_read w v u name most refusal all before steps lead not same quiet =
     record {
-      read = before;
+      inputs = before;
       due = lead.refuse w.faults u.faults refusal before (inl (refl, not));
       log = quiet ∙ lead.log;
       files = same ∙ lead.files;
@@ -182,7 +182,7 @@ pub unread_read : (w v u : World) (name : Word) (most : ℕ) (all : List Step) (
     → Rose v.faults u.faults → u.files ≡ v.files → u.log ≡ v.log → UnreadLead w all name u
 unread_read w v u name most all before steps lead rose same quiet =
     record {
-      read = before;
+      inputs = before;
       reached = lead.reach name before (inl (refl, refl));
       rose = subst (λ (n : ℕ). Rose n u.faults) lead.faults rose;
       log = quiet ∙ lead.log;
@@ -191,7 +191,7 @@ unread_read w v u name most all before steps lead rose same quiet =
     }
 
 pub memory_read : (w v u : World) (all : List Step) (before : List NamedBytes) (steps : List Step) → Leads w all before steps v → u.log ≡ v.log → MemoryLead w all u
-memory_read w v u all before steps lead quiet = record { read = before; log = quiet ∙ lead.log; named = lead.named }
+memory_read w v u all before steps lead quiet = record { inputs = before; log = quiet ∙ lead.log; named = lead.named }
 
 -- ---- the files are refused
 
@@ -227,7 +227,7 @@ module _ (name : Word) (before : List NamedBytes) (refusal : Refusal) where
     pub refused_judge : (w v : World) (all : List Step) (steps : List Step) → Leads w all before (judges j name ∷ steps) v → RefusedLead w all refusal v
     refused_judge w v all steps lead =
         record {
-          read = before;
+          inputs = before;
           due = lead.refuse w.faults v.faults refusal before (inl (refl, alone.refuses));
           log = lead.log;
           files = lead.files;

@@ -32,41 +32,41 @@ world_of files faults log cabinet =
 -- call failed
 pub record IsFinished (job : Job) (w : World) (status : ℕ) (text : List ℕ) (v : World) : Type 0
   where
-    pub read : List NamedBytes
+    pub inputs : List NamedBytes
     pub writes : List NamedBytes
-    pub passed : AllPass w.files (steps_of job) read
-    pub work : Works job read writes status text
+    pub passed : AllPass w.files (steps_of job) inputs
+    pub work : Works job inputs writes status text
     pub calm : v.faults ≡ w.faults
-    pub log : v.log ≡ w.log ++ (map read_of read ++ map written_of writes)
+    pub log : v.log ≡ w.log ++ (map read_of inputs ++ map written_of writes)
     pub files : AreWritten w.files writes v.files
 
 -- a step refused: exactly the files of the steps before it were read, and none is changed
 pub record IsRefused (job : Job) (w : World) (refusal : Refusal) (v : World) : Type 0 where
-  pub read : List NamedBytes
-  pub due : RefuseFrom w.files w.faults v.faults [] (steps_of job) refusal read
-  pub log : v.log ≡ w.log ++ map read_of read
+  pub inputs : List NamedBytes
+  pub due : RefuseFrom w.files w.faults v.faults [] (steps_of job) refusal inputs
+  pub log : v.log ≡ w.log ++ map read_of inputs
   pub files : v.files ≡ w.files
 
 -- a read failed, after the steps before it passed
 pub record IsUnread (job : Job) (w : World) (name : Word) (v : World) : Type 0 where
-  pub read : List NamedBytes
-  pub reached : ReachFrom w.files [] (steps_of job) name read
+  pub inputs : List NamedBytes
+  pub reached : ReachFrom w.files [] (steps_of job) name inputs
   pub rose : Rose w.faults v.faults
-  pub log : v.log ≡ w.log ++ map read_of read
+  pub log : v.log ≡ w.log ++ map read_of inputs
   pub files : v.files ≡ w.files
 
 -- a write failed, after all steps passed and the writes before it were made
 pub record IsUnwritten (job : Job) (w : World) (name : Word) (v : World) : Type 0 where
-  pub read : List NamedBytes
+  pub inputs : List NamedBytes
   pub writes : List NamedBytes
   pub status : ℕ
   pub text : List ℕ
   pub tried : List Passage
-  pub passed : AllPass w.files (steps_of job) read
-  pub work : Works job read writes status text
+  pub passed : AllPass w.files (steps_of job) inputs
+  pub work : Works job inputs writes status text
   pub rose : Rose w.faults v.faults
   pub stops : StopsAt w.files writes name v.files tried
-  pub log : v.log ≡ w.log ++ (map read_of read ++ tried)
+  pub log : v.log ≡ w.log ++ (map read_of inputs ++ tried)
 
 abbrev pub JobEnds : Job → World → Report → World → Type 0
 JobEnds job w no_command v = ⊥

@@ -96,7 +96,7 @@ Works (Allocate names nodes workers) (capacity ∷ requests ∷ []) writes statu
     (status ≡ 0) × IsAllocation names capacity.bytes requests.bytes writes text
 Works (Check names) (capacity ∷ requests ∷ certificate ∷ []) writes status text =
     (status ≡ 0) × (writes ≡ []) × (text ≡ codes "YES\n")
-Works job read writes status text = ⊥
+Works job inputs writes status text = ⊥
 
 -- ---- the headline
 
@@ -116,4 +116,4 @@ MarksAreTrue (Allocate names nodes workers) (capacity ∷ requests ∷ [])
 MarksAreTrue (Check names) (capacity ∷ requests ∷ certificate ∷ []) [] =
     (s : SubmissionView) × (c : Certificate) × IsSeasonOf capacity.bytes requests.bytes s
     × SpellsCert certificate.bytes c × IsValid s c × MarksHold s c
-MarksAreTrue job read writes = ⊥
+MarksAreTrue job inputs writes = ⊥

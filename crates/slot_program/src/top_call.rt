@@ -59,9 +59,9 @@ pub fn desk<R, C: Cabinet, S: Sink>(
     // The headline: what a certificate that was written, or found valid, says of each stage is so.
     // Exactly the files of the job were read and written, also over a cabinet that tells nothing.
     ensures headline { (job : JobValue) → job_of (words_of words.now) ≡ Some job →
-        Contains (finishing_of job) result → (read writes : List NamedBytes)
-        × (C.log cabinet.new ≡ C.log cabinet.old ++ (map read_of read ++ map written_of writes))
-        × MarksAreTrue job read writes }
+        Contains (finishing_of job) result → (inputs writes : List NamedBytes)
+        × (C.log cabinet.new ≡ C.log cabinet.old ++ (map read_of inputs ++ map written_of writes))
+        × MarksAreTrue job inputs writes }
 
     // Done: each step passed, the work is that of the files that were read, exactly its files were
     // written, its text was put, and nothing failed.
@@ -111,18 +111,18 @@ pub fn desk<R, C: Cabinet, S: Sink>(
 
     // With a command's words, where each of its steps passes in the files and no count rises, the
     // work is done, or memory ran out.
-    ensures complete { (job : JobValue) (held : Files) (read : List NamedBytes)
+    ensures complete { (job : JobValue) (held : Files) (inputs : List NamedBytes)
         → job_of (words_of words.now) ≡ Some job → C.files cabinet.old ≡ Some held →
-        AllPass (Some held) (steps_of job) read →
+        AllPass (Some held) (steps_of job) inputs →
         (Rose (C.fault_count cabinet.old) (C.fault_count cabinet.new) → ⊥) →
         (Rose (S.fault_count out.old) (S.fault_count out.new) → ⊥) →
         Contains (finishing_of job) result ⊎ (result ≡ 7) }
 
     // Where all files are only in their forms, the one other answer is that the certificate is not
     // valid.
-    ensures in_form { (job : JobValue) (held : Files) (read : List NamedBytes)
+    ensures in_form { (job : JobValue) (held : Files) (inputs : List NamedBytes)
         → job_of (words_of words.now) ≡ Some job → C.files cabinet.old ≡ Some held →
-        AllPass (Some held) (form_steps (steps_of job)) read →
+        AllPass (Some held) (form_steps (steps_of job)) inputs →
         (Rose (C.fault_count cabinet.old) (C.fault_count cabinet.new) → ⊥) →
         (Rose (S.fault_count out.old) (S.fault_count out.new) → ⊥) →
         (result ≡ 1) ⊎ (Contains (finishing_of job) result ⊎ (result ≡ 7)) }
