@@ -6,3 +6,4 @@ mod NodeLemmas
 mod AlikeLemmas
 mod CertificateLemmas
 mod KeptLemmas
+mod UniqueLemmas

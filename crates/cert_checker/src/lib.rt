@@ -13,8 +13,5 @@ mod trees;
 mod verdict;
 
 pub use checks::{check, check_stage};
-pub use laws::{alike_proofs, one_verdict, passing_lines, tested_lines};
+pub use laws::{alike_proofs, one_failing_line, one_verdict, passing_lines, tested_lines};
 pub use verdict::{Reason, Verdict};
-
-#[cfg(test)]
-mod tests;
