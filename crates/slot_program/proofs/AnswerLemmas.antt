@@ -106,7 +106,7 @@ none_written : (files after : Option Files) → after ≡ files → AreWritten f
 none_written None after e = tt
 none_written (Some held) after e = e
 
-only_zero : Contains (0 ∷ []) 0
+only_zero : Contains {X = ℕ} (0 ∷ []) 0
 only_zero = (0, omega arith, refl)
 
 module _ (names : List Word) (w v : World) (capacity requests certificate : NamedBytes) (lead : Leads w (check_steps names) (capacity ∷ requests ∷ certificate ∷ []) [] v) where

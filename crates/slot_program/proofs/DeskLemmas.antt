@@ -32,7 +32,7 @@ works_zero (Check names) (capacity ∷ requests ∷ []) writes status text work 
 works_zero (Check names) (capacity ∷ requests ∷ certificate ∷ []) writes status text work = work.0
 works_zero (Check names) (capacity ∷ requests ∷ certificate ∷ more ∷ rest) writes status text work = absurd work
 
-among_zero : (n : ℕ) → Contains (0 ∷ []) n → n ≡ 0
+among_zero : (n : ℕ) → Contains {X = ℕ} (0 ∷ []) n → n ≡ 0
 among_zero n (zero, lt, is) = sym is
 among_zero n (suc k, lt, is) = absurd (omega (arith, lt))
 
@@ -134,7 +134,7 @@ told_exact o job w report v held e told exact =
 
 module _ (marks : (s : SubmissionView) (c : Certificate) → IsValid s c → MarksHold s c) where
   check_marks : (names : List Word) (files : Option Files) (done writes : List NamedBytes) → AllPass files (check_steps names) done → writes ≡ [] → MarksAreTrue (Check names) done writes
-  check_marks names files done writes (one, handed1, capacity, two, handed2, season, three, handed3, spelled, (s, c, made, spells, valid), all) none =
+  check_marks names files done writes (one, handed1, (capacity, (two, handed2, (season, (three, handed3, (spelled, ((s, c, made, spells, valid), all))))))) none =
       subst (λ (l : List NamedBytes). MarksAreTrue (Check names) l writes) (sym all)
       (subst (λ (l : List NamedBytes). MarksAreTrue (Check names) (_ ∷ _ ∷ _ ∷ []) l) (sym none) (s, c, made, spells, valid, marks s c valid))
 

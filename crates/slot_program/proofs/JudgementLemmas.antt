@@ -1,11 +1,12 @@
 -- Each judgement ends in one way alone.
-use Rattle.std.proofs.Common.{◌≡◌, ℕ, ◌<◌, ◌≤◌, ◌-◌, List, [], ◌∷◌, length, take, Option, Some, None, Result, Ok, Err, refl, sym, ap, ◌∙◌, subst, arith, inl, inr}
+use Rattle.std.proofs.Common.{◌≡◌, ℕ, ◌+◌, ◌<◌, ◌≤◌, ◌-◌, List, [], ◌∷◌, length, take, Option, Some, None, Result, Ok, Err, refl, sym, ap, ◌∙◌, subst, arith, inl, inr}
 use Rattle.std.specs.Prelude.{◌⊎◌}
 use Rattle.std.proofs.lemmas.Bool.{cases_order}
 use Rattle.std.proofs.lemmas.List.{take-take}
 use Rattle.slot_text.specs.Ended.{ended_lines}
 use Rattle.slot_text.specs.Forms.{BeginsInForm, IsFirstBadLine}
 use Rattle.slot_text.specs.Lines.{lines_of}
+use Rattle.slot_text.specs.Reads.{GivesOr}
 use Rattle.slot_text.specs.declared.station.Station.{Station}
 use Rattle.season_days.specs.Term.{Term}
 use Rattle.season_days.specs.declared.declaration.Declaration.{Declaration}
@@ -22,7 +23,6 @@ use Rattle.series_model.specs.Submissions.{SubmissionView, submission_answer, an
 use Rattle.series_model.specs.declared.fault.ModelFault.{ModelFault}
 use Rattle.series_model.specs.declared.fault.ModelFault.TheVariants as model_fault
 use Rattle.cert_format.specs.Forms.{IsCertText}
-use Rattle.cert_format.specs.Printable.{IsPrintable}
 use Rattle.cert_format.specs.declared.cert.Certificate.{Certificate}
 use Rattle.wasg_stages.specs.Valid.{IsValid}
 use Rattle.cert_checker.specs.Certificates.{FailsAt}
@@ -84,7 +84,7 @@ pub accepts_served_requests : (name : Word) (capacity : NamedBytes) (bytes : Lis
 accepts_served_requests name capacity bytes rest d declared is =
     record {
       accepts = (d, declared, is);
-      alone = λ refusal (other, there, line, bad, e). in_form_good (IsHistoricText d.season d.airport) bytes line is
+      alone = λ refusal (other, there, (line, bad, e)). in_form_good (IsHistoricText d.season d.airport) bytes line is
           (by_declaration capacity.bytes d other (λ s a. IsFirstBadLine (IsHistoricText s a) bytes line) declared there bad);
     }
 
@@ -92,8 +92,8 @@ pub refuses_served_requests : (name : Word) (capacity : NamedBytes) (bytes : Lis
     → IsFirstBadLine (IsHistoricText d.season d.airport) bytes line → RefusesAlone served_requests name (capacity ∷ record { name = name; bytes = bytes } ∷ rest) (unbuilt name line)
 refuses_served_requests name capacity bytes rest d line declared bad =
     record {
-      refuses = (d, declared, line, bad, refl);
-      alone = λ refusal (other, there, n, bad_there, e).
+      refuses = (d, declared, (line, bad, refl));
+      alone = λ refusal (other, there, (n, bad_there, e)).
           e ∙ ap (unbuilt name) (same_bad_line (IsHistoricText d.season d.airport) bytes n line
           (by_declaration capacity.bytes d other (λ s a. IsFirstBadLine (IsHistoricText s a) bytes n) declared there bad_there) bad);
       rejects = λ (other, there, is). in_form_good (IsHistoricText d.season d.airport) bytes line
@@ -160,6 +160,18 @@ season_made capacity requests d messages s declared read made =
 same_ok : {X E : Type 0} (r : Result X E) (x y : X) → r ≡ Ok x → r ≡ Ok y → y ≡ x
 same_ok {X} {E} r x y a b = cc
 
+-- an error that was answered, or memory that ran out
+pub answered_err : {X E : Type 0} (memory : E) (answer : Result X E) (fault : E) → GivesOr memory (Err fault) answer → (answer ≡ Err fault) ⊎ (fault ≡ memory)
+answered_err {X} {E} memory answer fault (inl e) = inl (sym e)
+answered_err {X} {E} memory answer fault (inr e) = inr (cc)
+
+-- where no byte is left, all lines were counted
+pub all_counted : (count n : ℕ) (lines : List ℕ) → lines ≡ [] → count + length (lines_of lines) ≡ n → count ≡ n
+unfolding lines_of
+all_counted count n lines e h =
+    let none : length (lines_of lines) ≡ 0 = subst (λ (l : List ℕ). length (lines_of l) ≡ 0) (sym e) refl in
+    omega (arith, h, none)
+
 same_err : {X E : Type 0} (r : Result X E) (x y : E) → r ≡ Err x → r ≡ Err y → y ≡ x
 same_err {X} {E} r x y a b = cc
 
@@ -216,9 +228,10 @@ module _ (one_declared : (text : List ℕ) (a b : Declaration) → IsCapacityFil
       one_submission_refusal name fault why other is (subst (λ (g : ModelFault). IsSubmissionRefusal name g other) same h)
 
   pub refuses_submission : (name : Word) (capacity : NamedBytes) (bytes : List ℕ) (rest : List NamedBytes) (d : Declaration) (messages : List Message) (fault : ModelFault) (why : Refusal)
-      → IsCapacityFile capacity.bytes d → ReadsAll bytes messages → submission_answer d messages ≡ Err fault → IsSubmissionRefusal name fault why
+      → IsCapacityFile capacity.bytes d → ReadsAll bytes messages → (submission_answer d messages ≡ Err fault) ⊎ (fault ≡ model_fault.Memory) → IsSubmissionRefusal name fault why
       → RefusesAlone requests_form name (capacity ∷ record { name = name; bytes = bytes } ∷ rest) why
-  refuses_submission name capacity bytes rest d messages fault why declared read made is =
+  refuses_submission name capacity bytes rest d messages fault why declared read (inr e) is = absurd (subst (λ (f : ModelFault). IsSubmissionRefusal name f why) e is)
+  refuses_submission name capacity bytes rest d messages fault why declared read (inl made) is =
       record {
         refuses = inr (d, messages, fault, declared, read, made, is);
         alone = λ other h. same_submission name capacity bytes d messages fault why declared read made is other h;
@@ -228,23 +241,23 @@ module _ (one_declared : (text : List ℕ) (a b : Declaration) → IsCapacityFil
 
   -- ---- a valid certificate
 
-  module _ (one_verdict : (s : SubmissionView) (c : Certificate) (line : ℕ) (reason : Reason) → IsPrintable c → IsValid s c → FailsAt s c line reason → ⊥) where
+  module _ (one_verdict : (s : SubmissionView) (c : Certificate) (line : ℕ) (reason : Reason) → IsValid s c → FailsAt s c line reason → ⊥) where
     pub accepts_valid : (name : Word) (capacity requests spelled : NamedBytes) (rest : List NamedBytes) (s : SubmissionView) (c : Certificate) → IsSeasonOf capacity.bytes requests.bytes s → SpellsCert spelled.bytes c
-        → ((other : Certificate) → SpellsCert spelled.bytes other → other ≡ c) → IsPrintable c → IsValid s c → AcceptsAlone valid_certificate name (capacity ∷ requests ∷ spelled ∷ rest)
-    accepts_valid name capacity requests spelled rest s c season spells only printable valid =
+        → ((other : Certificate) → SpellsCert spelled.bytes other → other ≡ c) → IsValid s c → AcceptsAlone valid_certificate name (capacity ∷ requests ∷ spelled ∷ rest)
+    accepts_valid name capacity requests spelled rest s c season spells only valid =
         record {
           accepts = (s, c, season, spells, valid);
           alone = λ why (t, d, line, reason, there, spelled_there, fails, e).
-              one_verdict s c line reason printable valid
+              one_verdict s c line reason valid
               (subst (λ (x : Certificate). FailsAt s x line reason) (only d spelled_there)
               (subst (λ (x : SubmissionView). FailsAt x d line reason) (one_season capacity.bytes requests.bytes s t season there) fails));
         }
 
     pub refuses_valid : ((s : SubmissionView) (c : Certificate) (line other : ℕ) (reason why : Reason) → FailsAt s c line reason → FailsAt s c other why → (line ≡ other) × (reason ≡ why))
         → (name : Word) (capacity requests spelled : NamedBytes) (rest : List NamedBytes) (s : SubmissionView) (c : Certificate) (line : ℕ) (reason : Reason) → IsSeasonOf capacity.bytes requests.bytes s
-        → SpellsCert spelled.bytes c → ((other : Certificate) → SpellsCert spelled.bytes other → other ≡ c) → IsPrintable c → FailsAt s c line reason
+        → SpellsCert spelled.bytes c → ((other : Certificate) → SpellsCert spelled.bytes other → other ≡ c) → FailsAt s c line reason
         → RefusesAlone valid_certificate name (capacity ∷ requests ∷ spelled ∷ rest) (not_valid line reason)
-    refuses_valid one_line name capacity requests spelled rest s c line reason season spells only printable fails =
+    refuses_valid one_line name capacity requests spelled rest s c line reason season spells only fails =
         record {
           refuses = (s, c, line, reason, season, spells, fails, refl);
           alone = λ other (t, d, n, why, there, spelled_there, fails_there, e).
@@ -254,7 +267,7 @@ module _ (one_declared : (text : List ℕ) (a b : Declaration) → IsCapacityFil
               let same = one_line s c n line why reason here fails in
               e ∙ ap (λ (k : ℕ). not_valid k why) same.0 ∙ ap (not_valid line) same.1;
           rejects = λ (t, d, there, spelled_there, valid).
-              one_verdict s c line reason printable
+              one_verdict s c line reason
               (subst (λ (x : Certificate). IsValid s x) (only d spelled_there)
               (subst (λ (x : SubmissionView). IsValid x d) (one_season capacity.bytes requests.bytes s t season there) valid)) fails;
         }

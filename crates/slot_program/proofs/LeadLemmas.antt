@@ -1,11 +1,12 @@
 -- A job goes on, or stops, step by step.
-use Rattle.std.proofs.Common.{◌≡◌, ℕ, suc, ◌<◌, ◌≤◌, Bool, true, false, List, [], ◌∷◌, ◌++◌, length, map, Option, Some, None, refl, sym, ap, ◌∙◌, subst, append_assoc, arith, inl, inr}
+use Rattle.std.proofs.Common.{◌≡◌, ℕ, suc, ◌<◌, ◌≤◌, Bool, true, false, List, [], ◌∷◌, ◌++◌, length, map, Option, Some, None, Ok, Err, refl, sym, ap, ◌∙◌, subst, append_assoc, arith, inl, inr}
 use Rattle.std.specs.Prelude.{All, Contains, IfSome, IsSomeAnd, MatchOption, ◌⊎◌, if◌then◌else◌, slice_index_or}
 use Rattle.std.proofs.lemmas.Option.{none-some, same_Some}
 use Rattle.std.proofs.lemmas.List.{append-nil, map-append}
 use Rattle.std.proofs.lemmas.List.Elements.{All-nil, All-cons, All-append}
 use Rattle.desk_outside.specs.Cause.{Rose}
-use Rattle.desk_outside.specs.Files.{Files}
+use Rattle.std.specs.Global.{Vec}
+use Rattle.desk_outside.specs.Files.{Files, Reads}
 use Rattle.desk_outside.specs.Passages.{Passage, read}
 use Rattle.slot_program.specs.Words.{Word}
 use Rattle.slot_program.specs.Reports.{Refusal, missing, large, out_of_form, over_limit, not_valid, unbuilt, refusal_status}
@@ -42,6 +43,11 @@ handed_not_due held name most count now bytes refusal handed (inl none) = none-s
 handed_not_due held name most count now bytes refusal handed (inr long) =
     let over : most < length bytes = at_some (λ (b : List ℕ). most < length b) (held name) bytes handed.held long.0 in
     omega (arith, over, handed.short)
+
+-- what a read answers is handed out
+pub handed_by : (files : Option Files) (name : Word) (most count now : ℕ) (bytes : Vec ℕ) → Reads files name most count now (Ok bytes) → IsHanded files name most bytes.items
+handed_by None name most count now bytes h = record { held = tt; short = h }
+handed_by (Some held) name most count now bytes h = record { held = h.0; short = h.1 }
 
 -- ---- from a step to the next: a file was read
 

@@ -9,4 +9,5 @@ mod WindowLemmas
 mod LeadLemmas
 mod JudgementLemmas
 mod AnswerLemmas
+mod AllocationLemmas
 mod DeskLemmas

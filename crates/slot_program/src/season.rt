@@ -11,7 +11,10 @@ ghost use Rattle.scr_reader.specs.Printed.{MessagesFit};
 ghost use Rattle.series_model.specs.Submissions.{HasNumbers, MessagePairs, item_count};
 ghost use Rattle.series_model.specs.Submissions.{submission_answer};
 ghost use Rattle.series_model.specs.declared.fault.ModelFault.{ModelFault as ModelFaultValue};
-ghost use Rattle.slot_program.specs.declared.stop.Stop.TheVariants.{Memory as no_memory};
+ghost use Rattle.series_model.specs.declared.fault.ModelFault.TheVariants.{Memory as no_model};
+ghost use Rattle.scr_reader.specs.Messages.{ReadsAll, HasScrFault};
+ghost use Rattle.scr_reader.specs.declared.fault.ScrFault.{ScrFault as ScrFaultValue};
+ghost use Rattle.scr_reader.specs.declared.fault.ScrFault.TheVariants.{Memory as no_message};
 ghost use Rattle.slot_program.specs.Words.{Word};
 ghost use Rattle.slot_program.specs.Judgements.{NamedBytes, IsSeasonOf, SpellsCert};
 ghost use Rattle.slot_program.specs.Judgements.{IsCapacityRefusal, IsMessageRefusal};
@@ -30,7 +33,7 @@ use crate::job::NameList;
 use crate::stop::{Limit, Stop};
 use capacity_file::laws::one_answer;
 use capacity_file::{CapFault, read_capacity};
-use cert_checker::{Verdict, check, one_verdict};
+use cert_checker::{Verdict, check, one_failing_line, one_verdict};
 use cert_format::{CertFault, Certificate, read_cert};
 use desk_outside::Cabinet;
 use scr_reader::laws::{one_reading, read_lines_fit};
@@ -96,7 +99,8 @@ pub(crate) fn read_certificate<C: Cabinet>(
 /// How many lines a text has.
 fn count_lines(text: &[u8]) -> u32
     requires { length text.now ≤ LONGEST_FILE }
-    ensures { result ≡ length (lines_of text.now) }
+    ensures counted { result ≡ length (lines_of text.now) }
+    ensures few { result ≤ length text.now }
 {
     let mut lines = Lines::new(text);
     let mut count = 0;
@@ -190,8 +194,21 @@ fn judge_requests(
     one_reading();
     read_messages();
     read_lines_fit();
+    let messages = read_requests(alloc, place, bytes)?;
+    let submission = make_submission(alloc, place, declaration, messages)?;
+    Ok(submission)
+}
+
+/// The messages of a text.
+fn read_requests(alloc: Global, place: usize, bytes: &[u8]) -> Result<MessageList, Stop>
+    requires { length bytes.now ≤ LONGEST_FILE }
+    ensures found { IfOk result (ReadsAll bytes.now) }
+    ensures stop { IfErr result (λ stop. (fault : ScrFaultValue)
+        × (HasScrFault bytes.now fault ⊎ (fault ≡ no_message)) × ((names : List Word) →
+        IsRefusalBy names (IsMessageRefusal (name_at names place) fault) stop)) }
+{
     match read_all(alloc, bytes) {
-        Ok(messages) => make_submission(alloc, place, declaration, messages),
+        Ok(messages) => Ok(messages),
         Err(fault) => Err(message_stop(place, fault)),
     }
 }
@@ -209,9 +226,10 @@ fn make_submission(
     requires fits { MessagesFit messages }
     requires pairs { All MessagePairs messages }
     ensures made { IfOk result (λ s. submission_answer declaration messages ≡ Ok s) }
-    ensures stop { IfErr result (λ stop. (stop ≡ no_memory) ⊎ ((fault : ModelFaultValue)
-        × (submission_answer declaration messages ≡ Err fault) × ((names : List Word) →
-        IsRefusalBy names (IsSubmissionRefusal (name_at names place) fault) stop))) }
+    ensures stop { IfErr result (λ stop. (fault : ModelFaultValue)
+        × ((submission_answer declaration messages ≡ Err fault) ⊎ (fault ≡ no_model))
+        × ((names : List Word) →
+        IsRefusalBy names (IsSubmissionRefusal (name_at names place) fault) stop)) }
 {
     match Submission::make(alloc, declaration, messages) {
         Ok(submission) => Ok(submission),
@@ -268,12 +286,3 @@ fn judge_validity(
         Verdict::No { line, reason } => Err(Stop::NotValid(line, reason)),
     }
 }
-
-ghost use Rattle.series_model.specs.Submissions.{SubmissionView};
-ghost use Rattle.cert_checker.specs.Certificates.{FailsAt};
-ghost use Rattle.cert_checker.specs.declared.verdict.Reason.{Reason as ReasonValue};
-
-fn one_failing_line()
-    ensures { (s : SubmissionView) (c : CertificateValue) (line other : ℕ) (reason why : ReasonValue) →
-        FailsAt s c line reason → FailsAt s c other why → (line ≡ other) × (reason ≡ why) }
-{}

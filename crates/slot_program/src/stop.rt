@@ -106,19 +106,21 @@ impl Stop {
             × (string_bytes text ≡ text_of report)) }
     {
         match *self {
-            Stop::Missing(place) => cabinet_line(alloc, name_at(names, place), "MISSING"),
-            Stop::Large(place) => cabinet_line(alloc, name_at(names, place), "LARGE"),
-            Stop::Unread(place) => cabinet_line(alloc, name_at(names, place), "READ"),
-            Stop::Unwritten(place) => cabinet_line(alloc, name_at(names, place), "WRITE"),
+            Stop::Missing(place) => Ok(cabinet_line(alloc, name_at(names, place), "MISSING")?),
+            Stop::Large(place) => Ok(cabinet_line(alloc, name_at(names, place), "LARGE")?),
+            Stop::Unread(place) => Ok(cabinet_line(alloc, name_at(names, place), "READ")?),
+            Stop::Unwritten(place) => Ok(cabinet_line(alloc, name_at(names, place), "WRITE")?),
             Stop::OutOfForm(place, line) => {
-                numbered_line(alloc, "FORM", name_at(names, place), u64::from(line))
+                let name = name_at(names, place);
+                Ok(numbered_line(alloc, "FORM", name, u64::from(line))?)
             }
             Stop::OverLimit(limit, number) => {
-                numbered_line(alloc, "LIMIT", limit_name(limit), number)
+                Ok(numbered_line(alloc, "LIMIT", limit_name(limit), number)?)
             }
-            Stop::NotValid(line, reason) => verdict_line(alloc, line, reason_name(reason)),
+            Stop::NotValid(line, reason) => Ok(verdict_line(alloc, line, reason_name(reason))?),
             Stop::Unbuilt(place, line) => {
-                numbered_line(alloc, "UNBUILT", name_at(names, place), u64::from(line))
+                let name = name_at(names, place);
+                Ok(numbered_line(alloc, "UNBUILT", name, u64::from(line))?)
             }
             Stop::Memory => Err(Memory),
         }

@@ -151,8 +151,8 @@ fn carry_out<C: Cabinet>(alloc: Global, words: &[String], cabinet: &mut C) -> Re
         ≡ world_of C.files C.fault_count C.log cabinet.old }
 {
     match read_words(alloc, words) {
-        Ok(Job::Allocate { names, .. }) => carry_out_allocation(alloc, &names, cabinet),
-        Ok(Job::Check { names }) => carry_out_check(alloc, &names, cabinet),
+        Ok(Job::Allocate { names, .. }) => Ok(carry_out_allocation(alloc, &names, cabinet)?),
+        Ok(Job::Check { names }) => Ok(carry_out_check(alloc, &names, cabinet)?),
         Err(WordFault::Words) => Ok(Answer {
             status: 2,
             text: String::from_str(alloc, "WORDS\n")?,
@@ -181,7 +181,7 @@ fn carry_out_allocation<C: Cabinet>(
             status: 0,
             text: String::from_str(alloc, STAGE_LINES)?,
         }),
-        Err(stop) => stop.answer(alloc, names),
+        Err(stop) => Ok(stop.answer(alloc, names)?),
     }
 }
 
@@ -203,6 +203,6 @@ fn carry_out_check<C: Cabinet>(
             status: 0,
             text: String::from_str(alloc, "YES\n")?,
         }),
-        Err(stop) => stop.answer(alloc, names),
+        Err(stop) => Ok(stop.answer(alloc, names)?),
     }
 }
