@@ -288,10 +288,10 @@ fn words_and_missing_files_are_answered_in_their_order(rt: HostRuntime) -> Resul
             "allocate CAP SCR CERT REPLIES --nodes 5",
             "",
             "",
-            "2 WORDS\n(no file)",
+            "5 CABINET CAP MISSING\n(no file)",
         ),
         (
-            "allocate --nodes=5 CAP SCR CERT REPLIES",
+            "allocate --nodes=0 CAP SCR CERT REPLIES",
             "",
             "",
             "2 WORDS\n(no file)",

@@ -5,7 +5,7 @@ use Rattle.desk_outside.specs.Cause.{Rose}
 use Rattle.desk_outside.specs.Files.{Files, with_file, Writes, WritesPart}
 use Rattle.desk_outside.specs.Passages.{Passage, wrote, write_failed}
 use Rattle.scr_reader.specs.declared.message.Message.{Message}
-use Rattle.slot_program.specs.Words.{Word}
+use Rattle.command_words.specs.Words.{Word}
 use Rattle.slot_program.specs.Texts.{certificate_text, settled_stages, confirmation, stage_lines}
 use Rattle.slot_program.specs.Judgements.{NamedBytes}
 use Rattle.slot_program.specs.Writing.{read_of, written_of, with_writes, AreWritten, StopsAt}

@@ -10,7 +10,7 @@ use Rattle.desk_outside.specs.Passages.{Passage, read, wrote, write_failed}
 use Rattle.wasg_stages.specs.Valid.{IsValid, MarksHold}
 use Rattle.series_model.specs.Submissions.{SubmissionView}
 use Rattle.cert_format.specs.declared.cert.Certificate.{Certificate}
-use Rattle.slot_program.specs.Words.{Word}
+use Rattle.command_words.specs.Words.{Word}
 use Rattle.slot_program.specs.Reports.{Report, Refusal, no_command, refused, unread, unwritten, finished, status_of, text_of, refusal_status, missing, large, out_of_form, over_limit, not_valid, unbuilt}
 use Rattle.slot_program.specs.Texts.{stage_lines, settled_stages}
 use Rattle.slot_program.specs.Judgements.{NamedBytes}
@@ -22,8 +22,8 @@ use Rattle.slot_program.specs.Leads.{ToldLead, Leads, ToldRefused, RefusedLead, 
 use Rattle.slot_program.specs.Stops.{report_of, StopLeads}
 use Rattle.slot_program.specs.Allocations.{IsAllocated, IsCutShort, AllocationStops}
 use Rattle.slot_program.specs.Answers.{ToldExact, IsExact}
-use Rattle.slot_program.specs.declared.job.Job.{Job}
-use Rattle.slot_program.specs.declared.job.Job.TheVariants.{Allocate, Check}
+use Rattle.command_words.specs.declared.job.Job.{Job}
+use Rattle.command_words.specs.declared.job.Job.TheVariants.{Allocate, Check}
 use Rattle.slot_program.specs.declared.stop.Stop.{Stop}
 use Rattle.slot_program.specs.declared.stop.Stop.TheVariants as stops
 
@@ -216,7 +216,7 @@ module _ (names : List Word) (nodes workers : ℕ) (w v : World) where
     map read_of (done.capacity ∷ done.requests ∷ []) ++ map written_of done.writes,
     done.log,
     reads_and done.capacity done.requests done.read.leads.named (map written_of done.writes)
-    (subst (λ (l : List NamedBytes). All P (map written_of l)) (sym done.read.work.written) (both_kept done.capacity done.requests done.read.leads.named _ _)),
+        (subst (λ (l : List NamedBytes). All P (map written_of l)) (sym done.read.work.written) (both_kept done.capacity done.requests done.read.leads.named _ _)),
   )
 
   cut_asked : (name : Word) → IsCutShort names w name v → LogGrew w.log (OnlyOfJob (Some (Allocate names nodes workers))) v.log
@@ -224,8 +224,8 @@ module _ (names : List Word) (nodes workers : ℕ) (w v : World) where
     map read_of (cut.capacity ∷ cut.requests ∷ []) ++ cut.tried,
     cut.log,
     reads_and cut.capacity cut.requests cut.read.leads.named cut.tried
-    (tries_kept cut.capacity cut.requests cut.read.leads.named w.files _ _ name v.files cut.tried
-    (subst (λ (l : List NamedBytes). StopsAt w.files l name v.files cut.tried) cut.read.work.written cut.stops)),
+        (tries_kept cut.capacity cut.requests cut.read.leads.named w.files _ _ name v.files cut.tried
+        (subst (λ (l : List NamedBytes). StopsAt w.files l name v.files cut.tried) cut.read.work.written cut.stops)),
   )
 
   pub allocation_stop_asked : (stop : Stop) → AllocationStops names w stop v → LogGrew w.log (OnlyOfJob (Some (Allocate names nodes workers))) v.log

@@ -8,16 +8,16 @@ use Rattle.desk_outside.specs.Passages.{Passage}
 use Rattle.wasg_stages.specs.Valid.{IsValid, MarksHold}
 use Rattle.series_model.specs.Submissions.{SubmissionView}
 use Rattle.cert_format.specs.declared.cert.Certificate.{Certificate}
-use Rattle.slot_program.specs.Words.{Word}
+use Rattle.command_words.specs.Words.{Word}
 use Rattle.slot_program.specs.Reports.{Report, Refusal, no_command, refused, unread, unwritten, finished, status_of, text_of, refusal_status, missing, large, out_of_form, over_limit, not_valid, unbuilt}
 use Rattle.slot_program.specs.Judgements.{NamedBytes}
 use Rattle.slot_program.specs.Steps.{AllPass, FirstDue, form_steps}
 use Rattle.slot_program.specs.Writing.{read_of, written_of}
-use Rattle.slot_program.specs.Jobs.{check_steps, steps_of, finishing_of, Works, MarksAreTrue}
+use Rattle.slot_program.specs.Jobs.{name_at, check_steps, steps_of, finishing_of, Works, MarksAreTrue}
 use Rattle.slot_program.specs.Desk.{World, IsFinished, JobEnds, Ends, IsStatus}
 use Rattle.slot_program.specs.Answers.{ToldExact, IsExact}
-use Rattle.slot_program.specs.declared.job.Job.{Job}
-use Rattle.slot_program.specs.declared.job.Job.TheVariants.{Allocate, Check}
+use Rattle.command_words.specs.declared.job.Job.{Job}
+use Rattle.command_words.specs.declared.job.Job.TheVariants.{Allocate, Check}
 
 -- ---- statuses of jobs
 
@@ -135,8 +135,11 @@ told_exact o job w report v held e told exact =
 module _ (marks : (s : SubmissionView) (c : Certificate) → IsValid s c → MarksHold s c) where
   check_marks : (names : List Word) (files : Option Files) (done writes : List NamedBytes) → AllPass files (check_steps names) done → writes ≡ [] → MarksAreTrue (Check names) done writes
   check_marks names files done writes (one, handed1, (capacity, (two, handed2, (season, (three, handed3, (spelled, ((s, c, made, spells, valid), all))))))) none =
+      let a : NamedBytes = record { name = name_at names 0; bytes = one } in
+      let b : NamedBytes = record { name = name_at names 1; bytes = two } in
+      let d : NamedBytes = record { name = name_at names 2; bytes = three } in
       subst (λ (l : List NamedBytes). MarksAreTrue (Check names) l writes) (sym all)
-      (subst (λ (l : List NamedBytes). MarksAreTrue (Check names) (_ ∷ _ ∷ _ ∷ []) l) (sym none) (s, c, made, spells, valid, marks s c valid))
+      (subst (λ (l : List NamedBytes). MarksAreTrue (Check names) (a ∷ b ∷ d ∷ []) l) (sym none) (s, c, made, spells, valid, marks s c valid))
 
   work_marks : (job : Job) (files : Option Files) (done writes : List NamedBytes) (status : ℕ) (text : List ℕ) → AllPass files (steps_of job) done → Works job done writes status text → MarksAreTrue job done writes
   work_marks (Allocate names nodes workers) files [] writes status text pass work = absurd work

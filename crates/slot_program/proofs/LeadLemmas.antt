@@ -8,7 +8,7 @@ use Rattle.desk_outside.specs.Cause.{Rose}
 use Rattle.std.specs.Global.{Vec}
 use Rattle.desk_outside.specs.Files.{Files, Reads}
 use Rattle.desk_outside.specs.Passages.{Passage, read}
-use Rattle.slot_program.specs.Words.{Word}
+use Rattle.command_words.specs.Words.{Word}
 use Rattle.slot_program.specs.Reports.{Refusal, missing, large, out_of_form, over_limit, not_valid, unbuilt, refusal_status}
 use Rattle.slot_program.specs.Judgements.{NamedBytes, Judgement, Accepts, Refuses, served_capacity, served_requests, capacity_form, requests_form, certificate_form, valid_certificate}
 use Rattle.slot_program.specs.Steps.{Step, reads, judges, names_read, IsHanded, IsNotHanded, PassFrom, RefuseFrom, ReachFrom, AllPass, FirstDue, form_steps, is_of_form}

@@ -1,4 +1,3 @@
-mod WordLemmas
 mod CuttingLemmas
 mod HighLemmas
 mod EndedLemmas

@@ -6,7 +6,7 @@ use Rattle.season_days.specs.declared.declaration.Declaration.{Declaration}
 use Rattle.scr_reader.specs.Printed.{message_text}
 use Rattle.historic_reader.specs.Historic.{IsHistoricMessage}
 use Rattle.scr_reader.specs.declared.message.Message.{Message}
-use Rattle.slot_program.specs.Words.{Word}
+use Rattle.command_words.specs.Words.{Word}
 use Rattle.slot_program.specs.Capacity.{IsCapacityText}
 use Rattle.slot_program.specs.Texts.{stage_lines, settled_stages}
 use Rattle.slot_program.specs.Judgements.{NamedBytes}

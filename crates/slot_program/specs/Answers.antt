@@ -7,7 +7,7 @@ use Rattle.slot_program.specs.Judgements.{NamedBytes}
 use Rattle.slot_program.specs.Steps.{AllPass, FirstDue, form_steps}
 use Rattle.slot_program.specs.Jobs.{steps_of, finishing_of}
 use Rattle.slot_program.specs.Desk.{World, Ends}
-use Rattle.slot_program.specs.declared.job.Job.{Job}
+use Rattle.command_words.specs.declared.job.Job.{Job}
 
 -- where files are told: what is due is reported, and what passes is finished, unless a call failed
 pub record ToldExact (held : Files) (job : Job) (w : World) (report : Report) (v : World) : Type 0

@@ -5,14 +5,14 @@ use Rattle.std.specs.Prelude.{Contains}
 use Rattle.desk_outside.specs.Cause.{Rose}
 use Rattle.desk_outside.specs.Files.{Files}
 use Rattle.desk_outside.specs.Passages.{Passage, read, wrote, write_failed, put, put_failed}
-use Rattle.slot_program.specs.Words.{Word}
+use Rattle.command_words.specs.Words.{Word}
 use Rattle.slot_program.specs.Reports.{Report, Refusal, no_command, refused, unread, unwritten}
 use Rattle.slot_program.specs.Reports.{finished}
 use Rattle.slot_program.specs.Judgements.{NamedBytes}
 use Rattle.slot_program.specs.Steps.{names_read, AllPass, RefuseFrom, ReachFrom}
 use Rattle.slot_program.specs.Writing.{read_of, written_of, AreWritten, StopsAt}
 use Rattle.slot_program.specs.Jobs.{steps_of, names_written, Works}
-use Rattle.slot_program.specs.declared.job.Job.{Job}
+use Rattle.command_words.specs.declared.job.Job.{Job}
 
 -- what contracts see of a cabinet: its files, where they are told, the count of its faults, and
 -- what passed so far

@@ -11,7 +11,7 @@ use Rattle.historic_reader.specs.Historic.{IsHistoricMessage}
 use Rattle.series_model.specs.Submissions.{SubmissionView}
 use Rattle.cert_format.specs.declared.cert.Certificate.{Certificate}
 use Rattle.wasg_stages.specs.Valid.{IsValid, MarksHold}
-use Rattle.slot_program.specs.Words.{Word}
+use Rattle.command_words.specs.Words.{Word}
 use Rattle.slot_program.specs.Capacity.{IsCapacityText}
 use Rattle.slot_program.specs.Texts.{certificate_text, settled_stages, confirmation, stage_lines}
 use Rattle.slot_program.specs.Windows.{FitsRule}
@@ -20,8 +20,8 @@ use Rattle.slot_program.specs.Judgements.{served_capacity, served_requests, capa
 use Rattle.slot_program.specs.Judgements.{requests_form, certificate_form, valid_certificate}
 use Rattle.slot_program.specs.Steps.{Step, reads, judges}
 use Rattle.slot_program.specs.declared.files.TheConstants.{LONGEST_FILE, LONGEST_CERT_FILE}
-use Rattle.slot_program.specs.declared.job.Job.{Job}
-use Rattle.slot_program.specs.declared.job.Job.TheVariants.{Allocate, Check}
+use Rattle.command_words.specs.declared.job.Job.{Job}
+use Rattle.command_words.specs.declared.job.Job.TheVariants.{Allocate, Check}
 
 -- the name of this number, counted from 0, in the order in which the command takes names
 abbrev pub name_at : List Word → ℕ → Word

@@ -23,7 +23,7 @@ use Rattle.cert_format.specs.declared.cert.Certificate.{Certificate}
 use Rattle.wasg_stages.specs.Valid.{IsValid}
 use Rattle.cert_checker.specs.Certificates.{FailsAt}
 use Rattle.cert_checker.specs.declared.verdict.Reason.{Reason}
-use Rattle.slot_program.specs.Words.{Word}
+use Rattle.command_words.specs.Words.{Word}
 use Rattle.slot_program.specs.Capacity.{IsCapacityText, IsCapacityForm}
 use Rattle.slot_program.specs.Reports.{Refusal, out_of_form, over_limit, not_valid, unbuilt}
 

@@ -4,7 +4,7 @@ use Rattle.std.specs.Prelude.{◌≡◌, ◌⊎◌, ℕ, List, [], ◌∷◌, �
 use Rattle.std.specs.Prelude.{Contains}
 use Rattle.desk_outside.specs.Cause.{Rose}
 use Rattle.desk_outside.specs.Files.{Files}
-use Rattle.slot_program.specs.Words.{Word}
+use Rattle.command_words.specs.Words.{Word}
 use Rattle.slot_program.specs.Reports.{Refusal, refusal_status}
 use Rattle.slot_program.specs.Judgements.{NamedBytes, Judgement, Accepts, Refuses}
 use Rattle.slot_program.specs.Steps.{Step, names_read, IsHanded, IsNotHanded, PassFrom, RefuseFrom}

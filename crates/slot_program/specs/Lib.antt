@@ -1,5 +1,3 @@
-pub mod Words
-pub mod Faults
 pub mod Capacity
 pub mod Texts
 pub mod Reports

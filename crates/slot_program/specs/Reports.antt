@@ -3,7 +3,7 @@ use Rattle.std.specs.Prelude.{ℕ, List, [], ◌∷◌, ◌++◌, codes}
 use Rattle.std.specs.Fmt.{decimal}
 use Rattle.cert_checker.specs.declared.verdict.Reason.{Reason}
 use Rattle.cert_checker.specs.declared.verdict.Reason.TheVariants as because
-use Rattle.slot_program.specs.Words.{Word}
+use Rattle.command_words.specs.Words.{Word}
 
 -- What is refused before any work is done: a file that is not there, or is larger than what is
 -- read; the first line of a file that is not in its form; a limit that is passed, by which number;

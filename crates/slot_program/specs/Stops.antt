@@ -1,7 +1,7 @@
 -- Why a job stopped, as the code has it. Contracts of private functions alone cite this.
 use Rattle.std.specs.Prelude.{◌≡◌, ℕ, List, Option, Some, None, codes}
 use Rattle.capacity_file.specs.Texts.{cap_limit_text}
-use Rattle.slot_program.specs.Words.{Word}
+use Rattle.command_words.specs.Words.{Word}
 use Rattle.slot_program.specs.Reports.{Report, Refusal, refused, unread, unwritten}
 use Rattle.slot_program.specs.Reports.{missing, large, out_of_form, over_limit, not_valid, unbuilt}
 use Rattle.slot_program.specs.Judgements.{NamedBytes, Judgement}

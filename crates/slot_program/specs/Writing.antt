@@ -2,7 +2,7 @@
 use Rattle.std.specs.Prelude.{◌≡◌, ◌⊎◌, ℕ, List, [], ◌∷◌, map, Option, Some, IfSome}
 use Rattle.desk_outside.specs.Files.{Files, with_file, Writes, WritesPart}
 use Rattle.desk_outside.specs.Passages.{Passage, read, wrote, write_failed}
-use Rattle.slot_program.specs.Words.{Word}
+use Rattle.command_words.specs.Words.{Word}
 use Rattle.slot_program.specs.Judgements.{NamedBytes}
 
 -- the passage of a file that was read, and of one that was written

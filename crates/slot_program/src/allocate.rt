@@ -2,7 +2,7 @@ ghost use Rattle.std.specs.Prelude.{◌≡◌, ◌∷◌, [], ℕ, List, IfOk, I
 ghost use Rattle.slot_text.specs.Stations.{IsStation};
 ghost use Rattle.desk_outside.specs.Files.{ChangesOnly};
 ghost use Rattle.scr_reader.specs.declared.line.Item.TheVariants.{One};
-ghost use Rattle.slot_program.specs.Words.{Word};
+ghost use Rattle.command_words.specs.Words.{Word};
 ghost use Rattle.slot_program.specs.Capacity.{IsCapacityText};
 ghost use Rattle.slot_program.specs.Messages.{HasOneLine, Confirms};
 ghost use Rattle.slot_program.specs.Judgements.{NamedBytes, served_capacity, served_requests};
@@ -14,8 +14,8 @@ ghost use Rattle.slot_program.specs.Allocations.{IsServedSeason, IsAllocated, Al
 
 use crate::capacity::{CapacityFault, read_capacity};
 use crate::files::{LONGEST_FILE, read_file, write_file};
-use crate::job::NameList;
 use crate::stop::Stop;
+use command_words::NameList;
 use desk_outside::Cabinet;
 use desk_outside::laws::file_changes;
 use historic_reader::{HistoricFault, read_historic_message};

@@ -7,9 +7,9 @@ ghost use Rattle.slot_program.specs.Desk.{world_of};
 ghost use Rattle.slot_program.specs.Leads.{Leads};
 ghost use Rattle.slot_program.specs.Stops.{StopLeads};
 
-use crate::job::NameList;
 use crate::season::{read_certificate, read_season};
 use crate::stop::Stop;
+use command_words::NameList;
 use desk_outside::Cabinet;
 use std::alloc::Global;
 

@@ -12,8 +12,8 @@ ghost use Rattle.slot_program.specs.Desk.{World, world_of};
 ghost use Rattle.slot_program.specs.Leads.{Leads};
 ghost use Rattle.slot_program.specs.Stops.{StopLeads};
 
-use crate::job::NameList;
 use crate::stop::{Stop, name_at};
+use command_words::NameList;
 use desk_outside::{Cabinet, CabinetFault};
 use std::alloc::Global;
 

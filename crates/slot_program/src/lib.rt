@@ -7,15 +7,11 @@ mod capacity;
 mod check;
 mod cutting;
 mod files;
-mod job;
 pub mod laws;
 mod rule;
 mod season;
 mod stop;
 mod top_call;
 mod values;
-mod words;
 
-pub use job::{Job, Name, NameList, WordFault};
 pub use top_call::desk;
-pub use words::read_words;

@@ -15,7 +15,7 @@ ghost use Rattle.series_model.specs.declared.fault.ModelFault.TheVariants.{Memor
 ghost use Rattle.scr_reader.specs.Messages.{ReadsAll, HasScrFault};
 ghost use Rattle.scr_reader.specs.declared.fault.ScrFault.{ScrFault as ScrFaultValue};
 ghost use Rattle.scr_reader.specs.declared.fault.ScrFault.TheVariants.{Memory as no_message};
-ghost use Rattle.slot_program.specs.Words.{Word};
+ghost use Rattle.command_words.specs.Words.{Word};
 ghost use Rattle.slot_program.specs.Judgements.{NamedBytes, IsSeasonOf, SpellsCert};
 ghost use Rattle.slot_program.specs.Judgements.{IsCapacityRefusal, IsMessageRefusal};
 ghost use Rattle.slot_program.specs.Judgements.{IsSubmissionRefusal};
@@ -29,12 +29,12 @@ ghost use Rattle.slot_program.specs.Stops.{IsRefusalBy, IsJudged, StopLeads};
 ghost use Rattle.slot_program.specs.declared.files.TheConstants.{LONGEST_FILE, LONGEST_CERT_FILE};
 
 use crate::files::{LONGEST_CERT_FILE, LONGEST_FILE, read_file};
-use crate::job::NameList;
 use crate::stop::{Limit, Stop};
 use capacity_file::laws::one_answer;
 use capacity_file::{CapFault, read_capacity};
 use cert_checker::{Verdict, check, one_failing_line, one_verdict};
 use cert_format::{CertFault, Certificate, read_cert};
+use command_words::NameList;
 use desk_outside::Cabinet;
 use scr_reader::laws::{one_reading, read_lines_fit};
 use scr_reader::{MessageList, ScrFault, read_all};

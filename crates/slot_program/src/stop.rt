@@ -2,13 +2,13 @@ ghost use Rattle.std.specs.Prelude.{◌≡◌, ◌∷◌, [], ◌++◌, IfOk, �
 ghost use Rattle.std.specs.Fmt.{decimal};
 ghost use Rattle.std.specs.String.{string_bytes};
 ghost use Rattle.slot_program.specs.Reports.{Report, status_of, text_of, reason_text, cabinet_line, numbered_line};
-ghost use Rattle.slot_program.specs.Words.{Word};
+ghost use Rattle.command_words.specs.Words.{Word};
 ghost use Rattle.slot_program.specs.Jobs.{name_at};
 ghost use Rattle.slot_program.specs.Stops.{limit_text, report_of};
 
-use crate::job::NameList;
 use capacity_file::CapLimit;
 use cert_checker::Reason;
+use command_words::NameList;
 use slot_text::Memory;
 use std::alloc::Global;
 

@@ -2,7 +2,7 @@ use Rattle.std.proofs.Common.{◌≡◌, ◌∷◌, [], ◌++◌, ℕ, List, ref
 use Rattle.std.proofs.lemmas.Result.{err_from_is_err_and}
 use Rattle.desk_outside.specs.Files.{Writes, WritesPart}
 use Rattle.desk_outside.specs.Passages.{wrote, write_failed}
-use Rattle.slot_program.specs.Words.{Word}
+use Rattle.command_words.specs.Words.{Word}
 use Rattle.slot_program.specs.Texts.{confirmation}
 use Rattle.slot_program.specs.Jobs.{name_at, allocate_steps}
 use Rattle.slot_program.specs.Desk.{World, world_of}

@@ -72,14 +72,17 @@ returns-clause-found g c =
     let u : World = world_of g.C.Cabinet.files g.C.Cabinet.fault_count g.C.Cabinet.log c.read_file-2.new.cabinet in
     let names = c.args.names.now in
     let first : NamedBytes = record { name = name_at names 0; bytes = c.deref.result.now } in
-    let second : NamedBytes = record { name = name_at names 1; bytes = c.deref-2.result.now } in
-    (first, second, c.in_ok-message.ensures.found first.bytes c.in_ok-declaration.ensures.found,
-    let left : List Step = reads (name_at names 1) LONGEST_FILE ∷ judges served_requests (name_at names 1) ∷ [] in
-    let one : Leads w (allocate_steps names) (first ∷ []) (judges served_capacity (name_at names 0) ∷ left) v =
-    subst (λ (b : List ℕ). Leads w (allocate_steps names) (record { name = name_at names 0; bytes = b } ∷ []) (judges served_capacity (name_at names 0) ∷ left) v) (sym c.deref.ensures.value)
-    (c.in_ok-capacity.ensures.leads w (allocate_steps names) [] (judges served_capacity (name_at names 0) ∷ left) (leads_start w (allocate_steps names))) in
-    let two = leads_judge served_capacity (name_at names 0) (first ∷ []) (c.in_ok-declaration.ensures.alone (name_at names 0) []) w v (allocate_steps names) left one in
-    let three : Leads w (allocate_steps names) (first ∷ second ∷ []) (judges served_requests (name_at names 1) ∷ []) u =
-    subst (λ (b : List ℕ). Leads w (allocate_steps names) (first ∷ record { name = name_at names 1; bytes = b } ∷ []) (judges served_requests (name_at names 1) ∷ []) u) (sym c.deref-2.ensures.value)
-    (c.in_ok-requests.ensures.leads w (allocate_steps names) (first ∷ []) (judges served_requests (name_at names 1) ∷ []) two) in
-    leads_judge served_requests (name_at names 1) (first ∷ second ∷ []) (c.in_ok-message.ensures.alone (name_at names 1) first [] c.in_ok-declaration.ensures.found) w u (allocate_steps names) [] three)
+    let second : NamedBytes = record { name = name_at names 1; bytes = c.deref-2.result.now } in (
+      first,
+      second,
+      c.in_ok-message.ensures.found first.bytes c.in_ok-declaration.ensures.found,
+      let left : List Step = reads (name_at names 1) LONGEST_FILE ∷ judges served_requests (name_at names 1) ∷ [] in
+          let one : Leads w (allocate_steps names) (first ∷ []) (judges served_capacity (name_at names 0) ∷ left) v =
+          subst (λ (b : List ℕ). Leads w (allocate_steps names) (record { name = name_at names 0; bytes = b } ∷ []) (judges served_capacity (name_at names 0) ∷ left) v) (sym c.deref.ensures.value)
+          (c.in_ok-capacity.ensures.leads w (allocate_steps names) [] (judges served_capacity (name_at names 0) ∷ left) (leads_start w (allocate_steps names))) in
+          let two = leads_judge served_capacity (name_at names 0) (first ∷ []) (c.in_ok-declaration.ensures.alone (name_at names 0) []) w v (allocate_steps names) left one in
+          let three : Leads w (allocate_steps names) (first ∷ second ∷ []) (judges served_requests (name_at names 1) ∷ []) u =
+          subst (λ (b : List ℕ). Leads w (allocate_steps names) (first ∷ record { name = name_at names 1; bytes = b } ∷ []) (judges served_requests (name_at names 1) ∷ []) u) (sym c.deref-2.ensures.value)
+          (c.in_ok-requests.ensures.leads w (allocate_steps names) (first ∷ []) (judges served_requests (name_at names 1) ∷ []) two) in
+          leads_judge served_requests (name_at names 1) (first ∷ second ∷ []) (c.in_ok-message.ensures.alone (name_at names 1) first [] c.in_ok-declaration.ensures.found) w u (allocate_steps names) [] three,
+    )

@@ -36,6 +36,9 @@ returns-clause-found g c = λ w all steps capacity requests season lead.
     let name = name_at c.args.names.now 2 in
     let third : NamedBytes = record { name = name; bytes = c.in_ok-bytes.bytes.items } in
     let one = c.in_ok-bytes.ensures.leads w all (capacity ∷ requests ∷ []) (judges certificate_form name ∷ judges valid_certificate name ∷ steps) lead in
-    let two = leads_judge certificate_form name (capacity ∷ requests ∷ third ∷ []) (c.in_ok-certificate.ensures.alone name capacity requests []) w v all (judges valid_certificate name ∷ steps) one in
-    (third, c.in_ok-certificate.ensures.found.0, leads_judge valid_certificate name (capacity ∷ requests ∷ third ∷ [])
-    (c.in_ok-judge_validity.ensures.alone name capacity requests third [] season c.in_ok-certificate.ensures.found.0 c.in_ok-certificate.ensures.only) w v all steps two)
+    let two = leads_judge certificate_form name (capacity ∷ requests ∷ third ∷ []) (c.in_ok-certificate.ensures.alone name capacity requests []) w v all (judges valid_certificate name ∷ steps) one in (
+      third,
+      c.in_ok-certificate.ensures.found.0,
+      leads_judge valid_certificate name (capacity ∷ requests ∷ third ∷ [])
+          (c.in_ok-judge_validity.ensures.alone name capacity requests third [] season c.in_ok-certificate.ensures.found.0 c.in_ok-certificate.ensures.only) w v all steps two,
+    )

@@ -72,14 +72,18 @@ returns-clause-found g c =
     let u : World = world_of g.C.Cabinet.files g.C.Cabinet.fault_count g.C.Cabinet.log c.read_file-2.new.cabinet in
     let names = c.args.names.now in
     let first : NamedBytes = record { name = name_at names 0; bytes = c.deref.result.now } in
-    let second : NamedBytes = record { name = name_at names 1; bytes = c.deref-2.result.now } in
-    (first, second, c.in_ok-submission.ensures.found first.bytes c.in_ok-declaration.ensures.found, λ steps.
-    let left : List Step = reads (name_at names 1) LONGEST_FILE ∷ judges requests_form (name_at names 1) ∷ steps in
-    let one : Leads w (season_steps names steps) (first ∷ []) (judges capacity_form (name_at names 0) ∷ left) v =
-    subst (λ (b : List ℕ). Leads w (season_steps names steps) (record { name = name_at names 0; bytes = b } ∷ []) (judges capacity_form (name_at names 0) ∷ left) v) (sym c.deref.ensures.value)
-    (c.in_ok-capacity.ensures.leads w (season_steps names steps) [] (judges capacity_form (name_at names 0) ∷ left) (leads_start w (season_steps names steps))) in
-    let two = leads_judge capacity_form (name_at names 0) (first ∷ []) (c.in_ok-declaration.ensures.alone (name_at names 0) []) w v (season_steps names steps) left one in
-    let three : Leads w (season_steps names steps) (first ∷ second ∷ []) (judges requests_form (name_at names 1) ∷ steps) u =
-    subst (λ (b : List ℕ). Leads w (season_steps names steps) (first ∷ record { name = name_at names 1; bytes = b } ∷ []) (judges requests_form (name_at names 1) ∷ steps) u) (sym c.deref-2.ensures.value)
-    (c.in_ok-requests.ensures.leads w (season_steps names steps) (first ∷ []) (judges requests_form (name_at names 1) ∷ steps) two) in
-    leads_judge requests_form (name_at names 1) (first ∷ second ∷ []) (c.in_ok-submission.ensures.alone (name_at names 1) first [] c.in_ok-declaration.ensures.found) w u (season_steps names steps) steps three)
+    let second : NamedBytes = record { name = name_at names 1; bytes = c.deref-2.result.now } in (
+      first,
+      second,
+      c.in_ok-submission.ensures.found first.bytes c.in_ok-declaration.ensures.found,
+      λ steps.
+          let left : List Step = reads (name_at names 1) LONGEST_FILE ∷ judges requests_form (name_at names 1) ∷ steps in
+          let one : Leads w (season_steps names steps) (first ∷ []) (judges capacity_form (name_at names 0) ∷ left) v =
+          subst (λ (b : List ℕ). Leads w (season_steps names steps) (record { name = name_at names 0; bytes = b } ∷ []) (judges capacity_form (name_at names 0) ∷ left) v) (sym c.deref.ensures.value)
+          (c.in_ok-capacity.ensures.leads w (season_steps names steps) [] (judges capacity_form (name_at names 0) ∷ left) (leads_start w (season_steps names steps))) in
+          let two = leads_judge capacity_form (name_at names 0) (first ∷ []) (c.in_ok-declaration.ensures.alone (name_at names 0) []) w v (season_steps names steps) left one in
+          let three : Leads w (season_steps names steps) (first ∷ second ∷ []) (judges requests_form (name_at names 1) ∷ steps) u =
+          subst (λ (b : List ℕ). Leads w (season_steps names steps) (first ∷ record { name = name_at names 1; bytes = b } ∷ []) (judges requests_form (name_at names 1) ∷ steps) u) (sym c.deref-2.ensures.value)
+          (c.in_ok-requests.ensures.leads w (season_steps names steps) (first ∷ []) (judges requests_form (name_at names 1) ∷ steps) two) in
+          leads_judge requests_form (name_at names 1) (first ∷ second ∷ []) (c.in_ok-submission.ensures.alone (name_at names 1) first [] c.in_ok-declaration.ensures.found) w u (season_steps names steps) steps three,
+    )

@@ -1,19 +1,19 @@
-use Rattle.std.proofs.Common.{◌≡◌, sym, subst, Option, Some}
+use Rattle.std.proofs.Common.{◌≡◌, sym, ap, ◌∙◌, subst, Option, Some}
 use Rattle.slot_program.specs.Desk.{LogGrew, OnlyOfJob}
-use Rattle.slot_program.specs.declared.job.Job.{Job}
+use Rattle.command_words.specs.declared.job.Job.{Job}
 use Rattle.slot_program.proofs.top_call.carry_out.Goals as goal
 
 pub returns-in_err-carry_out_allocation-in-Ok-Allocate-clause-asked : goal.returns-in_err-carry_out_allocation-in-Ok-Allocate-clause-asked
 returns-in_err-carry_out_allocation-in-Ok-Allocate-clause-asked g c =
-    subst (λ (o : Option Job). LogGrew (g.C.Cabinet.log c.args.cabinet.now) (OnlyOfJob o) (g.C.Cabinet.log c.carry_out_allocation.new.cabinet)) (sym c.in-Ok-Allocate.ensures.found)
+    subst (λ (o : Option Job). LogGrew (g.C.Cabinet.log c.args.cabinet.now) (OnlyOfJob o) (g.C.Cabinet.log c.carry_out_allocation.new.cabinet)) (sym (c.in-Ok-Allocate.ensures.found ∙ ap Some c.in-Ok-Allocate.field-0-is))
     (c.carry_out_allocation.ensures.asked c.in-Ok-Allocate.field-0-1 c.in-Ok-Allocate.field-0-2)
 
 pub returns-in_ok-carry_out_allocation-in-Ok-Allocate-clause-asked : goal.returns-in_ok-carry_out_allocation-in-Ok-Allocate-clause-asked
 returns-in_ok-carry_out_allocation-in-Ok-Allocate-clause-asked g c =
-    subst (λ (o : Option Job). LogGrew (g.C.Cabinet.log c.args.cabinet.now) (OnlyOfJob o) (g.C.Cabinet.log c.carry_out_allocation.new.cabinet)) (sym c.in-Ok-Allocate.ensures.found)
+    subst (λ (o : Option Job). LogGrew (g.C.Cabinet.log c.args.cabinet.now) (OnlyOfJob o) (g.C.Cabinet.log c.carry_out_allocation.new.cabinet)) (sym (c.in-Ok-Allocate.ensures.found ∙ ap Some c.in-Ok-Allocate.field-0-is))
     (c.carry_out_allocation.ensures.asked c.in-Ok-Allocate.field-0-1 c.in-Ok-Allocate.field-0-2)
 
 pub returns-in_ok-carry_out_check-in-Ok-Check-clause-asked : goal.returns-in_ok-carry_out_check-in-Ok-Check-clause-asked
 returns-in_ok-carry_out_check-in-Ok-Check-clause-asked g c =
-    subst (λ (o : Option Job). LogGrew (g.C.Cabinet.log c.args.cabinet.now) (OnlyOfJob o) (g.C.Cabinet.log c.carry_out_check.new.cabinet)) (sym c.in-Ok-Check.ensures.found)
+    subst (λ (o : Option Job). LogGrew (g.C.Cabinet.log c.args.cabinet.now) (OnlyOfJob o) (g.C.Cabinet.log c.carry_out_check.new.cabinet)) (sym (c.in-Ok-Check.ensures.found ∙ ap Some c.in-Ok-Check.field-0-is))
     c.carry_out_check.ensures.asked

@@ -2,7 +2,7 @@ use Rattle.std.proofs.Common.{◌∷◌, [], refl, codes}
 use Rattle.slot_program.specs.Reports.{finished}
 use Rattle.slot_program.specs.Jobs.{check_steps}
 use Rattle.slot_program.specs.Desk.{World, world_of}
-use Rattle.slot_program.specs.declared.job.Job.TheVariants.{Check}
+use Rattle.command_words.specs.declared.job.Job.TheVariants.{Check}
 use Rattle.slot_program.proofs.AnswerLemmas.{check_ended, check_asked, stop_ended, stop_asked}
 use Rattle.slot_program.proofs.top_call.carry_out_check.Goals as goal
 

@@ -3,11 +3,12 @@ use Rattle.std.specs.Prelude.{Contains}
 use Rattle.std.specs.String.{string_bytes}
 use Rattle.desk_outside.specs.Bytes.{Puts}
 use Rattle.desk_outside.specs.Passages.{put}
-use Rattle.slot_program.specs.Words.{words_of, job_of}
+use Rattle.command_words.specs.Words.{words_of}
+use Rattle.command_words.specs.Jobs.{job_of}
 use Rattle.slot_program.specs.Reports.{Report, refused, status_of, text_of}
 use Rattle.slot_program.specs.Jobs.{finishing_of}
 use Rattle.slot_program.specs.Desk.{World, world_of, IsFinished, IsStatus}
-use Rattle.slot_program.specs.declared.job.Job.{Job}
+use Rattle.command_words.specs.declared.job.Job.{Job}
 use Rattle.slot_program.proofs.DeskLemmas.{is_status, is_finished, marks_true, told_exact, finishing_zero}
 use Rattle.slot_program.proofs.top_call.desk.Goals as goal
 
@@ -82,8 +83,11 @@ returns-in-Ok-clause-headline g c = λ job e one. absurd (omega (arith, finishin
 pub returns-in-Ok-clause-handed : goal.returns-in-Ok-clause-handed
 returns-in-Ok-clause-handed g c = λ job e one. absurd (omega (arith, finishing_zero job 6 one))
 
-pub returns-in-Err-clause-headline : goal.returns-in-Err-clause-headline
-returns-in-Err-clause-headline g c = λ job e one. absurd (omega (arith, finishing_zero job 7 one))
+pub returns-clause-headline : goal.returns-clause-headline
+returns-clause-headline g c = λ job e one. absurd (omega (arith, finishing_zero job 7 one))
 
-pub returns-in-Err-clause-handed : goal.returns-in-Err-clause-handed
-returns-in-Err-clause-handed g c = λ job e one. absurd (omega (arith, finishing_zero job 7 one))
+pub returns-clause-handed : goal.returns-clause-handed
+returns-clause-handed g c = λ job e one. absurd (omega (arith, finishing_zero job 7 one))
+
+pub returns-clause-statuses : goal.returns-clause-statuses
+returns-clause-statuses g c = (7, omega arith, refl)

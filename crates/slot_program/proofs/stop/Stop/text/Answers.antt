@@ -1,5 +1,5 @@
 use Rattle.std.proofs.Common.{◌≡◌, ℕ, List, codes, refl, ap, ◌∙◌}
-use Rattle.slot_program.specs.Words.{Word}
+use Rattle.command_words.specs.Words.{Word}
 use Rattle.slot_program.specs.Reports.{refused, unread, unwritten, missing, large, out_of_form, over_limit, not_valid, unbuilt, cabinet_line, numbered_line, text_of}
 use Rattle.slot_program.specs.Jobs.{name_at}
 use Rattle.slot_program.specs.Stops.{limit_text}
@@ -24,24 +24,32 @@ returns-in_ok-cabinet_line-in-Unwritten c =
 
 pub returns-in_ok-numbered_line-in-OutOfForm : goal.returns-in_ok-numbered_line-in-OutOfForm
 returns-in_ok-numbered_line-in-OutOfForm c =
-    let name = name_at c.args.names.now c.in-OutOfForm.place in
-    (refused (out_of_form name c.in-OutOfForm.line), rw c.in-OutOfForm.is refl,
-    c.in_ok-numbered_line-in-OutOfForm.ensures
-    ∙ (ap (λ (n : Word). numbered_line (codes "FORM") n c.from.result) c.name_at-name.ensures ∙ ap (numbered_line (codes "FORM") name) c.from.ensures))
+    let name = name_at c.args.names.now c.in-OutOfForm.place in (
+      refused (out_of_form name c.in-OutOfForm.line),
+      rw c.in-OutOfForm.is refl,
+      c.in_ok-numbered_line-in-OutOfForm.ensures
+          ∙ (ap (λ (n : Word). numbered_line (codes "FORM") n c.from.result) c.name_at-name.ensures ∙ ap (numbered_line (codes "FORM") name) c.from.ensures),
+    )
 
 pub returns-in_ok-numbered_line-in-OverLimit : goal.returns-in_ok-numbered_line-in-OverLimit
-returns-in_ok-numbered_line-in-OverLimit c =
-    (refused (over_limit (limit_text c.in-OverLimit.limit) c.in-OverLimit.number), rw c.in-OverLimit.is refl,
-    c.in_ok-numbered_line-in-OverLimit.ensures ∙ ap (λ (n : Word). numbered_line (codes "LIMIT") n c.in-OverLimit.number) c.limit_name.ensures)
+returns-in_ok-numbered_line-in-OverLimit c = (
+  refused (over_limit (limit_text c.in-OverLimit.limit) c.in-OverLimit.number),
+  rw c.in-OverLimit.is refl,
+  c.in_ok-numbered_line-in-OverLimit.ensures ∙ ap (λ (n : Word). numbered_line (codes "LIMIT") n c.in-OverLimit.number) c.limit_name.ensures,
+)
 
 pub returns-in_ok-verdict_line-in-NotValid : goal.returns-in_ok-verdict_line-in-NotValid
-returns-in_ok-verdict_line-in-NotValid c =
-    (refused (not_valid c.in-NotValid.line c.in-NotValid.reason), rw c.in-NotValid.is refl,
-    c.in_ok-verdict_line-in-NotValid.ensures ∙ ap (verdict_of c.in-NotValid.line) c.reason_name.ensures)
+returns-in_ok-verdict_line-in-NotValid c = (
+  refused (not_valid c.in-NotValid.line c.in-NotValid.reason),
+  rw c.in-NotValid.is refl,
+  c.in_ok-verdict_line-in-NotValid.ensures ∙ ap (verdict_of c.in-NotValid.line) c.reason_name.ensures,
+)
 
 pub returns-in_ok-numbered_line-in-Unbuilt : goal.returns-in_ok-numbered_line-in-Unbuilt
 returns-in_ok-numbered_line-in-Unbuilt c =
-    let name = name_at c.args.names.now c.in-Unbuilt.place in
-    (refused (unbuilt name c.in-Unbuilt.line), rw c.in-Unbuilt.is refl,
-    c.in_ok-numbered_line-in-Unbuilt.ensures
-    ∙ (ap (λ (n : Word). numbered_line (codes "UNBUILT") n c.from-in-Unbuilt.result) c.name_at-name-in-Unbuilt.ensures ∙ ap (numbered_line (codes "UNBUILT") name) c.from-in-Unbuilt.ensures))
+    let name = name_at c.args.names.now c.in-Unbuilt.place in (
+      refused (unbuilt name c.in-Unbuilt.line),
+      rw c.in-Unbuilt.is refl,
+      c.in_ok-numbered_line-in-Unbuilt.ensures
+          ∙ (ap (λ (n : Word). numbered_line (codes "UNBUILT") n c.from-in-Unbuilt.result) c.name_at-name-in-Unbuilt.ensures ∙ ap (numbered_line (codes "UNBUILT") name) c.from-in-Unbuilt.ensures),
+    )
