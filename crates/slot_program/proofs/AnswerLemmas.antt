@@ -238,3 +238,9 @@ module _ (names : List Word) (nodes workers : ℕ) (w v : World) where
   allocation_stop_asked (stops.NotValid line reason) lead = stop_asked names w v (allocate_steps names) kept_names (stops.NotValid line reason) lead
   allocation_stop_asked (stops.Unbuilt place line) lead = stop_asked names w v (allocate_steps names) kept_names (stops.Unbuilt place line) lead
   allocation_stop_asked stops.Memory lead = stop_asked names w v (allocate_steps names) kept_names stops.Memory lead
+
+-- ---- nothing passed
+
+pub nothing_asked : (o : Option Job) (log : List Passage) → LogGrew log (OnlyOfJob o) log
+nothing_asked None log = ([], sym (append-nil log), refl)
+nothing_asked (Some job) log = ([], sym (append-nil log), All-nil (IsOfFiles (names_read (steps_of job)) (names_written job)))

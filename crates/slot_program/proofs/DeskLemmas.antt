@@ -58,6 +58,14 @@ refusal_not_two (over_limit name number) e = omega (arith, e)
 refusal_not_two (not_valid line reason) e = omega (arith, e)
 refusal_not_two (unbuilt name line) e = omega (arith, e)
 
+refusal_not_six : (refusal : Refusal) → refusal_status refusal ≡ 6 → ⊥
+refusal_not_six (missing name) e = omega (arith, e)
+refusal_not_six (large name) e = omega (arith, e)
+refusal_not_six (out_of_form name line) e = omega (arith, e)
+refusal_not_six (over_limit name number) e = omega (arith, e)
+refusal_not_six (not_valid line reason) e = omega (arith, e)
+refusal_not_six (unbuilt name line) e = omega (arith, e)
+
 refusal_is_status : (refusal : Refusal) → IsStatus (refusal_status refusal)
 refusal_is_status (missing name) = (5, omega arith, refl)
 refusal_is_status (large name) = (5, omega arith, refl)
@@ -86,6 +94,13 @@ module _ (job : Job) (w v : World) where
   job_not_two (unwritten name) e ends = omega (arith, e)
   job_not_two (finished status text) e ends = omega (arith, e, finished_zero status text ends)
 
+  job_not_six : (report : Report) → status_of report ≡ 6 → JobEnds job w report v → ⊥
+  job_not_six no_command e ends = ends
+  job_not_six (refused refusal) e ends = refusal_not_six refusal e
+  job_not_six (unread name) e ends = omega (arith, e)
+  job_not_six (unwritten name) e ends = omega (arith, e)
+  job_not_six (finished status text) e ends = omega (arith, e, finished_zero status text ends)
+
   pub zero_finished : (report : Report) → status_of report ≡ 0 → JobEnds job w report v → IsFinished job w 0 (text_of report) v
   zero_finished no_command e ends = absurd ends
   zero_finished (refused refusal) e ends = absurd (refusal_not_zero refusal e)
@@ -102,6 +117,10 @@ is_status (Some job) w report v ends = job_is_status job w v report ends
 pub two_is_none : (job : Option Job) (w : World) (report : Report) (v : World) → status_of report ≡ 2 → Ends job w report v → job ≡ None
 two_is_none None w report v e ends = refl
 two_is_none (Some job) w report v e ends = absurd (job_not_two job w v report e ends)
+
+pub not_six : (job : Option Job) (w : World) (report : Report) (v : World) → status_of report ≡ 6 → Ends job w report v → ⊥
+not_six None w report v e ends = omega (arith, e, ap status_of ends.0)
+not_six (Some job) w report v e ends = job_not_six job w v report e ends
 
 pub zero_is_calm : (job : Option Job) (w : World) (report : Report) (v : World) → status_of report ≡ 0 → Ends job w report v → v.faults ≡ w.faults
 zero_is_calm None w report v e ends = absurd (omega (arith, e, ap status_of ends.0))

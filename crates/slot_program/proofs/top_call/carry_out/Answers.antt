@@ -1,6 +1,9 @@
 use Rattle.std.proofs.Common.{◌≡◌, sym, ap, ◌∙◌, subst, Option, Some}
 use Rattle.slot_program.specs.Desk.{LogGrew, OnlyOfJob}
 use Rattle.command_words.specs.declared.job.Job.{Job}
+use Rattle.command_words.specs.Words.{words_of}
+use Rattle.command_words.specs.Jobs.{job_of}
+use Rattle.slot_program.proofs.AnswerLemmas.{nothing_asked}
 use Rattle.slot_program.proofs.top_call.carry_out.Goals as goal
 
 pub returns-in_err-carry_out_allocation-in-Ok-Allocate-clause-asked : goal.returns-in_err-carry_out_allocation-in-Ok-Allocate-clause-asked
@@ -17,3 +20,14 @@ pub returns-in_ok-carry_out_check-in-Ok-Check-clause-asked : goal.returns-in_ok-
 returns-in_ok-carry_out_check-in-Ok-Check-clause-asked g c =
     subst (λ (o : Option Job). LogGrew (g.C.Cabinet.log c.args.cabinet.now) (OnlyOfJob o) (g.C.Cabinet.log c.carry_out_check.new.cabinet)) (sym (c.in-Ok-Check.ensures.found ∙ ap Some c.in-Ok-Check.field-0-is))
     c.carry_out_check.ensures.asked
+
+pub returns-in_err-carry_out_check-in-Ok-Check-clause-asked : goal.returns-in_err-carry_out_check-in-Ok-Check-clause-asked
+returns-in_err-carry_out_check-in-Ok-Check-clause-asked g c =
+    subst (λ (o : Option Job). LogGrew (g.C.Cabinet.log c.args.cabinet.now) (OnlyOfJob o) (g.C.Cabinet.log c.carry_out_check.new.cabinet)) (sym (c.in-Ok-Check.ensures.found ∙ ap Some c.in-Ok-Check.field-0-is))
+    c.carry_out_check.ensures.asked
+
+pub returns-in_err-from_str-in-Err-Words-clause-asked : goal.returns-in_err-from_str-in-Err-Words-clause-asked
+returns-in_err-from_str-in-Err-Words-clause-asked g c = nothing_asked (job_of (words_of c.args.words.now)) (g.C.Cabinet.log c.args.cabinet.now)
+
+pub returns-in-Err-Memory-clause-asked : goal.returns-in-Err-Memory-clause-asked
+returns-in-Err-Memory-clause-asked g c = nothing_asked (job_of (words_of c.args.words.now)) (g.C.Cabinet.log c.args.cabinet.now)

@@ -9,7 +9,7 @@ use Rattle.slot_program.specs.Reports.{Report, refused, status_of, text_of}
 use Rattle.slot_program.specs.Jobs.{finishing_of}
 use Rattle.slot_program.specs.Desk.{World, world_of, IsFinished, IsStatus}
 use Rattle.command_words.specs.declared.job.Job.{Job}
-use Rattle.slot_program.proofs.DeskLemmas.{is_status, is_finished, marks_true, told_exact, finishing_zero}
+use Rattle.slot_program.proofs.DeskLemmas.{is_status, not_six, is_finished, marks_true, told_exact, finishing_zero}
 use Rattle.slot_program.proofs.top_call.desk.Goals as goal
 
 pub returns-in-Ok-put-clause-statuses : goal.returns-in-Ok-put-clause-statuses
@@ -91,3 +91,8 @@ returns-clause-handed g c = λ job e one. absurd (omega (arith, finishing_zero j
 
 pub returns-clause-statuses : goal.returns-clause-statuses
 returns-clause-statuses g c = (7, omega arith, refl)
+
+pub returns-in-Ok-put-clause-cut : goal.returns-in-Ok-put-clause-cut
+returns-in-Ok-put-clause-cut g c = λ e.
+    let a = c.in-Ok.ensures.answer in
+    absurd (not_six (job_of (words_of c.args.words.now)) _ a.report _ (sym a.status_is ∙ e) a.ends)
