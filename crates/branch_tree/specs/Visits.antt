@@ -1,5 +1,6 @@
 -- What a visit of ranges answers: the first of its cases that applies.
 use Rattle.std.specs.Prelude.{◌≡◌, ℕ, ◌+◌, ◌<◌, List, [], length, slice_index_or, Option, Some, ◌⊎◌}
+use Rattle.choice_problem.specs.declared.closing.TheConstants.{PRICED_SCALE}
 use Rattle.choice_problem.specs.declared.vectors.Price.{Price}
 use Rattle.choice_problem.specs.declared.nodes.Node.{Node}
 use Rattle.choice_problem.specs.declared.nodes.Node.TheVariants as node
@@ -14,13 +15,13 @@ use Rattle.branch_tree.specs.declared.answers.Visit.TheVariants as answer
 -- the first n of these vectors do not close the ranges at scale 1024
 abbrev pub AreOpen : ProblemView → List (List Price) → ℕ → List (ℕ × ℕ) → Option ℕ → Type 0
 AreOpen p vectors n ranges seen = (k : ℕ) → k < n →
-    Closes p ranges (slice_index_or vectors k []) 1024 seen → ⊥
+    Closes p ranges (slice_index_or vectors k []) PRICED_SCALE seen → ⊥
 
 -- the first of these vectors that closes the ranges
 pub record IsFirstClosing (p : ProblemView) (vectors : List (List Price)) (ranges : List (ℕ × ℕ))
     (seen : Option ℕ) (k : ℕ) : Type 0 where
   pub there : k < length vectors
-  pub closes : Closes p ranges (slice_index_or vectors k []) 1024 seen
+  pub closes : Closes p ranges (slice_index_or vectors k []) PRICED_SCALE seen
   pub first : AreOpen p vectors k ranges seen
 
 -- the ranges stay open at a visit, and no further vector closes them
@@ -40,18 +41,18 @@ pub record IsZeroLeaf (p : ProblemView) (ranges : List (ℕ × ℕ)) (seen : Opt
 pub record IsRootLeaf (p : ProblemView) (root : List Price) (ranges : List (ℕ × ℕ))
     (seen : Option ℕ) (vector scale : ℕ) : Type 0 where
   pub vector_is : vector ≡ 1
-  pub scale_is : scale ≡ 1024
+  pub scale_is : scale ≡ PRICED_SCALE
   pub no_zero : Closes p ranges [] 1 seen → ⊥
-  pub closes : Closes p ranges root 1024 seen
+  pub closes : Closes p ranges root PRICED_SCALE seen
 
 -- neither closes, and this is the first further vector that does; they are numbered from 2
 pub record IsFurtherLeaf (p : ProblemView) (root : List Price) (further : List (List Price))
     (ranges : List (ℕ × ℕ)) (seen : Option ℕ) (vector scale : ℕ) : Type 0 where
   pub place : ℕ
   pub vector_is : vector ≡ place + 2
-  pub scale_is : scale ≡ 1024
+  pub scale_is : scale ≡ PRICED_SCALE
   pub no_zero : Closes p ranges [] 1 seen → ⊥
-  pub no_root : Closes p ranges root 1024 seen → ⊥
+  pub no_root : Closes p ranges root PRICED_SCALE seen → ⊥
   pub closes : IsFirstClosing p further ranges seen place
 
 -- the leaf of the first vector that closes the ranges for what was seen

@@ -1,5 +1,6 @@
 -- What a walk shows, and what it keeps.
 use Rattle.std.specs.Prelude.{◌≡◌, ℕ, ◌<◌, ◌≤◌, List, length, slice_index}
+use Rattle.choice_problem.specs.declared.problems.TheConstants.{MOST_UNITS}
 use Rattle.choice_problem.specs.Problems.{ProblemView, IsChooser, unit_count, resource_count, chooser_at}
 use Rattle.choice_problem.specs.Choices.{IsChoice, choice_cost}
 use Rattle.choice_problem.specs.Bounds.{AreRanges, least_load}
@@ -21,7 +22,7 @@ AreLeast p ranges counts = (r : ℕ) → r < resource_count p → slice_index co
 pub record IsKept (p : ProblemView) (ranges : List (ℕ × ℕ)) (alts : List ℕ) (cost : ℕ)
     (loads least zeros : List ℕ) : Type 0 where
   pub valid : AreRanges p ranges
-  pub few_units : unit_count p ≤ 4096
+  pub few_units : unit_count p ≤ MOST_UNITS
   pub units : (u : ℕ) → u < unit_count p → IsChooser (chooser_at p u)
   pub cheapest : IsCheapest p ranges alts
   pub choice : IsChoice p alts

@@ -1,6 +1,7 @@
 //! The greedy start.
 
 ghost use Rattle.std.specs.Prelude.{◌≡◌, ℕ, ◌+◌, ◌*◌, ◌<◌, ◌≤◌, List, [], length, slice_index, true, IfOk, IfSome, IfNone, IsTrue, ◌⊎◌};
+ghost use Rattle.choice_problem.specs.declared.problems.TheConstants.{MOST_USES};
 ghost use Rattle.std.specs.Option.{ForSome, option_map};
 ghost use Rattle.choice_problem.specs.Problems.{unit_count, alt_count, alt_uses, resource_count, limit_of};
 ghost use Rattle.choice_problem.specs.Choices.{IsFeasible, choice_cost};
@@ -57,12 +58,12 @@ fn choose_all(problem: &Problem, counts: &mut Counts, alts: &mut Vec<u32>) -> Re
 fn place_cheapest(problem: &Problem, unit: u32, counts: &mut Counts) -> Option<u32>
     requires unit { unit < unit_count problem.now }
     requires counts { KeepsLimits problem.now counts.old }
-    requires room { HasRoom counts.old (λ _. 434) }
+    requires room { HasRoom counts.old (λ _. MOST_USES) }
     ensures length { length counts.new ≡ length counts.old }
     ensures some { IfSome result (IsGreedyAlt problem.now (λ r. slice_index counts.old r) unit) }
     ensures placed { IfSome result (λ alt. GrowsBy counts.old counts.new
         (λ r. alt_uses problem.now unit alt r)) }
-    ensures few { IfSome result (λ alt. (r : ℕ) → alt_uses problem.now unit alt r ≤ 434) }
+    ensures few { IfSome result (λ alt. (r : ℕ) → alt_uses problem.now unit alt r ≤ MOST_USES) }
     ensures none { IfNone result ((a : ℕ) → a < alt_count problem.now unit →
         FitsOn problem.now (λ r. slice_index counts.old r) unit a → ⊥) }
 {

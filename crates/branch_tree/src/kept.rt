@@ -1,6 +1,7 @@
 //! What a walk keeps of its ranges.
 
 ghost use Rattle.std.specs.Prelude.{◌≡◌, ◌↔◌, ℕ, ◌+◌, ◌^◌, ◌<◌, ◌≤◌, length, slice_index, slice_set, IfOk, OnOk, IsTrue};
+ghost use Rattle.choice_problem.specs.declared.problems.TheConstants.{MOST_USES};
 ghost use Rattle.finite_sums.specs.Sums.{least_within, IsFirstLeast};
 ghost use Rattle.choice_problem.specs.Problems.{IsChooser, unit_count, alt_count, alt_cost, alt_uses, resource_count, chooser_at};
 ghost use Rattle.choice_problem.specs.Choices.{IsChoice, choice_cost, load_of};
@@ -56,7 +57,7 @@ pub(crate) fn move_least(least: &mut [u32], was: &[u32], now: &[u32])
     requires now_within { AreWithin (length least.old) now.now }
     requires held { (r : ℕ) → r < length least.old → times_in was.now r ≤ slice_index least.old r }
     requires few { (r : ℕ) → r < length least.old → slice_index least.old r < 2 ^ 31 }
-    requires more { (r : ℕ) → r < length least.old → times_in now.now r ≤ 434 }
+    requires more { (r : ℕ) → r < length least.old → times_in now.now r ≤ MOST_USES }
     ensures { (r : ℕ) → r < length least.old → slice_index least.new r + times_in was.now r
         ≡ slice_index least.old r + times_in now.now r }
 {

@@ -1,6 +1,7 @@
 //! The resources that a unit uses whatever it takes of a range.
 
 ghost use Rattle.std.specs.Prelude.{◌≡◌, ℕ, ◌<◌, ◌≤◌, min, length, IfOk};
+ghost use Rattle.choice_problem.specs.declared.problems.TheConstants.{MOST_USES};
 ghost use Rattle.finite_sums.specs.Sums.{least_within};
 ghost use Rattle.choice_problem.specs.Problems.{unit_count, alt_count, alt_uses, resource_count};
 ghost use Rattle.branch_tree.specs.Lists.{times_in, AreWithin};
@@ -34,7 +35,7 @@ pub(crate) fn least_list(
         ≡ least_within low high (λ a. alt_uses problem.now unit a r)) }
     ensures within { IfOk result (λ list. AreWithin (resource_count problem.now) list.items) }
     ensures same { zeros.new ≡ zeros.old }
-    ensures few { (r : ℕ) → least_within low high (λ a. alt_uses problem.now unit a r) ≤ 434 }
+    ensures few { (r : ℕ) → least_within low high (λ a. alt_uses problem.now unit a r) ≤ MOST_USES }
 {
     let mut list = uses_list(alloc, problem, unit, low)?;
     if low == high {

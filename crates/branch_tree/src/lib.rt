@@ -11,6 +11,7 @@ mod kept;
 mod laws;
 mod least_uses;
 mod listing;
+mod plain;
 mod rows;
 mod tallies;
 mod visits;
@@ -19,10 +20,6 @@ mod walks;
 pub use answers::Visit;
 pub use greedy_start::greedy;
 pub use laws::visited_nodes;
+pub use plain::plain_visit;
 pub use visits::visit;
 pub use walks::Walk;
-
-#[cfg(test)]
-mod plain;
-#[cfg(test)]
-mod tests;

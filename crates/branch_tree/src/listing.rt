@@ -1,6 +1,7 @@
 //! The resources that an alternative uses, as a list.
 
 ghost use Rattle.std.specs.Prelude.{◌≡◌, ℕ, ◌+◌, ◌^◌, ◌<◌, ◌≤◌, length, IfOk, OnOk};
+ghost use Rattle.choice_problem.specs.declared.problems.TheConstants.{MOST_USES};
 ghost use Rattle.std.specs.Option.{ForSome};
 ghost use Rattle.choice_problem.specs.Problems.{unit_count, alt_count, part_count, alt_uses, named_uses, chooser_at, resource_count};
 ghost use Rattle.choice_problem.specs.Strips.{run_start, strip_uses, part_uses, IsStripInRange, IsPartInRange};
@@ -24,7 +25,7 @@ pub(crate) fn uses_list(
     ensures listed { IfOk result (λ list. (r : ℕ) → times_in list.items r
         ≡ alt_uses problem.now unit alt r) }
     ensures within { IfOk result (λ list. AreWithin (resource_count problem.now) list.items) }
-    ensures few { (r : ℕ) → alt_uses problem.now unit alt r ≤ 434 }
+    ensures few { (r : ℕ) → alt_uses problem.now unit alt r ≤ MOST_USES }
     ensures alts { alt_count problem.now unit < 2 ^ 32 }
 {
     let chosen = problem.unit_alts(unit)[alt as usize];
@@ -46,7 +47,7 @@ pub(crate) fn first_list(
     ensures listed { IfOk result (λ list. (r : ℕ) → times_in list.items r
         ≡ one_uses problem.now unit alt r) }
     ensures within { IfOk result (λ list. AreWithin (resource_count problem.now) list.items) }
-    ensures few { (r : ℕ) → alt_uses problem.now unit alt r ≤ 434 }
+    ensures few { (r : ℕ) → alt_uses problem.now unit alt r ≤ MOST_USES }
 {
     let chosen = problem.unit_alts(unit)[alt as usize];
     let mut list = Vec::new(alloc);
@@ -66,7 +67,7 @@ pub(crate) fn second_list(
     ensures listed { IfOk result (λ list. (r : ℕ) → times_in list.items r
         ≡ two_uses problem.now unit alt r) }
     ensures within { IfOk result (λ list. AreWithin (resource_count problem.now) list.items) }
-    ensures few { (r : ℕ) → alt_uses problem.now unit alt r ≤ 434 }
+    ensures few { (r : ℕ) → alt_uses problem.now unit alt r ≤ MOST_USES }
 {
     let chosen = problem.unit_alts(unit)[alt as usize];
     let mut list = Vec::new(alloc);

@@ -1,4 +1,4 @@
-//! A visit of ranges by the definitions alone, for tests beside `visit`.
+//! A visit of ranges by the definitions alone.
 
 ghost use Rattle.std.specs.Prelude.{◌<◌, [], IfOk, IfSome, IfNone, ℕ};
 ghost use Rattle.choice_problem.specs.Problems.{resource_count};
@@ -18,8 +18,9 @@ use price_table::PriceTable;
 use slot_text::Memory;
 use std::alloc::Global;
 
-// The answer of `visit`, where each resource and each alternative in range is asked anew.
-pub(crate) fn plain_visit(
+/// The answer of `visit`, where each resource and each alternative in range is asked anew: the plain form, with which
+/// tests compare what `visit` and a walk answer.
+pub fn plain_visit(
     alloc: Global,
     problem: &Problem,
     ranges: &Ranges,

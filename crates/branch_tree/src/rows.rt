@@ -1,6 +1,7 @@
 //! Rows of alternatives: those one after the other that name the same first part.
 
 ghost use Rattle.std.specs.Prelude.{◌≡◌, ℕ, ◌-◌, ◌<◌, ◌≤◌, length, IfOk, OnOk, IsTrue};
+ghost use Rattle.choice_problem.specs.declared.problems.TheConstants.{MOST_USES};
 ghost use Rattle.finite_sums.specs.Sums.{least_within};
 ghost use Rattle.choice_problem.specs.Problems.{unit_count, alt_count, alt_uses, resource_count};
 ghost use Rattle.branch_tree.specs.Lists.{times_in, AreWithin};
@@ -180,7 +181,7 @@ pub(crate) fn row_list(
     ensures least { IfOk result (λ list. (r : ℕ) → times_in list.items r
         ≡ least_within row.first row.last (λ a. alt_uses problem.now unit a r)) }
     ensures within { IfOk result (λ list. AreWithin (resource_count problem.now) list.items) }
-    ensures few { (r : ℕ) → alt_uses problem.now unit row.last r ≤ 434 }
+    ensures few { (r : ℕ) → alt_uses problem.now unit row.last r ≤ MOST_USES }
 {
     let mut list = first_list(alloc, problem, unit, row.last)?;
     list.extend_from_slice(twos)?;

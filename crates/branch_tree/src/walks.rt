@@ -48,8 +48,10 @@ impl<'a> Model for Walk<'a> {
 
 impl<'a> Walk<'a> {
     ghost use Rattle.std.specs.Prelude.{◌≡◌, ◌<◌, ◌≤◌, ℕ, List, [], ◌∷◌, All, length, slice_set, IfOk, IfSome, IfNone, OnOk, OnErr};
+    ghost use Rattle.choice_problem.specs.declared.vectors.TheConstants.{MOST_FURTHER};
     ghost use Rattle.choice_problem.specs.Problems.{unit_count, alt_count};
     ghost use Rattle.choice_problem.specs.Bounds.{AreRanges};
+    ghost use Rattle.choice_problem.specs.Renumbered.{NamesUpTo};
     ghost use Rattle.price_table.specs.Tables.{IsTableFor, vectors_of};
     ghost use Rattle.price_table.specs.Totals.{AreKeptFor};
     ghost use Rattle.choice_problem.specs.declared.vectors.Price.{Price};
@@ -118,7 +120,7 @@ impl<'a> Walk<'a> {
         requires problem { problem.now ≡ self.now.problem }
         requires root { IsTableFor problem.now root.now }
         requires further { All (IsTableFor problem.now) further.now }
-        requires few { length further.now ≤ 63 }
+        requires few { length further.now ≤ MOST_FURTHER }
         ensures { IfOk result (IsVisit problem.now root.now.prices (vectors_of further.now)
             self.now.ranges seen) }
     {
@@ -135,6 +137,7 @@ impl<'a> Walk<'a> {
         requires problem { problem.now ≡ self.now.problem }
         ensures some { IfSome result (λ leaf. (root : List Price) (further : List (List Price)) →
             ClosesBy problem.now root further self.now.ranges seen leaf) }
+        ensures zero { IfSome result (NamesUpTo 0) }
         ensures none { IfNone result (NeedsPrices problem.now self.now.ranges seen) }
     {
         if let Some(resource) = first_over(problem, &self.ranges, &self.least) {
@@ -159,7 +162,7 @@ impl<'a> Walk<'a> {
         requires problem { problem.now ≡ self.now.problem }
         requires root { IsTableFor problem.now root.now }
         requires further { All (IsTableFor problem.now) further.now }
-        requires few { length further.now ≤ 63 }
+        requires few { length further.now ≤ MOST_FURTHER }
         requires needs { NeedsPrices problem.now self.now.ranges seen }
         ensures { IfOk result (IsVisit problem.now root.now.prices (vectors_of further.now)
             self.now.ranges seen) }
@@ -184,7 +187,7 @@ impl<'a> Walk<'a> {
         seen: Option<u64>,
     ) -> Result<Visit, Memory>
         requires problem { problem.now ≡ self.now.problem }
-        requires few { length further.now ≤ 63 }
+        requires few { length further.now ≤ MOST_FURTHER }
         requires kept { AreKeptFor problem.now (root.now.prices ∷ vectors_of further.now)
             self.now.ranges totals.now }
         ensures { IfOk result (IsVisit problem.now root.now.prices (vectors_of further.now)

@@ -1,6 +1,8 @@
 -- The root vector: prices by subgradient steps from zero (Held, Wolfe and Crowder 1974), 64 steps of falling length, of
 -- which the vector with the greatest bound is kept.
 use Rattle.std.specs.Prelude.{◌≡◌, ℕ, zero, suc, ◌+◌, ◌-◌, ◌*◌, ◌/◌, ◌^◌, ◌<◌, ◌≤◌, ◌==◌, if◌then◌else◌, List, [], ◌∷◌, ◌++◌, pos, ◌<ℤ◌, ◌≤ℤ◌}
+use Rattle.choice_problem.specs.declared.closing.TheConstants.{PRICED_SCALE}
+use Rattle.choice_problem.specs.declared.vectors.TheConstants.{ROOT_STEPS}
 use Rattle.choice_problem.specs.declared.vectors.Price.{Price}
 use Rattle.finite_sums.specs.Sums.{sum_below, first_least}
 use Rattle.choice_problem.specs.Problems.{ProblemView, unit_count, resource_count, alt_uses, limit_of}
@@ -17,7 +19,7 @@ vector_of (suc n) prices =
 abbrev pub priced_alt : ProblemView → List (ℕ × ℕ) → (ℕ → ℕ) → ℕ → ℕ
 priced_alt p ranges prices u =
     first_least (low_of ranges u) (high_of ranges u)
-    (λ a. priced_cost p (vector_of (resource_count p) prices) 1024 u a)
+    (λ a. priced_cost p (vector_of (resource_count p) prices) PRICED_SCALE u a)
 
 -- how often these alternatives together use the resource
 abbrev pub priced_load : ProblemView → List (ℕ × ℕ) → (ℕ → ℕ) → ℕ → ℕ
@@ -43,12 +45,12 @@ step_vector p ranges step = vector_of (resource_count p) (λ r. price_after p ra
 pub record IsNodeVector (p : ProblemView) (ranges : List (ℕ × ℕ))
     (prices : List Price) : Type 0 where
   pub step : ℕ
-  pub counted : step ≤ 64
+  pub counted : step ≤ ROOT_STEPS
   pub prices_are : prices ≡ step_vector p ranges step
-  pub greatest : (k : ℕ) → k ≤ 64 → bound_of p ranges (step_vector p ranges k) 1024
-      ≤ℤ bound_of p ranges (step_vector p ranges step) 1024
-  pub first : (k : ℕ) → k < step → bound_of p ranges (step_vector p ranges k) 1024
-      <ℤ bound_of p ranges (step_vector p ranges step) 1024
+  pub greatest : (k : ℕ) → k ≤ ROOT_STEPS → bound_of p ranges (step_vector p ranges k) PRICED_SCALE
+      ≤ℤ bound_of p ranges (step_vector p ranges step) PRICED_SCALE
+  pub first : (k : ℕ) → k < step → bound_of p ranges (step_vector p ranges k) PRICED_SCALE
+      <ℤ bound_of p ranges (step_vector p ranges step) PRICED_SCALE
 
 -- the same on all alternatives
 abbrev pub IsRootVector : ProblemView → List Price → Type 0

@@ -1,5 +1,6 @@
 -- Where a search splits ranges, and which ranges it splits.
 use Rattle.std.specs.Prelude.{◌≡◌, ℕ, ◌+◌, ◌<◌, ◌≤◌, List, [], length, slice_index, nat_lt, if◌then◌else◌, Option}
+use Rattle.choice_problem.specs.declared.closing.TheConstants.{PRICED_SCALE}
 use Rattle.choice_problem.specs.declared.vectors.Price.{Price}
 use Rattle.finite_sums.specs.Sums.{least_within, IsFirstLeast}
 use Rattle.choice_problem.specs.Problems.{ProblemView, unit_count, resource_count, alt_cost, alt_uses}
@@ -27,7 +28,7 @@ pub record StaysOpen (p : ProblemView) (root : List Price) (ranges : List (ℕ �
     (seen : Option ℕ) : Type 0 where
   pub none_over : (r : ℕ) → r < resource_count p → IsOver p ranges r → ⊥
   pub no_zero : Closes p ranges [] 1 seen → ⊥
-  pub no_root : Closes p ranges root 1024 seen → ⊥
+  pub no_root : Closes p ranges root PRICED_SCALE seen → ⊥
 
 -- the least uses of a resource by a unit in its range
 abbrev pub least_uses : ProblemView → List (ℕ × ℕ) → ℕ → ℕ → ℕ

@@ -24,6 +24,9 @@ use crate::vectors::Vector;
 /// What the scale of a bound stays below.
 pub const SCALE_BOUND: u64 = 1 << 20;
 
+/// The scale at which a search takes its bounds with prices, so that a price is given to 1/1024 of a cost.
+pub const PRICED_SCALE: u64 = 1_024;
+
 /// Whether even the least load of a resource passes its limit.
 pub fn over_closes(problem: &Problem, ranges: &Ranges, resource: u32) -> bool
     requires ranges { AreRanges problem.now ranges.now }

@@ -1,6 +1,7 @@
 //! Laws of closed ranges, of trees, and of what trees prove. The functions do nothing; their contracts are the laws.
 
 ghost use Rattle.std.specs.Prelude.{◌≡◌, ◌↔◌, ℕ, ◌+◌, ◌*◌, ◌/◌, ◌<◌, ◌≤◌, ◌^◌, List, length, slice_set, Option, Some, None, All, map, [], ◌∷◌, ◌++◌, count_by, ◌==◌};
+ghost use Rattle.choice_problem.specs.declared.vectors.TheConstants.{ROOT_STEPS};
 ghost use Rattle.choice_problem.specs.declared.problems.TheConstants.{MOST_UNITS, MOST_USES};
 ghost use Rattle.choice_problem.specs.declared.strips.Strip.{Strip};
 ghost use Rattle.finite_sums.specs.Sums.{sum_below};
@@ -81,7 +82,7 @@ pub fn price_vectors()
     ensures valid { (p : ProblemView) (prices : ℕ → ℕ) →
         ((r : ℕ) → r < resource_count p → prices r < 2 ^ 40) →
         IsVector p (vector_of (resource_count p) prices) }
-    ensures steps { (n : ℕ) → n ≤ 64 → sum_below n step_length ≤ 261120 }
+    ensures steps { (n : ℕ) → n ≤ ROOT_STEPS → sum_below n step_length ≤ 261120 }
 {}
 
 /// What closed ranges say of the feasible choices within them, by weak Lagrangian duality. What closes for none closes

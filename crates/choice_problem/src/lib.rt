@@ -19,7 +19,9 @@ mod vectors;
 mod walks;
 
 pub use choices::{Choice, cost_of, first_above, first_above_limit, first_passed, fits};
-pub use closing::{SCALE_BOUND, bound_passes, leaf_closes, least_uses, over_closes, priced_limits};
+pub use closing::{
+    PRICED_SCALE, SCALE_BOUND, bound_passes, leaf_closes, least_uses, over_closes, priced_limits,
+};
 pub use laws::{
     alike_problems, closed_ranges, closing_numbers, driven_tree, few_uses, fewer_vectors,
     floored_tree, joined_trees, node_vector_exists, part_ranges, price_vectors, renumbered_vectors,
@@ -31,10 +33,5 @@ pub use problems::{
 };
 pub use spans::Ranges;
 pub use strips::{Part, Strip};
-pub use vectors::{HIGHEST_PRICE, Price, Vector, VectorList};
+pub use vectors::{HIGHEST_PRICE, MOST_FURTHER, Price, ROOT_STEPS, Vector, VectorList};
 pub use walks::{RangeWalk, open_pieces};
-
-#[cfg(test)]
-mod closing_tests;
-#[cfg(test)]
-mod tests;

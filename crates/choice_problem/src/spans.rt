@@ -37,8 +37,8 @@ impl Ranges {
         Ok(Ranges { spans })
     }
 
-    // How many units have a range.
-    pub(crate) fn len(&self) -> usize
+    /// How many units have a range.
+    pub fn len(&self) -> usize
         ensures { result ≡ length self.now }
     {
         self.spans.len()

@@ -9,6 +9,12 @@ use std::marker::Model;
 /// The highest price that a vector for a problem may have.
 pub const HIGHEST_PRICE: i64 = (1 << 40) - 1;
 
+/// How many subgradient steps a root vector takes.
+pub const ROOT_STEPS: u32 = 64;
+
+/// The most vectors that a search takes beside its root vector.
+pub const MOST_FURTHER: usize = 63;
+
 /// The price of one use of a resource.
 #[derive(Clone, Copy, Debug, PartialEq, Eq)]
 pub struct Price {

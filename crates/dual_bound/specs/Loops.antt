@@ -1,5 +1,7 @@
 -- Forms of loops: contracts of private functions alone cite them.
 use Rattle.std.specs.Prelude.{◌≡◌, ℕ, ◌+◌, ◌-◌, ◌*◌, ◌<◌, ◌≤◌, ◌^◌, min, List, length, slice_index, ℤ, ◌≤ℤ◌, ◌<ℤ◌}
+use Rattle.choice_problem.specs.declared.closing.TheConstants.{PRICED_SCALE}
+use Rattle.choice_problem.specs.declared.problems.TheConstants.{MOST_UNITS, MOST_USES}
 use Rattle.choice_problem.specs.declared.vectors.Price.{Price}
 use Rattle.finite_sums.specs.Sums.{sum_below}
 use Rattle.choice_problem.specs.Problems.{ProblemView, unit_count, resource_count, alt_uses, limit_of}
@@ -23,7 +25,7 @@ pub record IsPoint (p : ProblemView) (ranges : List (ℕ × ℕ)) (scale : ℕ) 
   pub load_count : length loads ≡ resource_count p
   pub loads_are : (r : ℕ) → r < resource_count p → slice_index loads r
       ≡ least_alt_load p ranges (vector_in p numbers) scale (unit_count p) r
-  pub few : (r : ℕ) → r < resource_count p → slice_index loads r ≤ 4096 * 434
+  pub few : (r : ℕ) → r < resource_count p → slice_index loads r ≤ MOST_UNITS * MOST_USES
   pub bound_is : bound ≡ bound_of p ranges (vector_in p numbers) scale
 
 -- each price moved by a step of this length, and kept from 0 to 2 ^ 40 - 1
@@ -40,7 +42,7 @@ pub record IsAfter (p : ProblemView) (ranges : List (ℕ × ℕ)) (step : ℕ)
   pub prices_are : (r : ℕ) → r < resource_count p → slice_index numbers r
       ≡ price_after p ranges step r
   pub top : (r : ℕ) → r < resource_count p → slice_index numbers r
-      ≤ sum_below step step_length * (4096 * 434)
+      ≤ sum_below step step_length * (MOST_UNITS * MOST_USES)
 
 -- of the prices after 0 to n steps, the first with the greatest bound
 pub record IsGreatestUpTo (p : ProblemView) (ranges : List (ℕ × ℕ)) (n : ℕ) (numbers : List ℕ)
@@ -50,6 +52,6 @@ pub record IsGreatestUpTo (p : ProblemView) (ranges : List (ℕ × ℕ)) (n : �
   pub prices : ArePrices p numbers
   pub prices_are : (r : ℕ) → r < resource_count p → slice_index numbers r
       ≡ price_after p ranges step r
-  pub bound_is : bound ≡ bound_of p ranges (step_vector p ranges step) 1024
-  pub greatest : (k : ℕ) → k ≤ n → bound_of p ranges (step_vector p ranges k) 1024 ≤ℤ bound
-  pub first : (k : ℕ) → k < step → bound_of p ranges (step_vector p ranges k) 1024 <ℤ bound
+  pub bound_is : bound ≡ bound_of p ranges (step_vector p ranges step) PRICED_SCALE
+  pub greatest : (k : ℕ) → k ≤ n → bound_of p ranges (step_vector p ranges k) PRICED_SCALE ≤ℤ bound
+  pub first : (k : ℕ) → k < step → bound_of p ranges (step_vector p ranges k) PRICED_SCALE <ℤ bound

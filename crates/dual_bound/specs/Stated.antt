@@ -1,5 +1,6 @@
 -- Floors of ranges: whole numbers of cost that no feasible choice within them is below.
 use Rattle.std.specs.Prelude.{◌≡◌, ℕ, zero, suc, ◌+◌, ◌-◌, ◌/◌, ◌^◌, ◌<◌, ◌≤◌, min, ℤ, pos, negsuc, List, [], length}
+use Rattle.choice_problem.specs.declared.closing.TheConstants.{PRICED_SCALE}
 use Rattle.choice_problem.specs.declared.vectors.Price.{Price}
 use Rattle.choice_problem.specs.Problems.{ProblemView}
 use Rattle.choice_problem.specs.Bounds.{least_total, bound_of}
@@ -11,11 +12,11 @@ zero_floor p ranges = least_total p ranges [] 1
 
 -- the least whole number that is at least a bound at scale 1024 divided by 1024; 0 below 0, and at most what 64 bits hold
 abbrev pub rounded_up : ℤ → ℕ
-rounded_up (pos bound) = min ((bound + 1023) / 1024) (2 ^ 64 - 1)
+rounded_up (pos bound) = min ((bound + 1023) / PRICED_SCALE) (2 ^ 64 - 1)
 rounded_up (negsuc bound) = 0
 
 abbrev pub priced_floor : ProblemView → List (ℕ × ℕ) → List Price → ℕ
-priced_floor p ranges prices = rounded_up (bound_of p ranges prices 1024)
+priced_floor p ranges prices = rounded_up (bound_of p ranges prices PRICED_SCALE)
 
 -- the floor by the vector of a number: vector 0, without prices, at scale 1, and the listed ones after it at scale 1024
 abbrev pub floor_by : ProblemView → List (ℕ × ℕ) → List (List Price) → ℕ → ℕ
@@ -24,7 +25,7 @@ floor_by p ranges vectors (suc k) = priced_floor p ranges (vector_at vectors (su
 
 abbrev pub scale_at : ℕ → ℕ
 scale_at zero = 1
-scale_at (suc k) = 1024
+scale_at (suc k) = PRICED_SCALE
 
 -- the greatest floor by vector 0 and the first n listed ones, and the lowest vector that gives it
 pub record IsFloorBy (p : ProblemView) (ranges : List (ℕ × ℕ)) (vectors : List (List Price))

@@ -1,6 +1,8 @@
 //! The floor of ranges: a cost below which they have no feasible choice.
 
-ghost use Rattle.std.specs.Prelude.{◌≡◌, ◌^◌, ◌<◌, ◌≤◌, length, All, Some, []};
+ghost use Rattle.std.specs.Prelude.{◌+◌, ◌≡◌, ◌^◌, ◌<◌, ◌≤◌, length, All, Some, []};
+ghost use Rattle.choice_problem.specs.declared.closing.TheConstants.{PRICED_SCALE};
+ghost use Rattle.choice_problem.specs.declared.vectors.TheConstants.{MOST_FURTHER};
 ghost use Rattle.finite_sums.specs.Sums.{least_within};
 ghost use Rattle.choice_problem.specs.Problems.{unit_count, alt_count};
 ghost use Rattle.choice_problem.specs.Bounds.{AreRanges, Closes, priced_cost};
@@ -8,7 +10,7 @@ ghost use Rattle.choice_problem.specs.Trees.{LeafHolds};
 ghost use Rattle.price_table.specs.Tables.{IsTableFor, vectors_of};
 ghost use Rattle.dual_bound.specs.Stated.{IsStatedFloor, IsFloorBy, scale_at, zero_floor, rounded_up, priced_floor};
 
-use choice_problem::{Problem, Ranges};
+use choice_problem::{PRICED_SCALE, Problem, Ranges};
 use price_table::{PriceTable, bound};
 
 /// A cost, and the number of the vector whose bound shows that no feasible choice costs less: 0 is the vector without
@@ -26,7 +28,7 @@ pub struct StatedFloor {
 pub fn floor_of(problem: &Problem, ranges: &Ranges, tables: &[PriceTable]) -> StatedFloor
     requires ranges { AreRanges problem.now ranges.now }
     requires tables { All (IsTableFor problem.now) tables.now }
-    requires few { length tables.now ≤ 64 }
+    requires few { length tables.now ≤ MOST_FURTHER + 1 }
     ensures floor { IsStatedFloor problem.now ranges.now (vectors_of tables.now) result.cost
         result.vector }
     ensures closes { LeafHolds problem.now (vectors_of tables.now) (Some result.cost) ranges.now
@@ -51,13 +53,11 @@ fn priced_floor(problem: &Problem, ranges: &Ranges, table: &PriceTable) -> u64
     requires ranges { AreRanges problem.now ranges.now }
     requires table { IsTableFor problem.now table.now }
     ensures value { result ≡ priced_floor problem.now ranges.now table.now.prices }
-    ensures closes { 0 < result → Closes problem.now ranges.now table.now.prices 1024 (Some result) }
+    ensures closes { 0 < result →
+        Closes problem.now ranges.now table.now.prices PRICED_SCALE (Some result) }
 {
-    rounded_up(bound(problem, ranges, table, SCALE))
+    rounded_up(bound(problem, ranges, table, PRICED_SCALE))
 }
-
-// The scale of all vectors with prices.
-const SCALE: u64 = 1024;
 
 // The least whole number that is at least a bound at scale 1024 divided by 1024, within 64 bits, or 0 below 0.
 fn rounded_up(bound: i128) -> u64
@@ -66,7 +66,7 @@ fn rounded_up(bound: i128) -> u64
     if bound <= 0 {
         return 0;
     }
-    let whole = (bound as u128 + 1023) / 1024;
+    let whole = (bound as u128 + 1023) / u128::from(PRICED_SCALE);
     whole.min(u128::from(u64::MAX)) as u64
 }
 

@@ -5,7 +5,7 @@ ghost use Rattle.choice_problem.specs.Bounds.{AreRanges, IsVector};
 
 use crate::momentum::follow;
 use crate::points::{better, evaluate, first_best, move_prices, start, vector_in};
-use choice_problem::{Problem, Ranges, Vector};
+use choice_problem::{PRICED_SCALE, Problem, Ranges, Vector};
 use slot_text::Memory;
 use std::alloc::Global;
 
@@ -21,13 +21,13 @@ pub fn polished_vector(
     requires { AreRanges problem.now ranges.now }
     ensures { IfOk result (λ vector. IsVector problem.now vector) }
 {
-    let mut here = start(alloc, problem, ranges, 1024)?;
+    let mut here = start(alloc, problem, ranges, PRICED_SCALE)?;
     let mut best = first_best(alloc, &here)?;
     let mut means = vec![in alloc; 0; problem.resources() as usize]?;
     for step in 0..steps {
         let size = length_at(step, steps, 21) as i64;
         let prices = follow(alloc, problem, &here, &mut means, size, step)?;
-        here = evaluate(alloc, problem, ranges, prices, 1024)?;
+        here = evaluate(alloc, problem, ranges, prices, PRICED_SCALE)?;
         best = better(alloc, best, &here)?;
     }
     vector_in(alloc, problem, &best.prices)

@@ -15,6 +15,3 @@ mod roots;
 pub use floors::{StatedFloor, floor_of};
 pub use further::{infeasibility_vector, polished_vector};
 pub use roots::{node_vector, root_vector};
-
-#[cfg(test)]
-mod tests;

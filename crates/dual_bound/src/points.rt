@@ -1,6 +1,8 @@
 //! Points of subgradient runs: prices of all resources, and the bound there.
 
 ghost use Rattle.std.specs.Prelude.{◌≡◌, ℕ, ◌+◌, ◌*◌, ◌^◌, ◌<◌, ◌≤◌, IfOk, List, length, slice_index, pos, ◌-ℤ◌};
+ghost use Rattle.choice_problem.specs.declared.closing.TheConstants.{PRICED_SCALE, SCALE_BOUND};
+ghost use Rattle.choice_problem.specs.declared.problems.TheConstants.{MOST_UNITS, MOST_USES};
 ghost use Rattle.choice_problem.specs.declared.vectors.Price.{Price};
 ghost use Rattle.choice_problem.specs.Counts.{GrowsBy, HasRoom};
 ghost use Rattle.choice_problem.specs.Problems.{ProblemView, unit_count, resource_count, alt_uses, limit_of};
@@ -46,7 +48,7 @@ pub(crate) fn first_best(alloc: Global, here: &Point) -> Result<Best, Memory>
 // The best prices, or those of a point whose bound is greater.
 pub(crate) fn better(alloc: Global, best: Best, here: &Point) -> Result<Best, Memory>
     ensures greatest { IfOk result (λ better. (p : ProblemView) (ranges : List (ℕ × ℕ)) (n : ℕ) →
-        IsPoint p ranges 1024 here.now.prices.items here.now.loads.items here.now.bound →
+        IsPoint p ranges PRICED_SCALE here.now.prices.items here.now.loads.items here.now.bound →
         IsAfter p ranges (n + 1) here.now.prices.items →
         IsGreatestUpTo p ranges n best.prices.items best.bound →
         IsGreatestUpTo p ranges (n + 1) better.prices.items better.bound) }
@@ -69,7 +71,7 @@ pub(crate) fn start(
     scale: u64,
 ) -> Result<Point, Memory>
     requires ranges { AreRanges problem.now ranges.now }
-    requires scale { scale < 2 ^ 20 }
+    requires scale { scale < SCALE_BOUND }
     ensures point { IfOk result (λ point. IsPoint problem.now ranges.now scale point.prices.items
         point.loads.items point.bound) }
     ensures free { IfOk result (λ point. (r : ℕ) → r < resource_count problem.now →
@@ -89,7 +91,7 @@ pub(crate) fn evaluate(
 ) -> Result<Point, Memory>
     requires ranges { AreRanges problem.now ranges.now }
     requires prices { ArePrices problem.now prices.items }
-    requires scale { scale < 2 ^ 20 }
+    requires scale { scale < SCALE_BOUND }
     ensures point { IfOk result (λ point. IsPoint problem.now ranges.now scale point.prices.items
         point.loads.items point.bound) }
     ensures same { IfOk result (λ point. point.prices.items ≡ prices.items) }
@@ -142,7 +144,7 @@ fn take_least(
     requires ranges { AreRanges problem.now ranges.now }
     requires priced { (prices : List Price) × IsPricedBy problem.now prices strips.old }
     requires sums { length strips.old ≡ resource_count problem.now + 1 }
-    requires scale { scale < 2 ^ 20 }
+    requires scale { scale < SCALE_BOUND }
     requires count { length loads.old ≡ resource_count problem.now }
     requires empty { (r : ℕ) → r < length loads.old → slice_index loads.old r ≡ 0 }
     ensures total { IfOk result (λ total. (prices : List Price) →
@@ -153,7 +155,7 @@ fn take_least(
         slice_index loads.new r ≡ least_alt_load problem.now ranges.now prices scale
         (unit_count problem.now) r) }
     ensures few { IfOk result (λ _. (r : ℕ) → r < length loads.old → slice_index loads.new r
-        ≤ 4096 * 434) }
+        ≤ MOST_UNITS * MOST_USES) }
     ensures small { IfOk result (λ total. total < 2 ^ 126) }
     ensures same { strips.new ≡ strips.old }
 {
@@ -178,9 +180,9 @@ fn take_unit(
     requires unit { unit < unit_count problem.now }
     requires priced { (prices : List Price) × IsPricedBy problem.now prices strips.old }
     requires sums { length strips.old ≡ resource_count problem.now + 1 }
-    requires scale { scale < 2 ^ 20 }
+    requires scale { scale < SCALE_BOUND }
     requires count { length loads.old ≡ resource_count problem.now }
-    requires room { HasRoom loads.old (λ _. 434) }
+    requires room { HasRoom loads.old (λ _. MOST_USES) }
     ensures cost { IfOk result (λ cost. (prices : List Price) →
         IsPricedBy problem.now prices strips.old →
         cost ≡ unit_least problem.now ranges.now prices scale unit) }
@@ -189,7 +191,7 @@ fn take_unit(
         GrowsBy loads.old loads.new (λ r. alt_uses problem.now unit
         (least_alt problem.now ranges.now prices scale unit) r)) }
     ensures few { IfOk result (λ _. (r : ℕ) → r < length loads.old → slice_index loads.new r
-        ≤ slice_index loads.old r + 434) }
+        ≤ slice_index loads.old r + MOST_USES) }
     ensures small { IfOk result (λ cost. cost < 2 ^ 101) }
     ensures same { strips.new ≡ strips.old }
 {

@@ -1,11 +1,12 @@
 //! The vectors that a problem determines: subgradient runs of 64 steps.
 
 ghost use Rattle.std.specs.Prelude.{◌≡◌, ◌/◌, ◌^◌, ◌<◌, IfOk};
+ghost use Rattle.choice_problem.specs.declared.vectors.TheConstants.{ROOT_STEPS};
 ghost use Rattle.choice_problem.specs.Bounds.{AreRanges, IsVector};
 ghost use Rattle.choice_problem.specs.Roots.{IsNodeVector, IsRootVector, step_length};
 
 use crate::points::{better, evaluate, first_best, move_prices, start, vector_in};
-use choice_problem::{Problem, Ranges, Vector, price_vectors};
+use choice_problem::{PRICED_SCALE, Problem, ROOT_STEPS, Ranges, Vector, price_vectors};
 use slot_text::Memory;
 use std::alloc::Global;
 
@@ -28,12 +29,12 @@ pub fn node_vector(alloc: Global, problem: &Problem, ranges: &Ranges) -> Result<
     ensures prices { IfOk result (λ vector. IsVector problem.now vector) }
 {
     price_vectors();
-    let mut here = start(alloc, problem, ranges, 1024)?;
+    let mut here = start(alloc, problem, ranges, PRICED_SCALE)?;
     let mut best = first_best(alloc, &here)?;
-    for step in 0..64 {
+    for step in 0..ROOT_STEPS {
         let length = step_length(step);
         let prices = move_prices(alloc, problem, &here.prices, &here.loads, length)?;
-        here = evaluate(alloc, problem, ranges, prices, 1024)?;
+        here = evaluate(alloc, problem, ranges, prices, PRICED_SCALE)?;
         best = better(alloc, best, &here)?;
     }
     vector_in(alloc, problem, &best.prices)
@@ -41,7 +42,7 @@ pub fn node_vector(alloc: Global, problem: &Problem, ranges: &Ranges) -> Result<
 
 // How far a step moves a price for each use above or below the limit.
 fn step_length(step: u32) -> u64
-    requires { step < 64 }
+    requires { step < ROOT_STEPS }
     ensures { result ≡ step_length step }
 {
     16384 >> (step / 8)

@@ -1,5 +1,6 @@
 -- Partial allotments: for each unit an alternative, or none, and what they use and cost together.
 use Rattle.std.specs.Prelude.{◌≡◌, ℕ, ◌<◌, ◌≤◌, List, length, slice_index, slice_index_or, Option, Some, None}
+use Rattle.choice_problem.specs.declared.problems.TheConstants.{MOST_UNITS, MOST_USES}
 use Rattle.std.specs.Option.{ForSome}
 use Rattle.finite_sums.specs.Sums.{sum_below}
 use Rattle.choice_problem.specs.Problems.{ProblemView, unit_count, alt_count, resource_count, alt_cost, alt_uses, limit_of}
@@ -33,10 +34,10 @@ allotted_cost p alts = sum_below (unit_count p) (λ u. taken_cost p u (taken_at 
 
 -- alternatives that are there, what they use together, and that it is within the limits
 pub record IsAllotted (p : ProblemView) (alts : List (Option ℕ)) (loads : List ℕ) : Type 0 where
-  pub few_units : unit_count p ≤ 4096
+  pub few_units : unit_count p ≤ MOST_UNITS
   pub units : length alts ≡ unit_count p
   pub there : (u : ℕ) → u < unit_count p → ForSome (taken_at alts u) (λ a. a < alt_count p u)
-  pub few : (u r : ℕ) → u < unit_count p → taken_uses p u (taken_at alts u) r ≤ 434
+  pub few : (u r : ℕ) → u < unit_count p → taken_uses p u (taken_at alts u) r ≤ MOST_USES
   pub resources : length loads ≡ resource_count p
   pub counted : (r : ℕ) → r < resource_count p → slice_index loads r ≡ allotted_load p alts r
   pub within : (r : ℕ) → r < resource_count p → slice_index loads r ≤ limit_of p r

@@ -19,6 +19,3 @@ mod pricing;
 mod rankings;
 
 pub use improved::improved_choice;
-
-#[cfg(test)]
-mod tests;

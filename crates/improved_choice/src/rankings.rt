@@ -6,7 +6,7 @@ ghost use Rattle.choice_problem.specs.Problems.{unit_count, alt_count};
 ghost use Rattle.price_table.specs.Tables.{IsTableFor};
 ghost use Rattle.improved_choice.specs.Rankings.{AreBelow, AreOrders};
 
-use choice_problem::Problem;
+use choice_problem::{PRICED_SCALE, Problem};
 use price_table::PriceTable;
 use slot_text::Memory;
 use std::alloc::Global;
@@ -89,7 +89,7 @@ fn reduced_cost(problem: &Problem, unit: u32, alt: u32, table: Option<&PriceTabl
     requires table { ForSome (option_copied table) (IsTableFor problem.now) }
     ensures { result < 2 ^ 101 }
 {
-    let scaled = 1024 * u128::from(problem.alt_cost(unit, alt));
+    let scaled = u128::from(PRICED_SCALE) * u128::from(problem.alt_cost(unit, alt));
     match table {
         Some(table) => scaled + table.uses_price(problem, unit, alt),
         None => scaled,

@@ -1,5 +1,6 @@
 -- Prices of strips and parts, by sums of the prices of the resources.
 use Rattle.std.specs.Prelude.{◌≡◌, ℕ, ◌+◌, ◌-◌, ◌*◌, ◌<◌, ◌≤◌, ◌^◌, min, List, length, slice_index, sum_by}
+use Rattle.choice_problem.specs.declared.problems.TheConstants.{MOST_RESOURCES}
 use Rattle.choice_problem.specs.declared.vectors.Price.{Price}
 use Rattle.choice_problem.specs.declared.strips.Strip.{Strip}
 use Rattle.finite_sums.specs.Sums.{sum_below, first_least, least_within}
@@ -33,7 +34,7 @@ pub record AreSumsOf (n : ℕ) (prices : List Price) (sums : List ℕ) : Type 0 
   pub spread : List ℕ
   pub spread_is : IsSpread n prices spread
   pub sums_are : AreSums spread sums
-  pub few : n ≤ 1000000
+  pub few : n ≤ MOST_RESOURCES
 
 -- the prices of run i of a strip, of its runs, and of all strips of a part, by such sums
 abbrev pub run_cost : List ℕ → Strip → ℕ → ℕ

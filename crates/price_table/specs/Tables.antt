@@ -1,5 +1,6 @@
 -- What a price table holds, and when it is the table of its vector for a problem.
 use Rattle.std.specs.Prelude.{◌≡◌, ℕ, ◌+◌, ◌<◌, ◌≤◌, List, [], length, map, Option, Some, None, slice_index, slice_index_or}
+use Rattle.choice_problem.specs.declared.problems.TheConstants.{MOST_RESOURCES}
 use Rattle.choice_problem.specs.declared.vectors.Price.{Price}
 use Rattle.choice_problem.specs.declared.problems.Alt.{Alt}
 use Rattle.choice_problem.specs.Problems.{ProblemView, unit_count, alt_count, part_count, resource_count, chooser_at, alt_uses, limit_of}
@@ -41,4 +42,4 @@ pub record IsTableFor (p : ProblemView) (t : TableView) : Type 0 where
   pub count : length t.units ≡ unit_count p
   pub each : (u : ℕ) → u < unit_count p → PricesUnit p t.prices u (slice_index_or t.units u [])
   pub at_limits : t.limits ≡ priced t.prices (λ r. limit_of p r)
-  pub few_resources : resource_count p ≤ 1000000
+  pub few_resources : resource_count p ≤ MOST_RESOURCES

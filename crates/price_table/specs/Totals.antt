@@ -1,5 +1,7 @@
 -- Least priced costs of units and their sum, kept while ranges change.
 use Rattle.std.specs.Prelude.{◌≡◌, ℕ, ◌<◌, ◌≤◌, ◌^◌, List, [], length, slice_index, slice_index_or}
+use Rattle.choice_problem.specs.declared.closing.TheConstants.{PRICED_SCALE}
+use Rattle.choice_problem.specs.declared.problems.TheConstants.{MOST_UNITS}
 use Rattle.choice_problem.specs.declared.vectors.Price.{Price}
 use Rattle.finite_sums.specs.Sums.{sum_below}
 use Rattle.choice_problem.specs.Problems.{ProblemView, unit_count, limit_of}
@@ -37,13 +39,13 @@ pub record AreKeptFor (p : ProblemView) (vectors : List (List Price)) (ranges : 
   pub each : (k : ℕ) → k < length vectors →
       AreTotalsFor p (slice_index_or vectors k []) (totals_at totals k)
   pub at_ranges : (k : ℕ) → k < length vectors → (totals_at totals k).ranges ≡ ranges
-  pub at_scale : (k : ℕ) → k < length vectors → (totals_at totals k).scale ≡ 1024
+  pub at_scale : (k : ℕ) → k < length vectors → (totals_at totals k).scale ≡ PRICED_SCALE
 
 abbrev pub sum_of : List ℕ → ℕ
 sum_of numbers = sum_below (length numbers) (λ u. slice_index numbers u)
 
 -- at most 4,096 numbers that stay small, and their sum
 pub record AreSummed (numbers : List ℕ) (total : ℕ) : Type 0 where
-  pub few : length numbers ≤ 4096
+  pub few : length numbers ≤ MOST_UNITS
   pub small : (u : ℕ) → u < length numbers → slice_index numbers u < 2 ^ 101
   pub total_is : total ≡ sum_of numbers

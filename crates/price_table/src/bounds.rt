@@ -1,6 +1,7 @@
 //! The bound of ranges, from a price table.
 
 ghost use Rattle.std.specs.Prelude.{◌≡◌, ℕ, ◌+◌, ◌*◌, ◌^◌, ◌<◌, ◌≤◌, length};
+ghost use Rattle.choice_problem.specs.declared.closing.TheConstants.{SCALE_BOUND};
 ghost use Rattle.std.specs.Option.{ForSome};
 ghost use Rattle.finite_sums.specs.Sums.{least_within, first_least};
 ghost use Rattle.choice_problem.specs.Problems.{unit_count};
@@ -17,7 +18,7 @@ use choice_problem::{Alt, Problem, Ranges};
 pub fn bound(problem: &Problem, ranges: &Ranges, table: &PriceTable, scale: u64) -> i128
     requires ranges { AreRanges problem.now ranges.now }
     requires table { IsTableFor problem.now table.now }
-    requires scale { scale < 2 ^ 20 }
+    requires scale { scale < SCALE_BOUND }
     ensures { result ≡ bound_of problem.now ranges.now table.now.prices scale }
 {
     least_total(problem, ranges, table, scale) as i128 - table.limits() as i128
@@ -27,7 +28,7 @@ pub fn bound(problem: &Problem, ranges: &Ranges, table: &PriceTable, scale: u64)
 fn least_total(problem: &Problem, ranges: &Ranges, table: &PriceTable, scale: u64) -> u128
     requires ranges { AreRanges problem.now ranges.now }
     requires table { IsTableFor problem.now table.now }
-    requires scale { scale < 2 ^ 20 }
+    requires scale { scale < SCALE_BOUND }
     ensures value { result ≡ least_total problem.now ranges.now table.now.prices scale }
     ensures small { result ≤ 2 ^ 113 }
 {
@@ -49,7 +50,7 @@ pub(crate) fn unit_least(
     requires ranges { AreRanges problem.now ranges.now }
     requires table { IsTableFor problem.now table.now }
     requires unit { unit < unit_count problem.now }
-    requires scale { scale < 2 ^ 20 }
+    requires scale { scale < SCALE_BOUND }
     ensures value { result ≡ unit_least problem.now ranges.now table.now.prices scale unit }
     ensures small { result < 2 ^ 101 }
 {
@@ -77,7 +78,7 @@ pub(crate) fn first_least(alts: &[Alt], low: u32, high: u32, prices: &[u128], sc
     requires ordered { low ≤ high }
     requires there { high < length alts.now }
     requires priceable { ArePriceable alts.now prices.now }
-    requires scale { scale < 2 ^ 20 }
+    requires scale { scale < SCALE_BOUND }
     ensures alt { result.alt ≡ first_least low high (λ a. unit_cost alts.now prices.now scale a) }
     ensures cost { result.cost ≡ least_within low high
         (λ a. unit_cost alts.now prices.now scale a) }
@@ -103,7 +104,7 @@ fn priced_cost(alt: &Alt, prices: &[u128], scale: u64) -> u128
     requires one { ForSome alt.now.one (λ k. k < length prices.now) }
     requires two { ForSome alt.now.two (λ k. k < length prices.now) }
     requires uses { named_price prices.now alt.now.one + named_price prices.now alt.now.two < 2 ^ 100 }
-    requires scale { scale < 2 ^ 20 }
+    requires scale { scale < SCALE_BOUND }
     ensures value { result
         ≡ scale * alt.now.cost + (named_price prices.now alt.now.one + named_price prices.now alt.now.two) }
     ensures small { result < 2 ^ 101 }

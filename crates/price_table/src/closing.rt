@@ -1,6 +1,7 @@
 //! What a table closes.
 
 ghost use Rattle.std.specs.Prelude.{◌↔◌, ◌^◌, ◌<◌, IsTrue};
+ghost use Rattle.choice_problem.specs.declared.closing.TheConstants.{SCALE_BOUND};
 ghost use Rattle.choice_problem.specs.Bounds.{AreRanges, Closes};
 ghost use Rattle.price_table.specs.Tables.{IsTableFor};
 
@@ -20,7 +21,7 @@ pub fn closes(
 ) -> bool
     requires ranges { AreRanges problem.now ranges.now }
     requires table { IsTableFor problem.now table.now }
-    requires scale { scale < 2 ^ 20 }
+    requires scale { scale < SCALE_BOUND }
     ensures { IsTrue result ↔ Closes problem.now ranges.now table.now.prices scale seen }
 {
     match seen {

@@ -15,4 +15,4 @@ pub use bounds::{Least, bound};
 pub use closing::closes;
 pub use strips::StripPrices;
 pub use tables::{PriceTable, price_table};
-pub use totals::Totals;
+pub use totals::{Totals, set_kept};

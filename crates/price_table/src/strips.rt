@@ -1,6 +1,7 @@
 //! Prices of strips and parts, by sums of the prices of the resources.
 
 ghost use Rattle.std.specs.Prelude.{◌≡◌, ℕ, ◌+◌, ◌-◌, ◌<◌, ◌≤◌, ◌^◌, IfOk, length, slice_index};
+ghost use Rattle.choice_problem.specs.declared.problems.TheConstants.{MOST_RESOURCES};
 ghost use Rattle.choice_problem.specs.Strips.{IsStripInRange};
 ghost use Rattle.choice_problem.specs.Problems.{resource_count};
 ghost use Rattle.price_table.specs.Strips.{ArePrices, AreSums, strip_cost};
@@ -64,6 +65,8 @@ impl Model for StripPrices {
 
 impl StripPrices {
     ghost use Rattle.std.specs.Prelude.{◌≡◌, ◌+◌, ◌-◌, ◌<◌, ◌≤◌, ◌^◌, IfOk, List, length, map};
+    ghost use Rattle.choice_problem.specs.declared.closing.TheConstants.{SCALE_BOUND};
+    ghost use Rattle.choice_problem.specs.declared.problems.TheConstants.{MOST_RESOURCES};
     ghost use Rattle.choice_problem.specs.declared.vectors.Price.{Price};
     ghost use Rattle.choice_problem.specs.Strips.{IsStripInRange, IsPartInRange};
     ghost use Rattle.choice_problem.specs.Problems.{unit_count, alt_count, resource_count, chooser_at};
@@ -76,7 +79,7 @@ impl StripPrices {
     pub fn new(alloc: Global, problem: &Problem, prices: &[u64]) -> Result<StripPrices, Memory>
         requires { ArePrices problem.now prices.now }
         ensures sums { IfOk result (λ sums. AreSums prices.now sums) }
-        ensures few { IfOk result (λ _. resource_count problem.now ≤ 1000000) }
+        ensures few { IfOk result (λ _. resource_count problem.now ≤ MOST_RESOURCES) }
     {
         let none = Known {
             strip: Strip {
@@ -130,7 +133,7 @@ impl StripPrices {
         requires unit { unit < unit_count problem.now }
         requires priced { (prices : List Price) × IsPricedBy problem.now prices self.old }
         requires sums { length self.old ≡ resource_count problem.now + 1 }
-        requires scale { scale < 2 ^ 20 }
+        requires scale { scale < SCALE_BOUND }
         ensures alt { IfOk result (λ least. (prices : List Price) →
             IsPricedBy problem.now prices self.old →
             least.alt ≡ least_alt problem.now ranges.now prices scale unit) }
@@ -201,7 +204,7 @@ fn place_of(strip: &Strip) -> usize
 fn sums_of(alloc: Global, problem: &Problem, prices: &[u64]) -> Result<Vec<u64>, Memory>
     requires { ArePrices problem.now prices.now }
     ensures sums { IfOk result (λ sums. AreSums prices.now sums.items) }
-    ensures few { IfOk result (λ _. resource_count problem.now ≤ 1000000) }
+    ensures few { IfOk result (λ _. resource_count problem.now ≤ MOST_RESOURCES) }
 {
     let mut sums = vec![in alloc; 0; problem.resources() as usize + 1]?;
     add_up(prices, &mut sums);
@@ -211,7 +214,7 @@ fn sums_of(alloc: Global, problem: &Problem, prices: &[u64]) -> Result<Vec<u64>,
 // Puts the sum of the numbers before each place, and of all.
 fn add_up(numbers: &[u64], sums: &mut [u64])
     requires count { length sums.old ≡ length numbers.now + 1 }
-    requires few { length numbers.now ≤ 1000000 }
+    requires few { length numbers.now ≤ MOST_RESOURCES }
     requires small { (r : ℕ) → r < length numbers.now → slice_index numbers.now r < 2 ^ 40 }
     ensures { AreSums numbers.now sums.new }
 {

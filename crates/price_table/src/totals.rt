@@ -1,11 +1,13 @@
 //! Totals that are kept while ranges change.
 
-ghost use Rattle.std.specs.Prelude.{◌≡◌, ◌^◌, ◌<◌, ◌≤◌, ℕ, IfOk, length, slice_index, slice_set, pos, ◌-ℤ◌};
-ghost use Rattle.choice_problem.specs.Problems.{unit_count};
+ghost use Rattle.std.specs.Prelude.{◌≡◌, ◌^◌, ◌<◌, ◌≤◌, ℕ, All, IfOk, length, slice_index, slice_set, pos, ◌-ℤ◌};
+ghost use Rattle.choice_problem.specs.declared.closing.TheConstants.{SCALE_BOUND};
+ghost use Rattle.choice_problem.specs.declared.problems.TheConstants.{MOST_UNITS};
+ghost use Rattle.choice_problem.specs.Problems.{unit_count, alt_count};
 ghost use Rattle.choice_problem.specs.Bounds.{AreRanges};
-ghost use Rattle.price_table.specs.Tables.{IsTableFor};
+ghost use Rattle.price_table.specs.Tables.{IsTableFor, vectors_of};
 ghost use Rattle.price_table.specs.Strips.{unit_least};
-ghost use Rattle.price_table.specs.Totals.{AreSummed, sum_of};
+ghost use Rattle.price_table.specs.Totals.{AreKeptFor, AreSummed, sum_of};
 
 use crate::bounds::unit_least;
 use crate::tables::PriceTable;
@@ -30,17 +32,19 @@ pub struct Totals {
 
 impl Model for Totals {
     ghost use Rattle.std.specs.Prelude.{◌<◌, ◌^◌};
+    ghost use Rattle.choice_problem.specs.declared.closing.TheConstants.{SCALE_BOUND};
     ghost use Rattle.price_table.specs.Totals.{TotalsView, AreSummed};
 
     ghost Value = { TotalsView };
 
     ghost view = { λ t. record { ranges = t.ranges; scale = t.scale; least = t.least.items; limits = t.limits } };
 
-    ghost invariant = { λ t. (t.scale < 2 ^ 20) × (AreSummed t.least.items t.total × (t.limits < 2 ^ 124)) };
+    ghost invariant = { λ t. (t.scale < SCALE_BOUND) × (AreSummed t.least.items t.total × (t.limits < 2 ^ 124)) };
 }
 
 impl Totals {
     ghost use Rattle.std.specs.Prelude.{◌≡◌, ◌↔◌, ◌<◌, ◌≤◌, ◌^◌, List, Option, IsTrue, IfOk, slice_set};
+    ghost use Rattle.choice_problem.specs.declared.closing.TheConstants.{SCALE_BOUND};
     ghost use Rattle.choice_problem.specs.declared.vectors.Price.{Price};
     ghost use Rattle.choice_problem.specs.Problems.{ProblemView, unit_count, alt_count};
     ghost use Rattle.choice_problem.specs.Bounds.{AreRanges, Closes, bound_of};
@@ -57,7 +61,7 @@ impl Totals {
     ) -> Result<Totals, Memory>
         requires ranges { AreRanges problem.now ranges.now }
         requires table { IsTableFor problem.now table.now }
-        requires scale { scale < 2 ^ 20 }
+        requires scale { scale < SCALE_BOUND }
         ensures ranges { IfOk result (λ totals. totals.ranges ≡ ranges.now) }
         ensures scale { IfOk result (λ totals. totals.scale ≡ scale) }
         ensures valid { IfOk result (AreTotalsFor problem.now table.now.prices) }
@@ -118,6 +122,31 @@ impl Totals {
     }
 }
 
+/// Replaces the range of a unit in the totals that are kept for these tables' vectors in ranges: one step an alternative in
+/// the new range for each vector.
+pub fn set_kept(
+    problem: &Problem,
+    ranges: &Ranges,
+    unit: u32,
+    low: u32,
+    high: u32,
+    tables: &[PriceTable],
+    totals: &mut [Totals],
+)
+    requires tables { All (IsTableFor problem.now) tables.now }
+    requires kept { AreKeptFor problem.now (vectors_of tables.now) ranges.now totals.old }
+    requires unit { unit < unit_count problem.now }
+    requires ordered { low ≤ high }
+    requires there { high < alt_count problem.now unit }
+    ensures { AreKeptFor problem.now (vectors_of tables.now) (slice_set ranges.now unit (low, high))
+        totals.new }
+{
+    let _ranges = ranges;
+    for place in 0..totals.len() {
+        totals[place].set(problem, unit, low, high, &tables[place]);
+    }
+}
+
 // The difference of two numbers that fit.
 fn difference(one: u128, other: u128) -> i128
     requires one { one < 2 ^ 126 }
@@ -137,9 +166,9 @@ fn leasts_of(
 ) -> Result<Vec<u128>, Memory>
     requires ranges { AreRanges problem.now ranges.now }
     requires table { IsTableFor problem.now table.now }
-    requires scale { scale < 2 ^ 20 }
+    requires scale { scale < SCALE_BOUND }
     ensures count { IfOk result (λ least. length least.items ≡ unit_count problem.now) }
-    ensures few { IfOk result (λ least. length least.items ≤ 4096) }
+    ensures few { IfOk result (λ least. length least.items ≤ MOST_UNITS) }
     ensures each { IfOk result (λ least. (u : ℕ) → u < unit_count problem.now →
         slice_index least.items u ≡ unit_least problem.now ranges.now table.now.prices scale u) }
     ensures small { IfOk result (λ least. (u : ℕ) → u < length least.items →
@@ -154,7 +183,7 @@ fn leasts_of(
 
 // The sum of some numbers.
 fn sum_of(numbers: &[u128]) -> u128
-    requires few { length numbers.now ≤ 4096 }
+    requires few { length numbers.now ≤ MOST_UNITS }
     requires small { (u : ℕ) → u < length numbers.now → slice_index numbers.now u < 2 ^ 101 }
     ensures { AreSummed numbers.now result }
 {

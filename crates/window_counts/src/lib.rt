@@ -12,6 +12,3 @@ mod placing;
 
 pub use counts::Counts;
 pub use placing::{add_alt, add_choice, change_alt, place_alt, take_alt};
-
-#[cfg(test)]
-mod tests;

@@ -1,6 +1,7 @@
 //! Counting the uses of the alternatives of a problem, where they fit and at all, and taking them away again.
 
 ghost use Rattle.std.specs.Prelude.{◌≡◌, ◌↔◌, ℕ, ◌+◌, ◌<◌, ◌≤◌, length, slice_index, false, IsTrue};
+ghost use Rattle.choice_problem.specs.declared.problems.TheConstants.{MOST_UNITS, MOST_USES};
 ghost use Rattle.std.specs.Option.{ForSome};
 ghost use Rattle.choice_problem.specs.Problems.{
   IsChooser,
@@ -26,12 +27,12 @@ pub fn place_alt(problem: &Problem, unit: u32, alt: u32, counts: &mut Counts) ->
     requires unit { unit < unit_count problem.now }
     requires alt { alt < alt_count problem.now unit }
     requires counts { KeepsLimits problem.now counts.old }
-    requires room { HasRoom counts.old (λ _. 434) }
+    requires room { HasRoom counts.old (λ _. MOST_USES) }
     ensures length { length counts.new ≡ length counts.old }
     ensures fits { IsTrue result ↔ FitsOn problem.now (λ r. slice_index counts.old r) unit alt }
     ensures placed { IsTrue result →
         GrowsBy counts.old counts.new (λ r. alt_uses problem.now unit alt r) }
-    ensures few { (r : ℕ) → alt_uses problem.now unit alt r ≤ 434 }
+    ensures few { (r : ℕ) → alt_uses problem.now unit alt r ≤ MOST_USES }
     ensures left { result ≡ false → counts.new ≡ counts.old }
 {
     let chosen = problem.unit_alts(unit)[alt as usize];
@@ -104,10 +105,10 @@ pub fn add_alt(problem: &Problem, unit: u32, alt: u32, counts: &mut Counts)
     requires unit { unit < unit_count problem.now }
     requires alt { alt < alt_count problem.now unit }
     requires counts { length counts.old ≡ resource_count problem.now }
-    requires room { HasRoom counts.old (λ _. 434) }
+    requires room { HasRoom counts.old (λ _. MOST_USES) }
     ensures length { length counts.new ≡ length counts.old }
     ensures added { GrowsBy counts.old counts.new (λ r. alt_uses problem.now unit alt r) }
-    ensures few { (r : ℕ) → alt_uses problem.now unit alt r ≤ 434 }
+    ensures few { (r : ℕ) → alt_uses problem.now unit alt r ≤ MOST_USES }
     ensures valid { IsChooser (chooser_at problem.now unit) }
 {
     let chosen = problem.unit_alts(unit)[alt as usize];
@@ -136,7 +137,7 @@ pub fn change_alt(problem: &Problem, unit: u32, was: u32, now: u32, counts: &mut
     requires was { was < alt_count problem.now unit }
     requires now { now < alt_count problem.now unit }
     requires counts { length counts.old ≡ resource_count problem.now }
-    requires room { HasRoom counts.old (λ _. 434) }
+    requires room { HasRoom counts.old (λ _. MOST_USES) }
     requires added { HasUses counts.old (λ r. alt_uses problem.now unit was r) }
     ensures length { length counts.new ≡ length counts.old }
     ensures changed { (r : ℕ) → r < length counts.old →
@@ -158,7 +159,7 @@ pub fn add_choice(problem: &Problem, alts: &[u32], loads: &mut Counts) -> u64
     ensures count { length loads.new ≡ resource_count problem.now }
     ensures loads { AreLoads problem.now alts.now loads.new }
     ensures units { (u : ℕ) → u < unit_count problem.now → IsChooser (chooser_at problem.now u) }
-    ensures few { unit_count problem.now ≤ 4096 }
+    ensures few { unit_count problem.now ≤ MOST_UNITS }
 {
     let mut cost = 0;
     for unit in 0..problem.units() {

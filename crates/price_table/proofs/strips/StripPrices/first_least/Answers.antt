@@ -1,4 +1,4 @@
-use Rattle.std.proofs.Common.{◌≡◌, ◌∙◌}
+use Rattle.std.proofs.Common.{◌∙◌}
 use Rattle.choice_problem.specs.Bounds.{low_of, high_of}
 use Rattle.price_table.proofs.BoundLemmas.{least_within-priced, first_least-priced, PricesUnit-priceable}
 use Rattle.price_table.proofs.strips.StripPrices.first_least.Goals as goal

@@ -1,10 +1,7 @@
-use Rattle.std.proofs.Common.{rules, arith, ◌≡◌, ◌∙◌, ap, sym, subst, ℕ, List, ℤ, pos, ◌-ℤ◌}
-use Rattle.std.proofs.lemmas.Int.{ints}
-use Rattle.choice_problem.specs.declared.vectors.Price.{Price}
-use Rattle.choice_problem.specs.Problems.{ProblemView}
-use Rattle.choice_problem.specs.Bounds.{bound_of, least_total}
-use Rattle.price_table.specs.Totals.{TotalsView, AreSummed, AreTotalsFor}
-use Rattle.price_table.proofs.TotalLemmas.{summed-small, totals-sum, totals-bound}
+use Rattle.std.proofs.Common.{rules, arith, ◌≡◌, ◌∙◌, ap, subst, pos, ◌-ℤ◌}
+use Rattle.choice_problem.specs.Bounds.{bound_of}
+use Rattle.price_table.specs.Totals.{TotalsView, AreSummed}
+use Rattle.price_table.proofs.TotalLemmas.{summed-small, totals-bound}
 use Rattle.price_table.proofs.totals.Totals.bound.Goals as goal
 
 pub difference-requires-clause-one : goal.difference-requires-clause-one

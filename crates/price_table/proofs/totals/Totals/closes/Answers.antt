@@ -1,5 +1,4 @@
-use Rattle.std.proofs.Common.{rules, ◌≡◌, ◌∙◌, sym, ap, ℕ}
-use Rattle.choice_problem.specs.Bounds.{bound_of}
+use Rattle.std.proofs.Common.{rules, ◌≡◌, ◌∙◌, sym, ap}
 use Rattle.price_table.specs.Totals.{TotalsView}
 use Rattle.price_table.proofs.totals.Totals.closes.Goals as goal
 

@@ -1,5 +1,0 @@
-use Rattle.choice_problem.specs.Bounds.{AreRanges}
-use Rattle.dual_bound.proofs.tests.narrowed.Given as goal
-
-abbrev pub invariant-loop-unit : goal.invariant-loop-unit
-invariant-loop-unit l = AreRanges l.problem l.ranges
