@@ -1,6 +1,10 @@
 -- A board's end, and one visit of the caller.
-use Rattle.std.proofs.Common.{◌≡◌, ℕ, zero, suc, ◌+◌, ◌<◌, ◌≤◌, true, List, [], ◌∷◌, ◌++◌, length, map, refl, sym, ◌∙◌, ap, arith, inl, inr, ◌⊎◌, Option, Some, None}
-use Rattle.std.specs.Prelude.{All, Contains, take}
+use Rattle.std.proofs.Common.{◌≡◌, ℕ, zero, suc, ◌+◌, ◌<◌, ◌≤◌, true, List, [], ◌∷◌, ◌++◌, length, map, min, refl, sym, ◌∙◌, ap, arith, inl, inr, ◌⊎◌, Option, Some, None}
+use Rattle.std.specs.Prelude.{All, Contains, take, nat_lt, if◌then◌else◌}
+use Rattle.std.proofs.lemmas.Bool.Decides.{nat_tests}
+use Rattle.choice_problem.specs.Driven.{IsSeenBetween, RecordsBetween, Records}
+use Rattle.branch_tree.specs.Visits.{NoneOver}
+use Rattle.search_workers.specs.Outcomes.{IsBestFound}
 use Rattle.std.specs.Option.{option_map}
 use Rattle.std.proofs.lemmas.Bool.{cases_lt}
 use Rattle.std.proofs.lemmas.List.Elements.{All-head, All-contains, All-cons, All-nil, Contains-append_left, Contains-append_right, Contains-append_cases, Contains-push}
@@ -14,11 +18,11 @@ use Rattle.incumbent_word.specs.declared.view.Worker.{Worker}
 use Rattle.incumbent_word.specs.declared.view.View.{View}
 use Rattle.incumbent_word.specs.Core.{AtMost, EachOnce, lesser, newcomer}
 use Rattle.search_workers.specs.declared.searchers.Done.{Done}
-use Rattle.search_workers.specs.Settings.{Setting, AreGrown, Drives, IsLook, IsBelow}
+use Rattle.search_workers.specs.Settings.{Setting, AreGrown, Drives, IsLook, IsBelow, RecordsSeen}
 use Rattle.search_workers.specs.Work.{IsWork, IsMadeOf, IsSoFar, all_nodes, lesser_choice, sprout}
 use Rattle.search_workers.specs.Searchers.{made, pieces_of, IsSearcher}
 use Rattle.search_workers.specs.Rounds.{IsStretch, IsRound, AreApart}
-use Rattle.search_workers.proofs.CostLemmas.{at_most_refl, lesser_left, lesser_right}
+use Rattle.search_workers.proofs.CostLemmas.{at_most_refl, lesser_left, lesser_right, lesser_none}
 use Rattle.search_workers.proofs.NodeLemmas.{node_count-append}
 use Rattle.search_workers.proofs.GraftLemmas.{AreOn-take, graft-trees, graft-made}
 use Rattle.search_workers.proofs.WorkLemmas.{work_none, work_node, work_found, board_ends, board_count}
@@ -118,13 +122,13 @@ sprout-made tree before node m = record {
 }
 
 pub sprout_grown : (s : Setting) (ranges : List (ℕ × ℕ)) (node : Node) → Drives s ranges node → AreGrown s (ranges ∷ []) (sprout node)
-sprout_grown s ranges (Split unit cut seen) d = (d, tt, tt, tt)
+sprout_grown s ranges (Split unit cut seen) d = (d, (tt, (tt, tt)))
 sprout_grown s ranges (Leaf vector scale seen) d = (d, tt)
 sprout_grown s ranges (Over resource) d = (d, tt)
 sprout_grown s ranges Undone d = (d, tt)
 
 -- what one visit of the caller did, as the work of a worker
-pub one_worker : Option ℕ → Option ℕ → Worker
+abbrev pub one_worker : Option ℕ → Option ℕ → Worker
 one_worker cost more = record { pieces = []; numbers = 0 ∷ []; best = more; seen = lesser cost more }
 
 pub one_work : (s : Setting) (ranges : List (ℕ × ℕ)) (cost : Option ℕ) (best : Option (List ℕ)) (before : List Node) (node : Node) (found : Option (List ℕ)) →
@@ -157,3 +161,59 @@ part_visited s ranges cost best before tree node found h l shape m =
       count = board_count s cost least best found w before (node ∷ []) tree h work refl (at_most_refl least) shape m';
       fell = lesser_left cost more;
     }
+
+sprout-all : (P : Node → Type 0) (node : Node) → P node → P Undone → All P (sprout node)
+sprout-all P (Split unit cut seen) h u = All-cons P (Split unit cut seen) (Undone ∷ Undone ∷ []) h (All-cons P Undone (Undone ∷ []) u (All-cons P Undone [] u (All-nil P)))
+sprout-all P (Leaf vector scale seen) h u = All-cons P (Leaf vector scale seen) [] h (All-nil P)
+sprout-all P (Over resource) h u = All-cons P (Over resource) [] h (All-nil P)
+sprout-all P Undone h u = All-cons P Undone [] h (All-nil P)
+
+sprout-here : (node : Node) → Contains (sprout node) node
+sprout-here (Split unit cut seen) = Contains-append_left (Split unit cut seen ∷ []) (Undone ∷ Undone ∷ []) (Split unit cut seen) (Contains-push [] (Split unit cut seen))
+sprout-here (Leaf vector scale seen) = Contains-push [] (Leaf vector scale seen)
+sprout-here (Over resource) = Contains-push [] (Over resource)
+sprout-here Undone = Contains-push [] Undone
+
+lesser_below : (cost : Option ℕ) (n : ℕ) → IsBelow n cost → lesser cost (Some n) ≡ Some n
+lesser_below None n l = refl
+lesser_below (Some c) n l = let e : min c n ≡ n = omega (arith, l) in ap (λ (m : ℕ). Some m) e
+
+choice_below : (cost : Option ℕ) (n : ℕ) (best : Option (List ℕ)) (x : List ℕ) → IsBelow n cost → lesser_choice cost (Some n) best (Some x) ≡ Some x
+choice_below None n best x l = refl
+choice_below (Some c) n best x l = let e : nat_lt n c ≡ true = grind (arith, nat_tests) in rw e refl
+
+-- the first visit, of all alternatives, none of whose resources is over
+pub first_visited : (s : Setting) (cost : Option ℕ) (best : Option (List ℕ)) (node : Node) (found : Option (List ℕ)) →
+    IsBestFound s.problem cost best → IsSeenBetween cost s.greedy cost → NoneOver s.problem (whole_of s.problem) →
+    IsLook s (whole_of s.problem) cost node found →
+    IsSoFar s (lesser cost (option_map (choice_cost s.problem) found)) (lesser_choice cost (option_map (choice_cost s.problem) found) best found) (sprout node)
+first_visited s cost best node None found now none l = rw (lesser_none cost) (record {
+  found = found;
+  now = now;
+  driven = record {
+    trees = sprout_grown s (whole_of s.problem) node l.driven;
+    between = sprout-all (RecordsBetween cost s.greedy) node (records_seen cost s.greedy cost node l.choice now) tt;
+    reached = inr (node, sprout-here node, reached node l.driven l.choice);
+  };
+})
+  where
+    reached : (other : Node) → Drives s (whole_of s.problem) other → RecordsSeen cost other → Records cost other
+    reached (Split unit cut seen) d r = r
+    reached (Leaf vector scale seen) d r = r
+    reached (Over resource) d r = absurd (none resource d.there d.over)
+    reached Undone d r = absurd r
+first_visited s cost best node (Some x) found now none l =
+    let n : ℕ = choice_cost s.problem x in
+    let least : lesser cost (Some n) ≡ Some n = lesser_below cost n l.choice.1 in
+    let picked : lesser_choice cost (Some n) best (Some x) ≡ Some x = choice_below cost n best x l.choice.1 in
+    let d : Drives s (whole_of s.problem) (Leaf 0 1 (Some n)) = rw l.choice.2 at l.driven in
+    let between : IsSeenBetween (Some n) s.greedy (Some n) = rw least at (found_between cost s.greedy cost n now l.choice.1) in
+    rw (least, picked, l.choice.2) (record {
+      found = (l.choice.0, refl);
+      now = between;
+      driven = record {
+        trees = (d, tt);
+        between = All-cons (RecordsBetween (Some n) s.greedy) (Leaf 0 1 (Some n)) [] between (All-nil (RecordsBetween (Some n) s.greedy));
+        reached = inr (Leaf 0 1 (Some n), Contains-push [] (Leaf 0 1 (Some n)), refl);
+      };
+    })

@@ -96,22 +96,23 @@ module _ (s : Setting) (v w : View) (seen : Option ℕ) (best : Option (List ℕ
         IsWork s y.worker best' (nodes ++ node ∷ []) × (cost' ≡ y.worker.best)
     entered_found x l q =
         let n : ℕ = choice_cost s.problem x in
-        let below : IsBelow n w.worker.seen = rw seen_is l.found.1 in
+        let below : IsBelow n w.worker.seen = rw seen_is l.choice.1 in
         let y_seen : y.worker.seen ≡ lesser q.0.least (Some n) = ap (λ (z : View). z.worker.seen) q.0.now in
         let y_best : y.worker.best ≡ lesser a.before.best (Some n) = ap (λ (z : View). z.worker.best) q.0.now ∙ ap (λ z. lesser z (Some n)) best_is in
         let y_more : length y.worker.numbers ≡ length a.before.numbers + 1 = ap (λ (z : View). length z.worker.numbers) q.0.now ∙ more in
         let between : IsSeenBetween y.worker.seen s.greedy (Some n) = rw y_seen (found_between w.worker.seen s.greedy q.0.least n now below) in
         let work : IsWork s y.worker (lesser_choice a.before.best (Some n) best (Some x)) (nodes ++ Leaf 0 1 (Some n) ∷ []) =
-            work_found s a.before y.worker best nodes (Leaf 0 1 (Some n)) x a.work l.found.0 y_best
-            (at_most_trans y.worker.seen w.worker.seen a.before.seen q.0.no_rise fell) y_more between refl refl in
-        (rw (l.found.2, q.3, is ∙ a.same) work,
-        q.2 ∙ (ap (λ z. lesser z (Some n)) (is ∙ a.same) ∙ sym y_best))
+        work_found s a.before y.worker best nodes (Leaf 0 1 (Some n)) x a.work l.choice.0 y_best
+        (at_most_trans y.worker.seen w.worker.seen a.before.seen q.0.no_rise fell) y_more between refl refl in (
+          rw (l.choice.2, q.3, is ∙ a.same) work,
+          q.2 ∙ (ap (λ z. lesser z (Some n)) (is ∙ a.same) ∙ sym y_best),
+        )
 
     pub entered : (found : Option (List ℕ)) → IsLook s ranges seen node found → IsKeeping s.problem found w y cost cost' best best' →
         IsWork s y.worker best' (nodes ++ node ∷ []) × (cost' ≡ y.worker.best)
     entered None l q =
         let work : IsWork s w.worker best (nodes ++ node ∷ []) =
-            work_node s a.before w.worker best nodes node a.work best_is fell more
-            (records_seen w.worker.seen s.greedy seen node l.found now_seen) l.counted in
+        work_node s a.before w.worker best nodes node a.work best_is fell more
+        (records_seen w.worker.seen s.greedy seen node l.choice now_seen) l.counted in
         (rw (q.0, q.2) work, q.1 ∙ (is ∙ (sym (ap (λ (x : View). x.worker.best) k.now) ∙ sym (ap (λ (z : View). z.worker.best) q.0))))
     entered (Some x) l q = entered_found x l q

@@ -12,4 +12,6 @@ mod SizeLemmas
 mod FinishLemmas
 mod PlaceLemmas
 mod SeatLemmas
+mod TaskLemmas
 mod OutcomeLemmas
+mod LookLemmas

@@ -1,6 +1,6 @@
 -- From a tree and a best choice to what a search answers.
 use Rattle.std.proofs.Common.{◌≡◌, ℕ, suc, zero, ◌+◌, ◌*◌, ◌<◌, ◌≤◌, List, [], ◌∷◌, ◌++◌, length, map, refl, sym, ◌∙◌, ap, arith, Option, Some, None, ◌⊎◌, inl, inr}
-use Rattle.std.specs.Prelude.{All, Contains, slice_index_or}
+use Rattle.std.specs.Prelude.{All, Contains, IfSome, slice_index_or}
 use Rattle.std.specs.Option.{option_map}
 use Rattle.std.proofs.lemmas.List.Elements.{All-cons, All-nil, Contains-push}
 use Rattle.choice_problem.specs.declared.vectors.Price.{Price}
@@ -98,13 +98,12 @@ module _ (p : ProblemView) (given : List (List Price)) (best : Option (List ℕ)
   }
 
   pub nothing_visited : IsBestFound p (option_map (choice_cost p) best) best → IsOutcome p given 0 (answer.Spent best (Undone ∷ []) [])
-  nothing_visited found =
-      ((option_map (choice_cost p) best, record { found = found; driven = driven_none; sound = sound_law driven_none; listed = listed_none p given }),
-      refl, (λ w. w), λ l. absurd (omega arith))
-
-pub found_feasible : (p : ProblemView) (best : Option (List ℕ)) → ((x : List ℕ) → best ≡ Some x → IsFeasible p x) → IsBestFound p (option_map (choice_cost p) best) best
-found_feasible p None f = tt
-found_feasible p (Some x) f = (f x refl, refl)
+  nothing_visited found = (
+    (option_map (choice_cost p) best, record { found = found; driven = driven_none; sound = sound_law driven_none; listed = listed_none p given }),
+    refl,
+    (λ w. w),
+    λ l. absurd (omega arith),
+  )
 
 -- the first visit closes all alternatives without prices
 module _ (p : ProblemView) (start : Start) (root : List Price) (leaf : Node) (k : IsStart p start) (closes : ClosesBy p root [] (whole_of p) start.cost leaf)
@@ -125,18 +124,24 @@ module _ (p : ProblemView) (start : Start) (root : List Price) (leaf : Node) (k 
   from_leaf (Split unit cut seen) e c d = absurd c
   from_leaf Undone e c d = absurd c
   from_leaf (Leaf vector scale seen) e c d =
-      let is : seen ≡ start.cost = c.1.0 in
-      (record {
-        trees = (d, tt);
-        between = All-cons (RecordsBetween start.cost start.greedy) (Leaf vector scale seen) [] (rw is k.now) (All-nil (RecordsBetween start.cost start.greedy));
-        reached = inr (Leaf vector scale seen, Contains-push [] (Leaf vector scale seen), is);
-      }, tt, refl)
-  from_leaf (Over resource) e c d =
-      (record {
-        trees = (d, tt);
-        between = All-cons (RecordsBetween start.cost start.greedy) (Over resource) [] tt (All-nil (RecordsBetween start.cost start.greedy));
-        reached = inl (over_reached (none_law resource (d, tt)));
-      }, tt, refl)
+      let is : seen ≡ start.cost = c.1.0 in (
+        record {
+          trees = (d, tt);
+          between = All-cons (RecordsBetween start.cost start.greedy) (Leaf vector scale seen) [] (rw is k.now) (All-nil (RecordsBetween start.cost start.greedy));
+          reached = inr (Leaf vector scale seen, Contains-push [] (Leaf vector scale seen), is);
+        },
+        tt,
+        refl,
+      )
+  from_leaf (Over resource) e c d = (
+    record {
+      trees = (d, tt);
+      between = All-cons (RecordsBetween start.cost start.greedy) (Over resource) [] tt (All-nil (RecordsBetween start.cost start.greedy));
+      reached = inl (over_reached (none_law resource (d, tt)));
+    },
+    tt,
+    refl,
+  )
 
   pub closed_driven : IsRootVector p root → IsDriven p (root ∷ []) start.cost (leaf ∷ [])
   closed_driven r = record {
@@ -148,4 +153,8 @@ module _ (p : ProblemView) (start : Start) (root : List Price) (leaf : Node) (k 
   }
 
   pub closed_whole : IsWhole (leaf ∷ []) × (node_count (leaf ∷ []) ≡ 1)
-  closed_whole = (from_leaf leaf refl closes node).1
+  closed_whole = let r = from_leaf leaf refl closes node in (r.1, r.2)
+
+pub found_if_feasible : (p : ProblemView) (best : Option (List ℕ)) → IfSome best (IsFeasible p) → IsBestFound p (option_map (choice_cost p) best) best
+found_if_feasible p None f = tt
+found_if_feasible p (Some x) f = (f, refl)

@@ -15,7 +15,7 @@ use Rattle.search_workers.specs.Searchers.{made, pieces_of, IsSearcher}
 use Rattle.search_workers.proofs.WorkLemmas.{work_joined}
 use Rattle.search_workers.proofs.PieceLemmas.{made-append}
 
-or_left : (a b : Bool) → a ≡ true → (a || b) ≡ true
+pub or_left : (a b : Bool) → a ≡ true → (a || b) ≡ true
 or_left a b e = rw e refl
 
 or_right : (a b : Bool) → b ≡ true → (a || b) ≡ true

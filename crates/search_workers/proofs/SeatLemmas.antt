@@ -1,5 +1,5 @@
 -- The seats of the workers of one board.
-use Rattle.std.proofs.Common.{◌≡◌, ℕ, zero, suc, ◌+◌, ◌-◌, ◌*◌, ◌/◌, ◌^◌, ◌<◌, ◌≤◌, List, [], ◌∷◌, ◌++◌, length, refl, sym, ◌∙◌, ap, arith, Option, None, inr}
+use Rattle.std.proofs.Common.{◌≡◌, ℕ, zero, suc, ◌+◌, ◌-◌, ◌*◌, ◌/◌, ◌^◌, ◌<◌, ◌≤◌, List, [], ◌∷◌, ◌++◌, length, refl, sym, ◌∙◌, ap, arith, Option, None, inl, inr, true, false}
 use Rattle.std.specs.Prelude.{All, slice_index_or}
 use Rattle.std.proofs.lemmas.List.Elements.{All-nil}
 use Rattle.std.proofs.lemmas.Nat.{pow_pos}
@@ -11,7 +11,7 @@ use Rattle.incumbent_word.specs.Seats.{BoardView, IsSeatOf}
 use Rattle.search_workers.specs.declared.searchers.Done.{Done}
 use Rattle.search_workers.specs.declared.searchers.Searcher.{Searcher}
 use Rattle.search_workers.specs.Settings.{Setting, AreGrown}
-use Rattle.search_workers.specs.Rounds.{IsReady, shares}
+use Rattle.search_workers.specs.Rounds.{IsReady, IsFinished, shares}
 use Rattle.search_workers.proofs.WorkLemmas.{work_none}
 
 -- a worker that has done nothing may claim
@@ -40,7 +40,7 @@ shares_same [] [] e h = refl
 shares_same [] (v ∷ vs) e h = absurd (omega arith)
 shares_same (w ∷ ws) [] e h = absurd (omega arith)
 shares_same (w ∷ ws) (v ∷ vs) e h =
-    let rest = shares_same ws vs (omega arith) (λ i d l. h (i + 1) d (omega arith)) in
+    let rest = shares_same ws vs (omega arith) (λ i d l. h (suc i) d (omega arith)) in
     let first = h 0 w (omega arith) in
     omega (arith, rest, first)
 
@@ -54,3 +54,11 @@ room_left n share few room =
     let some = pow_pos k in
     let room' : 2 ^ (k + 1) ≤ share = rw up at room in
     (omega (arith, more, some, room'), rw down (omega (arith, more, some, room')))
+
+-- a worker that did not want memory is ready, and found all pieces claimed
+pub finished_ready : (s : Setting) (pieces : List (List (ℕ × ℕ))) (board : BoardView) (w : Searcher) → IsFinished s pieces board w → w.failed ≡ false →
+    IsReady s pieces board w × (w.seat.view.no_piece_left ≡ true)
+finished_ready s pieces board w h e = elim h.ended [
+  | inl f ↦ absurd (cc (sym f ∙ e))
+  | inr k ↦ k
+]

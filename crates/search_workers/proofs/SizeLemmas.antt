@@ -21,6 +21,8 @@ pub record AreParted (ranges : List (ℕ × ℕ)) (unit cut : ℕ) : Type 0 wher
   pub high : 1 ≤ ways ranges → 1 ≤ ways (high_part ranges unit cut)
 
 some_product : (a b : ℕ) → 1 ≤ a → 1 ≤ b → 1 ≤ a * b
+some_product zero b h k = absurd (omega arith)
+some_product (suc a) zero h k = absurd (omega arith)
 some_product (suc a) (suc b) h k = grind arith
 
 product_some : (a b : ℕ) → 1 ≤ a * b → (1 ≤ a) × (1 ≤ b)
@@ -70,7 +72,7 @@ sized [] (node ∷ nodes) h v = absurd h
 sized (ranges ∷ pending) [] h v = absurd h
 sized (ranges ∷ pending) (Split unit cut seen ∷ nodes) h v =
     let p = parted ranges unit cut h.0 in
-    let rest = sized (low_part ranges unit cut ∷ high_part ranges unit cut ∷ pending) nodes h.1 (p.low v.0, p.high v.0, v.1) in
+    let rest = sized (low_part ranges unit cut ∷ high_part ranges unit cut ∷ pending) nodes h.1 (p.low v.0, (p.high v.0, v.1)) in
     omega (arith, rest, p.all)
 sized (ranges ∷ pending) (Leaf vector scale seen ∷ nodes) h v = let rest = sized pending nodes h.1 v.1 in omega (arith, rest, v.0)
 sized (ranges ∷ pending) (Over resource ∷ nodes) h v = let rest = sized pending nodes h.1 v.1 in omega (arith, rest, v.0)
@@ -102,13 +104,13 @@ whole_ways (m ∷ ms) h =
     let rest = whole_ways ms h.1 in
     ap (λ n. n * ways (map (λ (m : ChooserView). (0, length m.alts - 1)) ms)) e ∙ ap (λ n. length m.alts * n) rest
 
-some_choices : (units : List ChooserView) → HaveAlts units → 1 ≤ product_of (map (λ (m : ChooserView). length m.alts) units)
+pub some_choices : (units : List ChooserView) → HaveAlts units → 1 ≤ product_of (map (λ (m : ChooserView). length m.alts) units)
 some_choices [] h = omega arith
 some_choices (m ∷ ms) h = some_product (length m.alts) (product_of (map (λ (m : ChooserView). length m.alts) ms)) h.0 (some_choices ms h.1)
 
 have_alts : (units : List ChooserView) → ((u : ℕ) → u < length units → 1 ≤ length (slice_index_or units u (record { parts = []; alts = [] })).alts) → HaveAlts units
 have_alts [] h = tt
-have_alts (m ∷ ms) h = (h 0 (omega arith), have_alts ms (λ u l. h (u + 1) (omega arith)))
+have_alts (m ∷ ms) h = (h 0 (omega arith), have_alts ms (λ u l. h (suc u) (omega arith)))
 
 -- each unit has alternatives
 pub alts_of : (p : ProblemView) → AreRanges p (whole_of p) → HaveAlts p.units

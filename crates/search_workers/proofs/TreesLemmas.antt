@@ -42,7 +42,7 @@ set-in [] i tree node l e h = absurd (omega arith)
 set-in (t ∷ ts) zero tree node l e h = elim h [
   | inl a ↦ inr (Contains-append_left tree (all_nodes ts) node a)
   | inr b ↦ elim (Contains-append_cases t (all_nodes ts) node b) [
-    | inl c ↦ inl (only_undone node (rw (← e) c))
+    | inl c ↦ inl (let e' : t ≡ Undone ∷ [] = e in only_undone node (rw e' at c))
     | inr d ↦ inr (Contains-append_right tree (all_nodes ts) node d)
   ]
 ]
@@ -180,10 +180,21 @@ pub on_each : (s : Setting) (pieces : List (List (ℕ × ℕ))) (trees : List (L
     AreOn (λ ranges node. Drives s ranges node) pieces trees
 on_each s pieces [] e h = tt
 on_each s [] (t ∷ ts) e h = absurd (omega arith)
-on_each s (r ∷ rs) (t ∷ ts) e h = (h 0 (omega arith), on_each s rs ts (omega arith) (λ i l. h (i + 1) (omega arith)))
+on_each s (r ∷ rs) (t ∷ ts) e h = (h 0 (omega arith), on_each s rs ts (omega arith) (λ i l. h (suc i) (omega arith)))
 
 pub placed_all : (s : Setting) (pieces : List (List (ℕ × ℕ))) (done rest : List Done) (trees : List (List Node)) →
     ArePlaced s pieces done rest trees → rest ≡ [] → AreOn (λ ranges node. Drives s ranges node) pieces trees × IsMadeOf (all_nodes trees) (made done)
 placed_all s pieces done rest trees h e =
     let all : done ≡ h.placed = h.split ∙ ap (λ l. l ++ h.placed) e in
     (on_each s pieces trees h.count h.shape, rw all h.nodes)
+
+-- the last tree that is left is of a piece, on its ranges
+pub placed_last : (s : Setting) (pieces : List (List (ℕ × ℕ))) (done rest left : List Done) (d : Done) (trees : List (List Node)) →
+    ArePlaced s pieces done rest trees → rest ≡ left ++ d ∷ [] → All (λ (e : Done). e.piece < length pieces) done →
+    All (λ (e : Done). AreGrown s (slice_index_or pieces e.piece [] ∷ []) e.tree.items) done →
+    (d.piece < length pieces) × (d.piece < length trees) × AreGrown s (slice_index_or pieces d.piece [] ∷ []) d.tree.items
+placed_last s pieces done rest left d trees h popped there grown =
+    let all : done ≡ left ++ d ∷ h.placed = h.split ∙ (ap (λ l. l ++ h.placed) popped ∙ append_assoc left (d ∷ []) h.placed) in
+    let in_all : Contains done d = rw all (Contains-append_right left (d ∷ h.placed) d (Contains-append_left (d ∷ []) h.placed d (Contains-push [] d))) in
+    let t = All-contains (λ (e : Done). e.piece < length pieces) done d there in_all in
+    (t, omega (arith, t, h.count), All-contains (λ (e : Done). AreGrown s (slice_index_or pieces e.piece [] ∷ []) e.tree.items) done d grown in_all)

@@ -37,7 +37,7 @@ pub record AreListed (p : ProblemView) (given vectors : List (List Price)) : Typ
   pub root : 0 < length vectors → IsRootVector p (vector_at vectors 1)
   pub few_prices : price_count (drop 1 vectors) ≤ 1000000
   pub handed_in : (k : ℕ) → k < length given → k + 1 < length vectors →
-      vector_at vectors (k + 2) ≡ slice_index_or given k []
+      slice_index_or vectors (k + 1) [] ≡ slice_index_or given k []
 
 -- the tree is driven and sound for the cost of the best choice that was found
 pub record IsSearched (p : ProblemView) (given vectors : List (List Price)) (cost : Option ℕ)

@@ -26,6 +26,7 @@ pub(crate) fn look(
     visited_nodes();
     closed_ranges();
     let tables = task.tables();
+    let ranges = place.walk.ranges();
     let visit = place.walk.visit_kept(
         alloc,
         task.problem(),
@@ -38,7 +39,7 @@ pub(crate) fn look(
         Visit::Close(leaf) => Ok((leaf, None)),
         Visit::Found(choice, leaf) => Ok((leaf, Some(choice))),
         Visit::Split { unit, cut } => {
-            if let Some(leaf) = leaf_without_cost(task, place.walk.ranges(), seen) {
+            if let Some(leaf) = leaf_without_cost(task, ranges, seen) {
                 return Ok((leaf, None));
             }
             Ok((Node::Split { unit, cut, seen }, None))

@@ -44,6 +44,7 @@ impl<'a> Place<'a> {
         ensures place { OnOk result (IsPlaceIn task.now self.new) }
         ensures ranges { OnOk result (self.new.walk.ranges ≡ ranges.now) }
     {
+        let _here = self.walk.ranges();
         for unit in 0..task.problem().units() {
             self.set(alloc, task, unit, ranges.low(unit), ranges.high(unit))?;
         }

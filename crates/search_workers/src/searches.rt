@@ -223,15 +223,13 @@ fn run<R: Threads + Sync, G: Gate>(
         let (next, more) = round(rt, alloc, gate, task, budget - taken, workers, state)?;
         state = next;
         taken += more;
-        if taken < budget {
-            widen(alloc, task, &state)?;
-        }
+        widen(alloc, task, &state, taken < budget)?;
     }
     Ok(state)
 }
 
-// Adds the vector of the first undone node's ranges, if there is room for it.
-fn widen(alloc: Global, task: &mut Task<'_>, state: &State) -> Result<(), Memory>
+// Adds the vector of the first undone node's ranges, if visits are left and there is room for it.
+fn widen(alloc: Global, task: &mut Task<'_>, state: &State, visits_left: bool) -> Result<(), Memory>
     requires so_far { IsSoFar task.old state.now.cost state.now.best state.now.tree.items }
     ensures wider { OnOk result (IsWider task.old task.new) }
     ensures so_far { OnOk result (IsSoFar task.new state.now.cost state.now.best
@@ -240,7 +238,13 @@ fn widen(alloc: Global, task: &mut Task<'_>, state: &State) -> Result<(), Memory
     driven_tree();
     search_start();
     task.known();
-    if task.is_full() || is_whole(&state.tree) {
+    if !visits_left {
+        return Ok(());
+    }
+    if task.is_full() {
+        return Ok(());
+    }
+    if is_whole(&state.tree) {
         return Ok(());
     }
     let pieces = first_open(alloc, task, state, 1)?;

@@ -85,7 +85,14 @@ pub(crate) fn search_all<R: Threads + Sync, G: Gate>(
     let all = thread::map_vec(
         rt,
         searchers,
-        &|searcher| { search_out(searcher, alloc, gate, board, task, pieces) },
+        &|searcher: Searcher| -> Searcher
+            requires many { board.now.terms.pieces ≡ length pieces.now }
+            requires some { 1 ≤ length pieces.now }
+            requires pieces { All (AreRanges task.now.problem) pieces.now }
+            requires ready { IsReady task.now pieces.now board.now searcher }
+            ensures finished { IsFinished task.entry.now pieces.entry.now board.entry.now result }
+            ensures share { result.seat.view.share ≡ searcher.seat.view.share }
+        { search_out(searcher, alloc, gate, board, task, pieces) },
     )?;
     Ok(all)
 }

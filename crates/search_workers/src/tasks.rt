@@ -1,6 +1,6 @@
 //! What all workers of a search read.
 
-ghost use Rattle.std.specs.Prelude.{◌≡◌, ◌<◌, ◌≤◌, ◌+◌, ◌++◌, [], IfOk, length, All};
+ghost use Rattle.std.specs.Prelude.{◌≡◌, ◌≤◌, ◌++◌, IfOk, OnOk, All};
 ghost use Rattle.choice_problem.specs.Bounds.{IsVector};
 ghost use Rattle.price_table.specs.Tables.{IsTableFor, vectors_of};
 ghost use Rattle.search_workers.specs.Outcomes.{price_count};
@@ -125,12 +125,21 @@ impl<'a> Task<'a> {
     pub(crate) fn vectors(&self, alloc: Global, most: usize) -> Result<VectorList, Memory>
         ensures { IfOk result (λ list. list ≡ take most self.now.vectors) }
     {
-        let mut vectors = Vec::new(alloc);
-        for table in &self.tables[..most.min(self.tables.len())] {
-            vectors.push(copy_of(alloc, table)?)?;
-        }
+        let count = most.min(self.tables.len());
+        let vectors = copy_vectors(alloc, &self.tables[..count])?;
         Ok(VectorList::new(vectors))
     }
+}
+
+// Copies of the tables' vectors.
+fn copy_vectors(alloc: Global, tables: &[PriceTable]) -> Result<Vec<Vector>, Memory>
+    ensures { IfOk result (λ vectors. vectors.items ≡ vectors_of tables.now) }
+{
+    let mut vectors = Vec::new(alloc);
+    for table in tables {
+        vectors.push(copy_of(alloc, table)?)?;
+    }
+    Ok(vectors)
 }
 
 // A copy of a table's vector.
@@ -147,10 +156,10 @@ fn push_tables(
     vectors: &[Vector],
     tables: &mut Vec<PriceTable>,
 ) -> Result<(), Memory>
-    requires { All (IsVector problem.now) vectors.now }
-    ensures valid { IfOk result (λ _. All (IsTableFor problem.now) tables.old.items →
-        All (IsTableFor problem.now) tables.new.items) }
-    ensures vectors { IfOk result (λ _. vectors_of tables.new.items
+    requires tables { All (IsTableFor problem.now) tables.old.items }
+    requires vectors { All (IsVector problem.now) vectors.now }
+    ensures valid { OnOk result (All (IsTableFor problem.now) tables.new.items) }
+    ensures vectors { OnOk result (vectors_of tables.new.items
         ≡ vectors_of tables.old.items ++ vectors.now) }
 {
     for vector in vectors {

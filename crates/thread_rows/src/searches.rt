@@ -1,8 +1,7 @@
 //! Searches of plain problems: worked rows, budgets, numbers of workers, and what is handed in.
 
 use choice_problem::{
-    Alt, Choice, Chooser, Node, Part, Price, Problem, Strip, Tree, Vector, VectorList, cost_of,
-    count_nodes,
+    Alt, Choice, Chooser, Node, Part, Price, Problem, Strip, Tree, Vector, cost_of, fits,
 };
 use desk_outside::{Gate, RealGate};
 use search_workers::{Outcome, search, search_from};
@@ -124,9 +123,7 @@ fn tree_text(alloc: Global, tree: &Tree) -> Result<String, Fail> {
                 vector,
                 scale,
                 seen,
-            } => {
-                format!(in alloc; " L {vector} {scale} {}", seen_text(seen))?
-            }
+            } => { format!(in alloc; " L {vector} {scale} {}", seen_text(seen))? }
             Node::Over { resource } => format!(in alloc; " O {resource}")?,
             Node::Undone => format!(in alloc; " U")?,
         };
@@ -136,7 +133,12 @@ fn tree_text(alloc: Global, tree: &Tree) -> Result<String, Fail> {
 }
 
 // The mark, the cost, the number of vectors, and the tree where it is short.
-fn outcome_text(alloc: Global, problem: &Problem, outcome: &Outcome, tree: bool) -> Result<String, Fail> {
+fn outcome_text(
+    alloc: Global,
+    problem: &Problem,
+    outcome: &Outcome,
+    tree: bool,
+) -> Result<String, Fail> {
     let (mut text, nodes, vectors) = match outcome {
         Outcome::Optimal {
             cost,
@@ -160,7 +162,10 @@ fn outcome_text(alloc: Global, problem: &Problem, outcome: &Outcome, tree: bool)
 
 fn spent_text(alloc: Global, problem: &Problem, best: &Option<Choice>) -> Result<String, Fail> {
     match best {
-        Some(choice) if choice.is_for(problem) => Ok(format!(in alloc; "SPENT {}", cost_of(problem, choice))?),
+        Some(choice) if choice.is_for(problem) => Ok(format!(in alloc;
+            "SPENT {}",
+            cost_of(problem, choice)
+        )?),
         _ => Ok(format!(in alloc; "SPENT NONE")?),
     }
 }
@@ -187,6 +192,7 @@ fn worked_rows(rt: HostRuntime) -> Result<(), Fail> {
         (shifted(alloc, 210)?, 100, 4, "OPTIMAL 6300 1 L 1 1024 6300"),
         (three(alloc)?, 1, 1, "SPENT 40 1 S 0 1 40 U U"),
         (three(alloc)?, 0, 1, "SPENT 40 0 U"),
+        (three(alloc)?, 1, 16, "SPENT 40 1 S 0 1 40 U U"),
     ];
     for (problem, budget, workers, want) in &rows {
         let text = searched(&rt, alloc, problem, *budget, *workers, true)?;
@@ -195,21 +201,175 @@ fn worked_rows(rt: HostRuntime) -> Result<(), Fail> {
     Ok(())
 }
 
+// What is found by several workers is what one finds: the least costs are those of all choices, tried one by one.
 #[test]
-fn ring_of_many(rt: HostRuntime) -> Result<(), Fail> {
+fn any_number_of_workers(rt: HostRuntime) -> Result<(), Fail> {
     let alloc = rt.alloc();
-    for count in [5, 8, 12, 16, 20, 24] {
+    for (count, want) in [(5, "OPTIMAL 85"), (8, "OPTIMAL 126"), (12, "OPTIMAL 172")] {
         let problem = ring(alloc, count)?;
         for workers in [1, 2, 4, 16] {
-            let outcome = search(&rt, alloc, &problem, 100_000, workers, &RealGate)?;
-            let text = outcome_text(alloc, &problem, &outcome, false)?;
-            let (nodes, vectors) = match &outcome {
-                Outcome::Optimal { tree, vectors, .. } => (tree.items().len(), vectors.items().len()),
-                Outcome::Infeasible { tree, vectors } => (tree.items().len(), vectors.items().len()),
-                Outcome::Spent { tree, vectors, .. } => (tree.items().len(), vectors.items().len()),
-            };
-            println!(rt; "{count} {workers} {text} {nodes} {vectors}")?;
+            let text = searched(&rt, alloc, &problem, 100_000, workers, false)?;
+            assert_eq!(rt; text.as_str(), want, "{count} {workers}");
         }
     }
+    Ok(())
+}
+
+fn tree_of(outcome: &Outcome) -> &Tree {
+    match outcome {
+        Outcome::Optimal { tree, .. } => tree,
+        Outcome::Infeasible { tree, .. } => tree,
+        Outcome::Spent { tree, .. } => tree,
+    }
+}
+
+// How many nodes but undone ones.
+fn visits(outcome: &Outcome) -> usize {
+    let mut count: usize = 0;
+    for node in tree_of(outcome).items() {
+        if *node != Node::Undone {
+            count = count.saturating_add(1);
+        }
+    }
+    count
+}
+
+// A budget is spent to its last visit, and one that is just enough is enough.
+#[test]
+fn budgets(rt: HostRuntime) -> Result<(), Fail> {
+    let alloc = rt.alloc();
+    let problem = ring(alloc, 8)?;
+    let whole = search(&rt, alloc, &problem, 100_000, 1, &RealGate)?;
+    let needed = visits(&whole) as u32;
+    let rows = [
+        (0, 0, "SPENT 132"),
+        (1, 1, "SPENT 132"),
+        (2, 2, "SPENT 132"),
+        (3, 3, "SPENT 132"),
+        (
+            needed.saturating_sub(1),
+            needed.saturating_sub(1),
+            "SPENT 126",
+        ),
+        (needed, needed, "OPTIMAL 126"),
+        (u32::MAX, needed, "OPTIMAL 126"),
+    ];
+    for (budget, count, want) in rows {
+        let outcome = search(&rt, alloc, &problem, budget, 1, &RealGate)?;
+        let text = outcome_text(alloc, &problem, &outcome, false)?;
+        assert_eq!(rt; text.as_str(), want, "{budget}");
+        assert_eq!(rt; visits(&outcome) as u32, count, "{budget}");
+    }
+    Ok(())
+}
+
+// Three units, each of which takes one of two places.
+fn places(alloc: Global) -> Result<Problem, Fail> {
+    let mut units = Vec::new(alloc);
+    for _ in 0..3 {
+        let one = Part::new(vec![in alloc; once(0); 1]?);
+        let two = Part::new(vec![in alloc; once(1); 1]?);
+        let parts = vec![in alloc; one, two]?;
+        let alts = vec![in alloc; alt(0, Some(0)), alt(0, Some(1))]?;
+        if !Chooser::allows(&parts, &alts) {
+            return Err("places".into());
+        }
+        units.push(Chooser::new(parts, alts))?;
+    }
+    problem(units, vec![in alloc; 1; 2]?)
+}
+
+// A vector of the price 1 for each of two resources shows at scale 0 that three units have no room in two places.
+#[test]
+fn a_vector_handed_in(rt: HostRuntime) -> Result<(), Fail> {
+    let alloc = rt.alloc();
+    let problem = places(alloc)?;
+    let prices = vec![in alloc;
+        Price {
+            resource: 0,
+            price: 1
+        },
+        Price {
+            resource: 1,
+            price: 1
+        },
+    ]?;
+    let vector = Vector::new(prices);
+    if !vector.is_for(&problem) || vector.items().len() > 2 {
+        return Err("vector".into());
+    }
+    let further = vec![in alloc; vector]?;
+    let outcome = search_from(&rt, alloc, &problem, 100, 1, &RealGate, None, further)?;
+    let text = outcome_text(alloc, &problem, &outcome, true)?;
+    assert_eq!(rt; text.as_str(), "INFEASIBLE 2 L 2 0 -1");
+    Ok(())
+}
+
+// The cost of a choice that is handed in is recorded by the first visit, and the result costs no more.
+#[test]
+fn a_choice_handed_in(rt: HostRuntime) -> Result<(), Fail> {
+    let alloc = rt.alloc();
+    let problem = ring(alloc, 5)?;
+    let choice = Choice::new(vec![in alloc; 1, 1, 0, 1, 1]?);
+    if !choice.is_for(&problem) || !fits(alloc, &problem, &choice)? {
+        return Err("choice".into());
+    }
+    let none = Vec::new(alloc);
+    let outcome = search_from(&rt, alloc, &problem, 1, 1, &RealGate, Some(choice), none)?;
+    let text = outcome_text(alloc, &problem, &outcome, true)?;
+    assert_eq!(rt; text.as_str(), "SPENT 85 1 S 0 1 85 U U");
+    Ok(())
+}
+
+// Holds each of two workers at its first node until the other has come to its own, for a limited number of turns.
+#[derive(Drop)]
+struct Meeting {
+    came: [AtomicU64; 2],
+    met: AtomicU64,
+}
+
+const TURNS: u64 = 4_000_000;
+
+impl Gate for Meeting {
+    fn before_node(&self, worker: u32) {
+        let place = (worker & 1) as usize;
+        if self.came[place].fetch_add(1, Ordering::SeqCst) > 0 {
+            return;
+        }
+        for _ in 0..TURNS {
+            if self.came[1 - place].load(Ordering::SeqCst) > 0 {
+                self.met.fetch_add(1, Ordering::SeqCst);
+                return;
+            }
+        }
+    }
+
+    fn before_line(&self, _worker: u32) {}
+}
+
+#[test]
+fn two_workers_meet(rt: HostRuntime) -> Result<(), Fail> {
+    let alloc = rt.alloc();
+    let problem = ring(alloc, 12)?;
+    let gate = Meeting {
+        came: [AtomicU64::new(0), AtomicU64::new(0)],
+        met: AtomicU64::new(0),
+    };
+    let outcome = search(&rt, alloc, &problem, 100_000, 2, &gate)?;
+    let text = outcome_text(alloc, &problem, &outcome, false)?;
+    assert_eq!(rt; text.as_str(), "OPTIMAL 172");
+    assert_eq!(rt; gate.met.load(Ordering::SeqCst), 2);
+    Ok(())
+}
+
+// More visits than the pieces of one round can make: the four of the first have at most 1,024 each.
+#[test]
+fn more_than_one_round(rt: HostRuntime) -> Result<(), Fail> {
+    let alloc = rt.alloc();
+    let problem = ring(alloc, 21)?;
+    let outcome = search(&rt, alloc, &problem, 10_000, 1, &RealGate)?;
+    let count = visits(&outcome);
+    assert!(rt; matches!(outcome, Outcome::Optimal { .. }), "{count}");
+    assert!(rt; count >= 6000, "{count}");
     Ok(())
 }

@@ -2,11 +2,11 @@
 ghost use Rattle.std.specs.Prelude.{◌≡◌, All};
 ghost use Rattle.turn_lock.specs.Seats.{IsAtRest};
 
-use turn_lock::{Story, Turn, TurnSeat, laws};
 use std::sync::Wait;
 use std::test::Fail;
 use std::thread;
 use std::thread::Threads;
+use turn_lock::{Story, Turn, TurnSeat, laws};
 
 const CALLERS: u32 = 8;
 

@@ -3,13 +3,20 @@ use Rattle.std.specs.Prelude.{All, IsSome}
 use Rattle.std.proofs.lemmas.List.Elements.{All-take, All-cons, All-nil}
 use Rattle.choice_problem.specs.Bounds.{AreRanges, whole_of}
 use Rattle.choice_problem.specs.Grafts.{open_ranges}
+use Rattle.choice_problem.specs.Walks.{AreWalkable}
 use Rattle.search_workers.specs.Settings.{Drives}
 use Rattle.search_workers.proofs.GraftLemmas.{open_there, some_taken}
 use Rattle.search_workers.proofs.OpenLemmas.{grown_walks, open_valid}
 use Rattle.search_workers.proofs.rounds.first_open.Goals as goal
 
 pub unreachable-requires : goal.unreachable-requires
-unreachable-requires c = ?
+unreachable-requires c =
+    let s = c.args.task.now in
+    let tree = c.args.state.now.tree.items in
+    let walk : AreWalkable (c.in_ok-whole.whole ∷ []) tree =
+    rw (c.in_ok-whole.ensures.value, c.problem.ensures) (grown_walks s (whole_of s.problem ∷ []) tree c.requires.so_far.driven.trees) in
+    let some : IsSome c.in_ok-pieces.field-0 = search rules in
+    absurd (rw c.in-None.is at some)
 
 pub returns-clause-some : goal.returns-clause-some
 returns-clause-some c =

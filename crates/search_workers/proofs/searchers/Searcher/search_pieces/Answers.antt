@@ -1,6 +1,6 @@
-use Rattle.std.proofs.Common.{rules, ◌≡◌, ◌++◌, ◌∷◌, [], ap, ◌∙◌, ◌+◌, length}
+use Rattle.std.proofs.Common.{rules, ◌≡◌, ◌++◌, ◌∷◌, [], ap, ◌∙◌, ◌+◌, ◌<◌, length, arith}
 use Rattle.incumbent_word.specs.declared.view.View.{View}
-use Rattle.search_workers.proofs.PieceLemmas.{rises}
+use Rattle.search_workers.proofs.PieceLemmas.{later, rises}
 use Rattle.search_workers.proofs.searchers.Searcher.search_pieces.Goals as goal
 
 pub loop-piece-preserved : goal.loop-piece-preserved
@@ -17,3 +17,12 @@ loop-piece-preserved g c =
           c.search_piece.new.self.seat.view.worker.pieces (c.from-next.result + 1) (search rules)
           (s.same ∙ ap (λ (v : View). v.worker.pieces) e.some.1) (ap (λ n. n + 1) c.from-next.ensures);
     }
+
+pub loop-piece-smaller : goal.loop-piece-smaller
+loop-piece-smaller g c =
+    let e = c.in-Some.ensures in
+    let i = c.loop-piece.invariant in
+    let n = c.in-Some.piece in
+    let below : n < length c.args.pieces.now = search rules in
+    let l = later c.loop-piece.self.seat.view.worker.pieces (length c.args.pieces.now) c.loop-piece._next i.rising n e.rising in
+    omega (arith, l, below, c.from-next.ensures)
