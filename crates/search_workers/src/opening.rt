@@ -123,14 +123,19 @@ fn visit_part<'a>(
     place.go(alloc, task, &pieces[piece])?;
     let (node, found) = look(alloc, task, place, state.cost)?;
     let tree = sprout(alloc, node)?;
-    let mut done = Vec::new(alloc);
-    done.push(Done {
-        piece: piece as u32,
-        tree,
-    })?;
+    let done = one_done(alloc, piece as u32, tree)?;
     let trees = trees_of(alloc, task, &pieces, done)?;
     let tree = graft_nodes(alloc, &state.tree, &trees)?;
     Ok(State::with_found(task.problem(), tree, state.cost, state.best, found))
+}
+
+// One tree.
+fn one_done(alloc: Global, piece: u32, tree: Vec<Node>) -> Result<Vec<Done>, Memory>
+    ensures { IfOk result (λ done. done.items ≡ record { piece = piece; tree = tree } ∷ []) }
+{
+    let mut done = Vec::new(alloc);
+    done.push(Done { piece, tree })?;
+    Ok(done)
 }
 
 // Which of the undone nodes is the shallowest, the first one on ties, counted from 0.

@@ -274,8 +274,6 @@ fn finish(
         CostsAtMost task.now.problem (choice_cost task.now.problem x) outcome) }
 {
     driven_tree();
-    fewer_vectors();
-    sound_tree();
     task.known();
     if !is_whole(&state.tree) {
         let vectors = task.vectors(alloc, MOST_VECTORS)?;
@@ -287,6 +285,28 @@ fn finish(
             vectors,
         });
     }
+    whole_outcome(alloc, task, _given, budget, state)
+}
+
+// What the search answers where no node is undone.
+fn whole_outcome(
+    alloc: Global,
+    task: &Task<'_>,
+    _given: &[Vector],
+    _budget: u32,
+    state: State,
+) -> Result<Outcome, Memory>
+    requires so_far { IsSoFar task.now state.cost state.best state.tree.items }
+    requires given { HasGiven task.now _given.now }
+    requires within { node_count state.tree.items ≤ _budget }
+    requires whole { IsWhole state.tree.items }
+    ensures { IfOk result (λ outcome.
+        IsOutcome task.now.problem _given.now _budget outcome × IsSettled outcome) }
+{
+    driven_tree();
+    fewer_vectors();
+    sound_tree();
+    task.known();
     let named = greatest_named(&state.tree);
     let vectors = task.vectors(alloc, named as usize)?;
     let State { tree, cost, best } = state;

@@ -89,10 +89,18 @@ pub(crate) fn trees_of(
     let mut trees = undone_trees(alloc, pieces.len())?;
     let mut rest = done;
     while let Some(last) = rest.pop() {
-        trees[last.piece as usize] = last.tree;
+        set_tree(&mut trees, last.piece, last.tree);
     }
     let _task = task;
     Ok(trees)
+}
+
+// Replaces a tree.
+fn set_tree(trees: &mut Vec<Vec<Node>>, place: u32, tree: Vec<Node>)
+    requires { place < length trees.old.items }
+    ensures { trees.new.items ≡ slice_set trees.old.items place tree }
+{
+    trees[place as usize] = tree;
 }
 
 // So many trees of one undone node each.

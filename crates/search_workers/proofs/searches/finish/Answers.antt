@@ -1,11 +1,11 @@
 use Rattle.std.proofs.Common.{rules, ◌≡◌, ◌≤◌, ◌∷◌, ◌∙◌, [], List, refl, inl, inr, arith, take, Some, None}
-use Rattle.std.specs.Prelude.{All}
+use Rattle.std.proofs.lemmas.Result.{IfOk-weaker}
 use Rattle.choice_problem.specs.Bounds.{IsVector, whole_of}
 use Rattle.choice_problem.specs.Trees.{IsWhole, node_count}
 use Rattle.search_workers.specs.Outcomes.{IsOutcome, IsSettled, IsSearched}
-use Rattle.search_workers.proofs.FinishLemmas.{searched_all, searched_named, named_there, cut_named, given_less}
+use Rattle.search_workers.proofs.FinishLemmas.{searched_all, given_less}
 use Rattle.search_workers.proofs.OpenLemmas.{grown_walks}
-use Rattle.search_workers.proofs.OutcomeLemmas.{whole_ends, whole_costs}
+use Rattle.search_workers.proofs.OutcomeLemmas.{whole_costs}
 use Rattle.search_workers.proofs.SizeLemmas.{alts_of, open_small}
 use Rattle.search_workers.proofs.searches.finish.Goals as goal
 
@@ -32,10 +32,11 @@ returns-then-not-is_whole-clause-settled c = λ few.
     absurd (omega (arith, spent, small, few))
 
 pub returns-clause-outcome : goal.returns-clause-outcome
-returns-clause-outcome c = ?
+returns-clause-outcome c = IfOk-weaker c.whole_outcome.result _ _ (λ o h. h.0) c.whole_outcome.ensures
 
 pub returns-clause-settled : goal.returns-clause-settled
-returns-clause-settled c = ?
+returns-clause-settled c = λ few. IfOk-weaker c.whole_outcome.result _ _ (λ o h. h.1) c.whole_outcome.ensures
 
 pub returns-clause-start : goal.returns-clause-start
-returns-clause-start c = ?
+returns-clause-start c =
+    IfOk-weaker c.whole_outcome.result _ _ (λ o h. λ x f a. whole_costs c.args.task.now.problem c.args._given.now c.args.budget o h.0 h.1 x f) c.whole_outcome.ensures

@@ -17,11 +17,30 @@ loop-last-init c =
     placed_none c.args.task.now c.args.pieces.now c.args.done.items (map (λ t. t.items) trees) count
     (All-map (λ (t : List Node). t ≡ Undone ∷ []) (λ t. t.items) trees e.each)
 
-pub index_mut-requires : goal.index_mut-requires
-index_mut-requires c = ?
+pub set_tree-requires : goal.set_tree-requires
+set_tree-requires c =
+    let trees = c.loop-last.trees.items in
+    let k = placed_last c.args.task.now c.args.pieces.now c.args.done.items c.loop-last.rest.items c.pop.new.self.items c.in-Some.last (map (λ t. t.items) trees)
+    c.loop-last.invariant c.in-Some.ensures.items c.requires.there c.requires.trees in
+    omega (arith, k.1, length-map trees (λ t. t.items))
 
 pub loop-last-preserved : goal.loop-last-preserved
-loop-last-preserved c = ?
+loop-last-preserved c =
+    let trees = c.loop-last.trees.items in
+    let old : List (List Node) = map (λ t. t.items) trees in
+    let d : Done = c.in-Some.last in
+    let left = c.pop.new.self.items in
+    let k = placed_last c.args.task.now c.args.pieces.now c.args.done.items c.loop-last.rest.items left d old
+    c.loop-last.invariant c.in-Some.ensures.items c.requires.there c.requires.trees in
+    rw (c.set_tree.ensures, map-set) (placed_more c.args.task.now c.args.pieces.now c.args.done.items c.loop-last.rest.items left d old
+    c.loop-last.invariant c.in-Some.ensures.items c.requires.apart k.0 k.2)
 
 pub returns-clause-shape : goal.returns-clause-shape
-returns-clause-shape c = ?
+returns-clause-shape c =
+    let none : c.loop-last.rest.items ≡ [] = search rules in
+    (placed_all c.args.task.now c.args.pieces.now c.args.done.items c.loop-last.rest.items (map (λ t. t.items) c.loop-last.trees.items) c.loop-last.invariant none).0
+
+pub returns-clause-nodes : goal.returns-clause-nodes
+returns-clause-nodes c =
+    let none : c.loop-last.rest.items ≡ [] = search rules in
+    (placed_all c.args.task.now c.args.pieces.now c.args.done.items c.loop-last.rest.items (map (λ t. t.items) c.loop-last.trees.items) c.loop-last.invariant none).1
