@@ -24,9 +24,9 @@ module _ (s : Setting) (ranges : List (ℕ × ℕ)) (seen : Option ℕ) (x : Lis
     | inr m ↦ absurd (none (smaller (choice_cost s.problem x) t m closes))
   ]
 
-  found_here : {root : List Price} {further : List (List Price)} → StaysOpenToAll s.problem root further ranges seen → IsFound s.problem ranges x leaf →
+  found_here : (root : List Price) (further : List (List Price)) → StaysOpenToAll s.problem root further ranges seen → IsFound s.problem ranges x leaf →
       IsLook s ranges seen leaf (Some x)
-  found_here o f =
+  found_here root further o f =
       let d : Drives s ranges leaf = driven f in
       let d' : Drives s ranges (Leaf 0 1 (Some (choice_cost s.problem x))) = rw f.leaf_is at d in
       record {
@@ -35,9 +35,9 @@ module _ (s : Setting) (ranges : List (ℕ × ℕ)) (seen : Option ℕ) (x : Lis
         choice = (f.feasible, below seen o.stays_open.no_zero d'.closes, f.leaf_is);
       }
 
-  pub found_look : {p : ProblemView} {root : List Price} {further : List (List Price)} {visit : Visit} → IsVisit p root further ranges seen visit →
+  pub found_look : (p : ProblemView) (root : List Price) (further : List (List Price)) (visit : Visit) → IsVisit p root further ranges seen visit →
       visit ≡ answer.Found x leaf → p ≡ s.problem → IsLook s ranges seen leaf (Some x)
-  found_look {p} {root} {further} {visit} v is e =
+  found_look p root further visit v is e =
       let w : IsVisit p root further ranges seen (answer.Found x leaf) = rw is at v in
       let w' : IsVisit s.problem root further ranges seen (answer.Found x leaf) = rw e at w in
-      found_here w'.0 w'.1
+      found_here root further w'.0 w'.1

@@ -13,4 +13,4 @@ returns-in-Found c =
     let here : AreRanges s.problem ranges = rw (c.ranges-ranges.ensures.value, c.requires.problem) at c.ranges-ranges.ensures.valid in
     found_look s ranges c.args.seen x leaf (λ u v l h. c.closed_ranges.ensures.smaller s.problem ranges [] 1 u v l h)
     (λ f. c.visited_nodes.ensures.found s.problem s.vectors (root_of s) ranges x leaf here f)
-    c.in_ok-visit.ensures c.in-Found.is c.problem.ensures
+    _ _ _ _ c.in_ok-visit.ensures c.in-Found.is c.problem.ensures

@@ -1,7 +1,8 @@
 use Rattle.std.proofs.Common.{rules, ◌≡◌, ◌∷◌, ◌++◌, ◌+◌, ◌∙◌, [], List, ap, map, take}
 use Rattle.choice_problem.specs.declared.nodes.Node.{Node}
 use Rattle.choice_problem.specs.Bounds.{whole_of}
-use Rattle.choice_problem.specs.Grafts.{graft, open_ranges}
+use Rattle.choice_problem.specs.Grafts.{graft, open_ranges, AreOn}
+use Rattle.search_workers.specs.Settings.{Drives}
 use Rattle.search_workers.specs.Searchers.{made}
 use Rattle.search_workers.specs.Work.{IsMadeOf, all_nodes, sprout}
 use Rattle.search_workers.proofs.EndLemmas.{grafted_shape, grafted_made, part_visited}
@@ -20,9 +21,10 @@ returns-clause-stretch c =
     let first : pieces ≡ take m (open_ranges (whole_of s.problem ∷ []) before) = c.in_ok-pieces.ensures.first in
     let made_is : made c.in_ok-done.done.items ≡ sprout node ++ [] = ap made c.in_ok-done.ensures ∙ ap (λ (l : List Node). l ++ []) c.in_ok-tree.ensures in
     let made_of : IsMadeOf (all_nodes trees) (sprout node ++ []) = rw made_is at c.in_ok-trees.ensures.nodes in
+    let on : AreOn (λ ranges node. Drives s ranges node) pieces trees = rw c.deref-2.ensures.value at c.in_ok-trees.ensures.shape in
     let tree : c.in_ok-tree-2.tree.items ≡ graft before trees = search rules in
-    let shape = grafted_shape s pieces before c.in_ok-tree-2.tree.items (sprout node ++ []) trees m state.cost state.best c.requires.so_far first tree c.in_ok-trees.ensures.shape made_of in
-    let all = grafted_made s pieces before c.in_ok-tree-2.tree.items (sprout node ++ []) trees m state.cost state.best c.requires.so_far first tree c.in_ok-trees.ensures.shape made_of in
+    let shape = grafted_shape s pieces before c.in_ok-tree-2.tree.items (sprout node ++ []) trees m state.cost state.best c.requires.so_far first tree on made_of in
+    let all = grafted_made s pieces before c.in_ok-tree-2.tree.items (sprout node ++ []) trees m state.cost state.best c.requires.so_far first tree on made_of in
     let e = c.with_found.ensures in
     rw (e.tree, e.cost, e.best, c.problem.ensures)
     (part_visited s c.go.new.self.walk.ranges state.cost state.best before c.in_ok-tree-2.tree.items node found c.requires.so_far c.in_ok-node.ensures shape all)

@@ -16,7 +16,7 @@ unreachable-requires c =
     let walk : AreWalkable (c.in_ok-whole.whole ∷ []) tree =
     rw (c.in_ok-whole.ensures.value, c.problem.ensures) (grown_walks s (whole_of s.problem ∷ []) tree c.requires.so_far.driven.trees) in
     let some : IsSome c.in_ok-pieces.field-0 = search rules in
-    absurd (rw c.in-None.is at some)
+    absurd (cc (rw c.in-None.is at some))
 
 pub returns-clause-some : goal.returns-clause-some
 returns-clause-some c =

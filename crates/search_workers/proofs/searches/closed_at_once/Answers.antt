@@ -1,11 +1,12 @@
-use Rattle.std.proofs.Common.{rules, ◌≡◌, ◌≤◌, ◌∷◌, ◌∙◌, [], List, refl, inl, arith, Some, None}
+use Rattle.std.proofs.Common.{rules, ℕ, ◌≡◌, ◌≤◌, ◌∷◌, ◌∙◌, [], List, refl, inl, arith, Some, None}
 use Rattle.std.proofs.lemmas.List.Elements.{All-cons, All-nil}
 use Rattle.choice_problem.specs.declared.nodes.Node.TheVariants.{Over}
 use Rattle.choice_problem.specs.declared.vectors.Price.{Price}
 use Rattle.choice_problem.specs.Bounds.{IsVector, whole_of}
 use Rattle.choice_problem.specs.Driven.{IsDriven}
 use Rattle.choice_problem.specs.Renumbered.{NamesUpTo}
-use Rattle.choice_problem.specs.Trees.{node_count}
+use Rattle.choice_problem.specs.Trees.{IsSound, node_count}
+use Rattle.choice_problem.specs.Choices.{HasNone}
 use Rattle.search_workers.specs.Outcomes.{IsSearched}
 use Rattle.search_workers.proofs.OutcomeLemmas.{closed_driven, closed_whole, listed_none, whole_ends}
 use Rattle.search_workers.proofs.searches.closed_at_once.Goals as goal
@@ -21,7 +22,7 @@ returns-clause-outcome c =
     let k = c.requires.start in
     let closes = c.requires.closes root [] in
     let node = c.visited_nodes.ensures.closed p root [] (whole_of p) start.cost leaf closes in
-    let none_law = λ r h. c.sound_tree.ensures.none p [] (Over r ∷ []) (All-nil (IsVector p)) h tt in
+    let none_law : (r : ℕ) → IsSound p [] None (whole_of p) (Over r ∷ []) → HasNone p = λ r h. c.sound_tree.ensures.none p [] (Over r ∷ []) (All-nil (IsVector p)) h tt in
     let d = closed_driven p start root leaf k closes node none_law exists.1 in
     let w = closed_whole p start root leaf k closes node none_law in
     let d0 : IsDriven p [] start.cost (leaf ∷ []) =

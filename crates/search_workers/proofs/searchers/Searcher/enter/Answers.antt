@@ -18,7 +18,7 @@ returns-clause-work c =
     let look : IsLook s c.args.ranges.now c.least-seen.result node c.in_ok-node.found = rw c.in_ok-go.ensures.ranges at c.in_ok-node.ensures in
     let k = entered s me.seat.view c.least-seen.new.self.view c.least-seen.result me.best (made me.done.items ++ nodes) c.requires.work c.least-seen.ensures.step
     c.args.ranges.now node me.cost c.keep_found.new.self.cost c.keep_found.new.self.best c.keep_found.new.self.seat.view c.requires.cost c.in_ok-node.found look
-    c.keep_found.ensures.keeping in
+    (rw c.problem.ensures at c.keep_found.ensures.keeping) in
     rw (c.keep_found.ensures.done, c.in_ok-enter.ensures.nodes, ← append_assoc) k.0
 
 pub returns-clause-cost : goal.returns-clause-cost
@@ -30,7 +30,7 @@ returns-clause-cost c =
     let look : IsLook s c.args.ranges.now c.least-seen.result node c.in_ok-node.found = rw c.in_ok-go.ensures.ranges at c.in_ok-node.ensures in
     let k = entered s me.seat.view c.least-seen.new.self.view c.least-seen.result me.best (made me.done.items ++ nodes) c.requires.work c.least-seen.ensures.step
     c.args.ranges.now node me.cost c.keep_found.new.self.cost c.keep_found.new.self.best c.keep_found.new.self.seat.view c.requires.cost c.in_ok-node.found look
-    c.keep_found.ensures.keeping in
+    (rw c.problem.ensures at c.keep_found.ensures.keeping) in
     k.1
 
 pub returns-clause-tree : goal.returns-clause-tree

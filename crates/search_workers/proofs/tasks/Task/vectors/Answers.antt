@@ -10,4 +10,4 @@ returns c =
     let len : c.len.result ≡ length tables = search rules in
     let e : c.in_ok-vectors.vectors.items ≡ vectors_of (take (min c.args.most (length tables)) tables) =
     rw (c.deref.ensures.value, c.min-count.ensures, len) at c.in_ok-vectors.ensures in
-    c.new.ensures ∙ (e ∙ (vectors-take c.args.most tables ∙ ap (λ (s : Setting). s.vectors) c.self.view_is))
+    c.new.ensures ∙ (e ∙ (vectors-take c.args.most tables ∙ ap (λ (s : Setting). take c.args.most s.vectors) c.self.view_is))
