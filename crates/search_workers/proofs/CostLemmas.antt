@@ -1,5 +1,5 @@
 -- Costs, where no cost counts as greater than every cost.
-use Rattle.std.proofs.Common.{◌≡◌, ℕ, ◌≤◌, min, Option, Some, None, ◌⊎◌, inl, inr, refl, ap, le_refl, le_trans, arith}
+use Rattle.std.proofs.Common.{◌≡◌, ℕ, min, Option, Some, None, ◌⊎◌, inl, inr, refl, ap, le_refl, le_trans, arith}
 use Rattle.incumbent_word.specs.Core.{lesser, AtMost}
 
 pub at_most_refl : (a : Option ℕ) → AtMost a a

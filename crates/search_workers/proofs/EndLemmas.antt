@@ -1,6 +1,6 @@
 -- A board's end, and one visit of the caller.
-use Rattle.std.proofs.Common.{◌≡◌, ℕ, zero, suc, ◌+◌, ◌<◌, ◌≤◌, true, List, [], ◌∷◌, ◌++◌, length, map, min, refl, sym, ◌∙◌, ap, arith, inl, inr, ◌⊎◌, Option, Some, None}
-use Rattle.std.specs.Prelude.{All, Contains, take, nat_lt, if◌then◌else◌}
+use Rattle.std.proofs.Common.{◌≡◌, ℕ, ◌≤◌, true, List, [], ◌∷◌, ◌++◌, length, min, refl, sym, ◌∙◌, ap, arith, inl, inr, ◌⊎◌, Option, Some, None}
+use Rattle.std.specs.Prelude.{All, Contains, take, nat_lt}
 use Rattle.std.proofs.lemmas.Bool.Decides.{nat_tests}
 use Rattle.choice_problem.specs.Driven.{IsSeenBetween, RecordsBetween, Records}
 use Rattle.branch_tree.specs.Visits.{NoneOver}
@@ -22,7 +22,7 @@ use Rattle.search_workers.specs.Settings.{Setting, AreGrown, Drives, IsLook, IsB
 use Rattle.search_workers.specs.Work.{IsWork, IsMadeOf, IsSoFar, all_nodes, lesser_choice, sprout}
 use Rattle.search_workers.specs.Searchers.{made, pieces_of, IsSearcher}
 use Rattle.search_workers.specs.Rounds.{IsStretch, IsRound, AreApart}
-use Rattle.search_workers.proofs.CostLemmas.{at_most_refl, lesser_left, lesser_right, lesser_none}
+use Rattle.search_workers.proofs.CostLemmas.{at_most_refl, lesser_left, lesser_none}
 use Rattle.search_workers.proofs.NodeLemmas.{node_count-append}
 use Rattle.search_workers.proofs.GraftLemmas.{AreOn-take, graft-trees, graft-made}
 use Rattle.search_workers.proofs.WorkLemmas.{work_none, work_node, work_found, board_ends, board_count}

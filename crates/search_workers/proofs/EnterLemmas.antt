@@ -1,19 +1,17 @@
 -- One visit of a worker.
-use Rattle.std.proofs.Common.{◌≡◌, ℕ, ◌+◌, ◌<◌, ◌≤◌, min, List, [], ◌∷◌, ◌++◌, length, refl, sym, ◌∙◌, ap, arith, Option, Some, None, append_assoc}
+use Rattle.std.proofs.Common.{◌≡◌, ℕ, ◌+◌, List, [], ◌∷◌, ◌++◌, length, refl, sym, ◌∙◌, ap, arith, Option, Some, None, append_assoc}
 use Rattle.std.specs.Prelude.{All}
 use Rattle.std.proofs.lemmas.List.Elements.{All-head, All-tail, All-append, All-cons, All-nil}
 use Rattle.choice_problem.specs.declared.nodes.Node.{Node}
 use Rattle.choice_problem.specs.declared.nodes.Node.TheVariants.{Split, Leaf, Over, Undone}
 use Rattle.choice_problem.specs.Bounds.{AreRanges}
-use Rattle.choice_problem.specs.Choices.{IsFeasible, choice_cost}
-use Rattle.choice_problem.specs.Trees.{CanSplit, node_count, parts_of, low_part, high_part}
-use Rattle.choice_problem.specs.Driven.{IsSeenBetween, RecordsBetween, Records}
-use Rattle.incumbent_word.specs.declared.view.Worker.{Worker}
+use Rattle.choice_problem.specs.Choices.{choice_cost}
+use Rattle.choice_problem.specs.Trees.{CanSplit, parts_of, low_part, high_part}
+use Rattle.choice_problem.specs.Driven.{IsSeenBetween, RecordsBetween}
 use Rattle.incumbent_word.specs.declared.view.View.{View}
-use Rattle.incumbent_word.specs.declared.view.Event.{Event}
 use Rattle.incumbent_word.specs.Core.{AtMost, lesser}
-use Rattle.incumbent_word.specs.Calls.{Looked, Posted, with_number}
-use Rattle.search_workers.specs.Settings.{Setting, Drives, RecordsSeen, IsBelow, FoundAt, IsLook}
+use Rattle.incumbent_word.specs.Calls.{Looked, with_number}
+use Rattle.search_workers.specs.Settings.{Setting, Drives, RecordsSeen, IsBelow, IsLook}
 use Rattle.search_workers.specs.Work.{IsWork, IsAhead, IsKeeping, lesser_choice}
 use Rattle.search_workers.specs.Searchers.{IsBegun}
 use Rattle.search_workers.proofs.CostLemmas.{at_most_trans}

@@ -1,23 +1,23 @@
 -- What a search answers at its end.
-use Rattle.std.proofs.Common.{◌≡◌, ℕ, zero, suc, ◌+◌, ◌-◌, ◌*◌, ◌<◌, ◌≤◌, min, List, [], ◌∷◌, ◌++◌, length, map, take, drop, refl, sym, ◌∙◌, ap, arith, Option, Some, None, ◌⊎◌, inl, inr, append_assoc, length-append}
-use Rattle.std.specs.Prelude.{All, Contains, IfSome, slice_index_or, sum_by}
+use Rattle.std.proofs.Common.{◌≡◌, ℕ, zero, suc, ◌+◌, ◌-◌, ◌<◌, ◌≤◌, List, [], ◌∷◌, ◌++◌, length, take, drop, refl, sym, ◌∙◌, ap, arith, Option, Some, None, ◌⊎◌, inl, inr, append_assoc, length-append}
+use Rattle.std.specs.Prelude.{All, Contains, IfSome, slice_index_or}
 use Rattle.std.specs.Option.{option_map}
 use Rattle.std.proofs.lemmas.List.{length-take, take_all, take-append-drop, get_or_append_left, length-drop, drop-append-le}
-use Rattle.std.proofs.lemmas.List.Elements.{All-take, All-contains, All-cons, All-nil, All-weaker}
+use Rattle.std.proofs.lemmas.List.Elements.{All-take, All-contains, All-cons, All-nil}
 use Rattle.std.proofs.lemmas.List.Sums.{sum_by-take-le}
 use Rattle.choice_problem.specs.declared.vectors.Price.{Price}
 use Rattle.choice_problem.specs.declared.nodes.Node.{Node}
 use Rattle.choice_problem.specs.declared.nodes.Node.TheVariants.{Split, Leaf, Over, Undone}
-use Rattle.choice_problem.specs.Problems.{ProblemView, ChooserView, unit_count, alt_count, chooser_at}
-use Rattle.choice_problem.specs.Choices.{IsFeasible, IsBest, HasNone, choice_cost}
-use Rattle.choice_problem.specs.Bounds.{IsVector, AreRanges, whole_of}
-use Rattle.choice_problem.specs.Trees.{AreTrees, IsSound, IsWhole, node_count, parts_of, vector_at, LeafHolds}
+use Rattle.choice_problem.specs.Problems.{ProblemView}
+use Rattle.choice_problem.specs.Choices.{IsFeasible, choice_cost}
+use Rattle.choice_problem.specs.Bounds.{IsVector, whole_of}
+use Rattle.choice_problem.specs.Trees.{AreTrees, IsSound, parts_of}
 use Rattle.choice_problem.specs.Driven.{IsDriven, IsDrivenFrom}
 use Rattle.choice_problem.specs.Greedy.{IsGreedyCost}
 use Rattle.choice_problem.specs.Renumbered.{NamesUpTo}
 use Rattle.choice_problem.specs.Roots.{IsRootVector}
 use Rattle.incumbent_word.specs.Core.{AtMost}
-use Rattle.search_workers.specs.Outcomes.{IsBestFound, AreListed, IsSearched, IsCut, Names, CostsAtMost, price_count}
+use Rattle.search_workers.specs.Outcomes.{IsBestFound, AreListed, IsSearched, IsCut, Names, CostsAtMost}
 use Rattle.search_workers.specs.declared.outcomes.Outcome.{Outcome}
 use Rattle.search_workers.specs.Settings.{Setting, IsSetting, IsWider, HasGiven, Drives, AreGrown, root_of}
 use Rattle.search_workers.specs.Work.{IsSoFar}

@@ -1,18 +1,16 @@
 -- A choice found by a visit.
-use Rattle.std.proofs.Common.{◌≡◌, ℕ, ◌<◌, ◌≤◌, List, [], ◌∷◌, refl, sym, ap, Option, Some, None, inl, inr}
+use Rattle.std.proofs.Common.{◌≡◌, ℕ, ◌≤◌, List, [], refl, Option, Some, None, inl, inr}
 use Rattle.std.proofs.lemmas.Bool.{cases_lt}
 use Rattle.choice_problem.specs.declared.vectors.Price.{Price}
 use Rattle.choice_problem.specs.declared.nodes.Node.{Node}
 use Rattle.choice_problem.specs.declared.nodes.Node.TheVariants.{Leaf}
 use Rattle.choice_problem.specs.Problems.{ProblemView}
 use Rattle.choice_problem.specs.Choices.{choice_cost}
-use Rattle.choice_problem.specs.Bounds.{AreRanges, Closes}
-use Rattle.choice_problem.specs.Trees.{node_count}
-use Rattle.choice_problem.specs.Driven.{IsDrivenNode}
+use Rattle.choice_problem.specs.Bounds.{Closes}
 use Rattle.branch_tree.specs.declared.answers.Visit.{Visit}
 use Rattle.branch_tree.specs.declared.answers.Visit.TheVariants as answer
 use Rattle.branch_tree.specs.Visits.{IsVisit, IsFound, StaysOpenToAll}
-use Rattle.search_workers.specs.Settings.{Setting, Drives, IsBelow, IsLook, root_of}
+use Rattle.search_workers.specs.Settings.{Setting, Drives, IsBelow, IsLook}
 
 module _ (s : Setting) (ranges : List (ℕ × ℕ)) (seen : Option ℕ) (x : List ℕ) (leaf : Node)
     (smaller : (u v : ℕ) → v ≤ u → Closes s.problem ranges [] 1 (Some u) → Closes s.problem ranges [] 1 (Some v))

@@ -1,18 +1,17 @@
 -- From a tree and a best choice to what a search answers.
-use Rattle.std.proofs.Common.{◌≡◌, ℕ, suc, zero, ◌+◌, ◌*◌, ◌<◌, ◌≤◌, List, [], ◌∷◌, ◌++◌, length, map, refl, sym, ◌∙◌, ap, arith, Option, Some, None, ◌⊎◌, inl, inr}
-use Rattle.std.specs.Prelude.{All, Contains, IfSome, slice_index_or}
+use Rattle.std.proofs.Common.{◌≡◌, ℕ, ◌≤◌, List, [], ◌∷◌, refl, sym, ◌∙◌, arith, Option, Some, None, inl, inr}
+use Rattle.std.specs.Prelude.{IfSome}
 use Rattle.std.specs.Option.{option_map}
 use Rattle.std.proofs.lemmas.List.Elements.{All-cons, All-nil, Contains-push}
 use Rattle.choice_problem.specs.declared.vectors.Price.{Price}
 use Rattle.choice_problem.specs.declared.nodes.Node.{Node}
 use Rattle.choice_problem.specs.declared.nodes.Node.TheVariants.{Split, Leaf, Over, Undone}
-use Rattle.choice_problem.specs.Problems.{ProblemView, ChooserView, unit_count, alt_count, chooser_at}
+use Rattle.choice_problem.specs.Problems.{ProblemView}
 use Rattle.choice_problem.specs.Choices.{IsFeasible, IsBest, HasNone, choice_cost}
-use Rattle.choice_problem.specs.Bounds.{IsVector, AreRanges, whole_of}
-use Rattle.choice_problem.specs.Trees.{IsSound, IsWhole, OverHolds, node_count}
-use Rattle.choice_problem.specs.Driven.{IsDriven, IsDrivenFrom, IsDrivenNode, IsSeenBetween, RecordsBetween, Records}
+use Rattle.choice_problem.specs.Bounds.{IsVector, whole_of}
+use Rattle.choice_problem.specs.Trees.{IsSound, IsWhole, node_count}
+use Rattle.choice_problem.specs.Driven.{IsDriven, IsDrivenFrom, IsDrivenNode, IsSeenBetween, RecordsBetween}
 use Rattle.choice_problem.specs.Greedy.{IsGreedyCost}
-use Rattle.choice_problem.specs.Renumbered.{NamesUpTo}
 use Rattle.choice_problem.specs.Roots.{IsRootVector}
 use Rattle.incumbent_word.specs.Core.{AtMost}
 use Rattle.branch_tree.specs.Visits.{ClosesBy}

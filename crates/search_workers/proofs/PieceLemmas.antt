@@ -1,12 +1,11 @@
 -- A worker's pieces, one after the other.
-use Rattle.std.proofs.Common.{◌≡◌, ◌≢◌, ℕ, zero, suc, ◌+◌, ◌-◌, ◌<◌, ◌≤◌, true, cond, Bool, eq-eqb, List, [], ◌∷◌, ◌++◌, map, length, refl, sym, ◌∙◌, ap, subst, arith, Option, Some, None, ◌⊎◌, inl, inr, append_assoc}
-use Rattle.std.specs.Prelude.{All, replicate, reverse, slice_index_or}
+use Rattle.std.proofs.Common.{◌≡◌, ◌≢◌, ℕ, ◌+◌, ◌-◌, ◌<◌, ◌≤◌, true, cond, Bool, eq-eqb, List, [], ◌∷◌, ◌++◌, length, refl, sym, ◌∙◌, ap, subst, arith, Option, inl, inr, append_assoc}
+use Rattle.std.specs.Prelude.{replicate, reverse, slice_index_or}
 use Rattle.std.proofs.lemmas.List.{length-reverse}
 use Rattle.std.proofs.lemmas.List.Sums.{sum_by-append, sum_by-cons}
 use Rattle.std.proofs.lemmas.List.Elements.{All-push, All-append}
 use mathlib.Core.Logic.{dite}
 use native.Mathlib.Decide.{dec_le}
-use Rattle.choice_problem.specs.declared.vectors.Price.{Price}
 use Rattle.choice_problem.specs.declared.nodes.Node.{Node}
 use Rattle.choice_problem.specs.declared.nodes.Node.TheVariants.{Undone}
 use Rattle.choice_problem.specs.Trees.{node_count}
@@ -14,7 +13,6 @@ use Rattle.choice_problem.specs.Driven.{RecordsBetween}
 use Rattle.search_workers.proofs.NodeLemmas.{node_count-append, undone_trees, All-undone, undone-counts}
 use Rattle.incumbent_word.specs.declared.view.Worker.{Worker}
 use Rattle.incumbent_word.specs.declared.view.View.{View}
-use Rattle.incumbent_word.specs.declared.view.Event.{Event}
 use Rattle.incumbent_word.specs.Calls.{with_piece}
 use Rattle.std.specs.Prelude.{count_by, ◌==◌}
 use Rattle.search_workers.specs.declared.searchers.Done.{Done}

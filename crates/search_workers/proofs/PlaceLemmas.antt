@@ -1,11 +1,10 @@
 -- Totals kept for one vector more.
-use Rattle.std.proofs.Common.{◌≡◌, ℕ, zero, suc, ◌+◌, ◌<◌, ◌≤◌, List, [], ◌∷◌, ◌++◌, length, refl, sym, ◌∙◌, ap, arith, inl, inr}
-use Rattle.std.specs.Prelude.{slice_index_or}
+use Rattle.std.proofs.Common.{◌≡◌, ℕ, ◌+◌, List, [], ◌∷◌, ◌++◌, length, sym, ◌∙◌, ap, arith, inl, inr}
 use Rattle.std.proofs.lemmas.Bool.{cases_lt}
 use Rattle.std.proofs.lemmas.List.{get_or_append_left, get_or_push, length_push}
 use Rattle.choice_problem.specs.declared.vectors.Price.{Price}
 use Rattle.choice_problem.specs.Problems.{ProblemView}
-use Rattle.price_table.specs.Totals.{TotalsView, AreTotalsFor, AreKeptFor, totals_at}
+use Rattle.price_table.specs.Totals.{TotalsView, AreTotalsFor, AreKeptFor}
 
 abbrev no_totals : TotalsView
 no_totals = record { ranges = []; scale = 0; least = []; limits = 0 }

@@ -1,16 +1,14 @@
 -- Workers joined, and a round's end.
-use Rattle.std.proofs.Common.{◌≡◌, ℕ, ◌+◌, ◌<◌, ◌≤◌, Bool, true, false, ◌||◌, List, [], ◌∷◌, ◌++◌, map, length, refl, sym, ◌∙◌, ap, Option, ◌⊎◌, inl, inr}
-use Rattle.std.specs.Prelude.{All, slice_index_or}
+use Rattle.std.proofs.Common.{◌≡◌, ℕ, ◌<◌, ◌≤◌, Bool, true, false, ◌||◌, List, [], ◌∷◌, ◌++◌, length, refl, ◌∙◌, ap, Option, inl, inr}
+use Rattle.std.specs.Prelude.{slice_index_or}
 use Rattle.std.proofs.lemmas.List.Elements.{All-append}
-use Rattle.choice_problem.specs.declared.nodes.Node.{Node}
 use Rattle.choice_problem.specs.Trees.{node_count}
 use Rattle.incumbent_word.specs.declared.view.View.{View}
-use Rattle.incumbent_word.specs.Core.{lesser, joined}
-use Rattle.incumbent_word.specs.declared.view.Event.{Event}
+use Rattle.incumbent_word.specs.Core.{lesser}
 use Rattle.incumbent_word.specs.Calls.{both_views}
 use Rattle.search_workers.specs.declared.searchers.Done.{Done}
 use Rattle.search_workers.specs.Settings.{Setting, AreGrown}
-use Rattle.search_workers.specs.Work.{IsWork, lesser_choice}
+use Rattle.search_workers.specs.Work.{lesser_choice}
 use Rattle.search_workers.specs.Searchers.{made, pieces_of, IsSearcher}
 use Rattle.search_workers.proofs.WorkLemmas.{work_joined}
 use Rattle.search_workers.proofs.PieceLemmas.{made-append}

@@ -1,12 +1,12 @@
 -- How many nodes a tree can have.
-use Rattle.std.proofs.Common.{◌≡◌, ℕ, zero, suc, ◌+◌, ◌-◌, ◌*◌, ◌<◌, ◌≤◌, List, [], ◌∷◌, ◌++◌, length, map, refl, sym, ◌∙◌, ap, arith}
+use Rattle.std.proofs.Common.{◌≡◌, ℕ, zero, suc, ◌+◌, ◌-◌, ◌*◌, ◌<◌, ◌≤◌, List, [], ◌∷◌, length, map, refl, ◌∙◌, ap, arith}
 use Rattle.std.specs.Prelude.{slice_index_or}
 use Rattle.choice_problem.specs.declared.nodes.Node.{Node}
 use Rattle.choice_problem.specs.declared.nodes.Node.TheVariants.{Split, Leaf, Over, Undone}
 use Rattle.choice_problem.specs.Problems.{ProblemView, ChooserView}
-use Rattle.choice_problem.specs.Bounds.{AreRanges, low_of, high_of, whole_of}
-use Rattle.choice_problem.specs.Trees.{AreTrees, CanSplit, IsWhole, node_count, parts_of, low_part, high_part}
-use Rattle.choice_problem.specs.Walks.{CanStand, AreWalkable}
+use Rattle.choice_problem.specs.Bounds.{AreRanges, whole_of}
+use Rattle.choice_problem.specs.Trees.{CanSplit, IsWhole, node_count, low_part, high_part}
+use Rattle.choice_problem.specs.Walks.{AreWalkable}
 use Rattle.search_workers.specs.Outcomes.{choice_count, product_of}
 
 -- how many choices there are within ranges

@@ -1,6 +1,6 @@
 -- The tables of a task.
-use Rattle.std.proofs.Common.{◌≡◌, ℕ, zero, suc, ◌+◌, ◌<◌, ◌≤◌, List, [], ◌∷◌, ◌++◌, length, map, take, drop, min, refl, sym, ◌∙◌, ap, arith, Option, inl, inr}
-use Rattle.std.specs.Prelude.{All, slice_index_or}
+use Rattle.std.proofs.Common.{◌≡◌, ℕ, zero, suc, ◌+◌, ◌<◌, ◌≤◌, List, [], ◌∷◌, ◌++◌, length, take, drop, min, refl, sym, ◌∙◌, ap, arith, Option, inl, inr}
+use Rattle.std.specs.Prelude.{All}
 use Rattle.std.proofs.lemmas.List.{get_or_append_left, length_push, length-map, map_push, drop-append-le, take_all}
 use Rattle.std.proofs.lemmas.Bool.{cases_lt}
 use Rattle.std.proofs.lemmas.List.Elements.{All-push, All-cons}
@@ -12,7 +12,7 @@ use Rattle.choice_problem.specs.Greedy.{IsGreedyCost}
 use Rattle.choice_problem.specs.Roots.{IsRootVector}
 use Rattle.price_table.specs.Tables.{TableView, IsTableFor, vectors_of}
 use Rattle.search_workers.specs.Outcomes.{AreFurther, price_count}
-use Rattle.search_workers.specs.Settings.{Setting, IsSetting, AreTables, IsWider}
+use Rattle.search_workers.specs.Settings.{Setting, AreTables, IsWider}
 
 pub vectors-push : (tables : List TableView) (t : TableView) → vectors_of (tables ++ t ∷ []) ≡ vectors_of tables ++ t.prices ∷ []
 vectors-push tables t = map_push (λ (u : TableView). u.prices) tables t

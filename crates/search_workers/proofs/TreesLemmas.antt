@@ -3,10 +3,10 @@ use Rattle.std.proofs.Common.{◌≡◌, ℕ, zero, suc, ◌+◌, ◌<◌, ◌�
 use Rattle.std.specs.Prelude.{All, Contains, slice_index_or, slice_set}
 use Rattle.std.proofs.lemmas.Bool.{cases_eq}
 use Rattle.std.proofs.lemmas.List.{length-set, get_or-set_same, get_or-set_other}
-use Rattle.std.proofs.lemmas.List.Elements.{All-head, All-tail, All-append, All-cons, All-nil, All-contains, All-get_or, All-map, Contains-append_left, Contains-append_right, Contains-append_cases, Contains-push}
+use Rattle.std.proofs.lemmas.List.Elements.{All-head, All-tail, All-append, All-cons, All-nil, All-contains, All-get_or, Contains-append_left, Contains-append_right, Contains-append_cases, Contains-push}
 use Rattle.choice_problem.specs.declared.nodes.Node.{Node}
 use Rattle.choice_problem.specs.declared.nodes.Node.TheVariants.{Undone}
-use Rattle.choice_problem.specs.Trees.{AreTrees, node_count}
+use Rattle.choice_problem.specs.Trees.{node_count}
 use Rattle.choice_problem.specs.Grafts.{AreOn}
 use Rattle.search_workers.specs.declared.searchers.Done.{Done}
 use Rattle.search_workers.specs.Settings.{Setting, AreGrown, Drives}
@@ -14,7 +14,7 @@ use Rattle.search_workers.specs.Searchers.{made, pieces_of}
 use Rattle.search_workers.specs.Work.{IsMadeOf, all_nodes}
 use Rattle.search_workers.specs.Rounds.{AreApart}
 use Rattle.search_workers.proofs.NodeLemmas.{node_count-append}
-use Rattle.search_workers.proofs.PieceLemmas.{times, times-append, times-one, made-append}
+use Rattle.search_workers.proofs.PieceLemmas.{times, times-append, times-one}
 use Rattle.search_workers.proofs.RoundLemmas.{pieces-append}
 
 set-from : (trees : List (List Node)) (i : ℕ) (tree : List Node) (node : Node) →

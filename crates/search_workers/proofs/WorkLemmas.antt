@@ -1,9 +1,7 @@
 -- What workers did, joined, and a least cost that falls.
-use Rattle.std.proofs.Common.{◌≡◌, ℕ, ◌+◌, ◌<◌, ◌≤◌, min, Bool, true, false, cond, eqb, List, [], ◌∷◌, ◌++◌, length, get_or, refl, sym, ◌∙◌, ap, subst, arith, Option, Some, None, ◌⊎◌, inl, inr, length-append}
+use Rattle.std.proofs.Common.{◌≡◌, ℕ, ◌+◌, min, Bool, true, false, List, [], ◌∷◌, ◌++◌, length, get_or, refl, ◌∙◌, ap, arith, Option, Some, None, ◌⊎◌, inl, inr, length-append}
 use Rattle.std.specs.Prelude.{All, Contains, nat_lt, if◌then◌else◌}
-use Rattle.std.proofs.lemmas.Bool.{cases_lt}
 use Rattle.std.proofs.lemmas.List.Elements.{All-push, All-append, All-nil, All-contains, All-contains_itself, Contains-append_left, Contains-append_right, Contains-push}
-use Rattle.choice_problem.specs.declared.vectors.Price.{Price}
 use Rattle.choice_problem.specs.declared.nodes.Node.{Node}
 use Rattle.choice_problem.specs.declared.nodes.Node.TheVariants.{Split, Leaf, Over, Undone}
 use Rattle.choice_problem.specs.Problems.{ProblemView}
@@ -16,7 +14,7 @@ use Rattle.search_workers.specs.Outcomes.{IsBestFound}
 use Rattle.search_workers.specs.Settings.{Setting, AreGrown}
 use Rattle.incumbent_word.specs.declared.view.Worker.{Worker}
 use Rattle.incumbent_word.specs.Core.{AtMost, lesser, joined, newcomer}
-use Rattle.search_workers.proofs.CostLemmas.{lesser_left, lesser_right, lesser_either, at_most_trans}
+use Rattle.search_workers.proofs.CostLemmas.{lesser_left, lesser_right, lesser_either}
 use Rattle.search_workers.specs.Work.{IsRecorded, IsWork, IsMadeOf, IsSoFar, lesser_choice}
 
 module _ (greedy : Option ℕ) where

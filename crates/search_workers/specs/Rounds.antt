@@ -1,7 +1,7 @@
 -- What the workers of one board have, and what a round of a search comes to.
-use Rattle.std.specs.Prelude.{◌≡◌, ℕ, ◌+◌, ◌<◌, ◌≤◌, ◌==◌, true, List, [], ◌∷◌, ◌++◌, count_by, length, All, Option, Some, None, ◌⊎◌}
+use Rattle.std.specs.Prelude.{◌≡◌, ℕ, ◌+◌, ◌≤◌, ◌==◌, true, List, [], ◌∷◌, count_by, Option, ◌⊎◌}
 use Rattle.choice_problem.specs.declared.nodes.Node.{Node}
-use Rattle.choice_problem.specs.Trees.{IsWhole, node_count}
+use Rattle.choice_problem.specs.Trees.{node_count}
 use Rattle.incumbent_word.specs.Core.{AtMost}
 use Rattle.incumbent_word.specs.Seats.{BoardView, IsSeatOf}
 use Rattle.search_workers.specs.declared.searchers.Searcher.{Searcher}

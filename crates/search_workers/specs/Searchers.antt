@@ -1,5 +1,5 @@
 -- What a worker of a search has, before, within and after its pieces.
-use Rattle.std.specs.Prelude.{◌≡◌, ℕ, ◌+◌, ◌<◌, ◌≤◌, true, List, [], ◌∷◌, ◌++◌, map, length, slice_index_or, All, Option, ◌⊎◌}
+use Rattle.std.specs.Prelude.{◌≡◌, ℕ, ◌<◌, ◌≤◌, true, List, [], ◌∷◌, ◌++◌, map, length, slice_index_or, All, Option, ◌⊎◌}
 use Rattle.choice_problem.specs.declared.nodes.Node.{Node}
 use Rattle.choice_problem.specs.Bounds.{AreRanges}
 use Rattle.choice_problem.specs.Trees.{node_count}

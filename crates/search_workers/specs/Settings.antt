@@ -1,11 +1,11 @@
 -- What all workers of a search read, and what one visit gives them.
-use Rattle.std.specs.Prelude.{◌≡◌, ℕ, ◌+◌, ◌<◌, ◌≤◌, List, [], ◌∷◌, ◌++◌, drop, length, slice_index_or, All, Option, Some, None}
+use Rattle.std.specs.Prelude.{◌≡◌, ℕ, ◌<◌, ◌≤◌, List, [], ◌∷◌, ◌++◌, drop, length, slice_index_or, All, Option, Some, None}
 use Rattle.choice_problem.specs.declared.vectors.Price.{Price}
 use Rattle.choice_problem.specs.declared.nodes.Node.{Node}
 use Rattle.choice_problem.specs.declared.nodes.Node.TheVariants as node
 use Rattle.choice_problem.specs.Problems.{ProblemView}
 use Rattle.choice_problem.specs.Choices.{IsFeasible, choice_cost}
-use Rattle.choice_problem.specs.Bounds.{AreRanges, IsVector}
+use Rattle.choice_problem.specs.Bounds.{IsVector}
 use Rattle.choice_problem.specs.Trees.{AreTrees, node_count}
 use Rattle.choice_problem.specs.Driven.{IsDrivenNode}
 use Rattle.choice_problem.specs.Greedy.{IsGreedyCost}

@@ -1,4 +1,4 @@
-use Rattle.std.proofs.Common.{◌≡◌, [], ap, sym}
+use Rattle.std.proofs.Common.{[]}
 use Rattle.choice_problem.specs.Bounds.{AreRanges}
 use Rattle.search_workers.specs.Settings.{root_of}
 use Rattle.search_workers.proofs.LookLemmas.{found_look}

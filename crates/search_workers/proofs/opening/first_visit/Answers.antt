@@ -1,4 +1,3 @@
-use Rattle.std.proofs.Common.{rules, ◌≡◌}
 use Rattle.choice_problem.specs.Bounds.{whole_of}
 use Rattle.choice_problem.specs.Driven.{IsSeenBetween}
 use Rattle.search_workers.specs.Settings.{IsLook}

@@ -1,4 +1,4 @@
-use Rattle.std.proofs.Common.{◌≡◌, ◌≤◌, ◌-◌, []}
+use Rattle.std.proofs.Common.{◌≡◌, ◌≤◌, ◌-◌}
 use Rattle.choice_problem.specs.Trees.{node_count}
 use Rattle.incumbent_word.specs.Core.{AtMost}
 use Rattle.search_workers.specs.Settings.{IsPlaceIn}

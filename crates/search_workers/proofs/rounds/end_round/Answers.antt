@@ -1,4 +1,4 @@
-use Rattle.std.proofs.Common.{rules, ◌≡◌, ap, sym, ◌∙◌, map}
+use Rattle.std.proofs.Common.{rules, ◌≡◌, ap, ◌∙◌, map}
 use Rattle.incumbent_word.specs.Core.{lesser}
 use Rattle.choice_problem.specs.Grafts.{graft}
 use Rattle.search_workers.specs.Rounds.{AreApart}

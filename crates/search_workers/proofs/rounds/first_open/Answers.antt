@@ -1,5 +1,5 @@
-use Rattle.std.proofs.Common.{rules, ◌≡◌, ◌≤◌, [], ◌∷◌, take, length}
-use Rattle.std.specs.Prelude.{All, IsSome}
+use Rattle.std.proofs.Common.{rules, ◌≡◌, [], ◌∷◌, take}
+use Rattle.std.specs.Prelude.{IsSome}
 use Rattle.std.proofs.lemmas.List.Elements.{All-take, All-cons, All-nil}
 use Rattle.choice_problem.specs.Bounds.{AreRanges, whole_of}
 use Rattle.choice_problem.specs.Grafts.{open_ranges}

@@ -1,4 +1,4 @@
-use Rattle.std.proofs.Common.{rules, ◌≡◌, ◌∙◌, length}
+use Rattle.std.proofs.Common.{◌∙◌}
 use Rattle.search_workers.proofs.SeatLemmas.{shares_same}
 use Rattle.search_workers.proofs.rounds.round.Goals as goal
 

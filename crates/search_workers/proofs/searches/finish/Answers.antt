@@ -1,8 +1,7 @@
-use Rattle.std.proofs.Common.{rules, ◌≡◌, ◌≤◌, ◌∷◌, ◌∙◌, [], List, refl, inl, inr, arith, take, Some, None}
+use Rattle.std.proofs.Common.{rules, ◌≡◌, ◌∷◌, [], inl, inr, arith}
 use Rattle.std.proofs.lemmas.Result.{IfOk-weaker}
-use Rattle.choice_problem.specs.Bounds.{IsVector, whole_of}
+use Rattle.choice_problem.specs.Bounds.{whole_of}
 use Rattle.choice_problem.specs.Trees.{IsWhole, node_count}
-use Rattle.search_workers.specs.Outcomes.{IsOutcome, IsSettled, IsSearched}
 use Rattle.search_workers.proofs.FinishLemmas.{searched_all, given_less}
 use Rattle.search_workers.proofs.OpenLemmas.{grown_walks}
 use Rattle.search_workers.proofs.OutcomeLemmas.{whole_costs}

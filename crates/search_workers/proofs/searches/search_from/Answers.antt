@@ -1,4 +1,3 @@
-use Rattle.std.proofs.Common.{◌≡◌, ◌∙◌}
 use Rattle.std.proofs.lemmas.Result.{IfOk-weaker}
 use Rattle.search_workers.proofs.FinishLemmas.{some_start}
 use Rattle.search_workers.proofs.searches.search_from.Goals as goal

@@ -1,4 +1,4 @@
-use Rattle.std.proofs.Common.{rules, ◌≡◌, ◌∷◌, ◌∙◌, [], arith, ap}
+use Rattle.std.proofs.Common.{rules, ◌≡◌, ◌∷◌, ◌∙◌, [], arith}
 use Rattle.std.specs.Option.{option_map}
 use Rattle.choice_problem.specs.declared.nodes.Node.TheVariants.{Undone}
 use Rattle.choice_problem.specs.Bounds.{whole_of}

@@ -1,4 +1,4 @@
-use Rattle.std.proofs.Common.{rules, ◌≡◌, ◌∷◌, [], List, take, ◌⊎◌}
+use Rattle.std.proofs.Common.{rules, ◌≡◌, ◌∷◌, [], take, ◌⊎◌}
 use Rattle.std.specs.Prelude.{All, Contains}
 use Rattle.choice_problem.specs.declared.nodes.Node.{Node}
 use Rattle.choice_problem.specs.Bounds.{whole_of}

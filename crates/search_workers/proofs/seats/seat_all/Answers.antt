@@ -1,7 +1,5 @@
-use Rattle.std.proofs.Common.{rules, ◌≡◌, ◌+◌, ◌-◌, ◌/◌, ◌≤◌, ◌∙◌, ◌∷◌, ◌++◌, [], ℕ, ap, arith, sym}
-use Rattle.std.specs.Prelude.{All}
+use Rattle.std.proofs.Common.{rules, ◌≡◌, ◌-◌, ◌/◌, ◌∙◌, ◌∷◌, ◌++◌, [], ap, arith}
 use Rattle.std.proofs.lemmas.List.Elements.{All-push}
-use Rattle.incumbent_word.specs.declared.view.Event.{Event}
 use Rattle.incumbent_word.specs.declared.view.View.{View}
 use Rattle.incumbent_word.specs.declared.view.Worker.{Worker}
 use Rattle.incumbent_word.specs.Core.{newcomer}

@@ -1,8 +1,6 @@
-use Rattle.std.proofs.Common.{rules, [], ◌≡◌, ◌++◌, sym, ap, ◌∙◌}
+use Rattle.std.proofs.Common.{rules, ◌≡◌, ◌++◌, sym, ap, ◌∙◌}
 use Rattle.incumbent_word.specs.declared.view.View.{View}
-use Rattle.incumbent_word.specs.Core.{lesser}
-use Rattle.search_workers.specs.Searchers.{pieces_of, IsSearcher}
-use Rattle.search_workers.specs.Work.{lesser_choice}
+use Rattle.search_workers.specs.Searchers.{pieces_of}
 use Rattle.search_workers.proofs.RoundLemmas.{searcher_joined, pieces-append}
 use Rattle.search_workers.proofs.seats.unite.Goals as goal
 

@@ -1,7 +1,6 @@
-use Rattle.std.proofs.Common.{◌≡◌, ◌+◌, ◌∙◌, ◌∷◌, ◌++◌, [], Some, ap, arith, sym}
-use Rattle.std.specs.Prelude.{All}
+use Rattle.std.proofs.Common.{◌∙◌, ◌∷◌, [], Some, ap, arith}
 use Rattle.std.proofs.lemmas.List.Elements.{All-pop}
-use Rattle.search_workers.specs.Rounds.{IsFinished, IsReady, shares}
+use Rattle.search_workers.specs.Rounds.{IsFinished, shares}
 use Rattle.search_workers.proofs.RoundLemmas.{or_left}
 use Rattle.search_workers.proofs.SeatLemmas.{finished_ready, shares-append}
 use Rattle.search_workers.proofs.seats.unite_all.Goals as goal

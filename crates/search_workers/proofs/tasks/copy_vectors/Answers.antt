@@ -1,6 +1,5 @@
-use Rattle.std.proofs.Common.{rules, ◌≡◌, ◌∙◌, ◌++◌, ◌∷◌, ◌+◌, [], List, ap, sym, take}
+use Rattle.std.proofs.Common.{rules, ◌≡◌, ◌∙◌, ◌++◌, ◌∷◌, ◌+◌, [], ap, sym, take}
 use Rattle.std.proofs.lemmas.List.{take_more}
-use Rattle.choice_problem.specs.declared.vectors.Price.{Price}
 use Rattle.price_table.specs.Tables.{TableView, vectors_of}
 use Rattle.search_workers.proofs.TaskLemmas.{vectors-push}
 use Rattle.search_workers.proofs.tasks.copy_vectors.Goals as goal

@@ -1,4 +1,4 @@
-use Rattle.std.proofs.Common.{◌≡◌, ◌+◌, ◌<◌, List, [], length, arith}
+use Rattle.std.proofs.Common.{List, [], length, arith}
 use Rattle.std.proofs.lemmas.List.Sums.{sum_by_more_le}
 use Rattle.choice_problem.specs.declared.vectors.Price.{Price}
 use Rattle.search_workers.proofs.tasks.count_prices.Goals as goal

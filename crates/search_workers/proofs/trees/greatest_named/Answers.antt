@@ -1,4 +1,4 @@
-use Rattle.std.proofs.Common.{◌≡◌, ◌+◌, ◌≤◌, take, get_or, inl, inr, length, sym}
+use Rattle.std.proofs.Common.{take, get_or, inl, inr, sym}
 use Rattle.std.proofs.lemmas.List.{take_all}
 use Rattle.std.proofs.lemmas.List.Elements.{All-more, All-weaker, All-same, Contains-get_or}
 use Rattle.choice_problem.specs.Renumbered.{NamesUpTo}

@@ -1,8 +1,7 @@
 use Rattle.std.proofs.Common.{rules, ◌≡◌, ◌++◌, ◌∷◌, ◌+◌, ◌<◌, [], drop, map, length, sym, ◌∙◌, ap, List, arith}
-use Rattle.std.proofs.lemmas.List.{drop_more, get_or-map, length-map, get_or_default}
+use Rattle.std.proofs.lemmas.List.{drop_more, get_or-map, length-map}
 use Rattle.choice_problem.specs.declared.nodes.Node.{Node}
 use Rattle.choice_problem.specs.declared.nodes.Node.TheVariants.{Undone}
-use Rattle.choice_problem.specs.Grafts.{graft}
 use Rattle.search_workers.proofs.GraftLemmas.{grow_tree}
 use Rattle.search_workers.proofs.trees.grow.Goals as goal
 

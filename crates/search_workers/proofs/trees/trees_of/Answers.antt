@@ -1,12 +1,10 @@
-use Rattle.std.proofs.Common.{rules, ◌≡◌, ◌<◌, ◌∙◌, ◌++◌, ◌∷◌, [], Some, List, ap, sym, arith, length, map}
-use Rattle.std.specs.Prelude.{All, slice_index_or, slice_set}
+use Rattle.std.proofs.Common.{rules, ◌≡◌, ◌∙◌, ◌∷◌, [], List, arith, length, map}
 use Rattle.std.proofs.lemmas.List.{length-map}
-use Rattle.std.proofs.lemmas.List.Elements.{All-pop, All-map, All-append}
+use Rattle.std.proofs.lemmas.List.Elements.{All-map}
 use Rattle.choice_problem.specs.declared.nodes.Node.{Node}
 use Rattle.choice_problem.specs.declared.nodes.Node.TheVariants.{Undone}
 use Rattle.search_workers.specs.declared.searchers.Done.{Done}
-use Rattle.search_workers.specs.Settings.{AreGrown}
-use Rattle.search_workers.proofs.TreesLemmas.{ArePlaced, placed_none, placed_more, placed_all, placed_last, map-set}
+use Rattle.search_workers.proofs.TreesLemmas.{placed_none, placed_more, placed_all, placed_last, map-set}
 use Rattle.search_workers.proofs.trees.trees_of.Goals as goal
 
 pub loop-last-init : goal.loop-last-init

@@ -1,5 +1,5 @@
-use Rattle.std.proofs.Common.{◌≡◌, ◌∙◌, [], refl, sym, ap, length}
-use Rattle.choice_problem.specs.Problems.{ProblemView, unit_count}
+use Rattle.std.proofs.Common.{◌≡◌, ◌∙◌, refl, sym, length}
+use Rattle.choice_problem.specs.Problems.{unit_count}
 use Rattle.search_workers.proofs.places.Place.go.Goals as goal
 
 pub loop-unit-init : goal.loop-unit-init

@@ -1,10 +1,9 @@
-use Rattle.std.proofs.Common.{rules, ◌≡◌, ◌++◌, ◌∷◌, ◌+◌, ◌∙◌, [], ℕ, List, sym, ap, reverse, arith, append_assoc}
+use Rattle.std.proofs.Common.{◌++◌, ◌∷◌, ◌+◌, ◌∙◌, [], ap, reverse, append_assoc}
 use Rattle.std.specs.Prelude.{All}
 use Rattle.choice_problem.specs.Bounds.{AreRanges}
 use Rattle.choice_problem.specs.Trees.{node_count, parts_of}
 use Rattle.search_workers.specs.Settings.{IsLook}
-use Rattle.search_workers.specs.Work.{IsWork}
-use Rattle.search_workers.specs.Searchers.{made, IsBegun}
+use Rattle.search_workers.specs.Searchers.{made}
 use Rattle.search_workers.proofs.NodeLemmas.{node_count-append}
 use Rattle.search_workers.proofs.EnterLemmas.{within, parts_valid, begun_node, entered}
 use Rattle.search_workers.proofs.searchers.Searcher.enter.Goals as goal

@@ -1,9 +1,9 @@
-use Rattle.std.proofs.Common.{rules, sym, ◌≡◌, ◌++◌, ◌∷◌, [], ◌⊎◌, inl, inr, true, reverse, length, replicate, ap, ◌∙◌}
+use Rattle.std.proofs.Common.{rules, sym, ◌≡◌, ◌++◌, ◌∷◌, [], true, reverse, length, replicate, ◌∙◌}
 use Rattle.std.specs.Prelude.{slice_index_or}
 use Rattle.std.proofs.lemmas.List.{get_or_default}
 use Rattle.choice_problem.specs.declared.nodes.Node.TheVariants.{Undone}
 use Rattle.search_workers.specs.declared.searchers.Done.{Done}
-use Rattle.search_workers.specs.Searchers.{made, HasProgress, IsBegun, IsSearcher}
+use Rattle.search_workers.specs.Searchers.{made, HasProgress, IsBegun}
 use Rattle.search_workers.specs.Work.{IsWork}
 use Rattle.search_workers.proofs.PieceLemmas.{piece_done}
 use Rattle.search_workers.proofs.searchers.Searcher.search_piece.Goals as goal

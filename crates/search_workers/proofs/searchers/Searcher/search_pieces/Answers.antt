@@ -1,4 +1,4 @@
-use Rattle.std.proofs.Common.{rules, ◌≡◌, ◌++◌, ◌∷◌, [], ap, ◌∙◌, ◌+◌, ◌<◌, length, arith}
+use Rattle.std.proofs.Common.{rules, ap, ◌∙◌, ◌+◌, ◌<◌, length, arith}
 use Rattle.incumbent_word.specs.declared.view.View.{View}
 use Rattle.search_workers.proofs.PieceLemmas.{later, rises}
 use Rattle.search_workers.proofs.searchers.Searcher.search_pieces.Goals as goal

@@ -1,4 +1,4 @@
-use Rattle.std.proofs.Common.{◌≡◌, ◌-◌, [], length}
+use Rattle.std.proofs.Common.{◌≡◌, ◌-◌, length}
 use Rattle.incumbent_word.specs.Seats.{IsSeatOf}
 use Rattle.search_workers.specs.Settings.{IsPlaceIn}
 use Rattle.search_workers.specs.Searchers.{pieces_of, IsSearcher}

@@ -1,4 +1,4 @@
-use Rattle.std.proofs.Common.{◌≡◌, ◌++◌, [], true, reverse}
+use Rattle.std.proofs.Common.{◌≡◌, ◌++◌, true, reverse}
 use Rattle.incumbent_word.specs.Seats.{IsSeatOf}
 use Rattle.search_workers.specs.Settings.{IsPlaceIn}
 use Rattle.search_workers.specs.Work.{IsWork}

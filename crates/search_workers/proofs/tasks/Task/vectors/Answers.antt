@@ -1,4 +1,4 @@
-use Rattle.std.proofs.Common.{rules, ◌≡◌, ◌∙◌, ap, sym, take, min, length}
+use Rattle.std.proofs.Common.{rules, ◌≡◌, ◌∙◌, ap, take, min, length}
 use Rattle.price_table.specs.Tables.{vectors_of}
 use Rattle.search_workers.specs.Settings.{Setting}
 use Rattle.search_workers.proofs.TaskLemmas.{vectors-take}
