@@ -13,13 +13,13 @@ use std::time::Instant;
 /// It prints how each search ended, and with one worker how many nodes its tree has.
 pub fn run(rt: &HostRuntime, alloc: Global, size: Size) -> anyhow::Result<()> {
     let count = match size {
-        Size::Full => 27,
+        Size::Full => 100,
         Size::Short => 8,
     };
     let ring = ring(alloc, count)?.ok_or(Memory)?;
     for workers in [1, 2, 4] {
         let start = Instant::now(rt)?;
-        let outcome = search(rt, alloc, &ring, 400_000, workers, &RealGate)?;
+        let outcome = search(rt, alloc, &ring, 120_000, workers, &RealGate)?;
         step(rt, size, "search", start)?;
         print(rt, &outcome, workers)?;
     }

@@ -1,11 +1,16 @@
 //! Searches of plain problems: worked rows, budgets, numbers of workers, and what is handed in.
 
+ghost use Rattle.std.specs.Prelude.{◌≤◌, IfOk, length};
+ghost use Rattle.choice_problem.specs.Choices.{IsFeasible};
+ghost use Rattle.choice_problem.specs.Bounds.{IsVector};
+ghost use Rattle.search_workers.specs.Outcomes.{AreFurther};
+
 use choice_problem::{
     Alt, Choice, Chooser, Node, Part, Price, Problem, Strip, Tree, Vector, cost_of, fits,
 };
 use desk_outside::{Gate, RealGate};
 use search_workers::{Outcome, search, search_from};
-use std::alloc::Global;
+use std::alloc::{AllocError, Global};
 use std::sync::atomic::{AtomicU64, Ordering};
 use std::test::Fail;
 use std::thread::Threads;
@@ -91,14 +96,20 @@ fn shifted(alloc: Global, dates: u32) -> Result<Problem, Fail> {
     problem(units, vec![in alloc; 0; dates as usize]?)
 }
 
+// The place after this one in a ring.
+fn after(place: u32, count: u32) -> u32 {
+    let next = place.saturating_add(1);
+    if next == count { 0 } else { next }
+}
+
 // So many units in a ring, each of which excludes the next one and the one after it, or pays a price of its own.
 fn ring(alloc: Global, count: u32) -> Result<Problem, Fail> {
     let mut units = Vec::new(alloc);
     for place in 0..count {
-        let next = if place + 1 == count { 0 } else { place + 1 };
-        let later = if next + 1 == count { 0 } else { next + 1 };
-        let price = 20 + u64::from(place * place % 7);
-        let alts = vec![in alloc; alt(0, Some(0)), alt(price, None)]?;
+        let next = after(place, count);
+        let later = after(next, count);
+        let price = u64::from(place).wrapping_mul(u64::from(place)) % 7;
+        let alts = vec![in alloc; alt(0, Some(0)), alt(price.saturating_add(20), None)]?;
         units.push(unit(alloc, &[once(place), once(next), once(later)], alts)?)?;
     }
     problem(units, vec![in alloc; 1; count as usize]?)
@@ -161,13 +172,12 @@ fn outcome_text(
 }
 
 fn spent_text(alloc: Global, problem: &Problem, best: &Option<Choice>) -> Result<String, Fail> {
-    match best {
-        Some(choice) if choice.is_for(problem) => Ok(format!(in alloc;
-            "SPENT {}",
-            cost_of(problem, choice)
-        )?),
-        _ => Ok(format!(in alloc; "SPENT NONE")?),
+    if let Some(choice) = best {
+        if choice.is_for(problem) {
+            return Ok(format!(in alloc; "SPENT {}", cost_of(problem, choice))?);
+        }
     }
+    Ok(format!(in alloc; "SPENT NONE")?)
 }
 
 fn searched<R: Threads + Sync>(
@@ -224,8 +234,8 @@ fn tree_of(outcome: &Outcome) -> &Tree {
 }
 
 // How many nodes but undone ones.
-fn visits(outcome: &Outcome) -> usize {
-    let mut count: usize = 0;
+fn visits(outcome: &Outcome) -> u32 {
+    let mut count: u32 = 0;
     for node in tree_of(outcome).items() {
         if *node != Node::Undone {
             count = count.saturating_add(1);
@@ -240,7 +250,7 @@ fn budgets(rt: HostRuntime) -> Result<(), Fail> {
     let alloc = rt.alloc();
     let problem = ring(alloc, 8)?;
     let whole = search(&rt, alloc, &problem, 100_000, 1, &RealGate)?;
-    let needed = visits(&whole) as u32;
+    let needed = visits(&whole);
     let rows = [
         (0, 0, "SPENT 132"),
         (1, 1, "SPENT 132"),
@@ -258,7 +268,7 @@ fn budgets(rt: HostRuntime) -> Result<(), Fail> {
         let outcome = search(&rt, alloc, &problem, budget, 1, &RealGate)?;
         let text = outcome_text(alloc, &problem, &outcome, false)?;
         assert_eq!(rt; text.as_str(), want, "{budget}");
-        assert_eq!(rt; visits(&outcome) as u32, count, "{budget}");
+        assert_eq!(rt; visits(&outcome), count, "{budget}");
     }
     Ok(())
 }
@@ -279,6 +289,43 @@ fn places(alloc: Global) -> Result<Problem, Fail> {
     problem(units, vec![in alloc; 1; 2]?)
 }
 
+// The list of one small vector of a problem.
+fn one_further(alloc: Global, problem: &Problem, vector: Vector) -> Result<Vec<Vector>, Fail>
+    ensures { IfOk result (λ further. AreFurther problem.now further.items) }
+{
+    if !vector.is_for(problem) {
+        return Err("prices".into());
+    }
+    if vector.items().len() > 2 {
+        return Err("length".into());
+    }
+    Ok(vec_of(alloc, problem, vector)?)
+}
+
+fn vec_of(alloc: Global, _problem: &Problem, vector: Vector) -> Result<Vec<Vector>, AllocError>
+    requires vector { IsVector _problem.now vector }
+    requires few { length vector ≤ 2 }
+    ensures { IfOk result (λ further. AreFurther _problem.now further.items) }
+{
+    let mut further = Vec::new(alloc);
+    further.push(vector)?;
+    Ok(further)
+}
+
+// A choice of these alternatives, if it is feasible.
+fn feasible(alloc: Global, problem: &Problem, alts: &[u32]) -> Result<Choice, Fail>
+    ensures { IfOk result (IsFeasible problem.now) }
+{
+    let choice = Choice::new(Vec::from_slice(alloc, alts)?);
+    if !choice.is_for(problem) {
+        return Err("no choice".into());
+    }
+    if !fits(alloc, problem, &choice)? {
+        return Err("does not fit".into());
+    }
+    Ok(choice)
+}
+
 // A vector of the price 1 for each of two resources shows at scale 0 that three units have no room in two places.
 #[test]
 fn a_vector_handed_in(rt: HostRuntime) -> Result<(), Fail> {
@@ -294,11 +341,7 @@ fn a_vector_handed_in(rt: HostRuntime) -> Result<(), Fail> {
             price: 1
         },
     ]?;
-    let vector = Vector::new(prices);
-    if !vector.is_for(&problem) || vector.items().len() > 2 {
-        return Err("vector".into());
-    }
-    let further = vec![in alloc; vector]?;
+    let further = one_further(alloc, &problem, Vector::new(prices))?;
     let outcome = search_from(&rt, alloc, &problem, 100, 1, &RealGate, None, further)?;
     let text = outcome_text(alloc, &problem, &outcome, true)?;
     assert_eq!(rt; text.as_str(), "INFEASIBLE 2 L 2 0 -1");
@@ -310,10 +353,7 @@ fn a_vector_handed_in(rt: HostRuntime) -> Result<(), Fail> {
 fn a_choice_handed_in(rt: HostRuntime) -> Result<(), Fail> {
     let alloc = rt.alloc();
     let problem = ring(alloc, 5)?;
-    let choice = Choice::new(vec![in alloc; 1, 1, 0, 1, 1]?);
-    if !choice.is_for(&problem) || !fits(alloc, &problem, &choice)? {
-        return Err("choice".into());
-    }
+    let choice = feasible(alloc, &problem, &[1, 1, 0, 1, 1])?;
     let none = Vec::new(alloc);
     let outcome = search_from(&rt, alloc, &problem, 1, 1, &RealGate, Some(choice), none)?;
     let text = outcome_text(alloc, &problem, &outcome, true)?;
@@ -332,7 +372,7 @@ const TURNS: u64 = 4_000_000;
 
 impl Gate for Meeting {
     fn before_node(&self, worker: u32) {
-        let place = (worker & 1) as usize;
+        let place = (worker % 2) as usize;
         if self.came[place].fetch_add(1, Ordering::SeqCst) > 0 {
             return;
         }
@@ -366,7 +406,7 @@ fn two_workers_meet(rt: HostRuntime) -> Result<(), Fail> {
 #[test]
 fn more_than_one_round(rt: HostRuntime) -> Result<(), Fail> {
     let alloc = rt.alloc();
-    let problem = ring(alloc, 21)?;
+    let problem = ring(alloc, 25)?;
     let outcome = search(&rt, alloc, &problem, 10_000, 1, &RealGate)?;
     let count = visits(&outcome);
     assert!(rt; matches!(outcome, Outcome::Optimal { .. }), "{count}");
