@@ -1,15 +1,15 @@
 -- The two writes of an allocation.
-use Rattle.std.proofs.Common.{◌≡◌, ℕ, List, [], ◌∷◌, ◌++◌, map, Option, Some, None, refl, sym, ap, ◌∙◌, subst, append_assoc, arith, inl, inr}
-use Rattle.std.specs.Prelude.{IfSome, Contains}
+use Rattle.std.proofs.Common.{◌≡◌, ℕ, List, [], ◌∷◌, ◌++◌, map, Option, Some, None, refl, ap, ◌∙◌, subst, append_assoc, arith, inl, inr}
+use Rattle.std.specs.Prelude.{Contains}
 use Rattle.desk_outside.specs.Cause.{Rose}
-use Rattle.desk_outside.specs.Files.{Files, with_file, Writes, WritesPart}
+use Rattle.desk_outside.specs.Files.{Files, Writes, WritesPart}
 use Rattle.desk_outside.specs.Passages.{Passage, wrote, write_failed}
 use Rattle.scr_reader.specs.declared.message.Message.{Message}
 use Rattle.command_words.specs.Words.{Word}
-use Rattle.slot_program.specs.Texts.{certificate_text, settled_stages, confirmation, stage_lines}
+use Rattle.slot_program.specs.Texts.{certificate_text, settled_stages, confirmation}
 use Rattle.slot_program.specs.Judgements.{NamedBytes}
-use Rattle.slot_program.specs.Writing.{read_of, written_of, with_writes, AreWritten, StopsAt}
-use Rattle.slot_program.specs.Jobs.{name_at, allocate_steps, IsAllocation}
+use Rattle.slot_program.specs.Writing.{read_of, AreWritten}
+use Rattle.slot_program.specs.Jobs.{name_at, allocate_steps}
 use Rattle.slot_program.specs.Desk.{World}
 use Rattle.slot_program.specs.Leads.{Leads}
 use Rattle.slot_program.specs.Stops.{StopLeads}

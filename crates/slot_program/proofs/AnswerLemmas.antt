@@ -1,27 +1,24 @@
 -- How a command ends, from how its job went on or stopped.
-use Rattle.std.proofs.Common.{◌≡◌, ℕ, zero, suc, ◌<◌, List, [], ◌∷◌, ◌++◌, map, Option, Some, None, refl, sym, ap, ◌∙◌, subst, arith, inl, inr, codes}
-use Rattle.std.specs.Prelude.{All, Contains, IfSome, ◌⊎◌, slice_index_or}
+use Rattle.std.proofs.Common.{◌≡◌, ℕ, List, [], ◌∷◌, ◌++◌, map, Option, Some, None, refl, sym, ap, subst, arith, inl, inr, codes}
+use Rattle.std.specs.Prelude.{All, Contains, IfSome}
 use Rattle.std.proofs.lemmas.Option.{none-some, same_Some}
 use Rattle.std.proofs.lemmas.List.{append-nil}
 use Rattle.std.proofs.lemmas.List.Elements.{All-nil, All-cons, All-append, All-map}
 use Rattle.desk_outside.specs.Cause.{Rose}
 use Rattle.desk_outside.specs.Files.{Files}
-use Rattle.desk_outside.specs.Passages.{Passage, read, wrote, write_failed}
-use Rattle.wasg_stages.specs.Valid.{IsValid, MarksHold}
-use Rattle.series_model.specs.Submissions.{SubmissionView}
-use Rattle.cert_format.specs.declared.cert.Certificate.{Certificate}
+use Rattle.desk_outside.specs.Passages.{Passage, wrote, write_failed}
 use Rattle.command_words.specs.Words.{Word}
-use Rattle.slot_program.specs.Reports.{Report, Refusal, no_command, refused, unread, unwritten, finished, status_of, text_of, refusal_status, missing, large, out_of_form, over_limit, not_valid, unbuilt}
+use Rattle.slot_program.specs.Reports.{Report, Refusal, refused, unread, unwritten, finished, status_of}
 use Rattle.slot_program.specs.Texts.{stage_lines, settled_stages}
 use Rattle.slot_program.specs.Judgements.{NamedBytes}
-use Rattle.slot_program.specs.Steps.{Step, names_read, AllPass, RefuseFrom, FirstDue, form_steps}
-use Rattle.slot_program.specs.Writing.{read_of, written_of, with_writes, AreWritten, StopsAt}
-use Rattle.slot_program.specs.Jobs.{name_at, allocate_steps, check_steps, steps_of, names_written, finishing_of, Works, IsAllocation, MarksAreTrue}
-use Rattle.slot_program.specs.Desk.{World, IsFinished, IsRefused, IsUnread, IsUnwritten, JobEnds, Ends, LogGrew, IsOfFiles, OnlyOfJob, IsStatus}
-use Rattle.slot_program.specs.Leads.{ToldLead, Leads, ToldRefused, RefusedLead, UnreadLead, MemoryLead}
+use Rattle.slot_program.specs.Steps.{Step, names_read}
+use Rattle.slot_program.specs.Writing.{read_of, written_of, AreWritten, StopsAt}
+use Rattle.slot_program.specs.Jobs.{name_at, allocate_steps, check_steps, steps_of, names_written, finishing_of}
+use Rattle.slot_program.specs.Desk.{World, JobEnds, LogGrew, IsOfFiles, OnlyOfJob}
+use Rattle.slot_program.specs.Leads.{ToldLead, Leads, ToldRefused, RefusedLead, UnreadLead}
 use Rattle.slot_program.specs.Stops.{report_of, StopLeads}
 use Rattle.slot_program.specs.Allocations.{IsAllocated, IsCutShort, AllocationStops}
-use Rattle.slot_program.specs.Answers.{ToldExact, IsExact}
+use Rattle.slot_program.specs.Answers.{ToldExact}
 use Rattle.command_words.specs.declared.job.Job.{Job}
 use Rattle.command_words.specs.declared.job.Job.TheVariants.{Allocate, Check}
 use Rattle.slot_program.specs.declared.stop.Stop.{Stop}

@@ -18,7 +18,7 @@ use Rattle.scr_reader.specs.Messages.{ReadsAll, HasScrFault}
 use Rattle.scr_reader.specs.declared.message.Message.{Message}
 use Rattle.scr_reader.specs.declared.fault.ScrFault.{ScrFault}
 use Rattle.scr_reader.specs.declared.fault.ScrFault.TheVariants as message_fault
-use Rattle.historic_reader.specs.Historic.{IsHistoricMessage, IsHistoricText}
+use Rattle.historic_reader.specs.Historic.{IsHistoricText}
 use Rattle.series_model.specs.Submissions.{SubmissionView, submission_answer, answer_by, submission_of, refusal}
 use Rattle.series_model.specs.declared.fault.ModelFault.{ModelFault}
 use Rattle.series_model.specs.declared.fault.ModelFault.TheVariants as model_fault
@@ -29,10 +29,9 @@ use Rattle.cert_checker.specs.Certificates.{FailsAt}
 use Rattle.cert_checker.specs.declared.verdict.Reason.{Reason}
 use Rattle.command_words.specs.Words.{Word}
 use Rattle.slot_program.specs.Capacity.{IsCapacityText, IsCapacityForm}
-use Rattle.slot_program.specs.Reports.{Refusal, out_of_form, over_limit, not_valid, unbuilt}
+use Rattle.slot_program.specs.Reports.{Refusal, out_of_form, not_valid, unbuilt}
 use Rattle.slot_program.specs.Judgements.{NamedBytes, IsSeasonOf, SpellsCert, served_capacity, served_requests, capacity_form, requests_form, certificate_form, valid_certificate, IsCapacityRefusal, IsMessageRefusal, IsSubmissionRefusal, RefusesRequests}
 use Rattle.slot_program.specs.Leads.{AcceptsAlone, RefusesAlone}
-use Rattle.slot_program.specs.Allocations.{IsServedSeason}
 use Rattle.slot_program.proofs.CapacityLemmas.{no_bad_line, same_declaration}
 
 -- ---- one first bad line

@@ -1,6 +1,6 @@
 -- A job goes on, or stops, step by step.
-use Rattle.std.proofs.Common.{◌≡◌, ℕ, suc, ◌<◌, ◌≤◌, Bool, true, false, List, [], ◌∷◌, ◌++◌, length, map, Option, Some, None, Ok, Err, refl, sym, ap, ◌∙◌, subst, append_assoc, arith, inl, inr}
-use Rattle.std.specs.Prelude.{All, Contains, IfSome, IsSomeAnd, MatchOption, ◌⊎◌, if◌then◌else◌, slice_index_or}
+use Rattle.std.proofs.Common.{◌≡◌, ℕ, suc, ◌<◌, Bool, true, false, List, [], ◌∷◌, ◌++◌, length, map, Option, Some, None, Ok, refl, sym, ap, ◌∙◌, subst, append_assoc, arith, inl, inr}
+use Rattle.std.specs.Prelude.{Contains, IfSome, IsSomeAnd, if◌then◌else◌}
 use Rattle.std.proofs.lemmas.Option.{none-some, same_Some}
 use Rattle.std.proofs.lemmas.List.{append-nil, map-append}
 use Rattle.std.proofs.lemmas.List.Elements.{All-nil, All-cons, All-append}
@@ -9,11 +9,10 @@ use Rattle.std.specs.Global.{Vec}
 use Rattle.desk_outside.specs.Files.{Files, Reads}
 use Rattle.desk_outside.specs.Passages.{Passage, read}
 use Rattle.command_words.specs.Words.{Word}
-use Rattle.slot_program.specs.Reports.{Refusal, missing, large, out_of_form, over_limit, not_valid, unbuilt, refusal_status}
-use Rattle.slot_program.specs.Judgements.{NamedBytes, Judgement, Accepts, Refuses, served_capacity, served_requests, capacity_form, requests_form, certificate_form, valid_certificate}
-use Rattle.slot_program.specs.Steps.{Step, reads, judges, names_read, IsHanded, IsNotHanded, PassFrom, RefuseFrom, ReachFrom, AllPass, FirstDue, form_steps, is_of_form}
+use Rattle.slot_program.specs.Reports.{Refusal, refusal_status}
+use Rattle.slot_program.specs.Judgements.{NamedBytes, Judgement, Refuses, served_capacity, served_requests, capacity_form, requests_form, certificate_form, valid_certificate}
+use Rattle.slot_program.specs.Steps.{Step, reads, judges, names_read, IsHanded, IsNotHanded, PassFrom, RefuseFrom, form_steps, is_of_form}
 use Rattle.slot_program.specs.Writing.{read_of}
-use Rattle.slot_program.specs.Jobs.{name_at}
 use Rattle.slot_program.specs.Desk.{World}
 use Rattle.slot_program.specs.Leads.{AcceptsAlone, RefusesAlone, ToldLead, Leads, ToldRefused, RefusedLead, UnreadLead, MemoryLead}
 use Rattle.slot_program.specs.Stops.{IsRefusalBy, IsJudged, StopLeads}

@@ -1,5 +1,5 @@
 -- An allocation in the form that is served today. Contracts of private functions alone cite this.
-use Rattle.std.specs.Prelude.{◌≡◌, ◌⊎◌, ℕ, List, [], ◌∷◌, ◌++◌, map, All, Option, Some}
+use Rattle.std.specs.Prelude.{◌≡◌, ℕ, List, [], ◌∷◌, ◌++◌, map}
 use Rattle.desk_outside.specs.Cause.{Rose}
 use Rattle.desk_outside.specs.Passages.{Passage}
 use Rattle.season_days.specs.declared.declaration.Declaration.{Declaration}
@@ -10,10 +10,9 @@ use Rattle.command_words.specs.Words.{Word}
 use Rattle.slot_program.specs.Capacity.{IsCapacityText}
 use Rattle.slot_program.specs.Texts.{stage_lines, settled_stages}
 use Rattle.slot_program.specs.Judgements.{NamedBytes}
-use Rattle.slot_program.specs.Steps.{names_read}
 use Rattle.slot_program.specs.Writing.{read_of, written_of, AreWritten, StopsAt}
 use Rattle.slot_program.specs.Jobs.{name_at, allocate_steps, IsAllocation}
-use Rattle.slot_program.specs.Desk.{World, IsOfFiles, LogGrew}
+use Rattle.slot_program.specs.Desk.{World}
 use Rattle.slot_program.specs.Leads.{Leads}
 use Rattle.slot_program.specs.Stops.{StopLeads}
 use Rattle.slot_program.specs.declared.stop.Stop.{Stop}

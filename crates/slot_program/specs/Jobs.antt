@@ -1,5 +1,5 @@
 -- What each job does, by cases: its steps, the files that it writes, its work, and its statuses.
-use Rattle.std.specs.Prelude.{◌≡◌, ℕ, List, [], ◌∷◌, Option, Some, None, Contains, IsSomeAnd}
+use Rattle.std.specs.Prelude.{◌≡◌, ℕ, List, [], ◌∷◌, Contains, IsSomeAnd}
 use Rattle.std.specs.Prelude.{slice_index_or, codes}
 use Rattle.season_days.specs.Seasons.{dates_of}
 use Rattle.season_days.specs.declared.declaration.Declaration.{Declaration}

@@ -1,6 +1,6 @@
 -- What the files that a command has read are judged to be, and what is refused of them. Each
 -- judgement speaks of the bytes that were handed out so far, in the order of the reads.
-use Rattle.std.specs.Prelude.{◌≡◌, ◌⊎◌, ℕ, ◌+◌, List, [], ◌∷◌, length, Ok, Err, codes}
+use Rattle.std.specs.Prelude.{◌≡◌, ◌⊎◌, ℕ, ◌+◌, List, ◌∷◌, length, Ok, Err, codes}
 use Rattle.slot_text.specs.Forms.{IsFirstBadLine}
 use Rattle.slot_text.specs.Lines.{lines_of}
 use Rattle.season_days.specs.declared.declaration.Declaration.{Declaration}

@@ -1,16 +1,16 @@
 -- How far a job has come: what is decided from a step on decides the whole. Contracts of private
 -- functions alone cite this.
-use Rattle.std.specs.Prelude.{◌≡◌, ◌⊎◌, ℕ, List, [], ◌∷◌, ◌++◌, map, Option, Some, None, All, IfSome}
+use Rattle.std.specs.Prelude.{◌≡◌, ℕ, List, [], ◌++◌, map, Some, All, IfSome}
 use Rattle.std.specs.Prelude.{Contains}
 use Rattle.desk_outside.specs.Cause.{Rose}
 use Rattle.desk_outside.specs.Files.{Files}
 use Rattle.command_words.specs.Words.{Word}
 use Rattle.slot_program.specs.Reports.{Refusal, refusal_status}
 use Rattle.slot_program.specs.Judgements.{NamedBytes, Judgement, Accepts, Refuses}
-use Rattle.slot_program.specs.Steps.{Step, names_read, IsHanded, IsNotHanded, PassFrom, RefuseFrom}
+use Rattle.slot_program.specs.Steps.{Step, names_read, PassFrom, RefuseFrom}
 use Rattle.slot_program.specs.Steps.{ReachFrom, AllPass, FirstDue, form_steps}
 use Rattle.slot_program.specs.Writing.{read_of}
-use Rattle.slot_program.specs.Desk.{World, LogGrew, IsOfFiles}
+use Rattle.slot_program.specs.Desk.{World}
 
 -- ---- judgements that can end in one way alone
 

@@ -1,5 +1,5 @@
 -- Several writes in their order.
-use Rattle.std.specs.Prelude.{◌≡◌, ◌⊎◌, ℕ, List, [], ◌∷◌, map, Option, Some, IfSome}
+use Rattle.std.specs.Prelude.{◌≡◌, ◌⊎◌, List, [], ◌∷◌, Option, Some, IfSome}
 use Rattle.desk_outside.specs.Files.{Files, with_file, Writes, WritesPart}
 use Rattle.desk_outside.specs.Passages.{Passage, read, wrote, write_failed}
 use Rattle.command_words.specs.Words.{Word}

@@ -1,4 +1,4 @@
-use Rattle.std.proofs.Common.{◌≡◌, ◌∷◌, [], ◌++◌, ℕ, List, sym, subst}
+use Rattle.std.proofs.Common.{◌∷◌, [], ℕ, List, sym, subst}
 use Rattle.std.proofs.lemmas.Result.{err_from_is_err_and}
 use Rattle.slot_program.specs.Judgements.{NamedBytes, served_capacity, served_requests}
 use Rattle.slot_program.specs.Steps.{Step, reads, judges}

@@ -1,7 +1,6 @@
-use Rattle.std.proofs.Common.{◌≡◌, ◌∷◌, [], ◌++◌, ℕ, List, Option, subst}
+use Rattle.std.proofs.Common.{◌∷◌, [], ◌++◌, Option, subst}
 use Rattle.desk_outside.specs.Files.{Files}
 use Rattle.command_words.specs.Words.{Word}
-use Rattle.slot_program.specs.Judgements.{NamedBytes}
 use Rattle.slot_program.specs.Steps.{reads, IsHanded}
 use Rattle.slot_program.specs.Desk.{World, world_of}
 use Rattle.slot_program.specs.Leads.{Leads}

@@ -1,4 +1,4 @@
-use Rattle.std.proofs.Common.{◌≡◌, ◌≤◌, ◌+◌, ℕ, length}
+use Rattle.std.proofs.Common.{◌≡◌, ◌≤◌, ◌+◌, length}
 use Rattle.slot_text.specs.Lines.{lines_of}
 use Rattle.slot_program.proofs.season.count_lines.Given as goal
 

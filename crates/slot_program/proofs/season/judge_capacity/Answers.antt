@@ -1,7 +1,4 @@
-use Rattle.std.proofs.Common.{◌≡◌}
 use Rattle.slot_program.specs.Jobs.{name_at}
-use Rattle.slot_program.specs.Judgements.{capacity_form, IsCapacityRefusal}
-use Rattle.slot_program.specs.Leads.{RefusesAlone}
 use Rattle.slot_program.proofs.LeadLemmas.{by_property}
 use Rattle.slot_program.proofs.JudgementLemmas.{accepts_capacity, refuses_capacity}
 use Rattle.slot_program.proofs.season.judge_capacity.Goals as goal

@@ -1,4 +1,3 @@
-use Rattle.std.proofs.Common.{◌≡◌}
 use Rattle.std.proofs.lemmas.Result.{err_from_is_err_and}
 use Rattle.slot_program.specs.Jobs.{name_at}
 use Rattle.slot_program.proofs.LeadLemmas.{by_property}

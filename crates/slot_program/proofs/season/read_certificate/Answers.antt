@@ -1,10 +1,9 @@
-use Rattle.std.proofs.Common.{◌≡◌, ◌∷◌, [], ◌++◌, ℕ, List, sym, subst}
+use Rattle.std.proofs.Common.{◌∷◌, []}
 use Rattle.std.proofs.lemmas.Result.{err_from_is_err_and}
 use Rattle.slot_program.specs.Judgements.{NamedBytes, certificate_form, valid_certificate}
-use Rattle.slot_program.specs.Steps.{Step, reads, judges}
+use Rattle.slot_program.specs.Steps.{judges}
 use Rattle.slot_program.specs.Jobs.{name_at}
 use Rattle.slot_program.specs.Desk.{World, world_of}
-use Rattle.slot_program.specs.Leads.{Leads}
 use Rattle.slot_program.proofs.LeadLemmas.{leads_judge, judged_stops}
 use Rattle.slot_program.proofs.season.read_certificate.Goals as goal
 

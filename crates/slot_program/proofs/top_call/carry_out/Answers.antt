@@ -1,4 +1,4 @@
-use Rattle.std.proofs.Common.{◌≡◌, sym, ap, ◌∙◌, subst, Option, Some}
+use Rattle.std.proofs.Common.{sym, ap, ◌∙◌, subst, Option, Some}
 use Rattle.slot_program.specs.Desk.{LogGrew, OnlyOfJob}
 use Rattle.command_words.specs.declared.job.Job.{Job}
 use Rattle.command_words.specs.Words.{words_of}

@@ -1,4 +1,4 @@
-use Rattle.std.proofs.Common.{◌∷◌, [], refl, codes}
+use Rattle.std.proofs.Common.{[], refl, codes}
 use Rattle.slot_program.specs.Reports.{finished}
 use Rattle.slot_program.specs.Jobs.{check_steps}
 use Rattle.slot_program.specs.Desk.{World, world_of}

@@ -1,14 +1,12 @@
-use Rattle.std.proofs.Common.{◌≡◌, ◌∷◌, [], ◌++◌, sym, ◌∙◌, ap, subst, refl, inl, inr, Option, Some, ℕ, List, arith, rules}
+use Rattle.std.proofs.Common.{◌≡◌, ◌∷◌, [], ◌++◌, sym, ◌∙◌, ap, subst, refl, inl, inr, ℕ, arith, rules}
 use Rattle.std.specs.Prelude.{Contains}
-use Rattle.std.specs.String.{string_bytes}
 use Rattle.desk_outside.specs.Bytes.{Puts}
 use Rattle.desk_outside.specs.Passages.{put}
 use Rattle.command_words.specs.Words.{words_of}
 use Rattle.command_words.specs.Jobs.{job_of}
-use Rattle.slot_program.specs.Reports.{Report, refused, status_of, text_of}
+use Rattle.slot_program.specs.Reports.{Report, status_of, text_of}
 use Rattle.slot_program.specs.Jobs.{finishing_of}
 use Rattle.slot_program.specs.Desk.{World, world_of, IsFinished, IsStatus}
-use Rattle.command_words.specs.declared.job.Job.{Job}
 use Rattle.slot_program.proofs.DeskLemmas.{is_status, not_six, is_finished, marks_true, told_exact, finishing_zero}
 use Rattle.slot_program.proofs.top_call.desk.Goals as goal
 

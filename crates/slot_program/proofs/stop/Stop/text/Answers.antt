@@ -1,6 +1,6 @@
-use Rattle.std.proofs.Common.{◌≡◌, ℕ, List, codes, refl, ap, ◌∙◌}
+use Rattle.std.proofs.Common.{codes, refl, ap, ◌∙◌}
 use Rattle.command_words.specs.Words.{Word}
-use Rattle.slot_program.specs.Reports.{refused, unread, unwritten, missing, large, out_of_form, over_limit, not_valid, unbuilt, cabinet_line, numbered_line, text_of}
+use Rattle.slot_program.specs.Reports.{refused, unread, unwritten, missing, large, out_of_form, over_limit, not_valid, unbuilt, cabinet_line, numbered_line}
 use Rattle.slot_program.specs.Jobs.{name_at}
 use Rattle.slot_program.specs.Stops.{limit_text}
 use Rattle.slot_program.proofs.TextLemmas.{verdict_of}
