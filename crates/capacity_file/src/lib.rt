@@ -17,8 +17,3 @@ mod words;
 pub use fault::{CapFault, CapLimit, CapWord};
 pub use limits::{MOST_FLEX, USUAL_SHARE};
 pub use reading::read_capacity;
-
-#[cfg(test)]
-mod limit_tests;
-#[cfg(test)]
-mod tests;

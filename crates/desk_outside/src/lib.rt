@@ -24,6 +24,3 @@ pub use memory_sink::MemorySink;
 pub use real_cabinet::RealCabinet;
 pub use real_sink::RealSink;
 pub use sink::{Sink, SinkFault};
-
-#[cfg(test)]
-mod tests;

@@ -10,6 +10,3 @@ mod times;
 pub use days::{places_of, read_places, read_weekdays};
 pub use kinds::{kind_text, read_kind};
 pub use times::{read_time, read_two_digits};
-
-#[cfg(test)]
-mod tests;

@@ -36,10 +36,3 @@ pub use period::read_period;
 pub use print::{LONGEST_PRINTED_LINE, print_flight, print_header, print_item, print_line};
 pub use stray::StrayLine;
 pub use texts::{read_all, read_message};
-
-#[cfg(test)]
-mod fault_tests;
-#[cfg(test)]
-mod spelling_tests;
-#[cfg(test)]
-mod tests;

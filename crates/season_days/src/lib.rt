@@ -16,6 +16,3 @@ pub use declaration::{
     Kind, MINUTES_OF_DAY, MOST_RULES, MOST_WINDOWS, Night, Rule, RuleList,
 };
 pub use season::{Half, MOST_DATES, Season};
-
-#[cfg(test)]
-mod tests;

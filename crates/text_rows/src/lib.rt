@@ -1,0 +1,19 @@
+//! Tests of the text crates: worked rows, as tables of text.
+#![tactic(auto)]
+
+#[cfg(test)]
+mod capacity_rows;
+#[cfg(test)]
+mod message_rows;
+#[cfg(test)]
+mod outside_rows;
+#[cfg(test)]
+mod rows;
+#[cfg(test)]
+mod schedule_rows;
+#[cfg(test)]
+mod season_rows;
+#[cfg(test)]
+mod slot_text_rows;
+#[cfg(test)]
+mod word_rows;

@@ -1,0 +1,568 @@
+//! Slot clearance messages. What is read, printed or refused is worked by hand.
+
+use crate::rows::{Case, cut, number, say, show, walk};
+use scr_reader::{
+    Code, Flight, Item, Line, Message, MessageList, ScrFault, Stop, cut_messages, print_flight,
+    print_header, print_item, print_line, read_all, read_flight, read_item, read_message,
+    read_period,
+};
+use season_days::Season;
+use slot_text::{Station, field};
+use std::alloc::Global;
+use std::test::Fail;
+
+const MOST_BYTES: usize = 10_000_000;
+
+const HEADER: &[u8] = b"SCR\nS25\n20NOV\nABC\n";
+
+fn messages(alloc: Global, text: &[u8]) -> Result<MessageList, ScrFault> {
+    if text.len() > MOST_BYTES {
+        return Err(ScrFault::Memory);
+    }
+    read_all(alloc, text)
+}
+
+fn message(alloc: Global, text: &[u8]) -> Result<Message, ScrFault> {
+    if text.len() > MOST_BYTES {
+        return Err(ScrFault::Memory);
+    }
+    read_message(alloc, text)
+}
+
+/// A message for the summer of 2025 with these lines below its header.
+fn below(alloc: Global, lines: &[u8]) -> Result<Vec<u8>, Fail> {
+    let mut text = Vec::from_slice(alloc, HEADER)?;
+    text.extend_from_slice(lines)?;
+    Ok(text)
+}
+
+/// Where messages stand: the number of the first line, and the bytes.
+#[derive(Drop)]
+struct Cuts;
+
+impl Case for Cuts {
+    fn find(&mut self, alloc: Global, given: &[u8], out: &mut Vec<u8>) -> Result<(), Fail> {
+        if given.len() > MOST_BYTES {
+            return Err("too long".into());
+        }
+        let pieces = cut_messages(alloc, given)?;
+        for piece in pieces.as_slice() {
+            say(
+                alloc,
+                out,
+                format_args!("{} {}-{},", piece.line, piece.from, piece.to),
+            )?;
+        }
+        Ok(())
+    }
+}
+
+const CUTS: &[u8] = b"\
+|
+; \t\r;;|
+a|1 0-1,
+;a\r; b;;;c;d|2 1-7,6 9-12,
+a;\r;b;|1 0-2,3 4-6,
+a\r ;\t|1 0-4,
+";
+
+/// What is read: of each message the number of its season line and its header, and of each item its
+/// line and its parts.
+#[derive(Drop)]
+struct Readings;
+
+impl Case for Readings {
+    fn find(&mut self, alloc: Global, given: &[u8], out: &mut Vec<u8>) -> Result<(), Fail> {
+        let found = messages(alloc, given)?;
+        for message in found.items() {
+            say_message(alloc, out, message)?;
+        }
+        Ok(())
+    }
+}
+
+fn say_message(alloc: Global, out: &mut Vec<u8>, message: &Message) -> Result<(), Fail> {
+    let (line, day, month) = (message.line, message.day, message.month);
+    say(alloc, out, format_args!("{line} {day} {month}\n"))?;
+    print_header(alloc, out, &message.header())?;
+    for placed in message.items.items() {
+        say(alloc, out, format_args!("{} ", placed.line))?;
+        say_item(alloc, out, &placed.item)?;
+        out.push(b'\n')?;
+    }
+    Ok(())
+}
+
+fn say_item(alloc: Global, out: &mut Vec<u8>, item: &Item) -> Result<(), Fail> {
+    match item {
+        Item::One(line) => say_line(alloc, out, line),
+        Item::Pair(changed, asked) => {
+            say_line(alloc, out, changed)?;
+            say(alloc, out, " to ")?;
+            say_line(alloc, out, asked)
+        }
+        Item::Query(flight) => {
+            say(alloc, out, "asks for ")?;
+            say_flight(alloc, out, *flight)
+        }
+    }
+}
+
+fn say_line(alloc: Global, out: &mut Vec<u8>, line: &Line) -> Result<(), Fail> {
+    let period = line.period;
+    say(alloc, out, format_args!("{:?} ", line.code))?;
+    say_stop(alloc, out, line.arrival)?;
+    say_stop(alloc, out, line.departure)?;
+    let (first, last) = (period.first.0, period.last.0);
+    say(alloc, out, format_args!("{} {first}-{last}/", line.nights))?;
+    say(alloc, out, format_args!("{} {} ", period.days, line.seats))?;
+    out.extend_from_slice(&line.craft.0)?;
+    Ok(())
+}
+
+fn say_stop(alloc: Global, out: &mut Vec<u8>, stop: Option<Stop>) -> Result<(), Fail> {
+    let Some(stop) = stop else {
+        return say(alloc, out, "- ");
+    };
+    say_flight(alloc, out, stop.flight)?;
+    say(alloc, out, format_args!(" {} ", stop.minute))?;
+    out.extend_from_slice(&stop.near.0)?;
+    out.push(b' ')?;
+    if let Some(far) = stop.far {
+        out.extend_from_slice(&far.0)?;
+    }
+    out.push(b' ')?;
+    out.push(stop.service)?;
+    say(alloc, out, ", ")
+}
+
+fn say_flight(alloc: Global, out: &mut Vec<u8>, flight: Flight) -> Result<(), Fail> {
+    for byte in flight.airline {
+        out.push(if byte == 0 { b'.' } else { byte })?;
+    }
+    say(alloc, out, format_args!(" {} ", flight.number))?;
+    out.push(if flight.suffix == 0 {
+        b'.'
+    } else {
+        flight.suffix
+    })?;
+    Ok(())
+}
+
+// Mondays, Wednesdays and Fridays from the 31st of March to the 24th of October of 2025, at Luton
+// on the way from and to Belfast; the first of April of 2025, a Tuesday; two messages between
+// empty lines, the second with a pair and a question; and each Sunday of the summer of 2025 but
+// the last, at one minute before midnight.
+const READINGS: &[u8] = b"\
+SCR\r;/ABC123\r;S25\r;20NOV\r;ABC\r;\
+    NU21234 U21235 31MAR24OCT 1030500 186320 LTNBFS0815 0905BFSLTN JJ\r;\
+    NEZY12A 01APR 2 180319 LGW1000 J\r;GI BRGDS\r;|3 20 11;SCR;S25;20NOV;ABC;\
+    6 N U2. 1234 . 495 LTN BFS J, U2. 1235 . 545 BFS LTN J, 0 1-208/21 186 320;\
+    7 N EZY 12 A 600 LGW  J, - 0 2-2/2 180 319;
+; \t;SCR;S25;20NOV;ABC;;\r;SCR;/x;W25;29FEB;XYZ;CBA002 20DEC10JAN 1000000 180320 JFK0610 J;GI;\
+    LBA002 20DEC10JAN 1 180320 JFK0630 J;QBA12;|4 20 11;SCR;S25;20NOV;ABC;11 29 2;SCR;W25;29FEB;\
+    XYZ;14 C BA. 2 . 370 JFK  J, - 0 55-76/1 180 320 to L BA. 2 . 390 JFK  J, - 0 55-76/1 180 320;\
+    17 asks for BA. 12 .;
+SCR;S25;20NOV;ABC;D 2A7 30MAR19OCT 7 005A32 2359JFKLHR J|2 20 11;SCR;S25;20NOV;ABC;\
+    5 D - 2A. 7 . 1439 JFK LHR J, 0 0-203/64 5 A32;
+";
+
+/// The line of the header that is not of this season and airport.
+#[derive(Drop)]
+struct Strays;
+
+impl Case for Strays {
+    fn find(&mut self, alloc: Global, given: &[u8], out: &mut Vec<u8>) -> Result<(), Fail> {
+        let season = Season::read(field(given, 1).ok_or("season")?).ok_or("season")?;
+        let airport = Station::read(field(given, 2).ok_or("airport")?).ok_or("airport")?;
+        let found = message(alloc, b"SCR\n/ABC123\nS25\n20NOV\nABC\n")?;
+        if found.line > 1_000 {
+            return Err("a line behind the text".into());
+        }
+        show(alloc, out, found.stray_line(season, airport))
+    }
+}
+
+const STRAYS: &[u8] = b"\
+W25 XYZ|Some(Season(3))
+S25 XYZ|Some(Airport(5))
+S25 ABC|None
+";
+
+/// Appends the printed item, if it has a spelling.
+fn put_item(alloc: Global, out: &mut Vec<u8>, season: &Season, item: &Item) -> Result<(), Fail> {
+    if item.fits(season) {
+        print_item(alloc, out, season, item)?;
+    }
+    Ok(())
+}
+
+/// The items of the first message in their printed spelling, or its fault.
+fn print_items(alloc: Global, out: &mut Vec<u8>, text: &[u8]) -> Result<(), Fail> {
+    let found = match message(alloc, text) {
+        Ok(found) => found,
+        Err(fault) => return say(alloc, out, fault),
+    };
+    for placed in found.items.items() {
+        put_item(alloc, out, &found.season, &placed.item)?;
+    }
+    Ok(())
+}
+
+#[derive(Drop)]
+struct FirstMessages;
+
+impl Case for FirstMessages {
+    fn find(&mut self, alloc: Global, given: &[u8], out: &mut Vec<u8>) -> Result<(), Fail> {
+        print_items(alloc, out, given)
+    }
+}
+
+const FIRST_MESSAGES: &[u8] = b"\
+|line 1: a header line that has not its form
+; ;|line 3: a header line that has not its form
+SCR;W25;29FEB;ABC;N2A9999 20DEC10JAN 246 180320 JFK0000 J;|\
+    N2A9999 20DEC10JAN 0204060 180320 JFK0000 J;
+SCR;W27;20NOV;ABC;NBA1 29FEB 2 180320 JFK0610 J|NBA001 29FEB29FEB 0200000 180320 JFK0610 J;
+SCR;W27;20NOV;ABC;NBA1 28FEB01MAR 3 180320 JFK0610 J|NBA001 28FEB01MAR 0030000 180320 JFK0610 J;
+; ;SCR;W99;31DEC;ABC;NBA1 31OCT27MAR 7 180320 JFK0610 J;;bad|\
+    NBA001 31OCT27MAR 0000007 180320 JFK0610 J;
+";
+
+/// Lines below a header, printed.
+#[derive(Drop)]
+struct Printed;
+
+impl Case for Printed {
+    fn find(&mut self, alloc: Global, given: &[u8], out: &mut Vec<u8>) -> Result<(), Fail> {
+        let text = below(alloc, given)?;
+        print_items(alloc, out, &text)
+    }
+}
+
+// First what stays, and then wide spellings.
+const PRINTED: &[u8] = b"\
+|
+FBA001 30MAR25OCT 1234567 180320 JFK0610 J;\
+    NBA002 BA003 30MAR25OCT 1234567 180320 JFK0630 0715JFK JJ;|\
+    FBA001 30MAR25OCT 1234567 180320 JFK0610 J;\
+    NBA002 BA003 30MAR25OCT 1234567 180320 JFK0630 0715JFK JJ;
+FBA001 30MAR25OCT 1234567 180320 JFK0625 J;CBA002 30MAR25OCT 1234567 180320 JFK0610 J;\
+    LBA002 30MAR25OCT 1234567 180320 JFK0630 J;|FBA001 30MAR25OCT 1234567 180320 JFK0625 J;\
+    CBA002 30MAR25OCT 1234567 180320 JFK0610 J;LBA002 30MAR25OCT 1234567 180320 JFK0630 J;
+FBA001 BA002 24OCT24OCT 0000500 180320 JFK2200 06301JFK JJ;|\
+    FBA001 BA002 24OCT24OCT 0000500 180320 JFK2200 06301JFK JJ;
+NBA002 30MAR25OCT 1234567 180320 JFK0620 J;ABA003 30MAR25OCT 1234567 180320 JFK0700 J;\
+    DBA002 01JUN30JUN 1234567 180320 JFK0620 J;ZBA009 30MAR25OCT 1234567 180320 JFK0700 J;|\
+    NBA002 30MAR25OCT 1234567 180320 JFK0620 J;ABA003 30MAR25OCT 1234567 180320 JFK0700 J;\
+    DBA002 01JUN30JUN 1234567 180320 JFK0620 J;ZBA009 30MAR25OCT 1234567 180320 JFK0700 J;
+NU21234 U21235 31MAR24OCT 1030500 186320 LTNBFS0815 0905BFSLTN JJ;|\
+    NU21234 U21235 31MAR24OCT 1030500 186320 LTNBFS0815 0905BFSLTN JJ;
+BEZY9999Z 25OCT25OCT 0000060 999320 JFKLGW2359 Z;|\
+    BEZY9999Z 25OCT25OCT 0000060 999320 JFKLGW2359 Z;
+NXY1003 XZ1003 30MAR25OCT 1234567 180320 JFK0925 1030JFK JJ;|\
+    NXY1003 XZ1003 30MAR25OCT 1234567 180320 JFK0925 1030JFK JJ;
+NEZY12A 01APR 2 180319 LGW1000 J\r;GI BRGDS\r;|NEZY012A 01APR01APR 0200000 180319 LGW1000 J;
+YBA1 \t 30MAR25OCT 1234567  180320 JFK0610 J \t;|NBA001 30MAR25OCT 1234567 180320 JFK0610 J;
+V BA0012B 30MAR 7 001A32 2359JFKLHR Z|B BA012B 30MAR30MAR 0000007 001A32 2359JFKLHR Z;
+CBA2 31MAR 135 180320 JFK0610 J;SI x;IBA02 31MAR31MAR 1030500 180320 JFK0630 J|\
+    CBA002 31MAR31MAR 1030500 180320 JFK0610 J;RBA002 31MAR31MAR 1030500 180320 JFK0630 J;
+FBA001 BA002 25OCT 6 180320 JFK2200 06301JFK JJ;|\
+    FBA001 BA002 25OCT25OCT 0000060 180320 JFK2200 06301JFK JJ;
+NBA001 BA002 30MAR25OCT 1234567 180320 JFK0630 07150JFK JJ;|\
+    NBA001 BA002 30MAR25OCT 1234567 180320 JFK0630 0715JFK JJ;
+NBA001 BA002 30MAR25OCT 123456 180320 JFK0000 00009JFK JJ;|\
+    NBA001 BA002 30MAR25OCT 1234560 180320 JFK0000 00009JFK JJ;
+A 2A0 30MAR05APR 24 000000 0000JFK A;|A 2A000 30MAR05APR 0204000 000000 0000JFK A;
+ZA20999 31MAR13APR 1 999ZZZ JFK2359 Z;|ZA2999 31MAR13APR 1000000 999ZZZ JFK2359 Z;
+QBA1;SI;GI\tx;SI \0\x7f\x80\xff\r;|QBA001;
+DAAA0001 30APR 3 180320 JFK0610 J;;bad|DAAA001 30APR30APR 0030000 180320 JFK0610 J;
+NBA001 1A2320 30MAR25OCT 1234567 180320 JFK0610 0700JFK JJ|\
+    NBA001 1A2320 30MAR25OCT 1234567 180320 JFK0610 0700JFK JJ;
+";
+
+/// A line under the code of a reply.
+#[derive(Drop)]
+struct Replies;
+
+impl Case for Replies {
+    fn find(&mut self, alloc: Global, given: &[u8], out: &mut Vec<u8>) -> Result<(), Fail> {
+        let (code, line) = cut(given, b' ');
+        let text = below(alloc, line)?;
+        let found = message(alloc, &text)?;
+        let placed = found.items.items().first().ok_or("no item")?;
+        match placed.item {
+            Item::One(line) if line.fits(&found.season) => {
+                print_line(alloc, out, &found.season, reply_code(code)?, &line)?;
+                Ok(())
+            }
+            _ => Err("no line".into()),
+        }
+    }
+}
+
+fn reply_code(word: &[u8]) -> Result<Code, Fail> {
+    match word {
+        b"F" => Ok(Code::F),
+        b"U" => Ok(Code::U),
+        b"H" => Ok(Code::H),
+        b"X" => Ok(Code::X),
+        b"O" => Ok(Code::O),
+        _ => Err("code".into()),
+    }
+}
+
+const REPLIES: &[u8] = b"\
+F D 2A7 30MAR19OCT 7 005A32 2359JFKLHR J|F 2A007 30MAR19OCT 0000007 005A32 2359JFKLHR J
+U NU21234 U21235 31MAR24OCT 135 186320 LTNBFS0815 0905BFSLTN JJ|\
+    UU21234 U21235 31MAR24OCT 1030500 186320 LTNBFS0815 0905BFSLTN JJ
+H NU21234 U21235 31MAR24OCT 135 186320 LTNBFS0815 09059BFSLTN JJ|\
+    HU21234 U21235 31MAR24OCT 1030500 186320 LTNBFS0815 09059BFSLTN JJ
+X NEZY12A 01APR 2 180319 LGW1000 J|XEZY012A 01APR01APR 0200000 180319 LGW1000 J
+O D 2A7 30MAR19OCT 7 005A32 2359JFKLHR J|O 2A007 30MAR19OCT 0000007 005A32 2359JFKLHR J
+";
+
+/// A flight, and its printed spelling.
+#[derive(Drop)]
+struct Flights;
+
+impl Case for Flights {
+    fn find(&mut self, alloc: Global, given: &[u8], out: &mut Vec<u8>) -> Result<(), Fail> {
+        let Some(flight) = read_flight(given) else {
+            return say(alloc, out, "-");
+        };
+        say_flight(alloc, out, flight)?;
+        out.push(b' ')?;
+        print_flight(alloc, out, flight)?;
+        Ok(())
+    }
+}
+
+const FLIGHTS: &[u8] = b"\
+EZY12A|EZY 12 A EZY012A
+BA12|BA. 12 . BA012
+BA0012|BA. 12 . BA012
+12001|-
+";
+
+/// A period in a season.
+#[derive(Drop)]
+struct Periods;
+
+impl Case for Periods {
+    fn find(&mut self, alloc: Global, given: &[u8], out: &mut Vec<u8>) -> Result<(), Fail> {
+        let season = Season::read(b"S25").ok_or("season")?;
+        let (period, days) = cut(given, b' ');
+        match read_period(&season, period, days)? {
+            Some(found) => say(
+                alloc,
+                out,
+                format_args!("{}-{}/{}", found.first.0, found.last.0, found.days),
+            ),
+            None => say(alloc, out, "-"),
+        }
+    }
+}
+
+const PERIODS: &[u8] = b"\
+31MAR 135|1-1/21
+31MAR31MAR 1030500|1-1/21
+31MAR 2|-
+";
+
+/// An item read from its printed spelling, printed again.
+#[derive(Drop)]
+struct Items;
+
+impl Case for Items {
+    fn find(&mut self, alloc: Global, given: &[u8], out: &mut Vec<u8>) -> Result<(), Fail> {
+        let season = Season::read(b"S25").ok_or("season")?;
+        match read_item(alloc, &season, given)? {
+            Some(item) => put_item(alloc, out, &season, &item),
+            None => say(alloc, out, "-"),
+        }
+    }
+}
+
+const ITEMS: &[u8] = b"\
+NU21234 U21235 31MAR24OCT 1030500 186320 LTNBFS0815 0905BFSLTN JJ;|\
+    NU21234 U21235 31MAR24OCT 1030500 186320 LTNBFS0815 0905BFSLTN JJ;
+D 2A007 30MAR19OCT 0000007 005A32 2359JFKLHR J;|D 2A007 30MAR19OCT 0000007 005A32 2359JFKLHR J;
+CBA002 31MAR31MAR 1030500 180320 JFK0610 J;LBA002 31MAR31MAR 1030500 180320 JFK0630 J;|\
+    CBA002 31MAR31MAR 1030500 180320 JFK0610 J;LBA002 31MAR31MAR 1030500 180320 JFK0630 J;
+QEZY012A;|QEZY012A;
+|-
+;|-
+SI;|-
+QBA12;|-
+QBA012|-
+QBA012;;|-
+YBA002 31MAR31MAR 1030500 180320 JFK0610 J;|-
+RBA002 31MAR31MAR 1030500 180320 JFK0610 J;|-
+CBA002 31MAR31MAR 1030500 180320 JFK0610 J;|-
+";
+
+/// Says the fault of a text, if it has one.
+fn say_fault(alloc: Global, out: &mut Vec<u8>, text: &[u8]) -> Result<(), Fail> {
+    match messages(alloc, text) {
+        Ok(_) => say(alloc, out, "-"),
+        Err(fault) => say(alloc, out, fault),
+    }
+}
+
+/// The fault of a text.
+#[derive(Drop)]
+struct Faults;
+
+impl Case for Faults {
+    fn find(&mut self, alloc: Global, given: &[u8], out: &mut Vec<u8>) -> Result<(), Fail> {
+        say_fault(alloc, out, given)
+    }
+}
+
+const FAULTS: &[u8] = b"\
+|-
+; \t\r;|-
+<300 >|-
+<1000000A>|line 1: more than 200 bytes
+SCR|line 2: a header line that has not its form
+SCR\r\r;S25;20NOV;ABC|line 1: a header line that has not its form
+SCR;S25;20NOV;|line 4: a header line that has not its form
+SCR;S25;;SCR;S25;20NOV;ABC|line 3: a header line that has not its form
+SCR;/x;S25;20NOV;AB|line 5: a header line that has not its form
+SCR;/x;/y;S25;20NOV;ABC|line 3: a header line that has not its form
+SCR;/<200A>;S25;20NOV;ABC|line 2: more than 200 bytes
+SCR;/<199A>;S25;20NOV;ABC|-
+ SCR;S25;20NOV;ABC|line 1: a header line that has not its form
+SCR;X25;20NOV;ABC|line 2: a header line that has not its form
+SCR;S2;20NOV;ABC|line 2: a header line that has not its form
+SCR;S25;30FEB;ABC|line 3: a header line that has not its form
+SCR;S25;00JAN;ABC|line 3: a header line that has not its form
+SCR;S25;29FEB;ABC|-
+SCR;S25;20NOV;AB1|line 4: a header line that has not its form
+SCR;S25 ;20NOV\t;ABC;;;SCR|line 8: a header line that has not its form
+SCR;S25;20NOV;ABC;;SCR;S25;20NOV;ABC;x|line 10: field 1 has not its form
+SCR;W25;20NOV;ABC;NBA1 29FEB 2 180320 JFK0610 J|line 5: field 2 has not its form
+SCR;W25;20NOV;ABC;NBA001 30MAR25OCT 1234567 180320 JFK0610 J|line 5: field 2 has not its form
+SCR;W25;20NOV;ABC;NBA1 10JAN20DEC 2 180320 JFK0610 J|line 5: field 2 has not its form
+SCR;S25;20NOV;ABC;;SCR;S25;20NOV;ABC|-
+";
+
+/// The fault of a message with these lines below its header.
+#[derive(Drop)]
+struct FaultsBelow;
+
+impl Case for FaultsBelow {
+    fn find(&mut self, alloc: Global, given: &[u8], out: &mut Vec<u8>) -> Result<(), Fail> {
+        let text = below(alloc, given)?;
+        say_fault(alloc, out, &text)
+    }
+}
+
+const FIELD_FAULTS: &[u8] = b"\
+KBA001 30MAR25OCT 1234567 180320 JFK0610 J|line 5: field 1 has not its form
+ NBA001 30MAR25OCT 1234567 180320 JFK0610 J|line 5: field 1 has not its form
+nBA001 30MAR25OCT 1234567 180320 JFK0610 J|line 5: field 1 has not its form
+N12001 30MAR25OCT 1234567 180320 JFK0610 J|line 5: field 1 has not its form
+NBA00001 30MAR25OCT 1234567 180320 JFK0610 J|line 5: field 1 has not its form
+NBA 30MAR25OCT 1234567 180320 JFK0610 J|line 5: field 1 has not its form
+N1AB12 30MAR25OCT 1234567 180320 JFK0610 J|line 5: field 1 has not its form
+NBA001 01APR31APR 1234567 180320 JFK0610 J|line 5: field 2 has not its form
+NBA001 30APR01APR 1234567 180320 JFK0610 J|line 5: field 2 has not its form
+NBA001 29MAR25OCT 1234567 180320 JFK0610 J|line 5: field 2 has not its form
+NBA001 30MAR26OCT 1234567 180320 JFK0610 J|line 5: field 2 has not its form
+NBA001 29FEB 1234567 180320 JFK0610 J|line 5: field 2 has not its form
+NBA001 30MAR25OCT26OCT 1234567 180320 JFK0610 J|line 5: field 2 has not its form
+NBA001 30MAR 1 180320 JFK0610 J|line 5: field 3 has not its form
+NBA001 30MAR25OCT 21 180320 JFK0610 J|line 5: field 3 has not its form
+NBA001 30MAR25OCT 11 180320 JFK0610 J|line 5: field 3 has not its form
+NBA001 30MAR25OCT 8 180320 JFK0610 J|line 5: field 3 has not its form
+NBA001 30MAR25OCT 2134567 180320 JFK0610 J|line 5: field 3 has not its form
+NBA001 30MAR25OCT 0000000 180320 JFK0610 J|line 5: field 3 has not its form
+NBA001 30MAR25OCT 1234567 18320 JFK0610 J|line 5: field 4 has not its form
+NBA001 30MAR25OCT 1234567 180320 JFK2400 J|line 5: field 5 has not its form
+NBA001 30MAR25OCT 1234567 180320 JFK0660 J|line 5: field 5 has not its form
+NBA001 30MAR25OCT 1234567 180320 JFKLH0610 J|line 5: field 5 has not its form
+NBA001 30MAR25OCT 1234567 180320 JFK0610 JJ|line 5: field 6 has not its form
+NBA001|line 5: field 2 has not its form
+NBA001 30MAR25OCT 1234567 180320 JFK0610|line 5: field 6 has not its form
+NBA001 30MAR25OCT 1234567 180320 JFK0610 J J|line 5: field 7 has not its form
+NBA001 30MAR25OCT 1234567 180320 JFK2400 J J|line 5: field 5 has not its form
+NBA001 A101MAY 1234567 180320 JFK0610 J|line 5: field 2 has not its form
+NBA001 1A2320 180320 JFK0610 J|line 5: field 3 has not its form
+N|line 5: field 2 has not its form
+N BA001 30MAR25OCT 1234567 180320 06101JFK J|line 5: field 6 has not its form
+N BA001 30MAR25OCT 1234567 180320 JFK0610 J|line 5: field 6 has not its form
+N BA001 30MAR25OCT 1234567 180320 0610JFK|line 5: field 7 has not its form
+N BA001 30MAR25OCT 1234567 180320 0610JFK J J|line 5: field 8 has not its form
+NBA001 BA002 30MAR25OCT 1234567 180320 JFK0630 0629JFK JJ|line 5: field 7 has not its form
+NBA001 BA002 30MAR25OCT 1234567 180320 JFK0630 0630JFK JJ|-
+NBA001 BA002 30MAR25OCT 1234567 180320 JFK0630 00001JFK JJ|-
+NBA001 BA002 30MAR25OCT 1234567 180320 JFK0630 0715JFK J|line 5: field 8 has not its form
+NBA001 BA002 30MAR25OCT 1234567 180320 JFK0630 0715JFK JJ J|line 5: field 9 has not its form
+Q|line 5: field 1 has not its form
+Q BA001|line 5: field 1 has not its form
+QBA001 X|line 5: field 2 has not its form
+QBA001|-
+/x|line 5: field 1 has not its form
+SIx|line 5: field 1 has not its form
+";
+
+const PAIR_FAULTS: &[u8] = b"\
+RBA001 30MAR25OCT 1234567 180320 JFK0610 J|line 5: an unpaired change
+IBA001 30MAR25OCT 1234567 180320 JFK0610 J|line 5: an unpaired change
+LBA001 30MAR25OCT 1234567 180320 JFK0610 J|line 5: an unpaired change
+CBA001 30MAR25OCT 1234567 180320 JFK0610 J|line 5: an unpaired change
+RBA001 30MAR25OCT 1234567 180320 JFK2400 J|line 5: field 5 has not its form
+CBA001 30MAR25OCT 1234567 180320 JFK2400 J|line 5: field 5 has not its form
+CBA001 31MAR 135 180320 JFK0610 J;SI x;LBA2 31MAR31MAR 1030500 001AAA LHR0000 Z|-
+CBA001 31MAR 1 180320 JFK0610 J;RBA001 31MAR 1234567 180320 JFK0610 J|line 5: an unpaired change
+CBA001 31MAR 1 180320 JFK0610 J;R BA001 31MAR 1 180320 0610JFK J|line 5: an unpaired change
+CBA001 31MAR 1 180320 JFK0610 J;NBA001 31MAR 1 180320 JFK0610 J|line 5: an unpaired change
+CBA001 31MAR 1 180320 JFK0610 J;QBA001;RBA001 31MAR 1 180320 JFK0610 J|line 5: an unpaired change
+CBA001 31MAR 1 180320 JFK0610 J;RBA001 31MAR 1 180320 JFK2400 J;RBA001 31MAR 1 180320 \
+    JFK0610 J|\
+    line 5: an unpaired change
+CBA001 31MAR 1 180320 JFK0610 J;RBA001 31MAR 1 180320 JFK0700 J;LBA001 31MAR 1 180320 \
+    JFK0800 J|\
+    line 7: an unpaired change
+NBA001 31MAR 1 180320 JFK0610 J;LBA001 31MAR 1 180320 JFK0610 J;bad|line 6: an unpaired change
+<201A>;|line 5: more than 200 bytes
+<200A>\r;|line 5: field 1 has not its form
+<199A>  ;|line 5: more than 200 bytes
+SI <197A>|-
+GI <198A>;bad|line 5: more than 200 bytes
+Q<200A>|line 5: more than 200 bytes
+CBA001 31MAR 1 180320 JFK0610 J;SI <198A>;RBA001 31MAR 1 180320 JFK0610 J|\
+    line 6: more than 200 bytes
+";
+
+#[test]
+fn messages_are_read(rt: HostRuntime) -> Result<(), Fail> {
+    let alloc = rt.alloc();
+    walk(alloc, &mut Cuts, CUTS)?;
+    walk(alloc, &mut Readings, READINGS)?;
+    walk(alloc, &mut Strays, STRAYS)?;
+    walk(alloc, &mut Flights, FLIGHTS)?;
+    walk(alloc, &mut Periods, PERIODS)
+}
+
+#[test]
+fn messages_are_printed(rt: HostRuntime) -> Result<(), Fail> {
+    let alloc = rt.alloc();
+    walk(alloc, &mut FirstMessages, FIRST_MESSAGES)?;
+    walk(alloc, &mut Printed, PRINTED)?;
+    walk(alloc, &mut Replies, REPLIES)?;
+    walk(alloc, &mut Items, ITEMS)
+}
+
+#[test]
+fn faults_are_named(rt: HostRuntime) -> Result<(), Fail> {
+    let alloc = rt.alloc();
+    walk(alloc, &mut Faults, FAULTS)?;
+    walk(alloc, &mut FaultsBelow, FIELD_FAULTS)?;
+    walk(alloc, &mut FaultsBelow, PAIR_FAULTS)?;
+    let memory = format!(in alloc; "{}", ScrFault::Memory)?;
+    assert_eq!(rt; memory.as_str(), "out of memory");
+    Ok(())
+}
