@@ -18,10 +18,3 @@ mod windows;
 
 pub use movement::Movement;
 pub use windows::Windows;
-
-#[cfg(test)]
-mod number_tests;
-#[cfg(test)]
-mod season_tests;
-#[cfg(test)]
-mod tests;

@@ -54,7 +54,8 @@ impl Windows {
             part_uses part r
             ≡ window_load self.now (stop_movements self.now kind minute later period) r) }
         ensures range { IfOk result (λ part. IsPartInRange (declared_resources self.now) part) }
-        ensures few_uses { IfOk result (λ part. (r : ℕ) → part_uses part r ≤ 217) }
+        ensures few_uses { IfOk result
+            (λ part. (r : ℕ) → part_uses part r ≤ MOST_DATES) }
         ensures few { IfOk result (λ part. length part ≤ most_strips self.now kind period) }
         ensures few_ever { IfOk result (λ part. length part ≤ 14 * length self.now.rules + 1) }
     {

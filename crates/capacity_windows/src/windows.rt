@@ -177,8 +177,8 @@ impl Windows {
         day < self.days
     }
 
-    // How many dates the season has.
-    pub(crate) fn days(&self) -> u32
+    /// How many dates the season has.
+    pub fn days(&self) -> u32
         ensures value { result ≡ date_count self.now.season }
         ensures few { result ≤ MOST_DATES }
     {

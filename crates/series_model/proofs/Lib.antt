@@ -7,6 +7,7 @@ mod OptionLemmas
 mod MovementLemmas
 mod ReadLemmas
 mod FitLemmas
+mod StrayLemmas
 mod BoundLemmas
 mod FewLemmas
 mod StageLemmas

@@ -6,6 +6,7 @@ use Rattle.season_days.specs.declared.declaration.Declaration.{Declaration}
 use Rattle.season_days.specs.declared.declaration.TheConstants.{MINUTES_OF_DAY}
 use Rattle.scr_reader.specs.declared.line.Line.{Line}
 use Rattle.scr_reader.specs.declared.line.Stop.{Stop}
+use Rattle.series_model.specs.declared.shifts.TheConstants.{MINUTE_BOUND}
 use Rattle.series_model.specs.declared.shifts.Span.{Span}
 use Rattle.series_model.specs.declared.shifts.Shifts.{Shifts}
 use Rattle.series_model.specs.declared.times.Times.{Times}
@@ -24,7 +25,7 @@ all_shifts s = shifts_from s s.low
 -- a step above 0, and minutes of some days
 pub record AreShifts (s : Shifts) : Type 0 where
   pub step : 0 < s.step
-  pub high : s.high < 2000000
+  pub high : s.high < MINUTE_BOUND
 
 -- the shifts of a declaration within a span
 abbrev pub shifts_in : Declaration → ℕ → Span → Shifts

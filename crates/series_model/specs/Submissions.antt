@@ -2,6 +2,7 @@
 use Rattle.std.specs.Prelude.{◌≡◌, ℕ, ◌+◌, ◌<◌, ◌≤◌, ◌^◌, ◌==◌, ◌&&◌, Bool, true, false, nat_lt, if◌then◌else◌, is_none, List, [], ◌∷◌, length, All, Option, Some, None, Result, Ok, Err, sum_by}
 use Rattle.std.specs.Option.{option_or}
 use Rattle.slot_text.specs.declared.station.Station.{Station}
+use Rattle.choice_problem.specs.declared.problems.TheConstants.{MOST_UNITS}
 use Rattle.season_days.specs.Term.{Term}
 use Rattle.season_days.specs.Capacity.{Capacity, capacity_of, IsDeclaration}
 use Rattle.season_days.specs.declared.season.Half.{Half}
@@ -14,7 +15,6 @@ use Rattle.scr_reader.specs.declared.message.Placed.{Placed}
 use Rattle.scr_reader.specs.declared.message.Message.{Message}
 use Rattle.series_model.specs.declared.fault.ModelFault.{ModelFault}
 use Rattle.series_model.specs.declared.fault.ModelFault.TheVariants.{OtherSeason, OtherAirport, NotInitial, TooMany}
-use Rattle.series_model.specs.declared.submission.TheConstants.{MOST_UNITS}
 use Rattle.series_model.specs.declared.unit.Unit.{Unit as SlotUnit}
 use Rattle.series_model.specs.Units.{placed_unit, units_of, UnitFits}
 

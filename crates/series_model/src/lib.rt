@@ -27,12 +27,7 @@ pub use group::Group;
 pub use movements::movements_of;
 pub use options::{options_of, shifts_of};
 pub use state::UnitState;
-pub use submission::{MOST_UNITS, Submission};
+pub use submission::Submission;
 pub use timed_line::line_at;
 pub use times::Times;
 pub use unit::Unit;
-
-#[cfg(test)]
-mod submission_tests;
-#[cfg(test)]
-mod tests;

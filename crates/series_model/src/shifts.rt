@@ -1,15 +1,21 @@
 //! Shifts of a line's movements within spans of minutes.
 
 ghost use Rattle.std.specs.Prelude.{◌≡◌, ◌⊎◌, ◌+◌, ◌*◌, ◌-◌, ◌<◌, ◌≤◌, OnOk, IfSome, IfNone, ◌++◌, ◌∷◌, [], map, min, max};
+ghost use Rattle.season_days.specs.declared.declaration.TheConstants.{MINUTES_OF_DAY};
 ghost use Rattle.scr_reader.specs.Printed.{StopsFit};
 ghost use Rattle.series_model.specs.Options.{pairs_of};
 ghost use Rattle.series_model.specs.Loops.{shifts_from, all_shifts, AreShifts, shifts_in, shifts_within};
+ghost use Rattle.series_model.specs.declared.shifts.TheConstants.{MINUTE_BOUND};
 ghost use Rattle.series_model.specs.declared.times.Times.TheVariants.{At as at_times};
 
 use crate::times::Times;
 use scr_reader::Line;
 use season_days::{Declaration, MINUTES_OF_DAY};
 use slot_text::Memory;
+
+// Above each minute of a movement, counted from the beginning of a line's date: more days than a
+// number of nights has.
+pub(crate) const MINUTE_BOUND: u32 = 2_000_000;
 
 // Minutes from the beginning of a line's date, both included.
 #[derive(Clone, Copy, Debug, PartialEq, Eq)]
@@ -21,8 +27,8 @@ pub(crate) struct Span {
 impl Span {
     // The minutes of the date some nights later.
     pub fn of_date(nights: u8) -> Span
-        ensures low { result.low ≡ 1440 * nights }
-        ensures high { result.high ≡ 1440 * nights + 1439 }
+        ensures low { result.low ≡ MINUTES_OF_DAY * nights }
+        ensures high { result.high ≡ MINUTES_OF_DAY * nights + (MINUTES_OF_DAY - 1) }
     {
         let low = MINUTES_OF_DAY * u32::from(nights);
         Span {
@@ -150,7 +156,7 @@ fn push_pairs(
 ) -> Result<(), Memory>
     requires arrivals { AreShifts arrivals.now }
     requires departures { AreShifts departures.now }
-    requires least { least < 2000000 }
+    requires least { least < MINUTE_BOUND }
     ensures { OnOk result
         (options.new.items ≡ options.old.items ++ pairs_of least (all_shifts arrivals.now)
         (all_shifts departures.now)) }
@@ -175,8 +181,8 @@ pub(crate) fn push_shifts(
 ) -> Result<(), Memory>
     requires step { 0 < declaration.now.step }
     requires stops { StopsFit line.now line.now.arrival line.now.departure }
-    requires coming { coming_in.high < 2000000 }
-    requires going { going_in.high < 2000000 }
+    requires coming { coming_in.high < MINUTE_BOUND }
+    requires going { going_in.high < MINUTE_BOUND }
     ensures { OnOk result
         (options.new.items ≡ options.old.items
         ++ shifts_within declaration.now line.now coming_in going_in) }
@@ -204,7 +210,7 @@ pub(crate) fn push_shifts(
 
 // A minute of the date some nights later, from the beginning of the first date.
 pub(crate) fn minute_after(nights: u8, minute: u16) -> u32
-    ensures { result ≡ 1440 * nights + minute }
+    ensures { result ≡ MINUTES_OF_DAY * nights + minute }
 {
     MINUTES_OF_DAY * u32::from(nights) + u32::from(minute)
 }

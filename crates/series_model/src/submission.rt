@@ -2,19 +2,18 @@ ghost use Rattle.std.specs.Prelude.{◌≡◌, ◌≤◌, ◌<◌, ◌^◌, All,
 ghost use Rattle.slot_text.specs.Reads.{GivesOr};
 ghost use Rattle.season_days.specs.Capacity.{capacity_of, IsCapacity, IsDeclaration};
 ghost use Rattle.scr_reader.specs.Printed.{MessagesFit};
+ghost use Rattle.choice_problem.specs.declared.problems.TheConstants.{MOST_UNITS};
 ghost use Rattle.series_model.specs.declared.fault.ModelFault.TheVariants.{Memory as NoMemory};
 
 use crate::fault::ModelFault;
 use crate::unit::Unit;
 use crate::units::{collect_units, count_units, first_fault};
 use capacity_windows::Windows;
+use choice_problem::MOST_UNITS;
 use scr_reader::MessageList;
 use season_days::Declaration;
 use std::alloc::Global;
 use std::marker::Model;
-
-/// The most units that a season's submission may have.
-pub const MOST_UNITS: u32 = 4_096;
 
 /// A declaration, the messages that ask for slots in its season at its airport, and their units in
 /// the order of the file.

@@ -8,7 +8,7 @@ ghost use Rattle.series_model.specs.Submissions.{HasNumbers, item_count, items_f
 use crate::fault::ModelFault;
 use crate::group::Group;
 use crate::unit::Unit;
-use scr_reader::{Code, Item, Message, Placed};
+use scr_reader::{Code, Item, Message, Placed, StrayLine};
 use season_days::Declaration;
 use slot_text::Memory;
 use std::alloc::Global;
@@ -73,15 +73,11 @@ fn message_fault(declaration: &Declaration, message: &Message) -> Option<ModelFa
     requires { HasNumbers message.now }
     ensures { result ≡ message_fault declaration.now message.now }
 {
-    if message.season != declaration.season {
-        return Some(ModelFault::OtherSeason { line: message.line });
+    match message.stray_line(declaration.season, declaration.airport) {
+        Some(StrayLine::Season(line)) => Some(ModelFault::OtherSeason { line }),
+        Some(StrayLine::Airport(line)) => Some(ModelFault::OtherAirport { line }),
+        None => items_fault(message.items.items()),
     }
-    if message.airport != declaration.airport {
-        return Some(ModelFault::OtherAirport {
-            line: message.line + 2,
-        });
-    }
-    items_fault(message.items.items())
 }
 
 // What is wrong with the first message with which something is.

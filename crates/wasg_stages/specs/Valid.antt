@@ -8,6 +8,7 @@ use Rattle.cert_format.specs.declared.cert.Mark.TheVariants.{Optimal, Infeasible
 use Rattle.cert_format.specs.declared.cert.StageCert.{StageCert}
 use Rattle.cert_format.specs.declared.cert.Certificate.{Certificate}
 use Rattle.cert_format.specs.Spelling.{is_tried}
+use Rattle.cert_format.specs.Printable.{IsPrintable}
 use Rattle.cert_format.specs.Proofs.{IsProof}
 use Rattle.series_model.specs.declared.unit.Unit.{Unit as SlotUnit}
 use Rattle.series_model.specs.declared.times.Times.{Times}
@@ -40,8 +41,12 @@ AreStages d units earlier (c ∷ certs) =
     IsStageAs d units earlier c (is_tried c.mark)
     × AreStages d units (earlier ++ c.choice ∷ []) certs
 
-abbrev pub IsValid : SubmissionView → Certificate → Type 0
-IsValid s c = AreStages s.declaration s.units [] c.stages
+-- a valid certificate of a submission: it has its form (one of the two versions, four stages, and in
+-- version 2 a bound for each OPEN stage and a floor for each undone node), and each of its stages is
+-- tried exactly where it may be, and then has a proof
+pub record IsValid (s : SubmissionView) (c : Certificate) : Type 0 where
+  pub form : IsPrintable c
+  pub stages : AreStages s.declaration s.units [] c.stages
 
 -- ---- what the marks claim, each given the allotments of the stages before it
 
