@@ -1,11 +1,11 @@
 -- What a walk keeps, and how it changes with one unit's range.
-use Rattle.std.proofs.Common.{◌≡◌, ℕ, zero, suc, ◌+◌, ◌*◌, ◌<◌, ◌≤◌, sym, ◌∙◌, ap, subst, arith, inl, inr, ◌⊎◌, List, [], ◌++◌, length, take, drop, Option, Some, None, map, pos, set}
+use Rattle.std.proofs.Common.{◌≡◌, ℕ, ◌+◌, ◌*◌, ◌<◌, ◌≤◌, sym, ◌∙◌, ap, subst, arith, inl, inr, ◌⊎◌, List, [], ◌++◌, length, take, drop, Option, Some, None, map, pos, set}
 use Rattle.std.proofs.Math.Seq.{take-append_seam}
 use Rattle.std.specs.Prelude.{slice_index, slice_index_or, slice_set, ℤ, ◌≤ℤ◌, ◌<ℤ◌, IfSome, IfNone}
 use Rattle.std.proofs.lemmas.Bool.{cases_lt}
 use Rattle.std.proofs.lemmas.Int.{ints}
 use Rattle.std.proofs.lemmas.List.{get_or-map, get_or-set_same, get_or-set_other, length-set}
-use Rattle.finite_sums.specs.Sums.{sum_below, least_within, IsFirstLeast}
+use Rattle.finite_sums.specs.Sums.{least_within, IsFirstLeast}
 use Rattle.choice_problem.specs.Problems.{ProblemView, IsChooser, unit_count, alt_count, resource_count, chooser_at, alt_cost, alt_uses, limit_of}
 use Rattle.choice_problem.specs.Choices.{IsChoice, choice_cost, load_of, Fits, IsFirstPassed}
 use Rattle.choice_problem.specs.Bounds.{AreRanges, Closes, low_of, high_of, least_load, least_total, priced_cost}

@@ -15,3 +15,5 @@ mod schedule_rows;
 mod season_rows;
 #[cfg(test)]
 mod slot_text_rows;
+#[cfg(test)]
+mod word_rows;

@@ -11,6 +11,7 @@ use Rattle.capacity_windows.specs.Windows.{capacity_of, declared_resources, wind
 use Rattle.choice_problem.specs.Problems.{ChooserView, ArePartsInRange}
 use Rattle.series_model.specs.declared.state.UnitState.{UnitState}
 use Rattle.series_model.specs.Stages.{is_due_state, stage_units}
+use Rattle.season_days.specs.declared.declaration.TheConstants.{HIGHEST_NIGHT_LIMIT}
 use Rattle.wasg_stages.specs.StageProblems.{IsChooserOf}
 use Rattle.wasg_stages.specs.Steps.{AddsDue, AreChoosers, AreLimits, share_at}
 use Rattle.wasg_stages.proofs.StepLemmas.{drop-cons, units_by}
@@ -51,7 +52,7 @@ last_limit [] z d = refl
 last_limit (x ∷ limits) z d = last_limit limits z d
 
 pub AreLimits-push : (d : Declaration) (stage : ℕ) (loads : List ℕ) (limits : List ℤ) (n : ℕ) (z : ℤ) → AreLimits d stage loads limits n →
-    z ≡ pos (share_at d.share stage (window_limit (capacity_of d) n - get_or loads n 0)) → share_at d.share stage (window_limit (capacity_of d) n - get_or loads n 0) ≤ 999999 →
+    z ≡ pos (share_at d.share stage (window_limit (capacity_of d) n - get_or loads n 0)) → share_at d.share stage (window_limit (capacity_of d) n - get_or loads n 0) ≤ HIGHEST_NIGHT_LIMIT →
     AreLimits d stage loads (limits ++ z ∷ []) (n + 1)
 AreLimits-push d stage loads limits n z are is small = record {
   count = omega (arith, length-append limits (z ∷ []), are.count);
@@ -66,7 +67,7 @@ AreLimits-push d stage loads limits n z are is small = record {
     | inl before ↦ are.few r before
     | inr last ↦
         let same : r ≡ n = omega arith in
-        subst (λ (k : ℕ). share_at d.share stage (window_limit (capacity_of d) k - get_or loads k 0) ≤ 999999) (sym same) small
+        subst (λ (k : ℕ). share_at d.share stage (window_limit (capacity_of d) k - get_or loads k 0) ≤ HIGHEST_NIGHT_LIMIT) (sym same) small
   ];
 }
 

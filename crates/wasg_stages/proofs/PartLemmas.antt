@@ -1,9 +1,9 @@
 -- Parts that are added, and alternatives that name them.
-use Rattle.std.proofs.Common.{◌≡◌, ℕ, zero, suc, ◌+◌, ◌*◌, ◌<◌, ◌≤◌, refl, sym, ◌∙◌, ap, subst, arith, List, [], ◌∷◌, ◌++◌, length, length-append, get_or, inl, inr}
-use Rattle.std.specs.Prelude.{Option, Some, None, All, ◌^◌}
+use Rattle.std.proofs.Common.{◌≡◌, ℕ, zero, suc, ◌+◌, ◌*◌, ◌<◌, ◌≤◌, refl, sym, ◌∙◌, ap, subst, arith, List, [], ◌∷◌, ◌++◌, length, length-append, get_or, set, inl, inr}
+use Rattle.std.specs.Prelude.{Option, Some, None, All, IfSome, ◌^◌, ◌⊎◌, ◌/◌, ◌-◌}
 use Rattle.std.specs.Option.{ForSome}
 use Rattle.std.specs.List.{AllZip}
-use Rattle.std.proofs.lemmas.List.{get_or_append_left}
+use Rattle.std.proofs.lemmas.List.{get_or_append_left, get_or-set_same, get_or-set_other}
 use Rattle.std.proofs.lemmas.Bool.{cases_lt, cases_eq}
 use Rattle.season_days.specs.declared.declaration.Declaration.{Declaration}
 use Rattle.season_days.specs.declared.day.Period.{Period}
@@ -11,6 +11,7 @@ use Rattle.season_days.specs.declared.declaration.Kind.{Kind}
 use Rattle.capacity_windows.specs.Windows.{Capacity, capacity_of, window_load, declared_resources}
 use Rattle.choice_problem.specs.declared.strips.Strip.{Strip}
 use Rattle.choice_problem.specs.declared.problems.Alt.{Alt}
+use Rattle.choice_problem.specs.declared.problems.TheConstants.{MOST_USES}
 use Rattle.choice_problem.specs.Strips.{part_uses, IsPartInRange}
 use Rattle.choice_problem.specs.Problems.{ChooserView, named_uses, IsChooser}
 use Rattle.choice_problem.specs.Allowed.{UseAtMost, IsNamedAlt}
@@ -22,7 +23,8 @@ use Rattle.series_model.specs.Displacement.{displacement_of}
 use Rattle.scr_reader.specs.declared.line.Line.{Line}
 use Rattle.series_model.specs.Movements.{movements_at, movements_of, stop_load}
 use Rattle.season_days.specs.declared.declaration.Kind.TheVariants.{Arr, Dep}
-use Rattle.wasg_stages.specs.declared.parts.Known.{Known}
+use Rattle.wasg_stages.specs.declared.parts.Minutes.{Minutes}
+use Rattle.season_days.specs.declared.season.TheConstants.{MOST_DATES}
 use Rattle.wasg_stages.specs.StageProblems.{IsAltOf, IsChooserOf}
 use Rattle.wasg_stages.specs.Parts.{minute_load, IsKnown, AreKnown, AreParts, Grows, AreAlts, IsTable}
 
@@ -49,8 +51,8 @@ IsKnown-grows c period kind old new more minute number grows known = record {
   uses = λ r. ap (λ (strips : List Strip). part_uses strips r) (grows.same number known.there) ∙ known.uses r;
 }
 
-pub AreKnown-grows : (c : Capacity) (period : Period) (kind : Kind) (old new : List (List Strip)) (more : ℕ) (known : List Known) → Grows old new more → AreKnown c period kind old known → AreKnown c period kind new known
-AreKnown-grows c period kind old new more known grows all k d lt = IsKnown-grows c period kind old new more (get_or known k d).minute (get_or known k d).part grows (all k d lt)
+pub AreKnown-grows : (c : Capacity) (period : Period) (kind : Kind) (old new : List (List Strip)) (more : ℕ) (minutes : Minutes) → Grows old new more → AreKnown c period kind old minutes → AreKnown c period kind new minutes
+AreKnown-grows c period kind old new more minutes grows all i k is = IsKnown-grows c period kind old new more (minutes.first + i) k grows (all i k is)
 
 -- one element more
 pub All-push : {X : Type 0} (P : X → Type 0) (xs : List X) (x : X) → All P xs → P x → All P (xs ++ x ∷ [])
@@ -59,9 +61,9 @@ All-push P [] x all one (suc k) d lt = absurd (omega arith)
 All-push P (y ∷ ys) x all one zero d lt = all 0 d (omega arith)
 All-push P (y ∷ ys) x all one (suc k) d lt = All-push P ys x (λ i e l. all (suc i) e (omega arith)) one k d (omega arith)
 
-pub AreParts-push : (c : Capacity) (parts : List (List Strip)) (part : List Strip) → AreParts c parts → ((r : ℕ) → part_uses part r ≤ 217) → IsPartInRange (declared_resources c) part → AreParts c (parts ++ part ∷ [])
+pub AreParts-push : (c : Capacity) (parts : List (List Strip)) (part : List Strip) → AreParts c parts → ((r : ℕ) → part_uses part r ≤ MOST_DATES) → IsPartInRange (declared_resources c) part → AreParts c (parts ++ part ∷ [])
 AreParts-push c parts part are few range = record {
-  few = All-push (λ (strips : List Strip). (r : ℕ) → part_uses strips r ≤ 217) parts part are.few few;
+  few = All-push (λ (strips : List Strip). (r : ℕ) → part_uses strips r ≤ MOST_DATES) parts part are.few few;
   range = All-push (λ (strips : List Strip). IsPartInRange (declared_resources c) strips) parts part are.range range;
 }
 
@@ -76,17 +78,44 @@ IsKnown-push c period kind parts part minute uses = record {
   uses = λ r. ap (λ (strips : List Strip). part_uses strips r) (last_part parts part) ∙ uses r;
 }
 
-pub AreKnown-push : (c : Capacity) (period : Period) (kind : Kind) (parts : List (List Strip)) (part : List Strip) (known : List Known) (minute : ℕ) → AreKnown c period kind parts known →
-    ((r : ℕ) → part_uses part r ≡ minute_load c period kind minute r) →
-    AreKnown c period kind (parts ++ part ∷ []) (known ++ record { minute = minute; part = length parts } ∷ [])
-AreKnown-push c period kind parts part known minute all uses =
-    All-push (λ (e : Known). IsKnown c period kind (parts ++ part ∷ []) e.minute e.part) known (record { minute = minute; part = length parts })
-    (AreKnown-grows c period kind parts (parts ++ part ∷ []) 1 known (Grows-push parts part) all)
-    (IsKnown-push c period kind parts part minute uses)
+-- a part more is kept at its minute
+pub AreKnown-kept : (c : Capacity) (period : Period) (kind : Kind) (parts : List (List Strip)) (part : List Strip) (old new : Minutes) (minute : ℕ) → AreKnown c period kind parts old →
+    ((r : ℕ) → part_uses part r ≡ minute_load c period kind minute r) → new.first ≡ old.first →
+    ((i k : ℕ) → get_or new.parts.items i None ≡ Some k → (get_or old.parts.items i None ≡ Some k) ⊎ ((old.first + i ≡ minute) × (k ≡ length parts))) →
+    AreKnown c period kind (parts ++ part ∷ []) new
+AreKnown-kept c period kind parts part old new minute all uses first kept i k is =
+    rw first (elim (kept i k is) [
+      | inl before ↦ IsKnown-grows c period kind parts (parts ++ part ∷ []) 1 (old.first + i) k (Grows-push parts part) (all i k before)
+      | inr now ↦ rw (now.0, now.1) (IsKnown-push c period kind parts part minute uses)
+    ])
 
-pub AreKnown-at : (c : Capacity) (period : Period) (kind : Kind) (parts : List (List Strip)) (known : List Known) (i minute k : ℕ) → AreKnown c period kind parts known → i < length known →
-    get_or known i (record { minute = 0; part = 0 }) ≡ record { minute = minute; part = k } → IsKnown c period kind parts minute k
-AreKnown-at c period kind parts known i minute k all lt is = subst (λ (e : Known). IsKnown c period kind parts e.minute e.part) is (all i (record { minute = 0; part = 0 }) lt)
+-- what is found at a minute
+pub AreKnown-at : (c : Capacity) (period : Period) (kind : Kind) (parts : List (List Strip)) (minutes : Minutes) (minute k : ℕ) → AreKnown c period kind parts minutes →
+    minutes.first ≤ minute → get_or minutes.parts.items (minute - minutes.first) None ≡ Some k → IsKnown c period kind parts minute k
+AreKnown-at c period kind parts minutes minute k all le is =
+    let at : minutes.first + (minute - minutes.first) ≡ minute = omega (arith, le) in
+    subst (λ (m : ℕ). IsKnown c period kind parts m k) at (all (minute - minutes.first) k is)
+
+pub found-at : (first minute place : ℕ) (parts : List (Option ℕ)) (o : Option ℕ) → first ≤ minute → place ≡ minute - first → get_or parts place None ≡ o →
+    IfSome o (λ k. (first ≤ minute) × (get_or parts (minute - first) None ≡ Some k))
+found-at first minute place parts None le at is = tt
+found-at first minute place parts (Some k) le at is = (le, ap (λ (i : ℕ). get_or parts i None) (sym at) ∙ is)
+
+-- one number is kept at a place
+pub kept-set : (first minute part place : ℕ) (old new : List (Option ℕ)) → new ≡ set old place (Some part) → first + place ≡ minute → place < length old →
+    (i k : ℕ) → get_or new i None ≡ Some k → (get_or old i None ≡ Some k) ⊎ ((first + i ≡ minute) × (k ≡ part))
+kept-set first minute part place old new set_is at there i k is =
+    let read : get_or (set old place (Some part)) i None ≡ Some k = ap (λ (xs : List (Option ℕ)). get_or xs i None) (sym set_is) ∙ is in
+    elim (cases_eq i place) [
+      | inl same ↦
+          let here : get_or (set old place (Some part)) i None ≡ Some part = ap (λ (j : ℕ). get_or (set old place (Some part)) j None) same ∙ get_or-set_same old place (Some part) None there in
+          let both : Some k ≡ Some part = sym read ∙ here in
+          inr (omega (arith, at, same), cc both)
+      | inr other ↦ inl (sym (get_or-set_other old place i (Some part) None other) ∙ read)
+    ]
+
+pub AreKnown-none : (c : Capacity) (period : Period) (kind : Kind) (parts : List (List Strip)) (minutes : Minutes) → ((i : ℕ) → get_or minutes.parts.items i None ≡ None) → AreKnown c period kind parts minutes
+AreKnown-none c period kind parts minutes none i k is = absurd (let wrong : None ≡ Some k = sym (none i) ∙ is in cc)
 
 -- ---- alternatives
 
@@ -120,7 +149,7 @@ LoadsOfStops = (c : Capacity) (line : Line) (arrival departure r : ℕ) →
     window_load c (movements_at c.season line (At arrival departure)) r ≡ stop_load c Arr line.arrival arrival line.period r + stop_load c Dep line.departure departure line.period r
 
 abbrev pub FewUses : Type 0
-FewUses = (m : ChooserView) → UseAtMost 217 m.parts → 0 < length m.alts → length m.alts < 2 ^ 32 → length m.parts < 2 ^ 32 → All (IsNamedAlt m.parts) m.alts → IsChooser m
+FewUses = (m : ChooserView) → UseAtMost (MOST_USES / 2) m.parts → 0 < length m.alts → length m.alts < 2 ^ 32 → length m.parts < 2 ^ 32 → All (IsNamedAlt m.parts) m.alts → IsChooser m
 
 -- an alternative with times has the loads of its two stops
 pub times-alt : LoadsOfStops → (d : Declaration) (unit : SlotUnit) (c : Capacity) (old new : List (List Strip)) (more : ℕ) (one two : Option ℕ) (times : Times) (cost arrival departure : ℕ) →
@@ -185,3 +214,12 @@ pub AreAlts-IsChooser : FewUses → (d : Declaration) (unit : SlotUnit) (c : Cap
     IsChooser (record { parts = parts; alts = alts })
 AreAlts-IsChooser few_uses d unit c parts alts n are parts_are some few =
     few_uses (record { parts = parts; alts = alts }) parts_are.few (omega (arith, are.count)) (omega (arith, are.count)) (omega (arith, are.few)) are.named
+
+-- two stops after the other, where the second may add a part
+pub IsTable-both : (d : Declaration) (c : Capacity) (period : Period) (arrivals departures : Minutes) (one two : List (List Strip)) → c ≡ capacity_of d →
+    AreKnown c period Arr one arrivals → AreKnown c period Dep two departures → AreParts c two → Grows one two 1 → IsTable d period arrivals departures two
+IsTable-both d c period arrivals departures one two is known_one known_two parts grows = record {
+  arrivals_are = subst (λ (w : Capacity). AreKnown w period Arr two arrivals) is (AreKnown-grows c period Arr one two 1 arrivals grows known_one);
+  departures_are = subst (λ (w : Capacity). AreKnown w period Dep two departures) is known_two;
+  parts_are = subst (λ (w : Capacity). AreParts w two) is parts;
+}

@@ -5,6 +5,7 @@ use Rattle.season_days.specs.declared.day.Period.{Period}
 use Rattle.season_days.specs.declared.declaration.Kind.{Kind}
 use Rattle.season_days.specs.declared.declaration.Kind.TheVariants.{Arr, Dep}
 use Rattle.season_days.specs.declared.declaration.TheConstants.{MINUTES_OF_DAY}
+use Rattle.season_days.specs.declared.season.TheConstants.{MOST_DATES}
 use Rattle.capacity_windows.specs.Windows.{Capacity, capacity_of, window_load, stop_movements, declared_resources}
 use Rattle.choice_problem.specs.declared.strips.Strip.{Strip}
 use Rattle.choice_problem.specs.Strips.{part_uses, IsPartInRange}
@@ -15,7 +16,7 @@ use Rattle.series_model.specs.declared.unit.Unit.{Unit as SlotUnit}
 use Rattle.series_model.specs.declared.times.Times.{Times}
 use Rattle.series_model.specs.declared.times.Times.TheVariants.{Refused}
 use Rattle.wasg_stages.specs.StageProblems.{IsAltOf}
-use Rattle.wasg_stages.specs.declared.parts.Known.{Known}
+use Rattle.wasg_stages.specs.declared.parts.Minutes.{Minutes}
 
 -- the load of the movements of one kind, so many minutes after the beginning of each date
 abbrev pub minute_load : Capacity → Period → Kind → ℕ → ℕ → ℕ
@@ -30,13 +31,15 @@ pub record IsKnown (c : Capacity) (period : Period) (kind : Kind) (parts : List 
   pub uses : (r : ℕ) → part_uses (slice_index_or parts number []) r
       ≡ minute_load c period kind minute r
 
-abbrev pub AreKnown : Capacity → Period → Kind → List (List Strip) → List Known → Type 0
-AreKnown c period kind parts known =
-    All (λ (e : Known). IsKnown c period kind parts e.minute e.part) known
+-- each number that is kept at a minute is that of such a part
+abbrev pub AreKnown : Capacity → Period → Kind → List (List Strip) → Minutes → Type 0
+AreKnown c period kind parts minutes =
+    (i k : ℕ) → slice_index_or minutes.parts.items i None ≡ Some k →
+    IsKnown c period kind parts (minutes.first + i) k
 
--- parts that use no resource more than 217 times and stay within the resources
+-- parts that use no resource more often than a season has dates, and stay within the resources
 pub record AreParts (c : Capacity) (parts : List (List Strip)) : Type 0 where
-  pub few : UseAtMost 217 parts
+  pub few : UseAtMost MOST_DATES parts
   pub range : All (λ strips. IsPartInRange (declared_resources c) strips) parts
 
 -- some parts more, the earlier ones as they were
@@ -56,7 +59,7 @@ pub record AreAlts (d : Declaration) (unit : SlotUnit) (options : List Times)
   pub few : length parts ≤ 2 * n
 
 -- what is known of the parts of a unit
-pub record IsTable (d : Declaration) (period : Period) (arrivals departures : List Known)
+pub record IsTable (d : Declaration) (period : Period) (arrivals departures : Minutes)
     (parts : List (List Strip)) : Type 0 where
   pub arrivals_are : AreKnown (capacity_of d) period Arr parts arrivals
   pub departures_are : AreKnown (capacity_of d) period Dep parts departures

@@ -7,11 +7,11 @@ use Rattle.season_days.specs.Capacity.{capacity_of, declared_resources}
 use Rattle.season_days.specs.declared.declaration.Declaration.{Declaration}
 use Rattle.capacity_windows.specs.Windows.{window_load}
 use Rattle.choice_problem.specs.declared.problems.Alt.{Alt}
+use Rattle.choice_problem.specs.declared.problems.TheConstants.{MOST_UNITS}
 use Rattle.choice_problem.specs.Problems.{ProblemView, ChooserView, named_uses, resource_count, limit_of}
 use Rattle.series_model.specs.declared.unit.Unit.{Unit as SlotUnit}
 use Rattle.series_model.specs.declared.times.Times.{Times}
 use Rattle.series_model.specs.declared.state.UnitState.{UnitState}
-use Rattle.series_model.specs.declared.submission.TheConstants.{MOST_UNITS}
 use Rattle.series_model.specs.Units.{UnitFits}
 use Rattle.series_model.specs.Options.{options_of}
 use Rattle.series_model.specs.Movements.{movements_of}

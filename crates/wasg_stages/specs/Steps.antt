@@ -2,6 +2,7 @@
 use Rattle.std.specs.Prelude.{◌≡◌, ℕ, ◌-◌, ◌<◌, ◌≤◌, ◌==◌, if◌then◌else◌, List, ◌∷◌, ◌++◌, length, All, drop, slice_index, slice_index_or, ℤ, pos}
 use Rattle.std.specs.List.{AllZip}
 use Rattle.season_days.specs.declared.declaration.Declaration.{Declaration}
+use Rattle.season_days.specs.declared.declaration.TheConstants.{HIGHEST_NIGHT_LIMIT}
 use Rattle.series_model.specs.Units.{UnitFits}
 use Rattle.series_model.specs.declared.state.UnitState.{UnitState}
 use Rattle.series_model.specs.Stages.{after_allotment, stage_times, stage_units, share_of}
@@ -32,7 +33,7 @@ pub record AreLimits (d : Declaration) (stage : ℕ) (loads : List ℕ) (limits 
       slice_index_or limits r (pos 0)
       ≡ pos (share_at d.share stage (window_limit (capacity_of d) r - slice_index loads r))
   pub few : (r : ℕ) → r < n →
-      share_at d.share stage (window_limit (capacity_of d) r - slice_index loads r) ≤ 999999
+      share_at d.share stage (window_limit (capacity_of d) r - slice_index loads r) ≤ HIGHEST_NIGHT_LIMIT
 
 -- the unit first in line is added where it is one of the stage's
 abbrev pub AddsDue : Declaration → ℕ → UnitState → List ChooserView → List ChooserView → Type 0

@@ -39,13 +39,13 @@ fn stop_part(
     requires first { period.first.0 < date_count windows.now.season }
     requires last { period.last.0 < date_count windows.now.season }
     requires few { length parts.old.items + 1 < 2 ^ 32 }
-    requires known { AreKnown windows.now period kind parts.old.items minutes.old.known.items }
+    requires known { AreKnown windows.now period kind parts.old.items minutes.old }
     requires parts { AreParts windows.now parts.old.items }
     ensures named { IfOk result (λ part. ForSome part (λ k. k < length parts.new.items)) }
     ensures uses { IfOk result (λ part. (r : ℕ) →
         named_uses (record { parts = parts.new.items; alts = [] }) part r
         ≡ stop_load windows.now kind stop minute period r) }
-    ensures known { OnOk result (AreKnown windows.now period kind parts.new.items minutes.new.known.items) }
+    ensures known { OnOk result (AreKnown windows.now period kind parts.new.items minutes.new) }
     ensures parts { OnOk result (AreParts windows.now parts.new.items) }
     ensures grows { OnOk result (Grows parts.old.items parts.new.items 1) }
 {
@@ -70,13 +70,15 @@ fn alt_of(
     requires unit { UnitFits declaration.now.season unit.now }
     requires cost { displacement_of declaration.now unit.now times < 2 ^ 24 }
     requires few { length parts.old.items + 2 < 2 ^ 32 }
-    requires table { IsTable declaration.now unit.now.request.period arrivals.old.known.items departures.old.known.items parts.old.items }
+    requires table { IsTable declaration.now unit.now.request.period
+        arrivals.old departures.old parts.old.items }
     ensures alt { IfOk result
         (λ alt. IsAltOf declaration.now unit.now
         (record { parts = parts.new.items; alts = [] }) times alt) }
     ensures named { IfOk result (λ alt. IsNamedAlt parts.new.items alt) }
     ensures table { OnOk result
-        (IsTable declaration.now unit.now.request.period arrivals.new.known.items departures.new.known.items parts.new.items) }
+        (IsTable declaration.now unit.now.request.period
+        arrivals.new departures.new parts.new.items) }
     ensures grows { OnOk result (Grows parts.old.items parts.new.items 2) }
 {
     let cost = displacement(unit, times, declaration);
@@ -126,13 +128,14 @@ pub(crate) fn chooser_of(
     requires keeps { IsDeclaration declaration.now }
     requires unit { UnitFits declaration.now.season unit.now }
     ensures chooser { IfOk result (λ m. IsChooserOf declaration.now unit.now m) }
-    ensures range { IfOk result (λ m. ArePartsInRange (declared_resources (capacity_of declaration.now)) m) }
+    ensures range { IfOk result
+        (λ m. ArePartsInRange (declared_resources (capacity_of declaration.now)) m) }
 {
     option_bounds();
     few_uses();
     let options = options_of(alloc, unit, declaration)?;
-    let mut arrivals = Minutes::new(alloc);
-    let mut departures = Minutes::new(alloc);
+    let mut arrivals = Minutes::of_date(alloc, 0)?;
+    let mut departures = Minutes::of_date(alloc, unit.request.nights)?;
     let mut parts = Vec::new(alloc);
     let mut alts = Vec::new(alloc);
     for times in &options {

@@ -12,8 +12,6 @@ mod limits;
 mod parts;
 mod problems;
 mod states;
-#[cfg(test)]
-mod tests;
 
 pub use problems::{after_stage, problem_after, stage_problem, states_of, units_of_stage};
 pub use states::Earlier;

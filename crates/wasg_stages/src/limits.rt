@@ -3,7 +3,9 @@
 ghost use Rattle.std.specs.Prelude.{◌≡◌, ◌+◌, ◌*◌, ◌-◌, ◌<◌, ◌≤◌, ◌≤ℤ◌, ℕ, List, All, length, slice_index, slice_index_or, OnOk, IfOk, pos};
 ghost use Rattle.season_days.specs.Seasons.{date_count};
 ghost use Rattle.season_days.specs.declared.declaration.TheConstants.{HIGHEST_NIGHT_LIMIT, HIGHEST_SHARE};
+ghost use Rattle.season_days.specs.declared.season.TheConstants.{MOST_DATES};
 ghost use Rattle.capacity_windows.specs.Windows.{capacity_of, declared_resources, window_load};
+ghost use Rattle.choice_problem.specs.declared.problems.TheConstants.{MOST_UNITS, MOST_USES};
 ghost use Rattle.choice_problem.specs.Counts.{GrowsBy, HasRoom};
 ghost use Rattle.series_model.specs.Units.{UnitFits};
 ghost use Rattle.series_model.specs.Movements.{stop_load, movements_of};
@@ -32,10 +34,11 @@ fn add_stop(
     requires first { period.first.0 < date_count windows.now.season }
     requires last { period.last.0 < date_count windows.now.season }
     requires counts { length counts.old ≡ declared_resources windows.now }
-    requires room { HasRoom counts.old (λ _. 217) }
+    requires room { HasRoom counts.old (λ _. MOST_DATES) }
     ensures grows { OnOk result
         (GrowsBy counts.old counts.new (λ r. stop_load windows.now kind stop minute period r)) }
-    ensures few { OnOk result ((r : ℕ) → stop_load windows.now kind stop minute period r ≤ 217) }
+    ensures few { OnOk result ((r : ℕ) →
+        stop_load windows.now kind stop minute period r ≤ MOST_DATES) }
 {
     match stop {
         Some(_) => {
@@ -63,12 +66,13 @@ fn add_times(
 ) -> Result<(), Memory>
     requires unit { UnitFits windows.now.season unit.now }
     requires counts { length counts.old ≡ declared_resources windows.now }
-    requires room { HasRoom counts.old (λ _. 434) }
+    requires room { HasRoom counts.old (λ _. MOST_USES) }
     ensures grows { OnOk result
         (GrowsBy counts.old counts.new
         (λ r. window_load windows.now (movements_of windows.now.season unit.now times) r)) }
     ensures few { OnOk result ((r : ℕ) →
-        window_load windows.now (movements_of windows.now.season unit.now times) r ≤ 434) }
+        window_load windows.now (movements_of windows.now.season unit.now times) r
+        ≤ MOST_USES) }
 {
     match times {
         Times::At { arrival, departure } => {
@@ -108,12 +112,13 @@ fn add_given(
 ) -> Result<(), Memory>
     requires unit { UnitFits windows.now.season unit.now }
     requires counts { length counts.old ≡ declared_resources windows.now }
-    requires room { HasRoom counts.old (λ _. 434) }
+    requires room { HasRoom counts.old (λ _. MOST_USES) }
     ensures grows { OnOk result
         (GrowsBy counts.old counts.new
         (λ r. window_load windows.now (movements_once_given windows.now.season unit.now given) r)) }
     ensures few { OnOk result ((r : ℕ) →
-        window_load windows.now (movements_once_given windows.now.season unit.now given) r ≤ 434) }
+        window_load windows.now (movements_once_given windows.now.season unit.now given) r
+        ≤ MOST_USES) }
 {
     match given {
         Some(times) => add_times(alloc, windows, unit, times, counts),
@@ -128,8 +133,9 @@ fn add_all(
     states: &[UnitState],
     counts: &mut [u32],
 ) -> Result<(), Memory>
-    requires units { All (λ (state : UnitStateValue). UnitFits windows.now.season state.unit) states.now }
-    requires few { length states.now ≤ 4096 }
+    requires units { All (λ (state : UnitStateValue).
+        UnitFits windows.now.season state.unit) states.now }
+    requires few { length states.now ≤ MOST_UNITS }
     requires counts { length counts.old ≡ declared_resources windows.now }
     requires empty { (r : ℕ) → r < length counts.old → slice_index counts.old r ≡ 0 }
     ensures loads { OnOk result ((r : ℕ) → r < length counts.old →
@@ -144,8 +150,9 @@ fn add_all(
 
 // The movements that all units were given, resource by resource.
 fn loads_given(alloc: Global, windows: &Windows, states: &[UnitState]) -> Result<Vec<u32>, Memory>
-    requires units { All (λ (state : UnitStateValue). UnitFits windows.now.season state.unit) states.now }
-    requires few { length states.now ≤ 4096 }
+    requires units { All (λ (state : UnitStateValue).
+        UnitFits windows.now.season state.unit) states.now }
+    requires few { length states.now ≤ MOST_UNITS }
     ensures count { IfOk result (λ loads. length loads.items ≡ declared_resources windows.now) }
     ensures loads { IfOk result (λ loads. (r : ℕ) → r < declared_resources windows.now →
         slice_index loads.items r
@@ -209,8 +216,9 @@ pub(crate) fn stage_limits(
 ) -> Result<Vec<i64>, Memory>
     requires share { declaration.now.share ≤ HIGHEST_SHARE }
     requires windows { windows.now ≡ capacity_of declaration.now }
-    requires units { All (λ (state : UnitStateValue). UnitFits windows.now.season state.unit) states.now }
-    requires few { length states.now ≤ 4096 }
+    requires units { All (λ (state : UnitStateValue).
+        UnitFits windows.now.season state.unit) states.now }
+    requires few { length states.now ≤ MOST_UNITS }
     ensures count { IfOk result (λ limits. length limits.items ≡ declared_resources windows.now) }
     ensures each { IfOk result (λ limits. (r : ℕ) → r < declared_resources windows.now →
         slice_index_or limits.items r (pos 0)

@@ -1,6 +1,6 @@
 //! The parts of a unit: one for each minute at which one of its movements may be.
 
-ghost use Rattle.std.specs.Prelude.{[], ◌≡◌, ◌+◌, ◌*◌, ◌<◌, ◌≤◌, ◌^◌, ℕ, length, slice_index_or, IfSome, IfOk, OnOk};
+ghost use Rattle.std.specs.Prelude.{◌≡◌, ◌⊎◌, ◌+◌, ◌-◌, ◌*◌, ◌<◌, ◌≤◌, ◌^◌, ℕ, length, slice_index_or, Some, None, IfSome, IfOk, OnOk};
 ghost use Rattle.season_days.specs.Seasons.{date_count};
 ghost use Rattle.wasg_stages.specs.Parts.{IsKnown, AreKnown, AreParts, Grows};
 
@@ -10,50 +10,59 @@ use season_days::{Kind, MINUTES_OF_DAY, Period};
 use slot_text::Memory;
 use std::alloc::Global;
 
-// The number of the part that stands for movements at a minute, counted from the beginning of a
-// date of the line.
-#[derive(Clone, Copy, Debug, PartialEq, Eq)]
-pub(crate) struct Known {
-    pub minute: u32,
-    pub part: u32,
-}
-
-// The parts of one kind of movement by their minutes, and where to look first. Alternatives rise,
-// so the minute that is asked for mostly follows the last one.
+// The numbers of the parts of one kind of movement, by the minutes of a date: the first of these,
+// counted from the beginning of the line's date, and the part that stands for movements at it, at
+// the minute after it, and so forth, where there is one.
 #[derive(Drop)]
 pub(crate) struct Minutes {
-    pub known: Vec<Known>,
-    pub next: usize,
+    pub first: u32,
+    pub parts: Vec<Option<u32>>,
 }
 
 impl Minutes {
-    // None yet.
-    pub fn new(alloc: Global) -> Minutes
-        ensures { result.known.items ≡ [] }
+    // None yet, at the minutes of the date some nights after the line's.
+    pub fn of_date(alloc: Global, nights: u8) -> Result<Minutes, Memory>
+        ensures { IfOk result (λ minutes. (i : ℕ) →
+            slice_index_or minutes.parts.items i None ≡ None) }
     {
-        Minutes {
-            known: Vec::new(alloc),
-            next: 0,
+        let first = MINUTES_OF_DAY * u32::from(nights);
+        let mut parts = Vec::new(alloc);
+        for _ in 0..MINUTES_OF_DAY {
+            parts.push(None)?;
         }
+        Ok(Minutes { first, parts })
     }
-}
 
-// Where a minute stands among those that are known, if it is there.
-fn find(minutes: &Minutes, minute: u32) -> Option<usize>
-    ensures { IfSome result (λ i. (i < length minutes.now.known.items)
-        × ((slice_index_or minutes.now.known.items i (record { minute = 0; part = 0 })).minute
-        ≡ minute)) }
-{
-    let next = minutes.next;
-    if next < minutes.known.len() && minutes.known[next].minute == minute {
-        return Some(next);
+    // The part at a minute, if there is one. One step.
+    fn part(&self, minute: u32) -> Option<u32>
+        ensures { IfSome result (λ k. (self.now.first ≤ minute)
+            × (slice_index_or self.now.parts.items (minute - self.now.first) None ≡ Some k)) }
+    {
+        if minute < self.first {
+            return None;
+        }
+        let place = (minute - self.first) as usize;
+        if place >= self.parts.len() {
+            return None;
+        }
+        self.parts[place]
     }
-    for (i, entry) in minutes.known.iter().enumerate() {
-        if entry.minute == minute {
-            return Some(i);
+
+    // Keeps the part at a minute, if it is one of the date's. One step.
+    fn keep(&mut self, minute: u32, part: u32)
+        ensures first { self.new.first ≡ self.old.first }
+        ensures parts { (i k : ℕ) → slice_index_or self.new.parts.items i None ≡ Some k →
+            (slice_index_or self.old.parts.items i None ≡ Some k)
+            ⊎ ((self.old.first + i ≡ minute) × (k ≡ part)) }
+    {
+        if minute < self.first {
+            return;
+        }
+        let place = (minute - self.first) as usize;
+        if place < self.parts.len() {
+            self.parts[place] = Some(part);
         }
     }
-    None
 }
 
 // The number of the part of the movements of a kind at a minute, which is made where it is not
@@ -70,16 +79,15 @@ pub(crate) fn part_of(
     requires first { period.first.0 < date_count windows.now.season }
     requires last { period.last.0 < date_count windows.now.season }
     requires few { length parts.old.items + 1 < 2 ^ 32 }
-    requires known { AreKnown windows.now period kind parts.old.items minutes.old.known.items }
+    requires known { AreKnown windows.now period kind parts.old.items minutes.old }
     requires parts { AreParts windows.now parts.old.items }
     ensures named { IfOk result (λ k. IsKnown windows.now period kind parts.new.items minute k) }
-    ensures known { OnOk result (AreKnown windows.now period kind parts.new.items minutes.new.known.items) }
+    ensures known { OnOk result (AreKnown windows.now period kind parts.new.items minutes.new) }
     ensures parts { OnOk result (AreParts windows.now parts.new.items) }
     ensures grows { OnOk result (Grows parts.old.items parts.new.items 1) }
 {
-    if let Some(i) = find(minutes, minute) {
-        minutes.next = i + 1;
-        return Ok(minutes.known[i].part);
+    if let Some(number) = minutes.part(minute) {
+        return Ok(number);
     }
     let part = windows.strips_of(
         alloc,
@@ -90,9 +98,6 @@ pub(crate) fn part_of(
     )?;
     let number = parts.len() as u32;
     parts.push(part)?;
-    minutes.known.push(Known {
-        minute,
-        part: number,
-    })?;
+    minutes.keep(minute, number);
     Ok(number)
 }

@@ -3,7 +3,7 @@
 ghost use Rattle.std.specs.Prelude.{◌≡◌, ◌+◌, ◌<◌, ◌≤◌, ℕ, All, length, Option, Some, None, IfOk, OnOk, slice_index_or};
 ghost use Rattle.series_model.specs.Units.{UnitFits};
 ghost use Rattle.series_model.specs.Options.{options_of};
-ghost use Rattle.series_model.specs.declared.submission.TheConstants.{MOST_UNITS};
+ghost use Rattle.choice_problem.specs.declared.problems.TheConstants.{MOST_UNITS};
 ghost use Rattle.series_model.specs.declared.times.Times.TheVariants.{Refused};
 ghost use Rattle.series_model.specs.Stages.{first_states, has_slots, is_due_state, after_stage, stage_positions, states_after};
 ghost use Rattle.wasg_stages.specs.Steps.{AreFitting, Advances};
@@ -114,7 +114,8 @@ fn advanced(
     requires step { 0 < declaration.now.step }
     requires unit { UnitFits declaration.now.season state.now.unit }
     ensures few { IfOk result (λ x. x.1 ≤ length numbers.now) }
-    ensures after { IfOk result (λ x. Advances declaration.now stage state.now numbers.now x.0 x.1) }
+    ensures after { IfOk result
+        (λ x. Advances declaration.now stage state.now numbers.now x.0 x.1) }
 {
     if !is_due(stage, state) {
         return Ok((*state, 0));
@@ -187,7 +188,8 @@ pub(crate) fn states_after(
     requires step { 0 < declaration.now.step }
     requires units { All (UnitFits declaration.now.season) units.now }
     requires few { length choices.now ≤ 4 }
-    ensures after { IfOk result (λ states. states.items ≡ states_after declaration.now units.now choices.now) }
+    ensures after { IfOk result
+        (λ states. states.items ≡ states_after declaration.now units.now choices.now) }
     ensures fit { IfOk result (λ states. AreFitting declaration.now states.items) }
     ensures count { IfOk result (λ states. length states.items ≡ length units.now) }
 {

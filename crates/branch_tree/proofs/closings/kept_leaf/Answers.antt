@@ -1,12 +1,9 @@
-use Rattle.std.proofs.Common.{◌≡◌, ◌↔◌, ◌<◌, ◌∷◌, List, [], length, arith, inl, inr}
-use Rattle.std.specs.Prelude.{IsTrue, slice_index_or}
+use Rattle.std.proofs.Common.{◌≡◌, ◌<◌, ◌∷◌, List, [], length, arith, inl, inr}
 use Rattle.std.proofs.lemmas.Bool.{cases_lt}
 use Rattle.std.proofs.lemmas.List.{get_or_read}
 use Rattle.choice_problem.specs.declared.vectors.Price.{Price}
-use Rattle.choice_problem.specs.Bounds.{Closes}
 use Rattle.price_table.specs.Tables.{vectors_of}
 use Rattle.price_table.specs.Totals.{totals_at}
-use Rattle.branch_tree.specs.Visits.{AreOpen}
 use Rattle.branch_tree.proofs.VisitLemmas.{first-leaf, none-open, kept-closes}
 use Rattle.branch_tree.proofs.closings.kept_leaf.Goals as goal
 

@@ -1,4 +1,4 @@
-use Rattle.std.proofs.Common.{◌≡◌, ◌+◌, ◌∙◌, ap}
+use Rattle.std.proofs.Common.{◌+◌, ◌∙◌, ap}
 use Rattle.choice_problem.specs.Problems.{alt_uses}
 use Rattle.std.specs.Prelude.{slice_index}
 use Rattle.dual_bound.proofs.points.take_unit.Goals as goal

@@ -7,5 +7,5 @@ abbrev pub invariant-loop-times : goal.invariant-loop-times
 invariant-loop-times l = record {
   options : l.times-items ≡ options_of l.declaration l.unit;
   alts : AreAlts l.declaration l.unit (options_of l.declaration l.unit) l.parts.items l.alts.items l.times-index;
-  table : IsTable l.declaration l.unit.request.period l.arrivals.known.items l.departures.known.items l.parts.items;
+  table : IsTable l.declaration l.unit.request.period l.arrivals l.departures l.parts.items;
 }

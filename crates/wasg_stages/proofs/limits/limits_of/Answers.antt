@@ -3,6 +3,7 @@ use Rattle.std.proofs.lemmas.Int.{ints, to_z-of_z}
 use mir.Syntax.{w64}
 use mir.Val.{SFits}
 use Rattle.capacity_windows.specs.Windows.{Capacity, capacity_of, window_limit}
+use Rattle.season_days.specs.declared.declaration.TheConstants.{HIGHEST_NIGHT_LIMIT}
 use Rattle.wasg_stages.specs.Steps.{share_at}
 use Rattle.wasg_stages.proofs.BuildLemmas.{declared_at, AreLimits-push}
 use Rattle.wasg_stages.proofs.limits.limits_of.Goals as goal
@@ -27,7 +28,7 @@ loop-resource-preserved c =
     let value : c.stage_share-limit.result ≡ share_at d.share c.args.stage (window_limit (capacity_of d) r - get_or loads r 0) =
     c.stage_share-limit.ensures.value (window_limit c.args.windows.now r) (to_z-of_z w64 c.index.result.now fits ∙ is)
     ∙ ap (λ (k : Capacity). share_at d.share c.args.stage (window_limit k r - get_or loads r 0)) c.requires.windows in
-    let small : share_at d.share c.args.stage (window_limit (capacity_of d) r - get_or loads r 0) ≤ 999999 = omega (arith, value, c.stage_share-limit.ensures.few) in
+    let small : share_at d.share c.args.stage (window_limit (capacity_of d) r - get_or loads r 0) ≤ HIGHEST_NIGHT_LIMIT = omega (arith, value, c.stage_share-limit.ensures.few) in
     let made : SFits w64 c.from.result = omega (arith, ints, c.from.ensures, c.stage_share-limit.ensures.few) in
     rw c.in_ok-push.ensures.items
     (AreLimits-push d c.args.stage loads c.loop-resource.limits.items r _ c.loop-resource.invariant (to_z-of_z w64 c.from.result made ∙ c.from.ensures ∙ ap pos value) small)

@@ -1,0 +1,10 @@
+mod Taken
+mod KindLemmas
+mod Leaf
+mod Runs
+mod Texts
+mod Once
+mod Levels
+mod Rows
+mod Refused
+mod JobLemmas

@@ -1,0 +1,65 @@
+-- The commands, and what the words of a command line ask for.
+use Rattle.std.specs.Prelude.{◌≡◌, ◌≤◌, List, [], ◌∷◌, length, Option, Some, None, codes, find}
+use Rattle.std.specs.Prelude.{if◌then◌else◌, option_map, option_and_then}
+use Rattle.std.specs.Str.{bytes_eq}
+use Rattle.command_words.specs.Words.{Word}
+use Rattle.command_words.specs.Uses.{Use, uses_of, once_after}
+use Rattle.command_words.specs.Values.{names_in, values_given, names_exactly, number_or}
+use Rattle.command_words.specs.declared.job.Job.{Job}
+use Rattle.command_words.specs.declared.job.Job.TheVariants.{Allocate, Check}
+
+-- A command: its word, the names of its options, and the job that it makes of the names and of what
+-- each option is given.
+pub record Command : Type 0 where
+  pub word : Word
+  pub options : List Word
+  pub job : List Word → List (Option Word) → Option Job
+
+-- `allocate CAP SCR CERT REPLIES [--nodes n] [--workers k]`
+abbrev pub allocate_job : List Word → List (Option Word) → Option Job
+allocate_job words (nodes ∷ workers ∷ []) =
+    option_and_then (λ names. option_and_then (λ n. option_map (λ k. Allocate names n k)
+    (number_or 1 16 4 workers))
+    (number_or 1 1000000 100000 nodes))
+    (names_exactly 4 words)
+allocate_job words _ = None
+
+-- `check CAP SCR CERT`
+abbrev pub check_job : List Word → List (Option Word) → Option Job
+check_job words [] = option_map Check (names_exactly 3 words)
+check_job words (value ∷ values) = None
+
+abbrev pub allocate_command : Command
+allocate_command = record {
+  word = codes "allocate";
+  options = codes "nodes" ∷ codes "workers" ∷ [];
+  job = allocate_job;
+}
+
+abbrev pub check_command : Command
+check_command = record { word = codes "check"; options = []; job = check_job }
+
+-- the commands that are served
+abbrev pub commands : List Command
+commands = allocate_command ∷ check_command ∷ []
+
+abbrev pub command_named : List Command → Word → Option Command
+command_named cs word = find (λ c. bytes_eq c.word word) cs
+
+-- what uses ask of a command: each option is given at most once
+abbrev pub job_by_uses : Command → Option (List Use) → Option Job
+job_by_uses c None = None
+job_by_uses c (Some uses) =
+    if once_after [] uses then c.job (names_in uses) (values_given c.options uses) else None
+
+-- the job that the words ask for, if they are a command's
+abbrev pub job_of : List Word → Option Job
+job_of [] = None
+job_of (word ∷ words) = option_and_then (λ c. job_by_uses c (uses_of c.options None words))
+    (command_named commands word)
+
+-- a job has as many names as its command takes, and numbers within their limits
+abbrev pub IsJob : Job → Type 0
+IsJob (Allocate names nodes workers) = (length names ≡ 4) × ((1 ≤ nodes) × (nodes ≤ 1000000))
+    × ((1 ≤ workers) × (workers ≤ 16))
+IsJob (Check names) = length names ≡ 3

@@ -1,0 +1,71 @@
+//! The command line as `clap` is told of it.
+
+ghost use Rattle.std.specs.Prelude.{◌≡◌, [], ◌∷◌, map, IfOk, IfErr, false, codes};
+ghost use Rattle.clap.specs.Words.{app_of, shape_of, FailsBy, fault_of, HasMatchesOf, rule_of};
+ghost use Rattle.clap.specs.declared.builder.command.Command.TheViews.{out-Command};
+ghost use Rattle.command_words.specs.Words.{words_of};
+ghost use Rattle.command_words.specs.Jobs.{allocate_command, check_command};
+ghost use Rattle.command_words.specs.App.{option_arg, names_arg, command_shape, bare_app, desk_app};
+
+use clap::{Arg, ArgAction, ArgMatches, Command, Error};
+use std::alloc::{AllocError, Global};
+
+/// An option with one value.
+fn option<'a>(alloc: Global, name: &'a str) -> Arg<'a>
+    ensures rule { rule_of result ≡ option_arg name.entry.now }
+    ensures local { result.global ≡ false }
+{
+    Arg::new(alloc, name).long(name).action(ArgAction::Set)
+}
+
+/// The names, in their order. Each is a use of its own, so that options may stand between them.
+fn names<'a>(alloc: Global) -> Arg<'a>
+    ensures rule { rule_of result ≡ names_arg }
+    ensures local { result.global ≡ false }
+{
+    Arg::new(alloc, "names").action(ArgAction::Append)
+}
+
+fn allocate<'a>(alloc: Global) -> Result<Command<'a>, AllocError>
+    ensures shape { IfOk result (λ c. shape_of c ≡ command_shape allocate_command) }
+    ensures local { IfOk result (λ c. (out-Command c).has_globals ≡ false) }
+{
+    Command::new(alloc, "allocate")
+        .arg(option(alloc, "nodes"))?
+        .arg(option(alloc, "workers"))?
+        .arg(names(alloc))
+}
+
+fn check<'a>(alloc: Global) -> Result<Command<'a>, AllocError>
+    ensures shape { IfOk result (λ c. shape_of c ≡ command_shape check_command) }
+    ensures local { IfOk result (λ c. (out-Command c).has_globals ≡ false) }
+{
+    Command::new(alloc, "check").arg(names(alloc))
+}
+
+fn bare<'a>(alloc: Global) -> Command<'a>
+    ensures { app_of result ≡ bare_app }
+{
+    Command::new(alloc, "desk")
+        .no_binary_name(true)
+        .disable_help_flag(true)
+        .disable_help_subcommand(true)
+        .subcommand_required(true)
+}
+
+fn desk<'a>(alloc: Global) -> Result<Command<'a>, AllocError>
+    ensures { IfOk result (λ c. app_of c ≡ desk_app) }
+{
+    let allocate = allocate(alloc)?;
+    let check = check(alloc)?;
+    bare(alloc).subcommand(allocate)?.subcommand(check)
+}
+
+/// What `clap` finds in the words.
+pub(crate) fn matches_in<'a>(alloc: Global, words: &'a [String]) -> Result<ArgMatches<'a>, Error>
+    ensures kinds { FailsBy (fault_of desk_app (words_of words.entry.now)) result }
+    ensures matches { IfOk result (HasMatchesOf desk_app (words_of words.entry.now)) }
+{
+    let command = desk(alloc)?;
+    command.try_get_matches_from(words)
+}

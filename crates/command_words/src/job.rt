@@ -1,0 +1,130 @@
+ghost use Rattle.std.specs.Prelude.{◌≡◌, Some};
+ghost use Rattle.std.specs.String.{string_bytes};
+ghost use Rattle.command_words.specs.Faults.{word_fault_text};
+
+use std::alloc::{AllocError, AllocFailed};
+use std::error::Error;
+use std::fmt;
+use std::marker::Model;
+
+/// The name of a file, as a word of the command line gives it.
+#[derive(Drop)]
+pub struct Name {
+    text: String,
+}
+
+impl Model for Name {
+    ghost use Rattle.std.specs.Prelude.{List, ℕ};
+    ghost use Rattle.std.specs.String.{string_bytes};
+
+    ghost Value = { List ℕ };
+
+    ghost view = { λ name. string_bytes name.text };
+}
+
+impl Name {
+    /// The name that this text is. It takes no memory.
+    pub fn new(text: String) -> Name
+        ensures { result ≡ string_bytes text }
+    {
+        Name { text }
+    }
+
+    /// The name as text.
+    pub fn text(&self) -> &str
+        ensures { result.now ≡ self.now }
+    {
+        self.text.as_str()
+    }
+}
+
+/// Names in the order in which a command takes them.
+#[derive(Drop)]
+pub struct NameList {
+    items: Vec<Name>,
+}
+
+impl Model for NameList {
+    ghost use Rattle.std.specs.Prelude.{List, ℕ};
+
+    ghost Value = { List (List ℕ) };
+
+    ghost view = { λ list. list.items.items };
+}
+
+impl NameList {
+    /// The list of these names. It takes no memory.
+    pub fn new(items: Vec<Name>) -> NameList
+        ensures { result ≡ items.items }
+    {
+        NameList { items }
+    }
+
+    /// The names in order.
+    pub fn items(&self) -> &[Name]
+        ensures { result.now ≡ self.now }
+    {
+        &self.items
+    }
+}
+
+/// What a command line asks for.
+#[derive(Drop)]
+pub enum Job {
+    /// Allot the requests of a file within the capacity of another. The names are those of the
+    /// capacity file, the requests, the certificate and the replies.
+    Allocate {
+        names: NameList,
+        /// How many nodes the search of a stage may have, from 1 to 1,000,000.
+        nodes: u32,
+        /// How many workers search, from 1 to 16.
+        workers: u32,
+    },
+    /// Check a certificate. The names are those of the capacity file, the requests and the
+    /// certificate.
+    Check {
+        names: NameList,
+    },
+}
+
+/// Why words are no job.
+#[derive(Clone, Copy, Debug, PartialEq, Eq)]
+pub enum WordFault {
+    /// They are no command's words.
+    Words,
+    /// Memory ran out.
+    Memory,
+}
+
+impl fmt::Display for WordFault {
+    ghost output = { λ fault. Some (word_fault_text fault) };
+
+    fn fmt<W: fmt::Write>(&self, f: &mut fmt::Formatter<W>) -> fmt::Result {
+        match self {
+            WordFault::Words => f.write_str("no command has these words"),
+            WordFault::Memory => f.write_str("out of memory"),
+        }
+    }
+}
+
+impl Error for WordFault {}
+
+impl From<AllocError> for WordFault {
+    ghost use Rattle.command_words.specs.declared.job.WordFault.{WordFault};
+
+    ghost from_gives = { λ _ fault. fault ≡ WordFault.Memory };
+
+    fn from(_error: AllocError) -> WordFault {
+        WordFault::Memory
+    }
+}
+
+impl<T: Drop> From<AllocFailed<T>> for WordFault {
+    ghost use Rattle.command_words.specs.declared.job.WordFault.{WordFault};
+
+    ghost from_gives = { λ _ fault. fault ≡ WordFault.Memory };
+
+    fn from(_error: AllocFailed<T>) -> WordFault {
+        WordFault::Memory
+    }
+}

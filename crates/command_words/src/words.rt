@@ -1,0 +1,156 @@
+ghost use Rattle.std.specs.Prelude.{◌≡◌, ◌≢◌, None, Some, Ok, Err, IfOk, IfErr, map};
+ghost use Rattle.std.specs.List.{AllByRecursion};
+ghost use Rattle.std.specs.Str.{IsUtf8};
+ghost use Rattle.clap.specs.Words.{rows_of, found_of, first_of};
+ghost use Rattle.slot_text.specs.Reads.{GivesOr};
+ghost use Rattle.command_words.specs.declared.job.Job.{Job};
+ghost use Rattle.command_words.specs.Words.{Word, words_of};
+ghost use Rattle.command_words.specs.Values.{names_exactly, number_within, number_or};
+ghost use Rattle.command_words.specs.Jobs.{job_of, IsJob, allocate_command, check_command};
+ghost use Rattle.command_words.specs.App.{names_held, job_by_rows, job_named, AsksFor};
+ghost use Rattle.command_words.specs.Answers.{Answers};
+
+use crate::command::matches_in;
+use crate::job::{Job, Name, NameList, WordFault};
+use clap::ArgMatches;
+use clap::error::ErrorKind;
+use slot_text::read_u64;
+use std::alloc::Global;
+
+/// The job that the words of a command line ask for, the program's own name left out. A refusal for
+/// want of memory may come in place of any answer.
+pub fn read_words(alloc: Global, words: &[String]) -> Result<Job, WordFault>
+    ensures found { IfOk result (λ job. job_of (words_of words.now) ≡ Some job) }
+    ensures only { (job : Job) → job_of (words_of words.now) ≡ Some job
+        → GivesOr WordFault.Memory result (Ok job) }
+    ensures none { job_of (words_of words.now) ≡ None
+        → GivesOr WordFault.Memory result (Err WordFault.Words) }
+    ensures named { IfOk result IsJob }
+{
+    find_job(alloc, words)
+}
+
+fn find_job(alloc: Global, words: &[String]) -> Result<Job, WordFault>
+    ensures { Answers (job_of (words_of words.now)) result }
+{
+    let matches = read_matches(alloc, words)?;
+    let Some((name, found)) = matches.subcommand() else {
+        return Err(WordFault::Words);
+    };
+    read_job(alloc, name, found)
+}
+
+/// What `clap` finds in the words, where they are a command's.
+fn read_matches<'a>(alloc: Global, words: &'a [String]) -> Result<ArgMatches<'a>, WordFault>
+    ensures found { IfOk result (AsksFor (words_of words.entry.now)) }
+    ensures none { IfErr result (λ fault. fault ≡ WordFault.Words
+        → job_of (words_of words.entry.now) ≡ None) }
+{
+    check_texts(words);
+    match matches_in(alloc, words) {
+        Ok(matches) => Ok(matches),
+        Err(error) => Err(fault_by(error.kind())),
+    }
+}
+
+fn fault_by(kind: ErrorKind) -> WordFault
+    ensures { result ≡ WordFault.Words → kind ≢ ErrorKind.OutOfMemory }
+{
+    match kind {
+        ErrorKind::OutOfMemory => WordFault::Memory,
+        _ => WordFault::Words,
+    }
+}
+
+/// Each word is text. It does nothing.
+fn check_texts(words: &[String])
+    ensures { AllByRecursion IsUtf8 (words_of words.now) }
+{
+    for word in words {
+        let _text = word.as_str().as_bytes();
+    }
+}
+
+/// The job of the command with this name, by what was found in its words.
+fn read_job(alloc: Global, name: &str, found: &ArgMatches<'_>) -> Result<Job, WordFault>
+    ensures { Answers (job_named name.now (rows_of (found_of found.now))) result }
+{
+    match name {
+        "allocate" => read_allocate(alloc, found),
+        "check" => read_check(alloc, found),
+        _ => Err(WordFault::Words),
+    }
+}
+
+fn read_allocate(alloc: Global, found: &ArgMatches<'_>) -> Result<Job, WordFault>
+    ensures { Answers (job_by_rows allocate_command (rows_of (found_of found.now))) result }
+{
+    let names = read_names(alloc, found, 4)?;
+    let nodes = read_option(found, "nodes", 1, 1_000_000, 100_000)?;
+    let workers = read_option(found, "workers", 1, 16, 4)?;
+    Ok(Job::Allocate {
+        names,
+        nodes,
+        workers,
+    })
+}
+
+fn read_check(alloc: Global, found: &ArgMatches<'_>) -> Result<Job, WordFault>
+    ensures { Answers (job_by_rows check_command (rows_of (found_of found.now))) result }
+{
+    let names = read_names(alloc, found, 3)?;
+    Ok(Job::Check { names })
+}
+
+/// The names, where there are exactly so many.
+fn read_names(alloc: Global, found: &ArgMatches<'_>, count: usize) -> Result<NameList, WordFault>
+    ensures { Answers (names_exactly count (names_held (rows_of (found_of found.now)))) result }
+{
+    match found.get_strs("names") {
+        Some(names) => copy_names(alloc, names, count),
+        None => copy_names(alloc, &[], count),
+    }
+}
+
+fn copy_names(alloc: Global, names: &[&str], count: usize) -> Result<NameList, WordFault>
+    ensures { Answers (names_exactly count (map (λ name. name.now) names.now)) result }
+{
+    if names.len() != count {
+        return Err(WordFault::Words);
+    }
+    let mut items = Vec::new(alloc);
+    for name in names {
+        items.push(Name::new(String::from_str(alloc, name)?))?;
+    }
+    Ok(NameList::new(items))
+}
+
+/// The number that the option is given, from `least` to `most`, or else the usual one.
+fn read_option(
+    found: &ArgMatches<'_>,
+    option: &str,
+    least: u32,
+    most: u32,
+    usual: u32,
+) -> Result<u32, WordFault>
+    ensures { let value = first_of option.now (rows_of (found_of found.now)) in
+        Answers (number_or least most usual value) result }
+{
+    match found.get_str(option) {
+        Some(text) => read_number(text, least, most),
+        None => Ok(usual),
+    }
+}
+
+/// The number from `least` to `most` that the word spells.
+fn read_number(word: &str, least: u32, most: u32) -> Result<u32, WordFault>
+    ensures { Answers (number_within least most word.now) result }
+{
+    let Ok(n) = read_u64(word.as_bytes()) else {
+        return Err(WordFault::Words);
+    };
+    if n < u64::from(least) || n > u64::from(most) {
+        return Err(WordFault::Words);
+    }
+    Ok(n as u32)
+}

@@ -1,0 +1,238 @@
+//! Vectors, their bounds, and floors.
+
+ghost use Rattle.choice_problem.specs.Bounds.{AreRanges};
+
+use crate::problems::{problem, ranges, table, table_of, vector};
+use crate::texts::{halves, piece, seen};
+use choice_problem::{PRICED_SCALE, Problem, Ranges, SCALE_BOUND, Vector, leaf_closes};
+use dual_bound::{floor_of, infeasibility_vector, node_vector, polished_vector, root_vector};
+use price_table::{Totals, bound, closes};
+use std::alloc::Global;
+use std::test::Fail;
+
+// Adds the prices of a vector: `N of PRICE` where the first resources have one price, else each resource and price.
+fn add_prices(alloc: Global, out: &mut String, vector: &Vector) -> Result<(), Fail> {
+    let items = vector.items();
+    if !items.is_empty() && is_even(vector) {
+        out.push_str(&format!(in alloc; "{} of {}", items.len(), items[0].price)?)?;
+        return Ok(());
+    }
+    for entry in items {
+        out.push_str(&format!(in alloc; " {} {}", entry.resource, entry.price)?)?;
+    }
+    Ok(())
+}
+
+// Whether the first resources have the same price.
+fn is_even(vector: &Vector) -> bool {
+    let items = vector.items();
+    for (place, entry) in items.iter().enumerate() {
+        if entry.resource as usize != place || entry.price != items[0].price {
+            return false;
+        }
+    }
+    true
+}
+
+// Adds the bound at a vector, and the floor with the number of the vector that gives it.
+fn add_bound(
+    alloc: Global,
+    out: &mut String,
+    problem: &Problem,
+    ranges: &Ranges,
+    vector: &Vector,
+) -> Result<(), Fail>
+    requires { AreRanges problem.now ranges.now }
+{
+    let tables = [table_of(alloc, problem, vector)?];
+    let floor = floor_of(problem, ranges, &tables);
+    let scaled = bound(problem, ranges, &tables[0], PRICED_SCALE);
+    let totals = Totals::of(alloc, problem, ranges, &tables[0], PRICED_SCALE)?;
+    if totals.bound() != scaled {
+        return Err("totals".into());
+    }
+    out.push_str(&format!(in alloc; " | {scaled} {} by {}", floor.cost, floor.vector)?)?;
+    Ok(())
+}
+
+// The vector that a row asks for: the one of its ranges, or of the problem, or one of so many steps, or its own.
+fn asked(alloc: Global, problem: &Problem, ranges: &Ranges, text: &str) -> Result<Vector, Fail>
+    requires { AreRanges problem.now ranges.now }
+{
+    match text {
+        "node" => Ok(node_vector(alloc, problem, ranges)?),
+        "root" => Ok(root_vector(alloc, problem)?),
+        "polished" => Ok(polished_vector(alloc, problem, ranges, 300)?),
+        "unpolished" => Ok(polished_vector(alloc, problem, ranges, 0)?),
+        _ => vector(alloc, text),
+    }
+}
+
+// The vector of a row and its prices, bound and floor; of one that is polished, the floor alone is told.
+fn judged(alloc: Global, row: &str) -> Result<String, Fail> {
+    let problem = problem(alloc, piece(row, 0))?;
+    let ranges = ranges(alloc, &problem, piece(row, 1))?;
+    let vector = asked(alloc, &problem, &ranges, piece(row, 2))?;
+    let mut out = String::new(alloc);
+    if piece(row, 2) == "polished" {
+        let tables = [table_of(alloc, &problem, &vector)?];
+        let floor = floor_of(&problem, &ranges, &tables);
+        return Ok(format!(in alloc; "{} by {}", floor.cost, floor.vector)?);
+    }
+    add_prices(alloc, &mut out, &vector)?;
+    add_bound(alloc, &mut out, &problem, &ranges, &vector)?;
+    Ok(out)
+}
+
+// A window at half past six; three units that exclude each other, at the root and on both sides of a split; two units by
+// their limits; four units; a problem of nothing.
+const VECTORS: &str = "window 1 | | root = 1 of 32768 | 30720 30 by 1
+window 210 | | root = 210 of 32768 | 6451200 6300 by 1
+three | | node = 3 of 10240 | 30720 30 by 1
+three | 0 0 | node = 2 of 32768 | 40960 40 by 1
+three | 1 1 | node = 2 20480 | 40960 40 by 1
+two; L 1 1 | | node = 2 of 4096 | 3072 3 by 1
+two; L 0 0 | | node = 0 49152 1 32768 | 16384 16 by 1
+two; L 5 5 | | node = | 0 0 by 0
+four | | node = 0 30720 1 29696 2 26624 | 35840 35 by 1
+four | 0 1 0 2 1 3 0 3 | node = 0 30976 1 29952 2 26880 | 35584 35 by 1
+L | | node = | 0 0 by 0";
+
+#[test]
+fn vectors_of_small_problems(rt: HostRuntime) -> Result<(), Fail> {
+    let alloc = rt.alloc();
+    for row in VECTORS.lines() {
+        let (given, want) = halves(row);
+        let answer = judged(alloc, given);
+        assert!(rt; answer.is_ok(), "{row}");
+        assert_eq!(rt; answer?.trim(), want, "{row}");
+    }
+    Ok(())
+}
+
+// Floors at one price for all resources: a bound of 15,000 is rounded up to 15, and one of 3 to 1; at the root vector both
+// sides of a split have the floor 30.
+const FLOORS: &str = "three | 0 0 | 3 of 10240 = 3 of 10240 | 30720 30 by 1
+three | 1 1 | 3 of 10240 = 3 of 10240 | 30720 30 by 1
+three | 0 1 | 3 of 5120 = 3 of 5120 | 15360 15 by 1
+three | 0 1 | 3 of 5000 = 3 of 5000 | 15000 15 by 1
+three | 1 1 | 3 of 1 = 3 of 1 | 20481 21 by 1
+three | 0 1 | 3 of 1 = 3 of 1 | 3 1 by 1
+three | 1 1 | = | 20480 20 by 0
+three | 0 1 | 3 of 20480 = 3 of 20480 | 0 0 by 0
+three | 0 1 | 3 of 30000 = 3 of 30000 | -28560 0 by 0";
+
+#[test]
+fn floors_are_rounded_up(rt: HostRuntime) -> Result<(), Fail> {
+    let alloc = rt.alloc();
+    for row in FLOORS.lines() {
+        let (given, want) = halves(row);
+        let answer = judged(alloc, given);
+        assert!(rt; answer.is_ok(), "{row}");
+        assert_eq!(rt; answer?.trim(), want, "{row}");
+    }
+    Ok(())
+}
+
+// Polished vectors reach the best bound.
+const POLISHED: &str = "window 2 | | polished = 60 by 1
+three | | polished = 30 by 1
+four | | polished = 35 by 1
+window 2 | | unpolished = | 0 0 by 0
+three | | unpolished = | 0 0 by 0
+four | | unpolished = | 0 0 by 0";
+
+#[test]
+fn polished_vectors_reach_the_best_bound(rt: HostRuntime) -> Result<(), Fail> {
+    let alloc = rt.alloc();
+    for row in POLISHED.lines() {
+        let (given, want) = halves(row);
+        let answer = judged(alloc, given);
+        assert!(rt; answer.is_ok(), "{row}");
+        assert_eq!(rt; answer?.trim(), want, "{row}");
+    }
+    Ok(())
+}
+
+// Whether the bound of a table, the totals that are kept and the leaf that prices each alternative anew close for the same
+// costs below 80.
+fn agree(alloc: Global, row: &str, prices: &str) -> Result<bool, Fail> {
+    let problem = problem(alloc, piece(row, 0))?;
+    let ranges = ranges(alloc, &problem, piece(row, 1))?;
+    let scale = seen(piece(row, 2)).unwrap_or(SCALE_BOUND);
+    let vector = vector(alloc, prices)?;
+    if !vector.is_for(&problem) || scale >= SCALE_BOUND {
+        return Err("leaf".into());
+    }
+    let table = table(alloc, &problem, prices)?;
+    let totals = Totals::of(alloc, &problem, &ranges, &table, scale)?;
+    for cost in 0..80 {
+        let plain = leaf_closes(&problem, &ranges, &vector, scale, Some(cost));
+        let fast = closes(&problem, &ranges, &table, scale, Some(cost));
+        if plain != fast || plain != totals.closes(Some(cost)) {
+            return Ok(false);
+        }
+    }
+    Ok(true)
+}
+
+const AGREEING: &str = "three | 0 1 | 0
+three | 0 0 | 1
+three | 1 1 | 1
+three | 0 1 | 1024
+two; L 1 1 | 0 1 | 0
+two; L 1 1 | 0 0 | 1
+two; L 1 1 | 1 1 | 1
+two; L 1 1 | 0 1 | 1024
+two; L 0 3 | 0 1 | 0
+two; L 0 3 | 0 0 | 1
+two; L 0 3 | 1 1 | 1
+two; L 0 3 | 0 1 | 1024
+four | 0 1 | 0
+four | 0 0 | 1
+four | 1 1 | 1
+four | 0 1 | 1024";
+
+const AGREEING_PRICES: &str = "|0 5|0 10240 1 700|0 29 1 3|1 1099511627775";
+
+#[test]
+fn bounds_close_as_leaves_do(rt: HostRuntime) -> Result<(), Fail> {
+    let alloc = rt.alloc();
+    for row in AGREEING.lines() {
+        for prices in AGREEING_PRICES.split('|') {
+            let same = agree(alloc, row, prices);
+            assert!(rt; same.is_ok(), "{row} {prices}");
+            assert!(rt; same?, "{row} {prices}");
+        }
+    }
+    Ok(())
+}
+
+// Problems, and whether 40 steps find that there is no feasible choice: three units of which each two exclude each other,
+// with no way out, or with one for the first.
+const STUCK: &str =
+    "P 0 1 1 1; P 1 1 1 1; P 2 1 1 1; A 0 0 1; U; P 0 1 1 1; P 1 1 1 1; P 2 1 1 1; A 0 1 2; A 5 2 1; U; P 0 1 1 1; P 1 1 1 1; P 2 1 1 1; A 0 0 2; U; L 1 1 1 = yes
+P 0 1 1 1; P 1 1 1 1; P 2 1 1 1; A 0 0 1; A 20 - -; U; P 0 1 1 1; P 1 1 1 1; P 2 1 1 1; A 0 1 2; A 5 2 1; U; P 0 1 1 1; P 1 1 1 1; P 2 1 1 1; A 0 0 2; U; L 1 1 1 = yes
+three = no
+two; L 0 0 = no";
+
+// Whether the bound at scale 0 of the vector of 40 steps is above 0.
+fn is_stuck(alloc: Global, text: &str) -> Result<bool, Fail> {
+    let problem = problem(alloc, text)?;
+    let ranges = ranges(alloc, &problem, "")?;
+    let prices = infeasibility_vector(alloc, &problem, &ranges, 40)?;
+    let table = table_of(alloc, &problem, &prices)?;
+    Ok(bound(&problem, &ranges, &table, 0) > 0)
+}
+
+#[test]
+fn infeasibility_is_found(rt: HostRuntime) -> Result<(), Fail> {
+    let alloc = rt.alloc();
+    for row in STUCK.lines() {
+        let (given, want) = halves(row);
+        let answer = is_stuck(alloc, given);
+        assert!(rt; answer.is_ok(), "{row}");
+        assert_eq!(rt; answer?, want == "yes", "{row}");
+    }
+    Ok(())
+}

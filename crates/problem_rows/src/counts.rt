@@ -1,0 +1,121 @@
+//! Counts over six resources.
+
+ghost use Rattle.std.specs.Prelude.{◌≡◌, ℕ, ◌≤◌, length, IfOk, IsTrue};
+ghost use Rattle.choice_problem.specs.Strips.{part_uses, IsPartInRange};
+
+use crate::problems::{limits, strips};
+use crate::texts::{halves, numbers, piece};
+use choice_problem::{Part, Strip, strip_list};
+use std::alloc::Global;
+use std::test::Fail;
+use window_counts::Counts;
+
+// Whether the strips use no resource more than 400 times.
+fn is_small(strips: &[Strip]) -> bool
+    ensures { IsTrue result → (r : ℕ) → part_uses strips.now r ≤ 400 }
+{
+    strip_list();
+    for strip in strips {
+        if strip.times > 10 {
+            return false;
+        }
+    }
+    strips.len() <= 40
+}
+
+// A part of few uses within six resources.
+fn part(alloc: Global, text: &str) -> Result<Part, Fail>
+    ensures few { IfOk result (λ part. (r : ℕ) → part_uses part r ≤ 400) }
+    ensures there { IfOk result (IsPartInRange 6) }
+{
+    let strips = strips(alloc, &numbers(alloc, text)?)?;
+    let small = is_small(&strips);
+    let part = Part::new(strips);
+    if small && part.is_within(6) {
+        Ok(part)
+    } else {
+        Err("part".into())
+    }
+}
+
+// Adds the six counts to a text.
+fn add_counts(alloc: Global, out: &mut String, counts: &Counts) -> Result<(), Fail>
+    requires { length counts.now ≡ 6 }
+{
+    for resource in 0..6 {
+        out.push_str(&format!(in alloc; " {}", counts.count(resource))?)?;
+    }
+    out.push_str(",")?;
+    Ok(())
+}
+
+// The counts of nothing, then with each of two parts added, of which a copy is kept, then with the first one taken away.
+fn steps(alloc: Global, row: &str) -> Result<String, Fail> {
+    let first = part(alloc, piece(row, 0))?;
+    let second = part(alloc, piece(row, 1))?;
+    let mut out = String::new(alloc);
+    let mut counts = Counts::of(alloc, &[], 6)?;
+    add_counts(alloc, &mut out, &counts)?;
+    counts.add(&first);
+    add_counts(alloc, &mut out, &counts)?;
+    counts.add(&second);
+    let both = counts.copy(alloc)?;
+    counts.take(&first);
+    add_counts(alloc, &mut out, &both)?;
+    add_counts(alloc, &mut out, &counts)?;
+    Ok(out)
+}
+
+// Runs that overlap, and one resource four times beside another once. Runs apart, strips of no width, and two strips on the
+// same resources.
+const STEPS: &str =
+    "0 2 1 3 0 0 0 0 | 2 1 0 4 5 1 0 1 = 0 0 0 0 0 0, 1 2 2 1 0 0, 1 2 6 1 0 1, 0 0 4 0 0 1,
+0 1 3 2 4 0 1 2 | 0 6 0 1 3 3 3 1 = 0 0 0 0 0 0, 1 0 0 1 0 0, 2 1 1 3 2 2, 1 1 1 2 2 2,";
+
+#[test]
+fn counts_follow_what_is_added_and_taken(rt: HostRuntime) -> Result<(), Fail> {
+    let alloc = rt.alloc();
+    for row in STEPS.lines() {
+        let (given, want) = halves(row);
+        let answer = steps(alloc, given);
+        assert!(rt; answer.is_ok(), "{row}");
+        assert_eq!(rt; answer?.trim(), want, "{row}");
+    }
+    Ok(())
+}
+
+// Whether the second of two parts fits beside the first one, and the lowest resource that the first one alone takes above
+// its limit.
+fn judged(alloc: Global, row: &str) -> Result<String, Fail> {
+    let parts = vec![in alloc; part(alloc, "0 2 1 3")?]?;
+    let second = part(alloc, "2 1 0 4 5 1 0 1")?;
+    let limits = limits(alloc, &numbers(alloc, row)?)?;
+    if limits.len() != 6 {
+        return Err("limits".into());
+    }
+    let counts = Counts::of(alloc, &parts, 6)?;
+    let (fits, over) = (counts.fits(&second, &limits), counts.first_over(&limits));
+    Ok(format!(in alloc; "{fits} {over:?}")?)
+}
+
+// Counts 1, 2, 2, 1, 0, 0; further uses 0, 0, 4, 0, 0, 1. What the part does not use is not asked.
+const LIMITS: &str = "1 2 6 1 0 1 = true None
+1 2 5 1 0 1 = false None
+1 2 6 1 0 0 = false None
+9 9 9 9 9 -1 = false Some(5)
+0 0 6 0 -1 1 = true Some(0)
+1 1 1 1 0 1 = false Some(1)
+1 2 2 0 0 1 = false Some(3)
+1 2 2 1 -1 1 = false Some(4)";
+
+#[test]
+fn parts_fit_up_to_the_limit(rt: HostRuntime) -> Result<(), Fail> {
+    let alloc = rt.alloc();
+    for row in LIMITS.lines() {
+        let (given, want) = halves(row);
+        let answer = judged(alloc, given);
+        assert!(rt; answer.is_ok(), "{row}");
+        assert_eq!(rt; answer?.as_str(), want, "{row}");
+    }
+    Ok(())
+}

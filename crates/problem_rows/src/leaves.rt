@@ -1,0 +1,187 @@
+//! Ranges, vectors and closed leaves.
+
+ghost use Rattle.choice_problem.specs.Bounds.{AreRanges};
+
+use crate::choices::choice;
+use crate::problems::{problem, ranges, vector};
+use crate::texts::{halves, piece, seen};
+use choice_problem::{
+    Problem, Ranges, SCALE_BOUND, Vector, VectorList, fits, leaf_closes, over_closes,
+};
+use std::alloc::Global;
+use std::test::Fail;
+
+// Prices of resources, and whether they are a vector of three resources.
+const VECTORS: &str = "= true
+0 1 1 1 2 1099511627775 = true
+0 1 1 0 = false
+0 -1 1 1 = false
+0 1 2 1099511627776 = false
+0 1 0 1 = false
+1 1 0 1 = false
+2 1 3 1 = false";
+
+// Whether the text is a vector of the problem.
+fn is_vector(alloc: Global, problem: &Problem, text: &str) -> Result<bool, Fail> {
+    let list = VectorList::new(vec![in alloc; vector(alloc, text)?]?);
+    Ok(list.items().iter().all(|vector| vector.is_for(problem)))
+}
+
+#[test]
+fn vectors_of_three_resources(rt: HostRuntime) -> Result<(), Fail> {
+    let alloc = rt.alloc();
+    let three = problem(alloc, "three")?;
+    for row in VECTORS.lines() {
+        let (given, want) = halves(row);
+        let answer = is_vector(alloc, &three, given)?;
+        assert_eq!(rt; answer, want == "true", "{row}");
+    }
+    Ok(())
+}
+
+// Whether a leaf closes, of a vector for the problem and a scale in its limit.
+fn closes(
+    problem: &Problem,
+    ranges: &Ranges,
+    vector: &Vector,
+    scale: u64,
+    seen: Option<u64>,
+) -> Option<bool>
+    requires { AreRanges problem.now ranges.now }
+{
+    if vector.is_for(problem) && scale < SCALE_BOUND {
+        Some(leaf_closes(problem, ranges, vector, scale, seen))
+    } else {
+        None
+    }
+}
+
+fn over(problem: &Problem, ranges: &Ranges, resource: u32) -> Option<bool>
+    requires { AreRanges problem.now ranges.now }
+{
+    if resource < problem.resources() {
+        Some(over_closes(problem, ranges, resource))
+    } else {
+        None
+    }
+}
+
+// Whether a leaf of a row closes: the problem, the ranges, the prices, the scale, and what was seen. With the scale `over`,
+// whether resource 0 is over.
+fn closed(alloc: Global, row: &str) -> Result<Option<bool>, Fail> {
+    let problem = problem(alloc, piece(row, 0))?;
+    let ranges = ranges(alloc, &problem, piece(row, 1))?;
+    if piece(row, 3) == "over" {
+        return Ok(over(&problem, &ranges, 0));
+    }
+    let vector = vector(alloc, piece(row, 2))?;
+    let scale = seen(piece(row, 3)).unwrap_or(0);
+    Ok(closes(&problem, &ranges, &vector, scale, seen(piece(row, 4))))
+}
+
+// No prices: the bound is the least costs, 0. Ten for each use: 20 a unit, less 30 for the limits. Scale 0: two uses of a
+// resource with limit 1, or one, or none. A problem of nothing closes for 0 alone.
+const LEAVES: &str = "three | | | 1 | 0 = true
+three | | | 1 | 1 = false
+three | | | 0 | - = false
+three | | 3 of 10 | 1 | 30 = true
+three | | 3 of 10 | 1 | 31 = false
+three | | 3 of 10240 | 1024 | 30 = true
+three | | 3 of 10240 | 1024 | 31 = false
+three | | 3 of 10 | 1 | - = false
+three | 0 0 0 0 0 0 | 0 1 | 0 | - = true
+three | 0 0 0 0 0 0 | 0 1 | 0 | 18446744073709551615 = true
+three | 0 0 1 1 1 1 | 0 1 | 0 | - = false
+three | | 0 1 | 0 | - = false
+three | | 0 1 | 0 | 0 = false
+three | | | over = false
+three | 0 0 0 0 0 0 | | over = true
+three | 0 0 1 1 1 1 | | over = false
+L | | | 1 | 0 = true
+L | | | 1 | 1 = false";
+
+#[test]
+fn leaves_of_small_problems(rt: HostRuntime) -> Result<(), Fail> {
+    let alloc = rt.alloc();
+    for row in LEAVES.lines() {
+        let (given, want) = halves(row);
+        let answer = closed(alloc, given);
+        assert!(rt; answer.is_ok(), "{row}");
+        assert_eq!(rt; answer?, Some(want == "true"), "{row}");
+    }
+    Ok(())
+}
+
+// Of a unit that uses a strip, with resource 1 at a limit: whether its use fits, whether resource 1 is over, and the first
+// cost for which a price of 3 on it does not close.
+fn edge(alloc: Global, row: &str) -> Result<String, Fail> {
+    let (strip, limit) = (piece(row, 0), piece(row, 1));
+    let clauses = format!(in alloc; "P {strip}; A 0 0 -; A 7 - -; U; L 9 {limit} 9")?;
+    let problem = problem(alloc, &clauses)?;
+    let choice = choice(alloc, "0")?;
+    if !choice.is_for(&problem) {
+        return Err("choice".into());
+    }
+    let fits = fits(alloc, &problem, &choice)?;
+    let ranges = ranges(alloc, &problem, "0 0")?;
+    let vector = vector(alloc, "1 3")?;
+    let mut first = 0;
+    for seen in 0..9 {
+        if closes(&problem, &ranges, &vector, 1, Some(seen)) == Some(true) {
+            first = seen + 1;
+        }
+    }
+    Ok(format!(in alloc; "{fits} {:?} {first}", over(&problem, &ranges, 1))?)
+}
+
+// A limit of 0; a window that holds one movement twice; four runs in one place.
+const EDGES: &str = "1 1 0 1 | 0 = false Some(true) 4
+0 1 0 1 | 0 = true Some(false) 1
+0 2 1 2 | 2 = true Some(false) 1
+0 2 1 2 | 1 = false Some(true) 4
+1 1 0 4 | 4 = true Some(false) 1
+1 1 0 4 | 3 = false Some(true) 4
+1 1 0 4 | 9 = true Some(false) 0";
+
+#[test]
+fn leaves_of_one_unit(rt: HostRuntime) -> Result<(), Fail> {
+    let alloc = rt.alloc();
+    for row in EDGES.lines() {
+        let (given, want) = halves(row);
+        let answer = edge(alloc, given);
+        assert!(rt; answer.is_ok(), "{row}");
+        assert_eq!(rt; answer?.as_str(), want, "{row}");
+    }
+    Ok(())
+}
+
+// The range of the first unit in the whole ranges and in the two parts, and again in a copy that is set.
+fn cut(alloc: Global, problem: &Problem) -> Result<String, Fail> {
+    let whole = Ranges::whole(alloc, problem)?;
+    if problem.units() == 0 || whole.high(0) < 1 || whole.low(0) > 0 {
+        return Err("ranges".into());
+    }
+    let (low, high) = whole.split(alloc, 0, 1)?;
+    let mut set = high.copy(alloc)?;
+    set.set(0, 0, 0);
+    let text = format!(in alloc;
+        "{}-{} {}-{} {}-{} {}-{}",
+        whole.low(0),
+        whole.high(0),
+        low.low(0),
+        low.high(0),
+        high.low(0),
+        high.high(0),
+        set.low(0),
+        set.high(0)
+    )?;
+    Ok(text)
+}
+
+#[test]
+fn ranges_are_cut(rt: HostRuntime) -> Result<(), Fail> {
+    let alloc = rt.alloc();
+    let three = problem(alloc, "three")?;
+    assert_eq!(rt; cut(alloc, &three)?.as_str(), "0-1 0-0 1-1 0-0");
+    Ok(())
+}

@@ -1,0 +1,19 @@
+//! Tests of the crates on problems of units and alternatives: small problems worked by hand, as tables of rows.
+#![tactic(auto)]
+
+#[cfg(test)]
+mod bounds;
+#[cfg(test)]
+mod choices;
+#[cfg(test)]
+mod counts;
+#[cfg(test)]
+mod improved;
+#[cfg(test)]
+mod leaves;
+#[cfg(test)]
+mod problems;
+#[cfg(test)]
+mod texts;
+#[cfg(test)]
+mod visits;

@@ -1,0 +1,72 @@
+//! The texts of rows: pieces between strokes, numbers between blanks.
+
+use std::alloc::Global;
+use std::test::Fail;
+
+/// What a row gives, before its last `=`, and what it wants.
+pub(crate) fn halves(row: &str) -> (&str, &str) {
+    match row.split_once('=') {
+        Some((given, want)) => (given.trim(), want.trim()),
+        None => (row, ""),
+    }
+}
+
+/// A piece of a row between strokes, from 0; past the last one an empty text.
+pub(crate) fn piece(row: &str, number: usize) -> &str {
+    for (place, text) in row.split('|').enumerate() {
+        if place == number {
+            return text.trim();
+        }
+    }
+    ""
+}
+
+/// What stands for a number that is left out.
+pub(crate) const NONE: i128 = -1 << 100;
+
+/// The numbers of a text. A word that is no number is `NONE`.
+pub(crate) fn numbers(alloc: Global, text: &str) -> Result<Vec<i128>, Fail> {
+    let mut numbers = Vec::new(alloc);
+    for word in text.split_whitespace() {
+        numbers.push(word.parse::<i128>().unwrap_or(NONE))?;
+    }
+    Ok(numbers)
+}
+
+/// The number at a place, or 0.
+pub(crate) fn at(numbers: &[i128], place: usize) -> i128 {
+    if place < numbers.len() {
+        numbers[place]
+    } else {
+        0
+    }
+}
+
+/// The number at a place, cut to 32 bits.
+pub(crate) fn small_at(numbers: &[i128], place: usize) -> u32 {
+    let number = at(numbers, place);
+    if number < 0 {
+        0
+    } else if number > 4_294_967_295 {
+        4_294_967_295
+    } else {
+        number as u32
+    }
+}
+
+/// The number at a place, cut to 62 bits and a sign.
+pub(crate) fn long_at(numbers: &[i128], place: usize) -> i64 {
+    let number = at(numbers, place);
+    if number < -1 {
+        -1
+    } else if number > 4_611_686_018_427_387_904 {
+        4_611_686_018_427_387_904
+    } else {
+        number as i64
+    }
+}
+
+/// The number of a text, if it is one.
+pub(crate) fn seen(text: &str) -> Option<u64> {
+    text.parse::<u64>().ok()
+}

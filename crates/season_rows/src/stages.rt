@@ -1,0 +1,159 @@
+//! The stages of worked seasons, against choices, costs, units and limits worked by hand. The season
+//! S25 has 210 dates, and the capacity line has one window a date, the resources 0 to 209; a night
+//! quota is resource 210.
+
+use crate::seasons::{numbers, submission, text_of};
+use choice_problem::{Choice, Problem, cost_of, fits};
+use series_model::Submission;
+use std::alloc::Global;
+use std::test::Fail;
+use wasg_stages::{Earlier, stage_problem, units_of_stage};
+
+// Rows: the lines of a capacity file below the ground time and those of a message below its header,
+// with semicolons between; and below these questions, each with its answer. A question has a stage,
+// the choices of the stages before it with commas between, and then a choice of the stage, which
+// fits its limits or is over them, and its cost; or a resource, for the positions of the stage's
+// units and its limit there; or a unit, for the numbers of its alternatives and of its parts.
+//
+// Neither of two in one window fits beside the other, and each unit has one alternative. A historic
+// series keeps its times, at 20 minutes on each of 210 dates. Half of three, rounded up, is two: two
+// of four entrants are refused, at 10 each, and stand again for the one that is left; where stage 3
+// has no allotment all do. A night quota of two does not hold three. Where the one movement of a
+// quota is used, the request at 0445 has 0500, which is number 15 of those from 0345 to 0545. Pairs
+// of 25 arrivals and 25 departures share 50 parts; 13 pairs of one arrival and 13 departures share
+// 14.
+const ROWS: &str = "\
+FLEX 60;REFUSE NONE;CAP ARR 60 0600 0600 1234567 1|FBA001 30MAR25OCT 1234567 180320 JFK0610 \
+    J;FBA002 30MAR25OCT 1234567 180320 JFK0620 J
+choice 1|start|0 0|over 0
+choice 1|start|0|none
+choice 1|start|0 1|none
+choice 4|start||fits 0
+FLEX 60;REFUSE NONE;CAP ARR 20 0620 0620 1234567 1|FBA001 30MAR25OCT 1234567 180320 JFK0625 \
+    J;CBA002 30MAR25OCT 1234567 180320 JFK0610 J;LBA002 30MAR25OCT 1234567 180320 JFK0630 J
+choice 2|0|0|over 0
+choice 2|0|1|fits 4200
+choice 2|0|2|none
+choice 2|none|0|fits 0
+limit 2|0|0|1: 0
+limit 2|none|0|1: 1
+FLEX 0;REFUSE 10;CAP ARR 60 0600 0600 1234567 3|BBA001 30MAR 7 180320 JFK0610 J;BBA002 30MAR 7 \
+    180320 JFK0610 J;BBA003 30MAR 7 180320 JFK0610 J;BBA004 30MAR 7 180320 JFK0610 J
+choice 3|,|0 0 1 1|fits 20
+choice 3|,|0 0 0 1|over 10
+choice 4|,,0 1 0 1|0 1|fits 10
+choice 4|,,0 1 0 1|0 0|over 0
+choice 4|,,none|0 0 0 1|fits 10
+limit 3|,|0|0 1 2 3: 2
+limit 4|,,0 1 0 1|0|1 3: 1
+limit 4|,,0 1 0 1|1|1 3: 3
+limit 4|,,none|0|0 1 2 3: 3
+FLEX 60;REFUSE NONE;CAP ARR 60 0600 0600 1234567 1;NIGHT 2300 0500 2|FBA001 30MAR 7 180320 \
+    JFK2330 J;FBA002 30MAR 7 180320 JFK2330 J;FBA003 30MAR 7 180320 JFK2330 J
+choice 1|start|0 0 0|over 0
+limit 1|start|210|0 1 2: 2
+limit 3|start|210|: 1
+limit 4|start|210|: 2
+FLEX 60;REFUSE NONE;CAP ARR 60 0600 0600 1234567 1;NIGHT 2300 0500 1|FBA001 30MAR 7 180320 \
+    JFK2330 J;NBA002 05APR 6 180320 JFK0445 J
+choice 4|0,,|15|fits 15
+choice 4|0,,|14|over 10
+choice 4|0,,|12|over 0
+choice 4|0,,|25|none
+choice 4|none|12|fits 0
+limit 4|0,,|210|1: 0
+limit 4|0,,|211|1: none
+FLEX 60;REFUSE NONE|NBA002 BA003 30MAR25OCT 1234567 180320 JFK0630 0715JFK JJ
+parts 4|start|0|349 50
+FLEX 60;REFUSE NONE|CBA001 BA002 30MAR 7 180320 JFK2200 06301JFK JJ;RBA001 BA002 30MAR 7 180320 \
+    JFK2200 2300JFK JJ
+parts 2|start|0|13 14";
+
+#[test]
+fn stages_are_as_worked(rt: HostRuntime) -> Result<(), Fail> {
+    let alloc = rt.alloc();
+    let mut season = ("", "");
+    for row in ROWS.split('\n') {
+        if row.starts_with("FLEX") {
+            season = row.split_once('|').ok_or("messages")?;
+        } else {
+            let (question, want) = row.rsplit_once('|').ok_or("an answer")?;
+            let submission = submission(alloc, "S25", season.0, season.1)?;
+            let found = answer(alloc, &submission, question)?;
+            assert_eq!(rt; found.as_str(), want, "{question}");
+        }
+    }
+    Ok(())
+}
+
+fn answer(alloc: Global, submission: &Submission, question: &str) -> Result<String, Fail> {
+    let (word, rest) = question.split_once(' ').ok_or("a stage")?;
+    let (stage, rest) = rest.split_once('|').ok_or("choices")?;
+    let (before, asked) = rest.split_once('|').ok_or("a choice")?;
+    let stage = stage.parse::<u32>()?;
+    let choices = choices(alloc, before)?;
+    if choices.len() > 3 {
+        return Err("choices".into());
+    }
+    let earlier = Earlier::new(choices);
+    let problem = stage_problem(alloc, submission, stage, &earlier)?;
+    let numbers = numbers(alloc, asked)?;
+    match word {
+        "choice" => judged(alloc, &problem, &Choice::new(numbers)),
+        "limit" => {
+            let units = units_of_stage(alloc, submission, stage, &earlier)?;
+            limit(alloc, &problem, &units, &numbers)
+        }
+        "parts" => parts(alloc, &problem, &numbers),
+        _ => Err("a question".into()),
+    }
+}
+
+// The choices of the stages before one.
+fn choices(alloc: Global, text: &str) -> Result<Vec<Option<Choice>>, Fail> {
+    let mut choices = Vec::new(alloc);
+    if text == "start" {
+        return Ok(choices);
+    }
+    for word in text.split(',') {
+        match word {
+            "none" => choices.push(None)?,
+            _ => choices.push(Some(Choice::new(numbers(alloc, word)?)))?,
+        }
+    }
+    Ok(choices)
+}
+
+// Whether a choice of a problem fits, and what it costs; none where it is no choice of it.
+fn judged(alloc: Global, problem: &Problem, choice: &Choice) -> Result<String, Fail> {
+    if !choice.is_for(problem) {
+        return Ok(String::from_str(alloc, "none")?);
+    }
+    let cost = cost_of(problem, choice);
+    if fits(alloc, problem, choice)? {
+        return Ok(format!(in alloc; "fits {cost}")?);
+    }
+    Ok(format!(in alloc; "over {cost}")?)
+}
+
+// Positions of units, and the limit of a resource, if there is such a one.
+fn limit(alloc: Global, problem: &Problem, units: &[u32], asked: &[u32]) -> Result<String, Fail> {
+    let resource = asked.first().copied().ok_or("a resource")?;
+    let units = text_of(alloc, units)?;
+    let units = units.trim();
+    if resource < problem.resources() {
+        let limit = problem.limit(resource);
+        return Ok(format!(in alloc; "{units}: {limit}")?);
+    }
+    Ok(format!(in alloc; "{units}: none")?)
+}
+
+// How many alternatives and parts a unit has.
+fn parts(alloc: Global, problem: &Problem, asked: &[u32]) -> Result<String, Fail> {
+    let unit = asked.first().copied().ok_or("a unit")?;
+    if unit >= problem.units() {
+        return Err("a unit".into());
+    }
+    let (alts, parts) = (problem.alts(unit), problem.parts(unit));
+    Ok(format!(in alloc; "{alts} {parts}")?)
+}

@@ -1,0 +1,258 @@
+//! Units, alternatives, movements and costs of worked submissions, and what makes none, against
+//! answers written by hand. S25 begins on Sunday 30 March 2025 and has 210 dates, and S01 has 217.
+
+ghost use Rattle.std.specs.Prelude.{IfSome};
+ghost use Rattle.series_model.specs.Units.{UnitFits};
+
+use crate::seasons::{made, submission};
+use capacity_windows::Movement;
+use season_days::Kind;
+use series_model::{
+    Group, ModelFault, Submission, Times, Unit, displacement, movements_of, options_of,
+};
+use std::alloc::Global;
+use std::test::Fail;
+
+// Rows: what is asked, the season, lines of its capacity file below the ground time, the lines of
+// its message below the header, or all lines, and the answer; strokes stand between these, and
+// semicolons between lines. `options` are the alternatives of the first unit with their costs, and
+// `totals` their number, the first and the last of them, and the sums of their minutes and costs.
+// `movements` are those of its last alternative. `units` are lines and groups, or why there are
+// none, and `parts` the flexibility, the price, and how many resources, messages and units there
+// are.
+const ROWS: &str = "\
+options|S25|FLEX 60;REFUSE NONE|NBA002 30MAR25OCT 1234567 180320 JFK0630 J|330-0:12600 \
+    335-0:11550 340-0:10500 345-0:9450 350-0:8400 355-0:7350 360-0:6300 365-0:5250 370-0:4200 \
+    375-0:3150 380-0:2100 385-0:1050 390-0:0 395-0:1050 400-0:2100 405-0:3150 410-0:4200 \
+    415-0:5250 420-0:6300 425-0:7350 430-0:8400 435-0:9450 440-0:10500 445-0:11550 450-0:12600
+options|S25|FLEX 25;REFUSE 20|NBA002 30MAR25OCT 1234567 180320 JFK0630 J|365-0:5250 370-0:4200 \
+    375-0:3150 380-0:2100 385-0:1050 390-0:0 395-0:1050 400-0:2100 405-0:3150 410-0:4200 \
+    415-0:5250 refused:4200
+options|S25|FLEX 60;REFUSE NONE|BBA002 05APR 6 180320 JFK2350 J|1370-0:60 1375-0:55 1380-0:50 \
+    1385-0:45 1390-0:40 1395-0:35 1400-0:30 1405-0:25 1410-0:20 1415-0:15 1420-0:10 1425-0:5 \
+    1430-0:0 1435-0:5
+options|S25|FLEX 0;REFUSE 10|NBA002 BA003 30MAR 7 180320 JFK0600 0700JFK JJ|360-420:0 refused:20
+totals|S25|FLEX 60;REFUSE NONE|NBA002 BA003 30MAR25OCT 1234567 180320 JFK0630 0715JFK JJ|349 \
+    330-375:25200 450-495:25200 129670 158255 4561200
+options|S25|FLEX 60;REFUSE NONE|CBA001 BA002 30MAR 7 180320 JFK2200 06301JFK JJ;RBA001 BA002 \
+    30MAR 7 180320 JFK2200 2300JFK JJ|1320-1380:0 1320-1385:5 1320-1390:10 1320-1395:15 \
+    1320-1400:20 1320-1405:25 1320-1410:30 1320-1415:35 1320-1420:40 1320-1425:45 1320-1430:50 \
+    1320-1435:55 1320-1830:450
+options|S25|FLEX 60;REFUSE NONE|CBA002 30MAR 7 180320 JFK0610 J;LBA002 30MAR 7 180320 JFK0610 \
+    J|370-0:0
+options|S01|FLEX 30;REFUSE 20|NBA002 25MAR27OCT 1234567 180320 JFK0630 J|360-0:6510 365-0:5425 \
+    370-0:4340 375-0:3255 380-0:2170 385-0:1085 390-0:0 395-0:1085 400-0:2170 405-0:3255 \
+    410-0:4340 415-0:5425 420-0:6510 refused:4340
+options|S25|FLEX 5;REFUSE NONE|NBA002 01APR20APR 135 180320 JFK0630 J|385-0:40 390-0:0 395-0:40
+options|S25|FLEX 60;REFUSE NONE|NBA002 05APR 6 180320 JFK0445 J|225-0:60 230-0:55 235-0:50 \
+    240-0:45 245-0:40 250-0:35 255-0:30 260-0:25 265-0:20 270-0:15 275-0:10 280-0:5 285-0:0 \
+    290-0:5 295-0:10 300-0:15 305-0:20 310-0:25 315-0:30 320-0:35 325-0:40 330-0:45 335-0:50 \
+    340-0:55 345-0:60
+options|S25|FLEX 60;REFUSE 20|FBA001 30MAR25OCT 1234567 180320 JFK0610 J|370-0:0
+options|S25|FLEX 60;REFUSE 20|CBA002 30MAR25OCT 1234567 180320 JFK0610 J;LBA002 30MAR25OCT \
+    1234567 180320 JFK0630 J|390-0:0 370-0:4200
+options|S25|FLEX 60;REFUSE 20|CBA002 30MAR 7 180320 JFK0610 J;RBA002 30MAR 7 180320 JFK0630 \
+    J|370-0:20 375-0:15 380-0:10 385-0:5 390-0:0
+options|S25|FLEX 10;REFUSE NONE|CBA002 30MAR 7 180320 JFK0610 J;RBA002 30MAR 7 180320 JFK0630 \
+    J|380-0:10 385-0:5 390-0:0 370-0:20
+movements|S25|FLEX 0;REFUSE NONE|CBA001 BA002 30MAR 7 180320 JFK2200 06301JFK JJ;RBA001 BA002 \
+    30MAR 7 180320 JFK2200 2300JFK JJ|A0:1320 D1:390
+movements|S25|FLEX 0;REFUSE NONE|FBA001 BA002 30MAR06APR 7 180320 JFK2200 06301JFK JJ|A0:1320 \
+    D1:390 A7:1320 D8:390
+movements|S25|FLEX 0;REFUSE NONE|FBA001 BA002 24OCT25OCT 56 180320 JFK2200 06301JFK \
+    JJ|A208:1320 D209:390 A209:1320
+movements|S25|FLEX 0;REFUSE NONE|F BA002 31MAR 1 180320 0010JFK J|D1:10
+units|S25|FLEX 0;REFUSE NONE|CBA002 30MAR 7 180320 JFK0610 J;RBA002 30MAR 7 180320 JFK0630 \
+    J;NBA003 30MAR 7 180320 JFK0610 J|5R 7N
+parts|S25|FLEX 60;REFUSE 20|FBA001 30MAR 7 180320 JFK0610 J|60 20 0 1 1
+units|S25|FLEX 0;REFUSE NONE|SCR;/ABC;S25;20NOV;XYZ;QBA001|OtherAirport 5
+units|S25|FLEX 0;REFUSE NONE|SCR;S25;20NOV;ABC;QBA001|NotInitial 5
+units|S25|FLEX 0;REFUSE NONE|SCR;S25;20NOV;ABC;FBA001 30MAR 7 180320 JFK0610 J;DBA001 30MAR 7 \
+    180320 JFK0610 J|NotInitial 6
+units|S25|FLEX 0;REFUSE NONE|SCR;S25;20NOV;ABC;;SCR;S26;20NOV;XYZ;QBA001|OtherSeason 7
+units|S25|FLEX 0;REFUSE NONE|SCR;S25;20NOV;ABC;QBA001;;SCR;S26;20NOV;XYZ;QBA001|NotInitial 5
+units|S25|FLEX 0;REFUSE NONE|SCR;S25;20NOV;ABC;ZBA001 30MAR 7 180320 JFK0610 J|NotInitial 5
+units|S25|FLEX 0;REFUSE NONE|SCR;S25;20NOV;ABC;ABA001 30MAR 7 180320 JFK0610 J|NotInitial 5";
+
+#[test]
+fn units_are_as_worked(rt: HostRuntime) -> Result<(), Fail> {
+    let alloc = rt.alloc();
+    for row in ROWS.split('\n') {
+        let (question, want) = row.rsplit_once('|').ok_or("an answer")?;
+        let found = answer(alloc, question)?;
+        assert_eq!(rt; found.as_str(), want, "{question}");
+    }
+    Ok(())
+}
+
+fn answer(alloc: Global, question: &str) -> Result<String, Fail> {
+    let (word, rest) = question.split_once('|').ok_or("a season")?;
+    let (season, rest) = rest.split_once('|').ok_or("a capacity file")?;
+    let (capacity, messages) = rest.split_once('|').ok_or("messages")?;
+    if word == "units" {
+        return match made(alloc, season, capacity, messages)? {
+            Ok(submission) => units(alloc, &submission),
+            Err(fault) => refusal(alloc, fault),
+        };
+    }
+    let submission = submission(alloc, season, capacity, messages)?;
+    if word == "parts" {
+        return parts(alloc, &submission);
+    }
+    let unit = first_unit(&submission).ok_or("a unit")?;
+    match word {
+        "options" => priced(alloc, &submission, unit),
+        "totals" => totals(alloc, &submission, unit),
+        "movements" => moved(alloc, &submission, unit),
+        _ => Err("a question".into()),
+    }
+}
+
+fn first_unit(submission: &Submission) -> Option<&Unit>
+    ensures { IfSome result (λ unit. UnitFits submission.now.declaration.season unit.now) }
+{
+    match submission.units() {
+        [unit, ..] => Some(unit),
+        [] => None,
+    }
+}
+
+// Adds a word, with a blank before it where there are others.
+fn add(text: &mut String, word: &str) -> Result<(), Fail> {
+    if !text.is_empty() {
+        text.push(' ')?;
+    }
+    text.push_str(word)?;
+    Ok(())
+}
+
+fn units(alloc: Global, submission: &Submission) -> Result<String, Fail> {
+    let mut text = String::new(alloc);
+    for unit in submission.units() {
+        let line = unit.line;
+        let group = match unit.group {
+            Group::F => 'F',
+            Group::R => 'R',
+            Group::L => 'L',
+            Group::B => 'B',
+            Group::N => 'N',
+        };
+        let word = format!(in alloc; "{line}{group}")?;
+        add(&mut text, &word)?;
+    }
+    Ok(text)
+}
+
+fn refusal(alloc: Global, fault: ModelFault) -> Result<String, Fail> {
+    match fault {
+        ModelFault::OtherSeason { line } => Ok(format!(in alloc; "OtherSeason {line}")?),
+        ModelFault::OtherAirport { line } => Ok(format!(in alloc; "OtherAirport {line}")?),
+        ModelFault::NotInitial { line } => Ok(format!(in alloc; "NotInitial {line}")?),
+        ModelFault::TooMany { units } => Ok(format!(in alloc; "TooMany {units}")?),
+        ModelFault::Memory => Err("memory".into()),
+    }
+}
+
+fn parts(alloc: Global, submission: &Submission) -> Result<String, Fail> {
+    let declaration = submission.declaration();
+    let (flex, price) = (declaration.flex, declaration.refuse.unwrap_or(0));
+    let resources = submission.windows().resources();
+    let (messages, units) = (
+        submission.messages().items().len(),
+        submission.units().len(),
+    );
+    Ok(format!(in alloc; "{flex} {price} {resources} {messages} {units}")?)
+}
+
+// An alternative and its cost.
+fn option(alloc: Global, times: Times, cost: u64) -> Result<String, Fail> {
+    match times {
+        Times::At { arrival, departure } => {
+            Ok(format!(in alloc; "{arrival}-{departure}:{cost}")?)
+        }
+        Times::Refused => Ok(format!(in alloc; "refused:{cost}")?),
+    }
+}
+
+fn priced(alloc: Global, submission: &Submission, unit: &Unit) -> Result<String, Fail>
+    requires { UnitFits submission.now.declaration.season unit.now }
+{
+    let declaration = submission.declaration();
+    let mut text = String::new(alloc);
+    for times in &options_of(alloc, unit, declaration)? {
+        let cost = displacement(unit, *times, declaration);
+        let word = option(alloc, *times, cost)?;
+        add(&mut text, &word)?;
+    }
+    Ok(text)
+}
+
+fn totals(alloc: Global, submission: &Submission, unit: &Unit) -> Result<String, Fail>
+    requires { UnitFits submission.now.declaration.season unit.now }
+{
+    let declaration = submission.declaration();
+    let options = options_of(alloc, unit, declaration)?;
+    let mut sums = (0_u32, 0_u32, 0_u64);
+    for times in &options {
+        if let Times::At { arrival, departure } = *times {
+            sums.0 = sums.0.wrapping_add(arrival);
+            sums.1 = sums.1.wrapping_add(departure);
+        }
+        sums.2 = sums.2.wrapping_add(displacement(unit, *times, declaration));
+    }
+    let first = options.first().copied().ok_or("an alternative")?;
+    let first = option(alloc, first, displacement(unit, first, declaration))?;
+    let last = options.last().copied().ok_or("an alternative")?;
+    let last = option(alloc, last, displacement(unit, last, declaration))?;
+    let (count, arrivals, departures, costs) = (options.len(), sums.0, sums.1, sums.2);
+    Ok(format!(in alloc; "{count} {first} {last} {arrivals} {departures} {costs}")?)
+}
+
+// The movements at the last alternative.
+fn moved(alloc: Global, submission: &Submission, unit: &Unit) -> Result<String, Fail>
+    requires { UnitFits submission.now.declaration.season unit.now }
+{
+    let declaration = submission.declaration();
+    let options = options_of(alloc, unit, declaration)?;
+    let times = options.last().copied().ok_or("an alternative")?;
+    let mut text = String::new(alloc);
+    for movement in &movements_of(alloc, unit, times, &declaration.season)? {
+        let Movement { kind, day, minute } = *movement;
+        let letter = if kind == Kind::Arr { 'A' } else { 'D' };
+        let word = format!(in alloc; "{letter}{day}:{minute}")?;
+        add(&mut text, &word)?;
+    }
+    Ok(text)
+}
+
+// 4,096 units and no more; a line that makes no unit is told first.
+#[test]
+fn submissions_have_few_units(rt: HostRuntime) -> Result<(), Fail> {
+    let alloc = rt.alloc();
+    for (count, last, want) in [
+        (4_095, "F", ""),
+        (4_096, "F", "TooMany 4097"),
+        (4_097, "D", "NotInitial 4102"),
+    ] {
+        let found = many(alloc, count, last)?;
+        assert_eq!(rt; found.as_str(), want, "{count}");
+    }
+    Ok(())
+}
+
+// Why so many historic lines and one with another code are no submission.
+fn many(alloc: Global, count: u32, last: &str) -> Result<String, Fail> {
+    let line = "BA001 30MAR 7 180320 JFK0610 J";
+    let mut text = String::new(alloc);
+    for _ in 0..count {
+        text.push('F')?;
+        text.push_str(line)?;
+        text.push(';')?;
+    }
+    text.push_str(last)?;
+    text.push_str(line)?;
+    match made(alloc, "S25", "FLEX 0;REFUSE NONE", &text)? {
+        Ok(_) => Ok(String::new(alloc)),
+        Err(fault) => refusal(alloc, fault),
+    }
+}

@@ -1,0 +1,171 @@
+//! Words of a command line, and what they ask for.
+
+use crate::rows::{Case, say, walk};
+use command_words::{Job, NameList, WordFault, read_words};
+use std::alloc::Global;
+use std::test::Fail;
+
+/// Words with one blank between two, so that two blanks have an empty word between them; what they
+/// ask for, with a comma between two names, or `no`.
+#[derive(Drop)]
+struct CommandWords;
+
+impl Case for CommandWords {
+    fn find(&mut self, alloc: Global, given: &[u8], out: &mut Vec<u8>) -> Result<(), Fail> {
+        let words = words_in(alloc, given)?;
+        match read_words(alloc, &words) {
+            Ok(job) => say_job(alloc, out, &job),
+            Err(WordFault::Words) => say(alloc, out, "no"),
+            Err(WordFault::Memory) => Err("memory ran out".into()),
+        }
+    }
+}
+
+fn words_in(alloc: Global, given: &[u8]) -> Result<Vec<String>, Fail> {
+    let mut words = Vec::new(alloc);
+    for word in given.split(|byte| *byte == b' ') {
+        let mut bytes = Vec::new(alloc);
+        bytes.extend_from_slice(word)?;
+        words.push(String::from_utf8(bytes)?)?;
+    }
+    Ok(words)
+}
+
+fn say_job(alloc: Global, out: &mut Vec<u8>, job: &Job) -> Result<(), Fail> {
+    match job {
+        Job::Allocate {
+            names,
+            nodes,
+            workers,
+        } => {
+            say_names(alloc, out, "allocate", names)?;
+            let (nodes, workers) = (*nodes, *workers);
+            say(alloc, out, format!(in alloc; " {nodes} {workers}")?)
+        }
+        Job::Check { names } => say_names(alloc, out, "check", names),
+    }
+}
+
+fn say_names(
+    alloc: Global,
+    out: &mut Vec<u8>,
+    command: &str,
+    names: &NameList,
+) -> Result<(), Fail> {
+    say(alloc, out, command)?;
+    let mut mark = " ";
+    for name in names.items() {
+        say(alloc, out, mark)?;
+        say(alloc, out, name.text())?;
+        mark = ",";
+    }
+    Ok(())
+}
+
+#[test]
+fn words_ask_for_jobs(rt: HostRuntime) -> Result<(), Fail> {
+    walk(
+        rt.alloc(),
+        &mut CommandWords,
+        b"\
+allocate A B C D|allocate A,B,C,D 100000 4
+allocate A B C D --nodes=5|allocate A,B,C,D 5 4
+allocate A B C D --nodes 5|allocate A,B,C,D 5 4
+allocate --nodes 5 A --workers=16 B C D|allocate A,B,C,D 5 16
+allocate A --workers 1 B --nodes=1000000 C D|allocate A,B,C,D 1000000 1
+allocate --workers 7 --nodes 6 A B C D|allocate A,B,C,D 6 7
+allocate A B C D --nodes 1|allocate A,B,C,D 1 4
+allocate A B C D --nodes 0|no
+allocate A B C D --nodes=1000001|no
+allocate A B C D --workers 0|no
+allocate A B C D --workers 17|no
+allocate A B C D --nodes 5 --nodes 5|no
+allocate --nodes=5 A B C D --nodes 6|no
+allocate --workers=2 A B C D --workers=2|no
+allocate A B C D --nodes -1|no
+allocate A B C D --nodes=-1|no
+allocate A B C D --nodes -|no
+allocate A B C D --nodes=-|no
+allocate A B C D --nodes 05|no
+allocate A B C D --nodes=+5|no
+allocate A B C D --nodes 5x|no
+allocate A B C D --nodes=|no
+allocate A B C D --nodes |no
+allocate A B C D --nodes|no
+allocate A B C D --nodes --workers 3|no
+allocate A B C --nodes -- D|no
+allocate A B C D --nodes=5=6|no
+allocate A B C D --nodes=18446744073709551617|no
+allocate A B C D --node 5|no
+allocate A B C D --nodes5|no
+allocate A B C D --Nodes 5|no
+allocate A B C D -nodes 5|no
+allocate A B C D -n 5|no
+allocate A B C D --names=E|no
+allocate A B C --names D|no
+allocate A B C D --=5|no
+allocate A B C D --help|no
+allocate A B C D -h|no
+",
+    )
+}
+
+#[test]
+fn words_are_names(rt: HostRuntime) -> Result<(), Fail> {
+    walk(
+        rt.alloc(),
+        &mut CommandWords,
+        "\
+check A B C|check A,B,C
+check A B|no
+check A B C D|no
+check|no
+check A B C --nodes 5|no
+check A B C --workers=5|no
+allocate A B C|no
+allocate A B C D E|no
+allocate|no
+allocate - A  B|allocate -,A,,B 100000 4
+check   |check ,,
+allocate -- A B C D|allocate A,B,C,D 100000 4
+allocate A B C D --|allocate A,B,C,D 100000 4
+allocate A -- B -- C|allocate A,B,--,C 100000 4
+allocate -- A B C D --|no
+allocate -- --nodes 5 A B|allocate --nodes,5,A,B 100000 4
+allocate -- --nodes=5 A B C|allocate --nodes=5,A,B,C 100000 4
+allocate --nodes 5 -- -a --nodes=3 - --|allocate -a,--nodes=3,-,-- 5 4
+check -- -A -B --help|check -A,-B,--help
+check -A B C|no
+check --A B C|no
+check A=1 B=- =|check A=1,B=-,=
+check allocate check help|check allocate,check,help
+check é ü ß|check é,ü,ß
+check -é A B|no
+check -- -é A B|check -é,A,B
+|no
+allocat A B C D|no
+allocates A B C D|no
+Allocate A B C D|no
+-- allocate A B C D|no
+--|no
+-- |no
+- A B C|no
+--check A B C|no
+-check A B C|no
+-é A B C|no
+--nodes 5 allocate A B C D|no
+ check A B C|no
+help|no
+help check|no
+--help|no
+-h|no
+--version|no
+-V|no
+amend A B C D E|no
+serve A B C D|no
+make 1 4 A B|no
+trial 1 4|no
+"
+            .as_bytes(),
+    )
+}
