@@ -6,7 +6,7 @@ use Rattle.season_days.specs.declared.declaration.Declaration.{Declaration}
 use Rattle.choice_problem.specs.declared.problems.Alt.{Alt}
 use Rattle.choice_problem.specs.declared.vectors.Price.{Price}
 use Rattle.choice_problem.specs.declared.nodes.Node.{Node}
-use Rattle.choice_problem.specs.Problems.{ProblemView, ChooserView, alt_at, named_uses, chooser_uses}
+use Rattle.choice_problem.specs.Problems.{ProblemView, ChooserView, alt_at, named_uses, chooser_uses, alt_count, alt_uses}
 use Rattle.choice_problem.specs.Alike.{AreAlike}
 use Rattle.choice_problem.specs.Choices.{IsFeasible as IsFeasibleFor, choice_cost}
 use Rattle.choice_problem.specs.Bounds.{IsVector, whole_of}
@@ -95,13 +95,21 @@ problems-alike d units limit p q one other =
       limits = λ r lt. let in_range = subst (λ (n : ℕ). r < n) one.resources lt in one.limits r in_range ∙ sym (other.limits r in_range);
     }
 
+-- the same also of numbers that name nothing
+pub problems-alts : (d : Declaration) (units : List SlotUnit) (limit : ℕ → ℕ) (p q : ProblemView) → IsAllotmentProblem d units limit p → IsAllotmentProblem d units limit q → (u : ℕ) → alt_count p u ≡ alt_count q u
+problems-alts d units limit p q one other u = (agree-at d units p.units q.units u one.units_are other.units_are).count
+
+pub problems-uses : (d : Declaration) (units : List SlotUnit) (limit : ℕ → ℕ) (p q : ProblemView) → IsAllotmentProblem d units limit p → IsAllotmentProblem d units limit q →
+    (u a r : ℕ) → alt_uses p u a r ≡ alt_uses q u a r
+problems-uses d units limit p q one other u a r = (agree-at d units p.units q.units u one.units_are other.units_are).uses a r
+
 -- ---- proofs
 
-if-some : {X : Type 0} (P Q : X → Type 0) (o : Option X) → ((x : X) → P x → Q x) → IfSome o P → IfSome o Q
+pub if-some : {X : Type 0} (P Q : X → Type 0) (o : Option X) → ((x : X) → P x → Q x) → IfSome o P → IfSome o Q
 if-some P Q None f h = tt
 if-some P Q (Some x) f h = f x h
 
-cost-alike : (p q : ProblemView) (choice : Option (List ℕ)) → ((x : List ℕ) → choice_cost p x ≡ choice_cost q x) → option_map (choice_cost p) choice ≡ option_map (choice_cost q) choice
+pub cost-alike : (p q : ProblemView) (choice : Option (List ℕ)) → ((x : List ℕ) → choice_cost p x ≡ choice_cost q x) → option_map (choice_cost p) choice ≡ option_map (choice_cost q) choice
 cost-alike p q None same = refl
 cost-alike p q (Some x) same = ap (λ (n : ℕ). Some n) (same x)
 

@@ -115,7 +115,7 @@ IsOn-start s c states printable is fit = record {
   fit = fit;
   printable = printable.stages;
   lines = omega (arith, printable.few, length-append (numbered stage_lines 1 c.stages) ((codes "END" ∷ []) ∷ []));
-  valid = λ valid. valid;
+  valid = λ valid. record { form = printable; stages = valid };
   fails = λ line reason fails. fails;
 }
 

@@ -11,8 +11,8 @@ use Rattle.choice_problem.specs.Problems.{ProblemView, unit_count}
 use Rattle.choice_problem.specs.Bounds.{low_of, high_of, Closes}
 use Rattle.choice_problem.specs.Trees.{LeafHolds, vector_at}
 use Rattle.cert_checker.specs.declared.kept.KeptBound.{KeptBound}
-use Rattle.choice_problem.specs.Walks.{AreChanges, ChangesFirst}
-use Rattle.cert_checker.specs.Kept.{AgreeBut, IsKept, HasSeen, AreKept, AreKeptFirst}
+use Rattle.choice_problem.specs.Walks.{AreChanges}
+use Rattle.cert_checker.specs.Kept.{AgreeBut, IsKept, HasSeen, AreKept}
 
 -- lists with the same elements
 pub same-elements : {X : Type 0} (d : X) (xs ys : List X) → length xs ≡ length ys → ((i : ℕ) → i < length xs → get_or xs i d ≡ get_or ys i d) → xs ≡ ys
@@ -81,7 +81,7 @@ filled-more : (p : ProblemView) (vectors : List (List Price)) (old new : List (�
 filled-more p vectors old new before after i None changed h = tt
 filled-more p vectors old new before after i (Some k) changed h = (h.0, h.1, seen-more old new before after k changed h.2)
 
-kept-more : (p : ProblemView) (vectors : List (List Price)) (old new : List (ℕ × ℕ)) (before after : List ℕ) (kept : List (Option KeptBound)) → length old ≡ unit_count p → AreChanges old new before after →
+pub kept-more : (p : ProblemView) (vectors : List (List Price)) (old new : List (ℕ × ℕ)) (before after : List ℕ) (kept : List (Option KeptBound)) → length old ≡ unit_count p → AreChanges old new before after →
     AreKept p vectors old before kept → AreKept p vectors new after kept
 kept-more p vectors old new before after kept count changed are =
     let named : All (λ u. u < unit_count p) changed.more = subst (λ (n : ℕ). All (λ u. u < n) changed.more) count changed.there in
@@ -90,27 +90,6 @@ kept-more p vectors old new before after kept count changed are =
       there = subst (λ (xs : List ℕ). All (λ u. u < unit_count p) xs) (sym changed.after_is) (All-append (λ u. u < unit_count p) before changed.more are.there named);
       each = λ i lt. filled-more p vectors old new before after i (get_or kept i None) changed (are.each i lt);
     }
-
--- where the walk goes on
-pub kept-step : (p : ProblemView) (vectors : List (List Price)) (old new : List (List (ℕ × ℕ))) (ranges : List (ℕ × ℕ)) (rest : List (List (ℕ × ℕ))) (before after : List ℕ) (kept : List (Option KeptBound)) → old ≡ ranges ∷ rest →
-    length ranges ≡ unit_count p → ChangesFirst old new before after → AreKept p vectors ranges before kept → AreKeptFirst p vectors new after kept
-kept-step p vectors old [] ranges rest before after kept is count changed are = tt
-kept-step p vectors old (next ∷ others) ranges rest before after kept is count changed are =
-    kept-more p vectors ranges next before after kept count (subst (λ (w : List (List (ℕ × ℕ))). ChangesFirst w (next ∷ others) before after) is changed) are
-
-pub kept-first : (p : ProblemView) (vectors : List (List Price)) (walk : List (List (ℕ × ℕ))) (ranges : List (ℕ × ℕ)) (rest : List (List (ℕ × ℕ))) (changes : List ℕ) (kept : List (Option KeptBound)) → walk ≡ ranges ∷ rest →
-    AreKeptFirst p vectors walk changes kept → AreKept p vectors ranges changes kept
-kept-first p vectors walk ranges rest changes kept is h = subst (λ (w : List (List (ℕ × ℕ))). AreKeptFirst p vectors w changes kept) is h
-
-pub kept-back : (p : ProblemView) (vectors : List (List Price)) (walk : List (List (ℕ × ℕ))) (ranges : List (ℕ × ℕ)) (rest : List (List (ℕ × ℕ))) (changes : List ℕ) (kept : List (Option KeptBound)) → walk ≡ ranges ∷ rest →
-    AreKept p vectors ranges changes kept → AreKeptFirst p vectors walk changes kept
-kept-back p vectors walk ranges rest changes kept is h = subst (λ (w : List (List (ℕ × ℕ))). AreKeptFirst p vectors w changes kept) (sym is) h
-
--- where it stays
-pub kept-same : (p : ProblemView) (vectors : List (List Price)) (walk same : List (List (ℕ × ℕ))) (changes others : List ℕ) (kept : List (Option KeptBound)) → same ≡ walk → others ≡ changes →
-    AreKeptFirst p vectors walk changes kept → AreKeptFirst p vectors same others kept
-kept-same p vectors walk same changes others kept w c h =
-    subst (λ (xs : List ℕ). AreKeptFirst p vectors same xs kept) (sym c) (subst (λ (ws : List (List (ℕ × ℕ))). AreKeptFirst p vectors ws changes kept) (sym w) h)
 
 -- a place filled again
 pub kept-again : (p : ProblemView) (vectors : List (List Price)) (ranges : List (ℕ × ℕ)) (changes : List ℕ) (old : List (Option KeptBound)) (i : ℕ) (x : Option KeptBound) (k : KeptBound) → AreKept p vectors ranges changes old → i < length old →

@@ -6,3 +6,7 @@ mod NodeLemmas
 mod AlikeLemmas
 mod CertificateLemmas
 mod KeptLemmas
+mod UniqueLemmas
+mod MarkedLemmas
+mod LoadLemmas
+mod StateLemmas

@@ -1,5 +1,5 @@
 -- Bounds that are kept while the ranges change. Contracts of private functions alone cite this.
-use Rattle.std.specs.Prelude.{◌≡◌, ℕ, suc, ◌<◌, ◌≤◌, List, [], ◌∷◌, length, drop, All, Option, None, IfSome, slice_index_or}
+use Rattle.std.specs.Prelude.{◌≡◌, ℕ, suc, ◌<◌, ◌≤◌, List, length, drop, All, Option, None, IfSome, slice_index_or}
 use Rattle.std.specs.List.{Contains}
 use Rattle.choice_problem.specs.declared.vectors.Price.{Price}
 use Rattle.choice_problem.specs.Problems.{ProblemView, unit_count}
@@ -32,9 +32,3 @@ pub record AreKept (p : ProblemView) (vectors : List (List Price)) (ranges : Lis
   pub each : (i : ℕ) → i < length kept → IfSome (slice_index_or kept i None)
       (λ (k : KeptBound). IsKept p k
       × (k.table.prices ≡ vector_at vectors i) × HasSeen ranges changes k)
-
--- at the first of the pending ranges, if there are any
-abbrev pub AreKeptFirst : ProblemView → List (List Price) → List (List (ℕ × ℕ)) → List ℕ →
-    List (Option KeptBound) → Type 0
-AreKeptFirst p vectors [] changes kept = Unit {0}
-AreKeptFirst p vectors (ranges ∷ rest) changes kept = AreKept p vectors ranges changes kept

@@ -5,3 +5,6 @@ pub mod Parts
 pub mod Blocks
 pub mod Shapes
 pub mod Kept
+pub mod Marked
+pub mod Loads
+pub mod States

@@ -50,8 +50,10 @@ pub fn check_stage(
 /// Each stage's problem is made once, and a vector is priced when a node of the stage first names
 /// it. Then a split costs one step; a leaf one for each change of a range since a node last named
 /// its vector, and one an alternative of each range that differs; a node that names a resource one
-/// step an alternative in range. Beside the problem there are the tables, a copy of the ranges for
-/// each vector that is named, and a few numbers a node. Nothing recurses on the depth of a tree.
+/// for each unit that a split above or before it names, the first such node one a unit, and both
+/// one an alternative in range that uses the resource. Beside the problem there are the tables, a
+/// copy of the ranges for each vector that is named, and a few numbers a node and a resource.
+/// Nothing recurses on the depth of a tree.
 pub fn check(alloc: Global, submission: &Submission, cert: &Certificate) -> Result<Verdict, Memory>
     requires { IsPrintable cert.now }
     ensures exact { IfOk result (λ verdict. IsCheck submission.now cert.now verdict) }

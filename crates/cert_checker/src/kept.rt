@@ -3,7 +3,7 @@
 ghost use Rattle.std.specs.Prelude.{◌≡◌, ◌↔◌, ◌<◌, ◌≤◌, List, ℕ, [], All, IsTrue, IfOk, IfSome, length, slice_set};
 ghost use Rattle.choice_problem.specs.Problems.{ProblemView, unit_count};
 ghost use Rattle.choice_problem.specs.Bounds.{AreRanges, IsVector, low_of, high_of};
-ghost use Rattle.choice_problem.specs.Trees.{LeafHolds, vector_at};
+ghost use Rattle.choice_problem.specs.Trees.{vector_at};
 ghost use Rattle.choice_problem.specs.declared.closing.TheConstants.{SCALE_BOUND};
 ghost use Rattle.price_table.specs.Tables.{IsTableFor};
 ghost use Rattle.price_table.specs.Totals.{AreTotalsFor};
@@ -13,6 +13,13 @@ use choice_problem::{Problem, Ranges, SCALE_BOUND, Vector, VectorList};
 use price_table::{PriceTable, Totals, price_table};
 use slot_text::Memory;
 use std::alloc::Global;
+
+// The vector and the scale that a node names.
+#[derive(Clone, Copy)]
+pub(crate) struct Named {
+    pub(crate) vector: u32,
+    pub(crate) scale: u64,
+}
 
 // A vector's table; its totals at the ranges and the scale of the last node that named it; and how
 // many changes of ranges there had been then.
@@ -155,102 +162,56 @@ fn first_kept(
     problem: &Problem,
     vectors: &VectorList,
     ranges: &Ranges,
-    vector: u32,
-    scale: u64,
+    named: Named,
     seen: usize,
 ) -> Result<KeptBound, Memory>
     requires vectors { All (IsVector problem.now) vectors.now }
-    requires there { vector ≤ length vectors.now }
+    requires there { named.vector ≤ length vectors.now }
     requires ranges { AreRanges problem.now ranges.now }
-    requires scale { scale < SCALE_BOUND }
+    requires scale { named.scale < SCALE_BOUND }
     ensures kept { IfOk result (λ kept. IsKept problem.now kept) }
-    ensures prices { IfOk result (λ kept. kept.table.prices ≡ vector_at vectors.now vector) }
+    ensures prices { IfOk result (λ kept. kept.table.prices ≡ vector_at vectors.now named.vector) }
     ensures ranges { IfOk result (λ kept. kept.totals.ranges ≡ ranges.now) }
-    ensures scale { IfOk result (λ kept. kept.scale ≡ scale) }
+    ensures scale { IfOk result (λ kept. kept.scale ≡ named.scale) }
     ensures seen { IfOk result (λ kept. kept.seen ≡ seen) }
 {
-    if vector == 0 {
+    if named.vector == 0 {
         let zero = Vector::new(Vec::new(alloc));
-        return keep(alloc, problem, &zero, ranges, scale, seen);
+        return keep(alloc, problem, &zero, ranges, named.scale, seen);
     }
     let vectors = vectors.items();
-    keep(
-        alloc,
-        problem,
-        &vectors[vector as usize - 1],
-        ranges,
-        scale,
-        seen,
-    )
+    let vector = &vectors[named.vector as usize - 1];
+    keep(alloc, problem, vector, ranges, named.scale, seen)
 }
 
-// The table and totals of a vector at these ranges and this scale, from those kept before, if any.
-fn renewed(
+/// The table and totals of a vector at these ranges and this scale, from those kept before, if any.
+/// The table is made when a node first names the vector; then a node costs one step for each change
+/// of a range since one last named it, and one an alternative of each range that differs.
+pub(crate) fn renewed(
     alloc: Global,
     problem: &Problem,
     vectors: &VectorList,
     old: Option<KeptBound>,
     ranges: &Ranges,
     changes: &[u32],
-    vector: u32,
-    scale: u64,
+    named: Named,
 ) -> Result<KeptBound, Memory>
     requires vectors { All (IsVector problem.now) vectors.now }
-    requires there { vector ≤ length vectors.now }
+    requires there { named.vector ≤ length vectors.now }
     requires old { IfSome old (λ kept. IsKept problem.now kept
-        × (kept.table.prices ≡ vector_at vectors.now vector)
+        × (kept.table.prices ≡ vector_at vectors.now named.vector)
         × HasSeen ranges.now changes.now kept) }
     requires changes { All (λ u. u < unit_count problem.now) changes.now }
     requires ranges { AreRanges problem.now ranges.now }
-    requires scale { scale < SCALE_BOUND }
+    requires scale { named.scale < SCALE_BOUND }
     ensures kept { IfOk result (λ kept. IsKept problem.now kept) }
-    ensures prices { IfOk result (λ kept. kept.table.prices ≡ vector_at vectors.now vector) }
+    ensures prices { IfOk result (λ kept. kept.table.prices ≡ vector_at vectors.now named.vector) }
     ensures ranges { IfOk result (λ kept. kept.totals.ranges ≡ ranges.now) }
-    ensures scale { IfOk result (λ kept. kept.scale ≡ scale) }
+    ensures scale { IfOk result (λ kept. kept.scale ≡ named.scale) }
     ensures seen { IfOk result (λ kept. kept.seen ≡ length changes.now) }
 {
     match old {
-        Some(kept) => moved(alloc, problem, kept, ranges, changes, scale),
-        None => first_kept(
-            alloc,
-            problem,
-            vectors,
-            ranges,
-            vector,
-            scale,
-            changes.len(),
-        ),
+        Some(kept) => moved(alloc, problem, kept, ranges, changes, named.scale),
+        None => first_kept(alloc, problem, vectors, ranges, named, changes.len()),
     }
-}
-
-/// Whether a leaf's bound closes its ranges for a cost, or for none. The table of a vector is made
-/// when a node first names it; then a leaf costs one step for each change of a range since a node
-/// last named the vector, and one an alternative of each range that differs.
-pub(crate) fn leaf_holds(
-    alloc: Global,
-    problem: &Problem,
-    vectors: &VectorList,
-    kept: &mut Vec<Option<KeptBound>>,
-    cost: Option<u64>,
-    ranges: &Ranges,
-    changes: &[u32],
-    vector: u32,
-    scale: u64,
-) -> Result<bool, Memory>
-    requires ranges { AreRanges problem.now ranges.now }
-    requires vectors { All (IsVector problem.now) vectors.now }
-    requires kept { AreKept problem.now vectors.now ranges.now changes.now kept.old.items }
-    ensures kept { IfOk result
-        (λ holds. AreKept problem.now vectors.now ranges.now changes.now kept.new.items) }
-    ensures holds { IfOk result
-        (λ holds. IsTrue holds ↔ LeafHolds problem.now vectors.now cost ranges.now vector scale) }
-{
-    if vector as usize > vectors.items().len() || scale >= SCALE_BOUND {
-        return Ok(false);
-    }
-    let old = kept[vector as usize].take();
-    let bound = renewed(alloc, problem, vectors, old, ranges, changes, vector, scale)?;
-    let holds = bound.totals.closes(cost);
-    kept[vector as usize] = Some(bound);
-    Ok(holds)
 }

@@ -5,7 +5,7 @@ ghost use Rattle.choice_problem.specs.Problems.{ProblemView};
 ghost use Rattle.choice_problem.specs.Alike.{AreAlike};
 ghost use Rattle.cert_format.specs.declared.cert.StageCert.{StageCert as StageCertValue};
 ghost use Rattle.cert_format.specs.declared.cert.Certificate.{Certificate as CertificateValue};
-ghost use Rattle.cert_format.specs.Printable.{IsPrintable, IsPrintableProof};
+ghost use Rattle.cert_format.specs.Printable.{IsPrintableProof};
 ghost use Rattle.cert_format.specs.Proofs.{IsProof};
 ghost use Rattle.cert_format.specs.Spelling.{is_tried, proof_lines};
 ghost use Rattle.series_model.specs.Submissions.{SubmissionView};
@@ -44,8 +44,17 @@ pub fn alike_proofs()
 /// A valid certificate has no failing line.
 pub fn one_verdict()
     ensures { (s : SubmissionView) (c : CertificateValue) (line : ℕ) (reason : ReasonValue) →
-        IsPrintable c → IsValid s c → FailsAt s c line reason → ⊥ }
+        IsValid s c → FailsAt s c line reason → ⊥ }
 {
     passing_lines();
     alike_proofs();
+}
+
+/// A certificate has at most one failing line that is the first, and there one first reason.
+pub fn one_failing_line()
+    ensures { (s : SubmissionView) (c : CertificateValue) (line other : ℕ)
+        (reason why : ReasonValue) →
+        FailsAt s c line reason → FailsAt s c other why → (line ≡ other) × (reason ≡ why) }
+{
+    alike_problems();
 }

@@ -8,13 +8,13 @@ mod checks;
 mod kept;
 mod laws;
 mod lines;
+mod loads;
+mod marked;
 mod nodes;
+mod states;
 mod trees;
 mod verdict;
 
 pub use checks::{check, check_stage};
-pub use laws::{alike_proofs, one_verdict, passing_lines, tested_lines};
+pub use laws::{alike_proofs, one_failing_line, one_verdict, passing_lines, tested_lines};
 pub use verdict::{Reason, Verdict};
-
-#[cfg(test)]
-mod tests;

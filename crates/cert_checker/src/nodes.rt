@@ -4,17 +4,19 @@ ghost use Rattle.std.specs.Prelude.{◌≡◌, ◌↔◌, ◌+◌, ◌<◌, ◌�
 ghost use Rattle.std.specs.List.{AllByRecursion};
 ghost use Rattle.choice_problem.specs.Problems.{unit_count};
 ghost use Rattle.choice_problem.specs.Bounds.{AreRanges, IsVector, whole_of};
-ghost use Rattle.choice_problem.specs.Trees.{CanSplit, OverHolds, IsWhole};
+ghost use Rattle.choice_problem.specs.Trees.{CanSplit, IsWhole};
 ghost use Rattle.cert_checker.specs.Tests.{MayBeUndone, Passes, undone_tests, node_line, node_tests, floors_after};
-ghost use Rattle.cert_checker.specs.Kept.{AreKept, AreKeptFirst};
+ghost use Rattle.cert_checker.specs.States.{IsState, IsStateFirst};
 ghost use Rattle.cert_checker.specs.Parts.{IsLineFault, GoesOnBy, IsPart, tree_part};
 
-use crate::kept::{KeptBound, empty_kept, leaf_holds};
+use crate::kept::Named;
 use crate::lines::Judged;
+use crate::loads::over_holds;
+use crate::states::{State, first_state, go_on, leaf_holds};
 use crate::trees::{is_tree, is_whole};
 use crate::verdict::Reason;
 use cert_format::{Floor, Mark, StageCert};
-use choice_problem::{Node, Problem, RangeWalk, Ranges, over_closes};
+use choice_problem::{Node, Problem, RangeWalk, Ranges};
 use slot_text::Memory;
 use std::alloc::Global;
 
@@ -24,14 +26,6 @@ fn can_split(problem: &Problem, ranges: &Ranges, unit: u32, cut: u32) -> bool
     ensures { IsTrue result ↔ CanSplit ranges.now unit cut }
 {
     unit < problem.units() && ranges.low(unit) < cut && cut <= ranges.high(unit)
-}
-
-// Whether a resource is there, and its least load passes its limit.
-fn over_holds(problem: &Problem, ranges: &Ranges, resource: u32) -> bool
-    requires { AreRanges problem.now ranges.now }
-    ensures { IsTrue result ↔ OverHolds problem.now ranges.now resource }
-{
-    resource < problem.resources() && over_closes(problem, ranges, resource)
 }
 
 fn may_be_undone(mark: Mark) -> bool
@@ -55,16 +49,15 @@ fn undone_fault(
     alloc: Global,
     problem: &Problem,
     cert: &StageCert,
-    kept: &mut Vec<Option<KeptBound>>,
+    state: &mut State,
     ranges: &Ranges,
-    changes: &[u32],
     floors: &[Floor],
 ) -> Result<Option<Reason>, Memory>
     requires ranges { AreRanges problem.now ranges.now }
     requires vectors { All (IsVector problem.now) cert.now.vectors }
-    requires kept { AreKept problem.now cert.now.vectors ranges.now changes.now kept.old.items }
-    ensures kept { IfOk result
-        (λ fault. AreKept problem.now cert.now.vectors ranges.now changes.now kept.new.items) }
+    requires state { IsState problem.now cert.now.vectors ranges.now state.old }
+    ensures state { IfOk result
+        (λ fault. IsState problem.now cert.now.vectors ranges.now state.new) }
     ensures fault { IfOk result (λ fault. IsLineFault (Passes problem.now cert.now)
         (undone_tests ranges.now floors.now) fault) }
 {
@@ -73,19 +66,13 @@ fn undone_fault(
     }
     match (floors, cert.bound) {
         ([floor, ..], Some(bound)) => {
+            let named = Named {
+                vector: floor.vector,
+                scale: floor.scale,
+            };
             let vectors = &cert.vectors;
             let stated = Some(bound);
-            let holds = leaf_holds(
-                alloc,
-                problem,
-                vectors,
-                kept,
-                stated,
-                ranges,
-                changes,
-                floor.vector,
-                floor.scale,
-            )?;
+            let holds = leaf_holds(alloc, problem, vectors, state, stated, ranges, named)?;
             Ok(fault_unless(holds, Reason::Floor))
         }
         _ => Ok(None),
@@ -97,17 +84,16 @@ fn node_fault(
     alloc: Global,
     problem: &Problem,
     cert: &StageCert,
-    kept: &mut Vec<Option<KeptBound>>,
+    state: &mut State,
     ranges: &Ranges,
-    changes: &[u32],
     node: Node,
     floors: &[Floor],
 ) -> Result<Option<Reason>, Memory>
     requires ranges { AreRanges problem.now ranges.now }
     requires vectors { All (IsVector problem.now) cert.now.vectors }
-    requires kept { AreKept problem.now cert.now.vectors ranges.now changes.now kept.old.items }
-    ensures kept { IfOk result
-        (λ fault. AreKept problem.now cert.now.vectors ranges.now changes.now kept.new.items) }
+    requires state { IsState problem.now cert.now.vectors ranges.now state.old }
+    ensures state { IfOk result
+        (λ fault. IsState problem.now cert.now.vectors ranges.now state.new) }
     ensures fault { IfOk result (λ fault. IsLineFault (Passes problem.now cert.now)
         (node_line ranges.now node floors.now) fault) }
 {
@@ -117,18 +103,17 @@ fn node_fault(
             Reason::Split,
         )),
         Node::Leaf { vector, scale, .. } => {
+            let named = Named { vector, scale };
             let vectors = &cert.vectors;
             let cost = cert.cost;
-            let holds = leaf_holds(
-                alloc, problem, vectors, kept, cost, ranges, changes, vector, scale,
-            )?;
+            let holds = leaf_holds(alloc, problem, vectors, state, cost, ranges, named)?;
             Ok(fault_unless(holds, Reason::Leaf))
         }
         Node::Over { resource } => Ok(fault_unless(
-            over_holds(problem, ranges, resource),
+            over_holds(problem, ranges, &mut state.loads, resource),
             Reason::Over,
         )),
-        Node::Undone => undone_fault(alloc, problem, cert, kept, ranges, changes, floors),
+        Node::Undone => undone_fault(alloc, problem, cert, state, ranges, floors),
     }
 }
 
@@ -147,37 +132,26 @@ fn check_node(
     alloc: Global,
     problem: &Problem,
     cert: &StageCert,
-    kept: &mut Vec<Option<KeptBound>>,
+    state: &mut State,
     walk: &mut RangeWalk,
-    changes: &mut Vec<u32>,
     node: Node,
     floors: &[Floor],
 ) -> Result<Option<Reason>, Memory>
     requires vectors { All (IsVector problem.now) cert.now.vectors }
-    requires kept { AreKeptFirst problem.now cert.now.vectors walk.old changes.old.items
-        kept.old.items }
+    requires state { IsStateFirst problem.now cert.now.vectors walk.old state.old }
     requires some { 0 < length walk.old }
     requires ranges { All (AreRanges problem.now) walk.old }
-    ensures kept { IfOk result (λ fault.
-        AreKeptFirst problem.now cert.now.vectors walk.new changes.new.items kept.new.items) }
-    ensures ranges { IfOk result (λ fault. All (AreRanges problem.now) walk.new) }
+    ensures state { IfOk result (λ fault. fault ≡ None →
+        IsStateFirst problem.now cert.now.vectors walk.new state.new) }
+    ensures ranges { IfOk result (λ fault. fault ≡ None → All (AreRanges problem.now) walk.new) }
     ensures fault { IfOk result (λ fault.
         GoesOnBy problem.now cert.now walk.old node floors.now walk.new fault) }
 {
-    let fault = node_fault(
-        alloc,
-        problem,
-        cert,
-        kept,
-        walk.ranges(),
-        changes,
-        node,
-        floors,
-    )?;
+    let fault = node_fault(alloc, problem, cert, state, walk.ranges(), node, floors)?;
     if fault.is_some() {
         return Ok(fault);
     }
-    if walk.advance(node, changes)? {
+    if go_on(problem, &cert.vectors, walk, node, state)? {
         Ok(None)
     } else {
         Ok(Some(Reason::Split))
@@ -199,8 +173,7 @@ fn check_nodes(
 {
     let whole = Ranges::whole(alloc, problem)?;
     let mut walk = RangeWalk::new(alloc, whole);
-    let mut changes = Vec::new(alloc);
-    let mut kept = empty_kept(alloc, &cert.vectors)?;
+    let mut state = first_state(alloc, problem, &cert.vectors)?;
     let mut floors = cert.floors.items();
     let nodes = cert.tree.items();
     let mut at = line;
@@ -208,16 +181,7 @@ fn check_nodes(
         if walk.is_done() {
             return Ok(Judged::passed(line + nodes.len() as u32));
         }
-        let fault = check_node(
-            alloc,
-            problem,
-            cert,
-            &mut kept,
-            &mut walk,
-            &mut changes,
-            *node,
-            floors,
-        )?;
+        let fault = check_node(alloc, problem, cert, &mut state, &mut walk, *node, floors)?;
         if let Some(reason) = fault {
             return Ok(Judged::refused(at, reason));
         }

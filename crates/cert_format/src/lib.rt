@@ -24,6 +24,3 @@ pub use laws::{line_counts, proven_stage};
 pub use printable::{is_printable, is_printable_extra};
 pub use printing::print_cert;
 pub use reading::read_cert;
-
-#[cfg(test)]
-mod tests;

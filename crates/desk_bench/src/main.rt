@@ -6,6 +6,7 @@ mod board;
 mod bounds;
 mod capacity;
 mod certificates;
+mod checks;
 mod generated;
 mod messages;
 mod prices;
@@ -24,6 +25,7 @@ fn main(rt: HostRuntime) -> anyhow::Result<()> {
     match word.as_deref() {
         Some("bounds") => bounds::run(&rt, Size::Full),
         Some("certificates") => certificates::run(&rt, Size::Full),
+        Some("checks") => checks::run(&rt, rt.alloc(), Size::Full),
         Some("board") => board::run(&rt, rt.alloc(), Size::Full),
         Some("turn") => turn::run(&rt, rt.alloc(), Size::Full),
         Some("messages") => messages::run(&rt, rt.alloc(), Size::Full),
@@ -36,6 +38,7 @@ fn main(rt: HostRuntime) -> anyhow::Result<()> {
         Some("short") => {
             bounds::run(&rt, Size::Short)?;
             certificates::run(&rt, Size::Short)?;
+            checks::run(&rt, rt.alloc(), Size::Short)?;
             board::run(&rt, rt.alloc(), Size::Short)?;
             turn::run(&rt, rt.alloc(), Size::Short)?;
             messages::run(&rt, rt.alloc(), Size::Short)?;
@@ -48,7 +51,7 @@ fn main(rt: HostRuntime) -> anyhow::Result<()> {
         }
         _ => {
             println!(rt;
-                "desk_bench WORD: bounds, certificates, board, turn, messages, capacity, units, stages, prices, seasons, walks, short"
+                "desk_bench WORD: bounds, certificates, checks, board, turn, messages, capacity, units, stages, prices, seasons, walks, short"
             )?;
             Ok(())
         }

@@ -1,6 +1,6 @@
-//! The stages of worked seasons, against choices, costs, units and limits worked by hand. The season
-//! S25 has 210 dates, and the capacity line has one window a date, the resources 0 to 209; a night
-//! quota is resource 210.
+//! The stages of worked seasons, against choices, costs, units and limits worked by hand. S25 has
+//! 210 dates, and the capacity line has one window a date, the resources 0 to 209; a night quota is
+//! resource 210.
 
 use crate::seasons::{numbers, submission, text_of};
 use choice_problem::{Choice, Problem, cost_of, fits};
@@ -16,9 +16,9 @@ use wasg_stages::{Earlier, stage_problem, units_of_stage};
 // units and its limit there; or a unit, for the numbers of its alternatives and of its parts.
 //
 // Neither of two in one window fits beside the other, and each unit has one alternative. A historic
-// series keeps its times, at 20 minutes on each of 210 dates. Half of three, rounded up, is two: two
-// of four entrants are refused, at 10 each, and stand again for the one that is left; where stage 3
-// has no allotment all do. A night quota of two does not hold three. Where the one movement of a
+// series keeps its times, at 20 minutes on each of 210 dates. Half of three, rounded up, is two: of
+// four entrants two are refused, at 10 each, and stand again for the one that is left; where stage
+// 3 has no allotment all do. A night quota of two does not hold three. Where the one movement of a
 // quota is used, the request at 0445 has 0500, which is number 15 of those from 0345 to 0545. Pairs
 // of 25 arrivals and 25 departures share 50 parts; 13 pairs of one arrival and 13 departures share
 // 14.

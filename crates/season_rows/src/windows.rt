@@ -15,10 +15,10 @@ use std::test::Fail;
 
 // Rows: a declaration's season and lines on a line with a stroke; and below it questions, each with
 // its answer. `arrivals` and `departures` give the resources that the movements of a stop use, each
-// as often as it holds one: by a minute of the day, so many days after the dates of a period, the
-// period's first and last day, and its weekdays as a set of bits. `arrival` and `departure` give the
-// resources that hold one movement, by its day and minute, and `held` how many of a list of arrivals
-// a resource holds. `window` numbers a line's window by line, day and start.
+// as often as it holds one: by a minute of the day, so many days after the dates of a period, its
+// first and last day, and its weekdays as a set of bits. `arrival` and `departure` give the
+// resources that hold one movement, by its day and minute, and `held` how many of a list of
+// arrivals a resource holds. `window` numbers a line's window by line, day and start.
 const ROWS: &str = "\
 S25/CAP ARR 60 2330 2330 1234567 1
 declared 210
@@ -70,7 +70,8 @@ arrivals 720 0 0 3 127 = 0 1 2 3
 departures 1439 0 0 3 127 = 0 1 2 3
 arrivals 1430 0 0 1 127 = 0 1
 departures 700 1 0 1 127 = 0 1
-S25/CAP ARR 60 0600 0610 1234567 1;CAP TOT 10 0700 0700 1234567 2;CAP TOT 10 0800 0800 67 3;NIGHT 2300 0500 4
+S25/CAP ARR 60 0600 0610 1234567 1;CAP TOT 10 0700 0700 1234567 2;\
+    CAP TOT 10 0800 0800 67 3;NIGHT 2300 0500 4
 declared 1051 1050
 starts 0 = 3
 starts 1 = 1

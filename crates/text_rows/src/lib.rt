@@ -2,7 +2,11 @@
 #![tactic(auto)]
 
 #[cfg(test)]
+mod calendar_rows;
+#[cfg(test)]
 mod capacity_rows;
+#[cfg(test)]
+mod generated_rows;
 #[cfg(test)]
 mod message_rows;
 #[cfg(test)]
@@ -11,8 +15,6 @@ mod outside_rows;
 mod rows;
 #[cfg(test)]
 mod schedule_rows;
-#[cfg(test)]
-mod season_rows;
 #[cfg(test)]
 mod slot_text_rows;
 #[cfg(test)]

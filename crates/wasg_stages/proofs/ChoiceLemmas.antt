@@ -1,12 +1,12 @@
 -- The choices of the problem of some units are their allotments.
-use Rattle.std.proofs.Common.{◌≡◌, ℕ, zero, suc, ◌+◌, ◌<◌, ◌≤◌, refl, sym, ◌∙◌, ap, subst, arith, List, [], ◌∷◌, ◌++◌, length, get_or}
+use Rattle.std.proofs.Common.{◌≡◌, ℕ, zero, suc, ◌<◌, ◌≤◌, refl, sym, ◌∙◌, ap, subst, arith, List, [], ◌∷◌, length, get_or}
 use Rattle.std.specs.Prelude.{Contains, None}
 use Rattle.std.specs.List.{AllZip}
 use Rattle.season_days.specs.declared.declaration.Declaration.{Declaration}
-use Rattle.capacity_windows.specs.Windows.{Capacity, capacity_of, declared_resources, window_load}
+use Rattle.capacity_windows.specs.Windows.{capacity_of, declared_resources, window_load}
 use Rattle.choice_problem.specs.declared.problems.Alt.{Alt}
-use Rattle.choice_problem.specs.Problems.{ProblemView, ChooserView, alt_at, chooser_uses, unit_count, alt_count, resource_count, limit_of, alt_cost, alt_uses}
-use Rattle.choice_problem.specs.Choices.{IsChoice, Fits, IsFeasible, IsBest, HasNone, choice_cost, load_of}
+use Rattle.choice_problem.specs.Problems.{ProblemView, ChooserView, alt_at, chooser_uses}
+use Rattle.choice_problem.specs.Choices.{IsChoice, IsFeasible, IsBest, HasNone, choice_cost, load_of}
 use Rattle.series_model.specs.declared.unit.Unit.{Unit as SlotUnit}
 use Rattle.series_model.specs.declared.times.Times.{Times}
 use Rattle.series_model.specs.declared.times.Times.TheVariants.{Refused}

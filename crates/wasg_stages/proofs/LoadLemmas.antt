@@ -1,7 +1,6 @@
 -- The loads of what was given, unit by unit.
-use Rattle.std.proofs.Common.{◌≡◌, ℕ, zero, suc, ◌+◌, ◌*◌, ◌<◌, ◌≤◌, refl, sym, ◌∙◌, ap, subst, arith, List, [], ◌∷◌, ◌++◌, length, get_or, drop}
-use Rattle.std.specs.Prelude.{Option, Some, None}
-use Rattle.season_days.specs.Term.{Term}
+use Rattle.std.proofs.Common.{◌≡◌, ℕ, ◌+◌, ◌<◌, ◌∙◌, ap, arith, List, [], length, get_or, drop}
+use Rattle.std.specs.Prelude.{None}
 use Rattle.season_days.specs.declared.declaration.Kind.TheVariants.{Arr, Dep}
 use Rattle.scr_reader.specs.declared.line.Code.TheVariants.{N}
 use Rattle.series_model.specs.declared.group.Group.TheVariants.{F}

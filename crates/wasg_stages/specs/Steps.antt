@@ -33,7 +33,8 @@ pub record AreLimits (d : Declaration) (stage : ℕ) (loads : List ℕ) (limits 
       slice_index_or limits r (pos 0)
       ≡ pos (share_at d.share stage (window_limit (capacity_of d) r - slice_index loads r))
   pub few : (r : ℕ) → r < n →
-      share_at d.share stage (window_limit (capacity_of d) r - slice_index loads r) ≤ HIGHEST_NIGHT_LIMIT
+      share_at d.share stage (window_limit (capacity_of d) r - slice_index loads r)
+      ≤ HIGHEST_NIGHT_LIMIT
 
 -- the unit first in line is added where it is one of the stage's
 abbrev pub AddsDue : Declaration → ℕ → UnitState → List ChooserView → List ChooserView → Type 0

@@ -11,7 +11,6 @@ use Rattle.cert_format.specs.Spelling.{is_tried}
 use Rattle.cert_format.specs.Printable.{IsPrintable}
 use Rattle.cert_format.specs.Proofs.{IsProof}
 use Rattle.series_model.specs.declared.unit.Unit.{Unit as SlotUnit}
-use Rattle.series_model.specs.declared.times.Times.{Times}
 use Rattle.series_model.specs.declared.state.UnitState.{UnitState}
 use Rattle.series_model.specs.Submissions.{SubmissionView}
 use Rattle.series_model.specs.Stages.{stage_units, stage_limit, times_named, states_after, may_follow}
@@ -41,9 +40,9 @@ AreStages d units earlier (c ∷ certs) =
     IsStageAs d units earlier c (is_tried c.mark)
     × AreStages d units (earlier ++ c.choice ∷ []) certs
 
--- a valid certificate of a submission: it has its form (one of the two versions, four stages, and in
--- version 2 a bound for each OPEN stage and a floor for each undone node), and each of its stages is
--- tried exactly where it may be, and then has a proof
+-- a valid certificate of a submission: it has its form (one of the two versions, four stages, and
+-- in version 2 a bound for each OPEN stage and a floor for each undone node), and each of its
+-- stages is tried exactly where it may be, and then has a proof
 pub record IsValid (s : SubmissionView) (c : Certificate) : Type 0 where
   pub form : IsPrintable c
   pub stages : AreStages s.declaration s.units [] c.stages

@@ -9,8 +9,7 @@ use Rattle.cert_checker.specs.declared.verdict.Reason.{Reason}
 use Rattle.cert_checker.specs.Tests.{node_tests, floors_after}
 use Rattle.cert_checker.specs.Parts.{IsPart, GoesOnBy, Leads}
 use Rattle.cert_format.specs.declared.cert.Floor.{Floor}
-use Rattle.cert_checker.specs.Kept.{AreKept}
-use Rattle.cert_checker.proofs.KeptLemmas.{kept-back}
+use Rattle.cert_checker.proofs.StateLemmas.{state-back}
 use Rattle.cert_checker.proofs.NodeLemmas.{nodes-done, nodes-next, nodes-refused, nodes-end}
 use Rattle.cert_checker.proofs.nodes.check_nodes.Goals as goal
 
@@ -21,14 +20,12 @@ pub loop-node-init : goal.loop-node-init
 loop-node-init c =
     let p = c.args.problem.now in
     let cert = c.args.cert.now in
-    let empty : c.new-changes.result.items ≡ [] = search rules in
     let walk_is : c.new-walk.result ≡ whole_of p ∷ [] = c.new-walk.ensures ∙ ap (λ (w : List (ℕ × ℕ)). w ∷ []) c.in_ok-whole.ensures.value in
     record {
       at = omega arith;
       ranges = subst (All (AreRanges p)) (sym c.new-walk.ensures)
           (All-cons (AreRanges p) c.in_ok-whole.whole [] c.in_ok-whole.ensures.there (All-nil (AreRanges p)));
-      kept = kept-back p cert.vectors c.new-walk.result c.in_ok-whole.whole [] c.new-changes.result.items c.in_ok-kept.kept.items c.new-walk.ensures
-          (subst (λ (xs : List ℕ). AreKept p cert.vectors c.in_ok-whole.whole xs c.in_ok-kept.kept.items) (sym empty) (c.in_ok-kept.ensures p c.in_ok-whole.whole));
+      state = state-back p cert.vectors c.new-walk.result [] (whole_of p) c.in_ok-state.state walk_is c.in_ok-state.ensures;
       leads = λ verdict next part.
           subst (λ (fs : List Floor). IsPart p cert c.args.line (node_tests (whole_of p ∷ []) cert.tree fs) verdict next) c.items-floors.ensures
           (subst (λ (w : List (List (ℕ × ℕ))). IsPart p cert c.args.line (node_tests w cert.tree c.items-floors.result.now) verdict next) walk_is part);
@@ -84,8 +81,8 @@ loop-node-preserved c =
     ap (λ (n : Node). floors_after n c.loop-node.floors.now) (sym node) ∙ sym c.floors_after-floors.ensures in
     record {
       at = omega (arith, c.loop-node.invariant.at);
-      ranges = c.in_ok-fault.ensures.ranges;
-      kept = c.in_ok-fault.ensures.kept;
+      ranges = c.in_ok-fault.ensures.ranges found;
+      state = c.in_ok-fault.ensures.state found;
       leads = subst (λ (fs : List Floor). Leads p cert (c.loop-node.at + 1) (node_tests c.check_node.new.walk (drop (i + 1) cert.tree) fs) c.args.line lines) floors
           (nodes-next p cert c.args.line c.loop-node.at i c.loop-node.walk c.check_node.new.walk cert.tree c.loop-node.floors.now lines no_node lt there_goes c.loop-node.invariant.leads);
     }

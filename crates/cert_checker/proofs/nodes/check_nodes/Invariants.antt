@@ -2,7 +2,7 @@ use Rattle.std.proofs.Common.{◌≡◌, ◌+◌, ◌∷◌, [], drop}
 use Rattle.std.specs.Prelude.{All}
 use Rattle.choice_problem.specs.Bounds.{AreRanges, whole_of}
 use Rattle.cert_checker.specs.Tests.{node_tests}
-use Rattle.cert_checker.specs.Kept.{AreKeptFirst}
+use Rattle.cert_checker.specs.States.{IsStateFirst}
 use Rattle.cert_checker.specs.Parts.{Leads}
 use Rattle.cert_checker.proofs.nodes.check_nodes.Given as goal
 
@@ -10,6 +10,6 @@ abbrev pub invariant-loop-node : goal.invariant-loop-node
 invariant-loop-node l = record {
   at : l.at ≡ l.line + l.node-index;
   ranges : All (AreRanges l.problem) l.walk;
-  kept : AreKeptFirst l.problem l.cert.vectors l.walk l.changes.items l.kept.items;
+  state : IsStateFirst l.problem l.cert.vectors l.walk l.state;
   leads : Leads l.problem l.cert l.at (node_tests l.walk (drop l.node-index l.cert.tree) l.floors) l.line (node_tests (whole_of l.problem ∷ []) l.cert.tree l.cert.floors);
 }

@@ -1,4 +1,4 @@
-use Rattle.std.proofs.Common.{rules, ◌≡◌, ◌+◌, ◌*◌, ◌<◌, ◌≤◌, ◌^◌, ℕ, length, List, ◌∷◌, [], ◌++◌, get_or, sym, ◌∙◌, ap, subst, arith}
+use Rattle.std.proofs.Common.{rules, ◌≡◌, ◌+◌, ◌<◌, ◌^◌, ℕ, length, List, ◌∷◌, [], ◌++◌, get_or, sym, ◌∙◌, ap, subst, arith}
 use Rattle.choice_problem.specs.declared.problems.Alt.{Alt}
 use Rattle.series_model.specs.declared.times.Times.{Times}
 use Rattle.series_model.specs.declared.times.Times.TheVariants.{Refused}

@@ -1,4 +1,4 @@
-use Rattle.std.proofs.Common.{◌≡◌, ℕ}
+use Rattle.std.proofs.Common.{◌≡◌}
 use Rattle.series_model.specs.Options.{options_of}
 use Rattle.wasg_stages.specs.Parts.{AreAlts, IsTable}
 use Rattle.wasg_stages.proofs.choosers.chooser_of.Given as goal

@@ -1,5 +1,5 @@
-use Rattle.std.proofs.Common.{◌≡◌, ◌+◌, ◌*◌, ◌<◌, ◌≤◌, ℕ, length, get_or, sym, ◌∙◌, arith, rules}
-use Rattle.capacity_windows.specs.Windows.{window_load, declared_resources}
+use Rattle.std.proofs.Common.{◌≡◌, ◌<◌, length, get_or, ◌∙◌, arith, rules}
+use Rattle.capacity_windows.specs.Windows.{window_load}
 use Rattle.series_model.specs.Stages.{movements_given}
 use Rattle.wasg_stages.proofs.LoadLemmas.{load-on}
 use Rattle.wasg_stages.proofs.limits.add_all.Goals as goal

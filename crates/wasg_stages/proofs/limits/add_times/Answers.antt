@@ -1,4 +1,4 @@
-use Rattle.std.proofs.Common.{◌≡◌, ◌+◌, ◌<◌, ◌≤◌, ℕ, length, slice_index, arith, rules}
+use Rattle.std.proofs.Common.{◌<◌, length, arith, rules}
 use Rattle.wasg_stages.proofs.LoadLemmas.{times-load}
 use Rattle.wasg_stages.proofs.limits.add_times.Goals as goal
 

@@ -1,6 +1,6 @@
-use Rattle.std.proofs.Common.{rules, ◌≡◌, ℕ, length, true, false}
+use Rattle.std.proofs.Common.{rules, ◌≡◌, length, false}
 use Rattle.series_model.specs.Stages.{is_due_state}
-use Rattle.wasg_stages.proofs.StepLemmas.{advances-skips, advances-ended, advances-due}
+use Rattle.wasg_stages.proofs.StepLemmas.{advances-skips, advances-ended}
 use Rattle.wasg_stages.proofs.states.advanced.Goals as goal
 
 pub returns-then-not-is_due-clause-after : goal.returns-then-not-is_due-clause-after

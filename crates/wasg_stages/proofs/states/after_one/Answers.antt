@@ -1,4 +1,4 @@
-use Rattle.std.proofs.Common.{◌≡◌, ℕ, List, Some, length, sym, ◌∙◌, ap, subst}
+use Rattle.std.proofs.Common.{◌≡◌, List, Some, length, sym, ◌∙◌, ap, subst}
 use Rattle.series_model.specs.declared.state.UnitState.{UnitState}
 use Rattle.series_model.specs.Stages.{after_stage}
 use Rattle.wasg_stages.specs.Steps.{AreFitting}

@@ -1,4 +1,4 @@
-use Rattle.std.proofs.Common.{◌≡◌, ◌++◌, ℕ, drop}
+use Rattle.std.proofs.Common.{◌≡◌, ◌++◌, drop}
 use Rattle.series_model.specs.Stages.{positions_from}
 use Rattle.wasg_stages.proofs.states.positions_of.Given as goal
 

@@ -1,9 +1,9 @@
-use Rattle.std.proofs.Common.{◌≡◌, ◌+◌, ◌<◌, ℕ, length, List, Option, None, get_or, sym, ◌∙◌, ap, subst, arith, rules}
+use Rattle.std.proofs.Common.{◌≡◌, ◌<◌, ℕ, length, List, Option, None, get_or, sym, ◌∙◌, ap, subst, arith, rules}
 use Rattle.series_model.specs.declared.state.UnitState.{UnitState}
 use Rattle.series_model.specs.Stages.{first_states, after_stage, after_stages}
 use Rattle.wasg_stages.specs.Steps.{AreFitting}
 use Rattle.wasg_stages.proofs.ChoiceLemmas.{at_default}
-use Rattle.wasg_stages.proofs.StepLemmas.{first_states-fit, first_states-length, after_stage-fit, after_stage-length, after_stages-on}
+use Rattle.wasg_stages.proofs.StepLemmas.{first_states-fit, first_states-length, after_stages-on}
 use Rattle.wasg_stages.proofs.states.states_after.Goals as goal
 
 pub loop-choice-init : goal.loop-choice-init

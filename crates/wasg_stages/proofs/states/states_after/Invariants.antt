@@ -1,4 +1,4 @@
-use Rattle.std.proofs.Common.{◌≡◌, ◌+◌, ℕ, drop, length}
+use Rattle.std.proofs.Common.{◌≡◌, ◌+◌, drop, length}
 use Rattle.series_model.specs.Stages.{first_states, after_stages}
 use Rattle.wasg_stages.specs.Steps.{AreFitting}
 use Rattle.wasg_stages.proofs.states.states_after.Given as goal

@@ -1,4 +1,4 @@
-use Rattle.std.proofs.Common.{◌≡◌, ℕ, ◌++◌, ◌≤◌, drop, length}
+use Rattle.std.proofs.Common.{◌≡◌, ◌++◌, ◌≤◌, drop, length}
 use Rattle.series_model.specs.Stages.{after_allotment, stage_times}
 use Rattle.wasg_stages.proofs.states.with_choice.Given as goal
 

@@ -1,0 +1,32 @@
+use Rattle.std.proofs.Common.{rules, ◌≡◌, ◌-◌, ◌<◌, ◌∙◌, ℕ, List, [], length, drop, refl, sym, ap, subst}
+use Rattle.std.specs.Prelude.{All, IsTrue, take}
+use Rattle.std.specs.List.{Contains}
+use Rattle.cert_checker.proofs.StateLemmas.{step-there, step-more, take-rest}
+use Rattle.cert_checker.proofs.states.go_on.Goals as goal
+
+pub mark_all-requires : goal.mark_all-requires
+mark_all-requires c =
+    let s = c.args.state.now in
+    let yes : IsTrue c.in_ok-goes_on.goes_on = search rules in
+    let on : c.advance.new.self ≡ [] → ⊥ = search rules in
+    let there = step-there c.args.problem.now c.args.vectors.now c.args.walk.now c.advance.new.self s c.advance.new.changed.items c.requires.some c.requires.ranges c.requires.state on (c.in_ok-goes_on.ensures.changed yes) in
+    let count : c.len-before.result ≡ length s.changes.items = search rules in
+    let same : take (length c.deref.result.now - c.len-before.result) (drop c.len-before.result c.deref.result.now) ≡ drop (length s.changes.items) c.advance.new.changed.items =
+    take-rest c.deref.result.now c.len-before.result
+    ∙ ap (λ (n : ℕ). drop n c.deref.result.now) count
+    ∙ ap (λ (xs : List ℕ). drop (length s.changes.items) xs) c.deref.ensures.value in
+    subst (λ (xs : List ℕ). All (λ u. u < s.loads.changed.most) xs) (sym same) there
+
+pub returns-in_ok-mark_all-clause-state : goal.returns-in_ok-mark_all-clause-state
+returns-in_ok-mark_all-clause-state c = λ yes.
+    let s = c.args.state.now in
+    let on : c.advance.new.self ≡ [] → ⊥ = search rules in
+    let count : c.len-before.result ≡ length s.changes.items = search rules in
+    let same : take (length c.deref.result.now - c.len-before.result) (drop c.len-before.result c.deref.result.now) ≡ drop (length s.changes.items) c.advance.new.changed.items =
+    take-rest c.deref.result.now c.len-before.result
+    ∙ ap (λ (n : ℕ). drop n c.deref.result.now) count
+    ∙ ap (λ (xs : List ℕ). drop (length s.changes.items) xs) c.deref.ensures.value in
+    step-more c.args.problem.now c.args.vectors.now c.args.walk.now c.advance.new.self s
+    (record { bounds = s.bounds; loads = record { whole = s.loads.whole; changed = c.mark_all.new.marked; known = s.loads.known }; changes = c.advance.new.changed })
+    c.requires.some c.requires.ranges c.requires.state on (c.in_ok-goes_on.ensures.changed yes) refl refl refl c.mark_all.ensures.most
+    (λ u h. c.in_ok-mark_all.ensures.all u (subst (λ (xs : List ℕ). Contains xs u) (sym same) h)) c.mark_all.ensures.stay

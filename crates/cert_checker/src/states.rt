@@ -1,0 +1,92 @@
+//! What is kept from node to node of a tree.
+
+ghost use Rattle.std.specs.Prelude.{◌≡◌, ◌↔◌, ◌<◌, ◌∷◌, [], All, IsTrue, IfOk, length};
+ghost use Rattle.choice_problem.specs.Bounds.{AreRanges, IsVector, whole_of};
+ghost use Rattle.choice_problem.specs.Trees.{LeafHolds};
+ghost use Rattle.choice_problem.specs.Walks.{CanStep, IsStep};
+ghost use Rattle.cert_checker.specs.States.{IsState, IsStateFirst};
+
+use crate::kept::{KeptBound, Named, empty_kept, renewed};
+use crate::loads::{Loads, first_loads};
+use crate::marked::mark_all;
+use choice_problem::{Node, Problem, RangeWalk, Ranges, SCALE_BOUND, VectorList};
+use slot_text::Memory;
+use std::alloc::Global;
+
+// Bounds of vectors and least loads of resources at the ranges of a node, and the units whose
+// ranges changed on the way to it.
+#[derive(Drop)]
+pub(crate) struct State {
+    pub(crate) bounds: Vec<Option<KeptBound>>,
+    pub(crate) loads: Loads,
+    pub(crate) changes: Vec<u32>,
+}
+
+/// The state at the root.
+pub(crate) fn first_state(
+    alloc: Global,
+    problem: &Problem,
+    vectors: &VectorList,
+) -> Result<State, Memory>
+    ensures { IfOk result
+        (λ state. IsState problem.now vectors.now (whole_of problem.now) state) }
+{
+    Ok(State {
+        bounds: empty_kept(alloc, vectors)?,
+        loads: first_loads(alloc, problem)?,
+        changes: Vec::new(alloc),
+    })
+}
+
+/// Whether the bound that a node names closes its ranges for a cost, or for none.
+pub(crate) fn leaf_holds(
+    alloc: Global,
+    problem: &Problem,
+    vectors: &VectorList,
+    state: &mut State,
+    cost: Option<u64>,
+    ranges: &Ranges,
+    named: Named,
+) -> Result<bool, Memory>
+    requires ranges { AreRanges problem.now ranges.now }
+    requires vectors { All (IsVector problem.now) vectors.now }
+    requires state { IsState problem.now vectors.now ranges.now state.old }
+    ensures state { IfOk result (λ holds. IsState problem.now vectors.now ranges.now state.new) }
+    ensures holds { IfOk result
+        (λ holds. IsTrue holds
+        ↔ LeafHolds problem.now vectors.now cost ranges.now named.vector named.scale) }
+{
+    if named.vector as usize > vectors.items().len() || named.scale >= SCALE_BOUND {
+        return Ok(false);
+    }
+    let old = state.bounds[named.vector as usize].take();
+    let bound = renewed(alloc, problem, vectors, old, ranges, &state.changes, named)?;
+    let holds = bound.totals.closes(cost);
+    state.bounds[named.vector as usize] = Some(bound);
+    Ok(holds)
+}
+
+/// Goes on by a node, where it may stand.
+pub(crate) fn go_on(
+    problem: &Problem,
+    vectors: &VectorList,
+    walk: &mut RangeWalk,
+    node: Node,
+    state: &mut State,
+) -> Result<bool, Memory>
+    requires some { 0 < length walk.old }
+    requires ranges { All (AreRanges problem.now) walk.old }
+    requires state { IsStateFirst problem.now vectors.now walk.old state.old }
+    ensures step { IfOk result (λ yes. IsTrue yes → IsStep walk.old node walk.new) }
+    ensures stop { IfOk result (λ yes. CanStep walk.old node → IsTrue yes) }
+    ensures ranges { IfOk result (λ yes. All (AreRanges problem.now) walk.new) }
+    ensures state { IfOk result
+        (λ yes. IsTrue yes → IsStateFirst problem.now vectors.now walk.new state.new) }
+{
+    let before = state.changes.len();
+    let goes_on = walk.advance(node, &mut state.changes)?;
+    if goes_on && !walk.is_done() {
+        mark_all(&mut state.loads.changed, &state.changes[before..])?;
+    }
+    Ok(goes_on)
+}

@@ -1,0 +1,241 @@
+//! How fast certificates are checked.
+
+ghost use Rattle.std.specs.Prelude.{IfOk};
+ghost use Rattle.cert_format.specs.Printable.{IsPrintable};
+
+use crate::report::{Size, step};
+use crate::units::read as read_season;
+use cert_checker::{Verdict, check};
+use cert_format::{CertFault, Certificate, LONGEST_CERT, read_cert};
+use series_model::Submission;
+use slot_text::{Memory, put_number, put_padded};
+use std::alloc::Global;
+use std::time::Instant;
+
+// What the leaves of the last stage's tree are.
+#[derive(Clone, Copy, Debug, PartialEq, Eq)]
+enum Leaves {
+    // Each turnaround gets its requested times; half of the leaves name a vector with a price.
+    Served,
+    // A window of a whole day is too small for all turnarounds.
+    Over,
+}
+
+// A season and its certificate.
+#[derive(Clone, Copy, Debug, PartialEq, Eq)]
+struct Case {
+    leaves: Leaves,
+    units: u32,
+    // How many leaves the tree of the last stage has.
+    count: u64,
+    // How many vectors are listed beside those that leaves name, and how many prices each has.
+    vectors: u64,
+    prices: u64,
+}
+
+/// Checks the certificate of a season of daily turnarounds: of many that all get their requested
+/// times, with one leaf a stage; and of fewer with large trees, once with leaves by bounds and once
+/// by a window that is too small. At full size also one of 512 MiB with a million nodes. Prints the
+/// verdicts, and how long the texts are.
+pub fn run(rt: &HostRuntime, alloc: Global, size: Size) -> anyhow::Result<()> {
+    let (many, few, count) = match size {
+        Size::Short => (10, 5, 10),
+        Size::Full => (500, 50, 50_000),
+    };
+    one_case(rt, alloc, size, case_of(Leaves::Served, many, 1))?;
+    one_case(rt, alloc, size, case_of(Leaves::Served, few, count))?;
+    one_case(rt, alloc, size, case_of(Leaves::Over, few, count))?;
+    if size == Size::Full {
+        let long = Case {
+            vectors: 63,
+            prices: 370_000,
+            ..case_of(Leaves::Served, few, 500_000)
+        };
+        one_case(rt, alloc, size, long)?;
+    }
+    Ok(())
+}
+
+fn case_of(leaves: Leaves, units: u32, count: u64) -> Case {
+    Case {
+        leaves,
+        units,
+        count,
+        vectors: 0,
+        prices: 0,
+    }
+}
+
+fn one_case(rt: &HostRuntime, alloc: Global, size: Size, case: Case) -> anyhow::Result<()> {
+    let capacity = capacity_text(alloc, case)?;
+    let requests = request_text(alloc, case.units)?;
+    let submission = read_season(alloc, &capacity, &requests)?.ok_or(Memory)?;
+    let text = text_of(alloc, case)?;
+    let start = Instant::now(rt)?;
+    let Ok(cert) = read(alloc, &text) else {
+        println!(rt; "checks: not read")?;
+        return Ok(());
+    };
+    step(rt, size, "reading", start)?;
+    let start = Instant::now(rt)?;
+    let verdict = check(alloc, &submission, &cert)?;
+    step(rt, size, "checking", start)?;
+    print_verdict(rt, case, text.len(), verdict)
+}
+
+fn print_verdict(
+    rt: &HostRuntime,
+    case: Case,
+    bytes: usize,
+    verdict: Verdict,
+) -> anyhow::Result<()> {
+    let (units, count) = (case.units, case.count);
+    match verdict {
+        Verdict::Yes => {
+            println!(rt; "checks: {units} units, {count} leaves, {bytes} bytes, valid")?;
+        }
+        Verdict::No { line, .. } => {
+            println!(rt;
+                "checks: {units} units, {count} leaves, {bytes} bytes, line {line} fails"
+            )?;
+        }
+    }
+    Ok(())
+}
+
+// What was read can be checked.
+fn read(alloc: Global, text: &[u8]) -> Result<Certificate, CertFault>
+    ensures { IfOk result (λ cert. IsPrintable cert) }
+{
+    if text.len() > LONGEST_CERT {
+        return Err(CertFault::Memory);
+    }
+    read_cert(alloc, text)
+}
+
+// Windows of an hour each five minutes that hold all turnarounds, or one window a day that does
+// not hold two movements of each.
+fn capacity_text(alloc: Global, case: Case) -> Result<Vec<u8>, Memory> {
+    let mut text = Vec::new(alloc);
+    text.extend_from_slice(b"AIRPORT ABC\nSEASON S25\nSTEP 5\nFLEX 60\nGROUND 0\nREFUSE NONE\n")?;
+    match case.leaves {
+        Leaves::Served => {
+            for _ in 0..16 {
+                text.extend_from_slice(b"CAP TOT 60 0000 2355 1234567 999\n")?;
+            }
+        }
+        Leaves::Over => text.extend_from_slice(b"CAP TOT 1440 0000 0000 1234567 2\n")?,
+    }
+    Ok(text)
+}
+
+// A message of new daily turnarounds of two hours, spread over the day.
+fn request_text(alloc: Global, units: u32) -> Result<Vec<u8>, Memory> {
+    let mut text = Vec::new(alloc);
+    text.extend_from_slice(b"SCR\nS25\n20NOV\nABC\n")?;
+    for number in 0..units {
+        put_request(alloc, &mut text, u64::from(number))?;
+    }
+    Ok(text)
+}
+
+fn put_request(alloc: Global, text: &mut Vec<u8>, number: u64) -> Result<(), Memory> {
+    let hour = 4 + number % 15;
+    let minute = 5 * (number % 12);
+    text.extend_from_slice(b"NBA")?;
+    put_padded(alloc, text, number % 10_000, 4)?;
+    text.extend_from_slice(b" BA")?;
+    put_padded(alloc, text, number % 10_000, 4)?;
+    text.extend_from_slice(b" 30MAR25OCT 1234567 180320 JFK")?;
+    put_padded(alloc, text, hour * 100 + minute, 4)?;
+    text.extend_from_slice(b" ")?;
+    put_padded(alloc, text, (hour + 2) * 100 + minute, 4)?;
+    text.extend_from_slice(b"JFK JJ\n")?;
+    Ok(())
+}
+
+// The certificate of a case: nobody stands in the first three stages.
+fn text_of(alloc: Global, case: Case) -> Result<Vec<u8>, Memory> {
+    let mut out = Vec::new(alloc);
+    out.extend_from_slice(b"CERT 1\n")?;
+    for stage in 1..4 {
+        put_line(alloc, &mut out, b"STAGE", &[stage])?;
+        out.pop();
+        out.extend_from_slice(b" OPTIMAL\nCHOICES 0\nCOST 0\nVECTORS 0\nTREE 1\nL 0 1 0\n")?;
+    }
+    match case.leaves {
+        Leaves::Served => put_served(alloc, &mut out, case)?,
+        Leaves::Over => {
+            out.extend_from_slice(b"STAGE 4 INFEASIBLE\nCHOICES NONE\nVECTORS 0\n")?;
+        }
+    }
+    put_tree(alloc, &mut out, case)?;
+    out.extend_from_slice(b"END\n")?;
+    Ok(out)
+}
+
+// Each turnaround has 25 times for each of its movements; the requested ones are alternative 312.
+fn put_served(alloc: Global, out: &mut Vec<u8>, case: Case) -> Result<(), Memory> {
+    out.extend_from_slice(b"STAGE 4 OPTIMAL\n")?;
+    put_line(alloc, out, b"CHOICES", &[u64::from(case.units)])?;
+    for unit in 0..case.units {
+        put_line(alloc, out, b"C", &[u64::from(unit), 312])?;
+    }
+    out.extend_from_slice(b"COST 0\n")?;
+    put_line(alloc, out, b"VECTORS", &[case.vectors.saturating_add(1)])?;
+    out.extend_from_slice(b"VECTOR 1\nP 0 1\n")?;
+    for _ in 0..case.vectors {
+        put_vector(alloc, out, case.prices)?;
+    }
+    Ok(())
+}
+
+fn put_vector(alloc: Global, out: &mut Vec<u8>, prices: u64) -> Result<(), Memory> {
+    put_line(alloc, out, b"VECTOR", &[prices])?;
+    for resource in 0..prices {
+        put_line(alloc, out, b"P", &[resource, 1_099_511_627_775])?;
+    }
+    Ok(())
+}
+
+// A tree of so many leaves: half of them on either side of each split, and one unit at each depth.
+fn put_tree(alloc: Global, out: &mut Vec<u8>, case: Case) -> Result<(), Memory> {
+    put_line(
+        alloc,
+        out,
+        b"TREE",
+        &[case.count.saturating_mul(2).saturating_sub(1)],
+    )?;
+    let mut pending = vec![in alloc; (case.count, 0_u64)]?;
+    while let Some((leaves, depth)) = pending.pop() {
+        if leaves > 1 {
+            put_line(alloc, out, b"S", &[depth, 312])?;
+            out.pop();
+            out.extend_from_slice(b" -\n")?;
+            pending.push((leaves - leaves / 2, depth.saturating_add(1)))?;
+            pending.push((leaves / 2, depth.saturating_add(1)))?;
+        } else {
+            put_leaf(out, case.leaves, depth)?;
+        }
+    }
+    Ok(())
+}
+
+fn put_leaf(out: &mut Vec<u8>, leaves: Leaves, depth: u64) -> Result<(), Memory> {
+    match leaves {
+        Leaves::Served if depth % 2 == 0 => out.extend_from_slice(b"L 0 1 0\n")?,
+        Leaves::Served => out.extend_from_slice(b"L 1 1024 0\n")?,
+        Leaves::Over => out.extend_from_slice(b"O 0\n")?,
+    }
+    Ok(())
+}
+
+fn put_line(alloc: Global, out: &mut Vec<u8>, tag: &[u8], numbers: &[u64]) -> Result<(), Memory> {
+    out.extend_from_slice(tag)?;
+    for number in numbers {
+        out.push(b' ')?;
+        put_number(alloc, out, *number)?;
+    }
+    out.push(b'\n')?;
+    Ok(())
+}

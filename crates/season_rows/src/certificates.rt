@@ -1,0 +1,399 @@
+//! The text of the certificate of one series and one new request that share a window, and what
+//! damages it.
+
+ghost use Rattle.std.specs.Prelude.{◌≤◌, length};
+ghost use Rattle.cert_format.specs.declared.cert.TheConstants.{LONGEST_CERT};
+
+use crate::lines::{Row, read_row, with_row};
+use cert_format::{CertFault, LONGEST_CERT, print_cert, print_extra, read_cert, read_extra};
+use std::alloc::Global;
+use std::test::Fail;
+
+// One stage 1 series at 06:10; one new request at 06:30, which 07:00 serves at a displacement of 30
+// minutes.
+pub const TEXT: &str = "\
+CERT 1
+STAGE 1 OPTIMAL
+CHOICES 1
+C 0 0
+COST 0
+VECTORS 0
+TREE 1
+L 0 1 0
+STAGE 2 OPTIMAL
+CHOICES 0
+COST 0
+VECTORS 0
+TREE 1
+L 0 1 0
+STAGE 3 OPTIMAL
+CHOICES 0
+COST 0
+VECTORS 0
+TREE 1
+L 0 1 0
+STAGE 4 OPTIMAL
+CHOICES 1
+C 0 18
+COST 30
+VECTORS 1
+VECTOR 1
+P 0 32768
+TREE 1
+L 1 1024 30
+END
+";
+
+// Every kind of line: an infeasible stage, stages that were not tried, and an open one with its
+// bound and floors.
+const OPEN: &str = "\
+CERT 2
+STAGE 1 OPEN
+CHOICES 3
+C 0 4
+C 1 0
+C 2 24
+COST 40
+BOUND 30
+VECTORS 2
+VECTOR 3
+P 0 10240
+P 210 10240
+P 420 10240
+VECTOR 1
+P 7 -5
+TREE 5
+S 0 13 -
+U 1 1024
+S 1 2 40
+U 0 1
+L 2 1 40
+STAGE 2 INFEASIBLE
+CHOICES NONE
+VECTORS 0
+TREE 1
+O 6
+STAGE 3 NOT TRIED
+STAGE 4 NOT TRIED
+END
+";
+
+const EXTRA: &str = "\
+EXTRA 1
+STAGE 5 OPEN
+CHOICES NONE
+BOUND 0
+VECTORS 0
+TREE 1
+U 0 1
+END
+";
+
+// What the reader says where lines of the example stand for others: the bad line, or `-` where the
+// text is read, and is then printed as it was.
+const TEXT_ROWS: &str = "\
+1|1 1 CERT 0
+-|1 1 CERT 2
+1|1 1 CERT 3
+1|1 1 CERT 01
+1|1 1 CERT
+1|1 1 CERT 1\x20
+1|1 1 CERT 1\r
+1|1 1 EXTRA 1
+2|2 2 STAGE 2 OPTIMAL
+-|2 2 STAGE 1 OPEN
+2|2 2 STAGE 1 optimal
+3|2 2 STAGE 1 NOT TRIED
+22|21 21 STAGE 4 NOT TRIED
+21|21 21 STAGE 4 OPTIMAL\r
+23|22 22 CHOICES NONE
+22|22 22 CHOICES  1
+22|22 22 CHOICES 01
+24|22 22 CHOICES 4294967295
+22|22 22 CHOICES 4294967296
+23|23 23 C 1 18
+23|23 23 C 00 18
+-|23 23 C 0 25
+23|23 23 C 0 -1
+-|23 23 C 0 4294967295
+23|23 23 C 0 4294967296
+24|24 24 COST  30
+24|24 24 COST 30\x20
+24|24 24 \x20COST 30
+24|24 24 COST\t30
+24|24 24 COST +30
+24|24 24 COST -30
+24|24 24 COST 030
+24|24 24 COST -
+-|24 24 COST 18446744073709551615
+24|24 24 COST 18446744073709551616
+25|24 24 COST 30/BOUND 30
+24|24 24 BOUND 30
+28|25 25 VECTORS 64
+25|25 25 VECTORS 65
+26|25 25 VECTORS 0
+28|26 26 VECTOR 4294967295
+26|26 26 VECTOR 4294967296
+-|27 27 P 4294967295 1
+27|27 27 P 4294967296 1
+-|27 27 P 0 -9223372036854775808
+27|27 27 P 0 -9223372036854775809
+-|27 27 P 0 9223372036854775807
+27|27 27 P 0 9223372036854775808
+-|27 27 P 0 0
+27|27 27 P 0 -0
+27|27 27 P 0 -01
+27|27 27 P 0 --1
+27|27 27 P 0 +1
+27|27 27 P 0 -
+30|28 28 TREE 4294967295
+28|28 28 TREE 4294967296
+29|28 28 TREE 0
+29|28 28 TREE 1/
+30|28 28 TREE 0/END
+29|29 29
+29|29 29 l 1 1024 30
+29|29 29 L 1 1024
+29|29 29 L 1 1024 30 30
+-|29 29 L 1 18446744073709551615 30
+29|29 29 L 1 18446744073709551616 30
+-|29 29 L 2 1024 30
+-|29 29 L 2 1024 -
+29|29 29 L 4294967296 1024 30
+29|29 29 L 1 1024 -1
+29|29 29 L 1 1024 18446744073709551616
+-|29 29 S 4294967295 4294967295 0
+29|29 29 S 4294967296 0 -
+29|29 29 S 0 4294967296 -
+-|29 29 O 4294967295
+29|29 29 O 4294967296
+29|29 29 U 1 1024
+-|29 29 U
+30|30 30 END\x20
+30|30 30 END\r
+31|30 30 END/
+31|30 30 END/END";
+
+const OPEN_ROWS: &str = "\
+8|1 1 CERT 1
+8|2 2 STAGE 1 OPTIMAL
+-|7 7 COST 18446744073709551615
+-|8 8 BOUND 18446744073709551615
+8|8 8 BOUND 18446744073709551616
+8|8 8 BOUND 030
+8|8 8 BOUND -
+9|8 8 BOUND 30/BOUND 30
+8|8 8 VECTORS 2
+18|18 18 U
+18|18 18 U 1
+18|18 18 U 1 1024 -
+18|18 18 U 01 1024
+-|18 18 U 4294967295 18446744073709551615
+18|18 18 U 4294967296 1
+18|18 18 U 1 18446744073709551616
+24|23 23 CHOICES NONE/COST 0
+24|23 23 CHOICES NONE/BOUND 0
+27|27 27 STAGE 3 NOT  TRIED
+27|27 27 STAGE 3 NOT TRIED TRIED
+28|28 28 STAGE 3 NOT TRIED";
+
+const EXTRA_ROWS: &str = "\
+1|1 1 EXTRA 2
+1|1 1 EXTRA 01
+1|1 1 CERT 2
+1|1 1 EXTRA 1\r
+2|2 2 STAGE 4 OPEN
+2|2 2 STAGE 5 NOT TRIED
+4|2 2 STAGE 5 INFEASIBLE
+4|3 3 CHOICES 0
+4|3 3 CHOICES NONE/COST 0
+4|4 4 VECTORS 0
+4|4 4 BOUND 18446744073709551616
+8|6 6 TREE 4294967295
+7|7 7 U
+7|7 7 U 0 1\x20
+9|8 8 END/END
+8|8 8 STAGE 5 OPEN";
+
+// Where a byte of the example is replaced, its own line is bad. But not for these bytes at a line
+// and a column, the first of them 0: another number, mark of a node or `-`, and a count or an LF
+// (the stroke) that makes a later line bad.
+const BYTE_ROWS: &str = "\
+-|1 5 2
+4|3 8 0
+5|3 8 23456789
+-|4 4 123456789
+-|5 5 123456789
+7|6 8 123456789
+8|7 5 0
+9|7 5 23456789
+-|8 0 S
+-|8 2 123456789
+-|8 4 023456789
+-|8 6 -123456789
+11|10 8 123456789
+-|11 5 123456789
+13|12 8 123456789
+14|13 5 0
+15|13 5 23456789
+-|14 0 S
+-|14 2 123456789
+-|14 4 023456789
+-|14 6 -123456789
+17|16 8 123456789
+-|17 5 123456789
+19|18 8 123456789
+20|19 5 0
+21|19 5 23456789
+-|20 0 S
+-|20 2 123456789
+-|20 4 023456789
+-|20 6 -123456789
+23|22 8 0
+24|22 8 23456789
+-|23 4 23456789
+-|23 5 012345679
+24|23 5 /
+-|24 5 12456789
+-|24 6 123456789
+25|24 6 /
+26|25 8 0
+28|25 8 23456789
+27|26 7 0
+28|26 7 23456789
+-|27 2 123456789
+-|27 4 -12456789
+-|27 5 013456789
+28|27 5 /
+-|27 6 012345689
+28|27 6 /
+-|27 7 012345789
+28|27 7 /
+-|27 8 012345679
+28|27 8 /
+29|28 5 0
+30|28 5 23456789
+-|29 0 S
+-|29 2 023456789
+-|29 4 23456789
+-|29 5 123456789
+-|29 6 013456789
+-|29 7 012356789
+-|29 9 12456789
+-|29 10 123456789
+30|29 10 /";
+
+#[test]
+fn one_changed_line_is_bad_or_is_read(rt: HostRuntime) -> Result<(), Fail> {
+    for (text, rows, is_extra) in [
+        (TEXT, TEXT_ROWS, false),
+        (OPEN, OPEN_ROWS, false),
+        (EXTRA, EXTRA_ROWS, true),
+    ] {
+        for line in rows.split('\n') {
+            let row = read_row(line)?;
+            let changed = with_row(rt.alloc(), text, &row)?;
+            let bad = bad_line(rt.alloc(), changed.as_bytes(), is_extra)?;
+            assert_eq!(rt; bad, number(row.wanted), "{line}");
+        }
+    }
+    Ok(())
+}
+
+// The number of a line; 0 for `-`.
+fn number(text: &str) -> u32 {
+    text.parse().unwrap_or(0)
+}
+
+// The bad line of a text; 0 where it is read, and is then printed as it was.
+fn bad_line(alloc: Global, text: &[u8], is_extra: bool) -> Result<u32, Fail> {
+    if text.len() > LONGEST_CERT {
+        return Err("too long".into());
+    }
+    let printed = if is_extra {
+        printed_extra(alloc, text)
+    } else {
+        printed_cert(alloc, text)
+    };
+    match printed {
+        Ok(printed) if printed.as_slice() == text => Ok(0),
+        Ok(_) => Err("another text".into()),
+        Err(CertFault::BadLine { line }) => Ok(line),
+        Err(CertFault::Memory) => Err("memory".into()),
+    }
+}
+
+fn printed_cert(alloc: Global, text: &[u8]) -> Result<Vec<u8>, CertFault>
+    requires { length text.now ≤ LONGEST_CERT }
+{
+    let cert = read_cert(alloc, text)?;
+    let printed = print_cert(alloc, &cert)?;
+    Ok(printed)
+}
+
+fn printed_extra(alloc: Global, text: &[u8]) -> Result<Vec<u8>, CertFault>
+    requires { length text.now ≤ LONGEST_CERT }
+{
+    let stage = read_extra(alloc, text)?;
+    let printed = print_extra(alloc, &stage)?;
+    Ok(printed)
+}
+
+#[test]
+fn every_byte_replaced_is_bad_or_read(rt: HostRuntime) -> Result<(), Fail> {
+    let text = TEXT.as_bytes();
+    let (mut line, mut column) = (1_u32, 0_u32);
+    for (at, old) in text.iter().enumerate() {
+        let rows = rows_at(rt.alloc(), line, column)?;
+        for byte in 0..=255_u8 {
+            if byte != *old {
+                let changed = replaced(rt.alloc(), at, byte)?;
+                let bad = bad_line(rt.alloc(), &changed, false)?;
+                let wanted = wanted_line(&rows, line, byte);
+                assert_eq!(rt; bad, wanted, "byte {byte} at {line} {column}");
+            }
+        }
+        column = column.wrapping_add(1);
+        if *old == b'\n' {
+            line = line.wrapping_add(1);
+            column = 0;
+        }
+    }
+    Ok(())
+}
+
+// The rows for a line and a column.
+fn rows_at(alloc: Global, line: u32, column: u32) -> Result<Vec<Row<'static>>, Fail> {
+    let mut rows = Vec::new(alloc);
+    for text in BYTE_ROWS.split('\n') {
+        let row = read_row(text)?;
+        if row.from == line && row.to == column {
+            rows.push(row)?;
+        }
+    }
+    Ok(rows)
+}
+
+// The example with this byte at this place.
+fn replaced(alloc: Global, place: usize, byte: u8) -> Result<Vec<u8>, Fail> {
+    let mut text = Vec::from_slice(alloc, TEXT.as_bytes())?;
+    if place < text.len() {
+        text[place] = byte;
+    }
+    Ok(text)
+}
+
+// The line that is bad where the byte stands in the line that has these rows.
+fn wanted_line(rows: &[Row<'_>], line: u32, byte: u8) -> u32 {
+    let byte = match byte {
+        b'\n' => b'/',
+        b'/' => return line,
+        other => other,
+    };
+    for row in rows {
+        if row.lines.as_bytes().contains(&byte) {
+            return number(row.wanted);
+        }
+    }
+    line
+}
