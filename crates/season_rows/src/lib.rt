@@ -1,11 +1,13 @@
 //! Tests of a season's crates, as tables of worked seasons: windows, units and stages, certificates
-//! as text, and their checks.
+//! as text, their checks, and replies.
 #![tactic(auto)]
 
 #[cfg(test)]
 mod certificates;
 #[cfg(test)]
 mod lines;
+#[cfg(test)]
+mod replies;
 #[cfg(test)]
 mod seasons;
 #[cfg(test)]

@@ -45,7 +45,7 @@ pub fn made(
 // The text of messages, with a header where they have none.
 fn whole(alloc: Global, season: &str, messages: &str) -> Result<String, Fail> {
     let text = lines(alloc, messages)?;
-    if messages.starts_with("SCR;") {
+    if messages.starts_with("SCR") {
         return Ok(text);
     }
     Ok(format!(in alloc; "SCR\n{season}\n20NOV\nABC\n{text}")?)

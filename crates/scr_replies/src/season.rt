@@ -1,0 +1,116 @@
+//! The replies to a season's messages.
+
+ghost use Rattle.std.specs.Prelude.{◌≡◌, ◌≤◌, ◌++◌, ◌∷◌, [], All, IfOk, OnOk, length, take, is_some};
+ghost use Rattle.std.specs.List.{filter_map, flat_map};
+ghost use Rattle.cert_format.specs.Printable.{IsPrintable};
+ghost use Rattle.scr_reader.specs.Messages.{header_of};
+ghost use Rattle.series_model.specs.Units.{placed_unit, message_units, units_of};
+ghost use Rattle.scr_replies.specs.Answers.{message_reply};
+ghost use Rattle.scr_replies.specs.SeasonReplies.{unit_answer, replies_from, replies_text, IsAnswerable};
+
+use crate::given::put_units;
+use crate::states::final_states;
+use cert_format::Certificate;
+use scr_reader::{Code, Item, Message, Placed, print_header};
+use season_days::Season;
+use series_model::{Submission, UnitState};
+use slot_text::Memory;
+use std::alloc::Global;
+
+/// The replies to all messages of a submission, in their order, by the choices of a certificate: of
+/// each message the header, and the answers to its items.
+///
+/// The requested times give `K`. Other times give `U` with the request, and `O` with the line at
+/// these times, or, where they are those of the historic line of a pair, `H` with that line. A unit
+/// without slots gives `U` alone. The number of a choice that names no alternative counts as a
+/// refusal; a valid certificate has no such number.
+///
+/// Beside the text, memory is taken for what each unit was given, and for one line at a time. The
+/// time is that of `wasg_stages::after_stage` for each stage, and one step for each item and byte.
+pub fn season_replies(
+    alloc: Global,
+    submission: &Submission,
+    cert: &Certificate,
+) -> Result<Vec<u8>, Memory>
+    requires { IsPrintable cert.now }
+    ensures { IfOk result (λ text. text.items ≡ replies_text submission.now cert.now) }
+{
+    let states = final_states(alloc, submission, cert)?;
+    let units = submission.units().len();
+    prove!(states.len() == units);
+    let season = &submission.declaration().season;
+    let mut out = Vec::new(alloc);
+    put_replies(
+        alloc,
+        &mut out,
+        season,
+        submission.messages().items(),
+        &states,
+    )?;
+    Ok(out)
+}
+
+// Appends the replies to messages that have these units.
+fn put_replies(
+    alloc: Global,
+    out: &mut Vec<u8>,
+    season: &Season,
+    messages: &[Message],
+    states: &[UnitState],
+) -> Result<(), Memory>
+    requires answerable { All (IsAnswerable season.now) states.now }
+    requires count { length states.now ≡ length (units_of messages.now) }
+    ensures { OnOk result (out.new.items
+        ≡ out.old.items ++ replies_from season.now messages.now states.now) }
+{
+    let mut next = 0;
+    for message in messages {
+        let count = unit_count(message.items.items());
+        put_reply(alloc, out, season, message, &states[next..next + count])?;
+        next += count;
+    }
+    Ok(())
+}
+
+// Appends the reply to a message that has these units.
+fn put_reply(
+    alloc: Global,
+    out: &mut Vec<u8>,
+    season: &Season,
+    message: &Message,
+    states: &[UnitState],
+) -> Result<(), Memory>
+    requires { All (IsAnswerable season.now) states.now }
+    ensures { OnOk result (out.new.items
+        ≡ out.old.items
+        ++ message_reply (header_of message.now) (flat_map (unit_answer season.now) states.now)) }
+{
+    print_header(alloc, out, &message.header())?;
+    put_units(alloc, out, season, states)?;
+    out.push(b'\n')?;
+    Ok(())
+}
+
+// How many units items make.
+fn unit_count(items: &[Placed]) -> usize
+    ensures { result ≡ length (filter_map placed_unit items.now) }
+{
+    let mut count = 0;
+    for placed in items {
+        if makes_unit(placed) {
+            count += 1;
+        }
+    }
+    count
+}
+
+// Whether an item makes a unit.
+fn makes_unit(placed: &Placed) -> bool
+    ensures { result ≡ is_some (placed_unit placed.now) }
+{
+    match placed.item {
+        Item::One(line) => matches!(line.code, Code::F | Code::B | Code::N),
+        Item::Pair(_, _) => true,
+        Item::Query(_) => false,
+    }
+}

@@ -1,0 +1,124 @@
+//! The replies to the messages of worked seasons, byte for byte. The season S25 has 210 dates.
+
+use crate::seasons::{lines, numbers, submission};
+use cert_format::{Certificate, read_cert};
+use scr_replies::season_replies;
+use std::alloc::Global;
+use std::test::Fail;
+
+// Rows: the lines of a capacity file below the ground time; those of a message below its header, or
+// a whole text; the choices of the four stages; and the lines of the reply between header and empty
+// line, or a whole text. Semicolons stand between lines, and between stages.
+//
+// A historic series has its times; of two in one window neither has any. A request in a window that
+// is used has 0700, which is number 18 of those from 0530 to 0730; where the stage has no allotment,
+// or a refusal costs less, none. A turnaround from 0630 to 0715 has 0555 and 0715: of 0530 and 0535
+// there are 25 pairs, then 24, 23 and 22, and 0555 begins with 0635. Of a pair the historic times
+// are number 1. Of four new entrants two are refused in stage 3, and one of these in stage 4. A pair
+// that asks for 2300 in place of 0630 on the next date may have 2325, number 5, or the historic
+// times, number 12. With a night between, arrivals are from 2200 to 2355 and departures from 0000
+// to 0110, so 2205 and 0020 are number 19. Alone a departure has 0635, number 13. Two messages have
+// their own units, and one without items its header alone.
+const ROWS: &str = "\
+FLEX 60;REFUSE NONE;CAP ARR 60 0600 0600 1234567 1|FBA001 30MAR25OCT 1234567 180320 JFK0610 J|0;;;\
+    |KBA001 30MAR25OCT 1234567 180320 JFK0610 J
+FLEX 60;REFUSE NONE;CAP ARR 60 0600 0600 1234567 1|FBA001 30MAR25OCT 1234567 180320 JFK0610 \
+    J;FBA002 30MAR25OCT 1234567 180320 JFK0620 J|none;untried;untried;untried\
+    |UBA001 30MAR25OCT 1234567 180320 JFK0610 J;UBA002 30MAR25OCT 1234567 180320 JFK0620 J
+FLEX 60;REFUSE NONE;CAP ARR 60 0600 0600 1234567 1|FBA001 30MAR25OCT 1234567 180320 JFK0610 \
+    J;NBA002 30MAR25OCT 1234567 180320 JFK0630 J|0;;;18\
+    |KBA001 30MAR25OCT 1234567 180320 JFK0610 J;UBA002 30MAR25OCT 1234567 180320 JFK0630 \
+    J;OBA002 30MAR25OCT 1234567 180320 JFK0700 J
+FLEX 25;REFUSE NONE;CAP ARR 60 0600 0600 1234567 1|FBA001 30MAR25OCT 1234567 180320 JFK0610 \
+    J;NBA002 30MAR25OCT 1234567 180320 JFK0630 J|0;;;none\
+    |KBA001 30MAR25OCT 1234567 180320 JFK0610 J;UBA002 30MAR25OCT 1234567 180320 JFK0630 J
+FLEX 60;REFUSE 20;CAP ARR 60 0600 0600 1234567 1|FBA001 30MAR25OCT 1234567 180320 JFK0610 \
+    J;NBA002 30MAR25OCT 1234567 180320 JFK0630 J|0;;;25\
+    |KBA001 30MAR25OCT 1234567 180320 JFK0610 J;UBA002 30MAR25OCT 1234567 180320 JFK0630 J
+FLEX 60;REFUSE NONE;CAP ARR 60 0600 0600 1234567 1|FBA001 30MAR25OCT 1234567 180320 JFK0610 \
+    J;NBA002 BA003 30MAR25OCT 1234567 180320 JFK0630 0715JFK JJ|0;;;127\
+    |KBA001 30MAR25OCT 1234567 180320 JFK0610 J;UBA002 BA003 30MAR25OCT 1234567 180320 JFK0630 \
+    0715JFK JJ;OBA002 BA003 30MAR25OCT 1234567 180320 JFK0555 0715JFK JJ
+FLEX 60;REFUSE NONE;CAP ARR 20 0620 0620 1234567 1|FBA001 30MAR25OCT 1234567 180320 JFK0625 \
+    J;CBA002 30MAR25OCT 1234567 180320 JFK0610 J;LBA002 30MAR25OCT 1234567 180320 JFK0630 J|0;1;;\
+    |KBA001 30MAR25OCT 1234567 180320 JFK0625 J;UBA002 30MAR25OCT 1234567 180320 JFK0630 \
+    J;HBA002 30MAR25OCT 1234567 180320 JFK0610 J
+FLEX 0;REFUSE 10;CAP ARR 60 0600 0600 1234567 3|BBA001 30MAR 7 180320 JFK0610 J;BBA002 30MAR 7 \
+    180320 JFK0610 J;BBA003 30MAR 7 180320 JFK0610 J;BBA004 30MAR 7 180320 JFK0610 J|;;0 0 1 1;0 1\
+    |KBA001 30MAR30MAR 0000007 180320 JFK0610 J;KBA002 30MAR30MAR 0000007 180320 JFK0610 \
+    J;KBA003 30MAR30MAR 0000007 180320 JFK0610 J;UBA004 30MAR30MAR 0000007 180320 JFK0610 J
+FLEX 60;REFUSE NONE|SCR\r;/ABC123\r;S25\r;20NOV\r;ABC\r;NU21234 U21235 31MAR24OCT 1030500 186320 \
+    LTNBFS0815 0905BFSLTN JJ\r;NEZY12A 01APR 2 180319 LGW1000 J\r;GI BRGDS\r|;;;257 12\
+    |SCR;S25;20NOV;ABC;KU21234 U21235 31MAR24OCT 1030500 186320 LTNBFS0815 0905BFSLTN \
+    JJ;KEZY012A 01APR01APR 0200000 180319 LGW1000 J;
+FLEX 60;REFUSE NONE|CBA001 BA002 30MAR 7 180320 JFK2200 06301JFK JJ;RBA001 BA002 30MAR 7 180320 \
+    JFK2200 2300JFK JJ|;5;;|UBA001 BA002 30MAR30MAR 0000007 180320 JFK2200 2300JFK JJ;OBA001 BA002 \
+    30MAR30MAR 0000007 180320 JFK2200 2325JFK JJ
+FLEX 60;REFUSE NONE|CBA001 BA002 30MAR 7 180320 JFK2200 06301JFK JJ;RBA001 BA002 30MAR 7 180320 \
+    JFK2200 2300JFK JJ|;12;;|UBA001 BA002 30MAR30MAR 0000007 180320 JFK2200 2300JFK JJ;HBA001 \
+    BA002 30MAR30MAR 0000007 180320 JFK2200 06301JFK JJ
+FLEX 60;REFUSE NONE|NBA005 BA006 30MAR 7 180320 JFK2300 00101JFK JJ;N BA007 30MAR 7 180320 \
+    0630JFK J|;;;19 13|UBA005 BA006 30MAR30MAR 0000007 180320 JFK2300 00101JFK JJ;OBA005 BA006 \
+    30MAR30MAR 0000007 180320 JFK2205 00201JFK JJ;U BA007 30MAR30MAR 0000007 180320 0630JFK J;O \
+    BA007 30MAR30MAR 0000007 180320 0635JFK J
+FLEX 60;REFUSE NONE|SCR;S25;20NOV;ABC;FBA001 30MAR 7 180320 JFK0610 J;;SCR;S25;21NOV;ABC;;SCR;S25;\
+    22NOV;ABC;NBA002 30MAR 7 180320 JFK0700 J|0;;;0\
+    |SCR;S25;20NOV;ABC;KBA001 30MAR30MAR 0000007 180320 JFK0610 J;;SCR;S25;21NOV;ABC;;SCR;S25;\
+    22NOV;ABC;UBA002 30MAR30MAR 0000007 180320 JFK0700 J;OBA002 30MAR30MAR 0000007 180320 \
+    JFK0600 J;";
+
+#[test]
+fn replies_are_as_worked(rt: HostRuntime) -> Result<(), Fail> {
+    let alloc = rt.alloc();
+    for row in ROWS.split('\n') {
+        let (season, want) = row.rsplit_once('|').ok_or("a reply")?;
+        let (season, choices) = season.rsplit_once('|').ok_or("choices")?;
+        let (capacity, messages) = season.split_once('|').ok_or("messages")?;
+        let submission = submission(alloc, "S25", capacity, messages)?;
+        let cert = certificate(alloc, choices)?;
+        let text = season_replies(alloc, &submission, &cert)?;
+        let want = whole(alloc, want)?;
+        assert_eq!(rt; text.as_slice(), want.as_bytes(), "{messages}");
+    }
+    Ok(())
+}
+
+// A certificate with these choices. Its marks and trees have their form, and prove nothing.
+fn certificate(alloc: Global, choices: &str) -> Result<Certificate, Fail> {
+    let mut text = String::new(alloc);
+    text.push_str("CERT 1\n")?;
+    for (i, choice) in choices.split(';').enumerate() {
+        let block = block(alloc, choice)?;
+        let block = format!(in alloc; "STAGE {} {block}", i + 1)?;
+        text.push_str(&block)?;
+    }
+    text.push_str("END\n")?;
+    Ok(read_cert(alloc, text.as_bytes())?)
+}
+
+// The lines of a stage, from its mark on.
+fn block(alloc: Global, choice: &str) -> Result<String, Fail> {
+    match choice {
+        "untried" => Ok(String::from_str(alloc, "NOT TRIED\n")?),
+        "none" => lines(alloc, "INFEASIBLE;CHOICES NONE;VECTORS 0;TREE 1;O 0"),
+        _ => {
+            let numbers = numbers(alloc, choice)?;
+            let mut text = format!(in alloc; "OPTIMAL\nCHOICES {}\n", numbers.len())?;
+            for (unit, number) in numbers.iter().enumerate() {
+                let line = format!(in alloc; "C {unit} {number}\n")?;
+                text.push_str(&line)?;
+            }
+            text.push_str("COST 0\nVECTORS 0\nTREE 1\nL 0 1 0\n")?;
+            Ok(text)
+        }
+    }
+}
+
+// A reply, with the header and the empty line where they are not there.
+fn whole(alloc: Global, reply: &str) -> Result<String, Fail> {
+    let text = lines(alloc, reply)?;
+    if reply.starts_with("SCR;") {
+        return Ok(text);
+    }
+    Ok(format!(in alloc; "SCR\nS25\n20NOV\nABC\n{text}\n")?)
+}
