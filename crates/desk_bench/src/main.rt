@@ -11,7 +11,6 @@ mod generated;
 mod messages;
 mod prices;
 mod report;
-mod searches;
 mod seasons;
 mod stages;
 mod turn;
@@ -36,7 +35,6 @@ fn main(rt: HostRuntime) -> anyhow::Result<()> {
         Some("prices") => prices::run(&rt, rt.alloc(), Size::Full),
         Some("seasons") => seasons::run(&rt, rt.alloc(), Size::Full),
         Some("walks") => walks::run(&rt, rt.alloc(), Size::Full),
-        Some("searches") => searches::run(&rt, rt.alloc(), Size::Full),
         Some("short") => {
             bounds::run(&rt, Size::Short)?;
             certificates::run(&rt, Size::Short)?;
@@ -49,12 +47,11 @@ fn main(rt: HostRuntime) -> anyhow::Result<()> {
             stages::run(&rt, rt.alloc(), Size::Short)?;
             prices::run(&rt, rt.alloc(), Size::Short)?;
             seasons::run(&rt, rt.alloc(), Size::Short)?;
-            walks::run(&rt, rt.alloc(), Size::Short)?;
-            searches::run(&rt, rt.alloc(), Size::Short)
+            walks::run(&rt, rt.alloc(), Size::Short)
         }
         _ => {
             println!(rt;
-                "desk_bench WORD: bounds, certificates, checks, board, turn, messages, capacity, units, stages, prices, seasons, walks, searches, short"
+                "desk_bench WORD: bounds, certificates, checks, board, turn, messages, capacity, units, stages, prices, seasons, walks, short"
             )?;
             Ok(())
         }
