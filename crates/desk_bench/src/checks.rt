@@ -200,24 +200,28 @@ fn put_vector(alloc: Global, out: &mut Vec<u8>, prices: u64) -> Result<(), Memor
 
 // A tree of so many leaves: half of them on either side of each split, and one unit at each depth.
 fn put_tree(alloc: Global, out: &mut Vec<u8>, case: Case) -> Result<(), Memory> {
-    put_line(
-        alloc,
-        out,
-        b"TREE",
-        &[case.count.saturating_mul(2).saturating_sub(1)],
-    )?;
+    let nodes = case.count.saturating_mul(2).saturating_sub(1);
+    put_line(alloc, out, b"TREE", &[nodes])?;
     let mut pending = vec![in alloc; (case.count, 0_u64)]?;
-    while let Some((leaves, depth)) = pending.pop() {
+    for _ in 0..nodes {
+        let Some((leaves, depth)) = pending.pop() else {
+            break;
+        };
         if leaves > 1 {
-            put_line(alloc, out, b"S", &[depth, 312])?;
-            out.pop();
-            out.extend_from_slice(b" -\n")?;
+            put_split(alloc, out, depth)?;
             pending.push((leaves - leaves / 2, depth.saturating_add(1)))?;
             pending.push((leaves / 2, depth.saturating_add(1)))?;
         } else {
             put_leaf(out, case.leaves, depth)?;
         }
     }
+    Ok(())
+}
+
+fn put_split(alloc: Global, out: &mut Vec<u8>, unit: u64) -> Result<(), Memory> {
+    put_line(alloc, out, b"S", &[unit, 312])?;
+    out.pop();
+    out.extend_from_slice(b" -\n")?;
     Ok(())
 }
 

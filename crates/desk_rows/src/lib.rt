@@ -2,4 +2,8 @@
 #![tactic(auto)]
 
 #[cfg(test)]
+mod check_tests;
+#[cfg(test)]
 mod tests;
+#[cfg(test)]
+mod tools;

@@ -1,5 +1,5 @@
+use crate::tools::{NO_FILE, cabinet_with, joined, run, sink_with};
 use desk_outside::{Failure, MemoryCabinet, MemorySink};
-use slot_program::desk;
 use std::alloc::{AllocError, Global};
 use std::test::Fail;
 
@@ -30,47 +30,19 @@ const REPLIES: &str = "SCR\nS25\n20NOV\nABC\nKBA001 30MAR25OCT 1234567 180320 JF
 
 const WORDS: &str = "allocate CAP SCR CERT REPLIES";
 
-/// What stands for a file that is not there.
-const NO_FILE: &str = "(no file)";
-
-/// Runs the desk on these words, with a blank between two, and on the files CAP and SCR, where their texts are not empty.
-/// Gives the status, a blank, what was printed, and then the bytes of the named file.
-fn run(
+/// Runs the desk on these words and on the files CAP and SCR, where their texts are not empty.
+fn run_on(
     alloc: Global,
     words: &str,
     capacity: &str,
     requests: &str,
     mut cabinet: MemoryCabinet,
-    mut sink: MemorySink,
+    sink: MemorySink,
     file: &str,
 ) -> Result<Vec<u8>, Fail> {
     let _ = capacity.is_empty() || cabinet.load("CAP", capacity.as_bytes());
     let _ = requests.is_empty() || cabinet.load("SCR", requests.as_bytes());
-    let list = split_words(alloc, words)?;
-    let status = desk(&(), alloc, &list, &mut cabinet, &mut sink);
-    let mut text = Vec::new(alloc);
-    text.extend_from_slice(format!(in alloc; "{status} ")?.as_bytes())?;
-    text.extend_from_slice(sink.bytes())?;
-    text.extend_from_slice(cabinet.file(file).unwrap_or(NO_FILE.as_bytes()))?;
-    Ok(text)
-}
-
-/// A cabinet with room for four files, of whose calls these fail.
-fn cabinet_with(alloc: Global, failing: &[Failure]) -> Result<MemoryCabinet, Fail> {
-    Ok(MemoryCabinet::new(alloc, 4, 1000, failing.to_vec(alloc)?)?)
-}
-
-/// A sink of whose calls these fail.
-fn sink_with(alloc: Global, failing: &[Failure]) -> Result<MemorySink, Fail> {
-    Ok(MemorySink::new(alloc, 1000, failing.to_vec(alloc)?)?)
-}
-
-fn split_words(alloc: Global, words: &str) -> Result<Vec<String>, AllocError> {
-    let mut list = Vec::new(alloc);
-    for word in words.split(' ') {
-        list.push(String::from_str(alloc, word)?)?;
-    }
-    Ok(list)
+    run(alloc, words, cabinet, sink, file)
 }
 
 /// The lines, one of them replaced.
@@ -91,12 +63,6 @@ fn with_line(
     Ok(text)
 }
 
-fn joined(alloc: Global, first: &str, second: &str) -> Result<String, AllocError> {
-    let mut text = String::from_str(alloc, first)?;
-    text.push_str(second)?;
-    Ok(text)
-}
-
 #[test]
 fn one_historic_arrival_is_confirmed(rt: HostRuntime) -> Result<(), Fail> {
     let alloc = rt.alloc();
@@ -105,7 +71,7 @@ fn one_historic_arrival_is_confirmed(rt: HostRuntime) -> Result<(), Fail> {
     for (file, bytes) in [("CERT", CERTIFICATE), ("REPLIES", REPLIES)] {
         let cabinet = cabinet_with(alloc, &[])?;
         let sink = sink_with(alloc, &[])?;
-        let said = run(
+        let said = run_on(
             alloc,
             WORDS,
             capacity.as_str(),
@@ -156,7 +122,7 @@ fn the_first_line_out_of_form_is_named(rt: HostRuntime) -> Result<(), Fail> {
         let capacity = with_line(alloc, &CAPACITY, place, line)?;
         let cabinet = cabinet_with(alloc, &[])?;
         let sink = sink_with(alloc, &[])?;
-        let said = run(
+        let said = run_on(
             alloc,
             WORDS,
             capacity.as_str(),
@@ -210,7 +176,7 @@ fn the_first_line_of_the_requests_out_of_form_is_named(rt: HostRuntime) -> Resul
         let requests = with_line(alloc, &REQUESTS, place, line)?;
         let cabinet = cabinet_with(alloc, &[])?;
         let sink = sink_with(alloc, &[])?;
-        let said = run(
+        let said = run_on(
             alloc,
             WORDS,
             capacity.as_str(),
@@ -267,7 +233,7 @@ fn each_fault_of_the_cabinet_has_its_line(rt: HostRuntime) -> Result<(), Fail> {
     ] {
         let cabinet = cabinet_with(alloc, &[failing])?;
         let sink = sink_with(alloc, &[])?;
-        let said = run(
+        let said = run_on(
             alloc,
             WORDS,
             capacity.as_str(),
@@ -290,7 +256,7 @@ fn a_sink_that_fails_gives_six(rt: HostRuntime) -> Result<(), Fail> {
     for (failing, sent) in [(Failure::at(0), "6 "), (Failure::after(0, 7), "6 STAGE 1")] {
         let cabinet = cabinet_with(alloc, &[])?;
         let sink = sink_with(alloc, &[failing])?;
-        let said = run(
+        let said = run_on(
             alloc,
             WORDS,
             capacity.as_str(),
@@ -322,10 +288,10 @@ fn words_and_missing_files_are_answered_in_their_order(rt: HostRuntime) -> Resul
             "allocate CAP SCR CERT REPLIES --nodes 5",
             "",
             "",
-            "2 WORDS\n(no file)",
+            "5 CABINET CAP MISSING\n(no file)",
         ),
         (
-            "allocate --nodes=5 CAP SCR CERT REPLIES",
+            "allocate --nodes=0 CAP SCR CERT REPLIES",
             "",
             "",
             "2 WORDS\n(no file)",
@@ -360,7 +326,7 @@ fn words_and_missing_files_are_answered_in_their_order(rt: HostRuntime) -> Resul
     ] {
         let cabinet = cabinet_with(alloc, &[])?;
         let sink = sink_with(alloc, &[])?;
-        let found = run(alloc, words, capacity, requests, cabinet, sink, "CERT")?;
+        let found = run_on(alloc, words, capacity, requests, cabinet, sink, "CERT")?;
         assert_eq!(rt; found.as_slice(), said.as_bytes(), "at {words}");
     }
     Ok(())
@@ -379,7 +345,7 @@ fn names_may_be_equal_or_stand_after_two_dashes(rt: HostRuntime) -> Result<(), F
     ] {
         let cabinet = cabinet_with(alloc, &[])?;
         let sink = sink_with(alloc, &[])?;
-        let said = run(
+        let said = run_on(
             alloc,
             words,
             capacity.as_str(),
@@ -400,7 +366,7 @@ fn requests_that_are_missing_and_a_large_file_are_named(rt: HostRuntime) -> Resu
     let capacity = with_line(alloc, &CAPACITY, 9, "")?;
     let cabinet = cabinet_with(alloc, &[])?;
     let sink = sink_with(alloc, &[])?;
-    let missing = run(alloc, WORDS, capacity.as_str(), "", cabinet, sink, "CERT")?;
+    let missing = run_on(alloc, WORDS, capacity.as_str(), "", cabinet, sink, "CERT")?;
     assert_eq!(rt;
         missing.as_slice(),
         b"5 CABINET SCR MISSING\n(no file)".as_slice()
@@ -409,7 +375,7 @@ fn requests_that_are_missing_and_a_large_file_are_named(rt: HostRuntime) -> Resu
     let bytes = vec![in alloc; b'A'; 4_194_305]?;
     assert!(rt; large.load("CAP", &bytes));
     let sink = sink_with(alloc, &[])?;
-    let said = run(alloc, WORDS, "", "", large, sink, "CERT")?;
+    let said = run_on(alloc, WORDS, "", "", large, sink, "CERT")?;
     assert_eq!(rt;
         said.as_slice(),
         b"5 CABINET CAP LARGE\n(no file)".as_slice()

@@ -5,8 +5,6 @@
 mod board;
 pub mod laws;
 mod steps;
-#[cfg(test)]
-mod tests;
 mod view;
 
 pub use board::{Board, BoardEnd, BoardSeat};

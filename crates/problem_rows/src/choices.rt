@@ -3,10 +3,7 @@
 use crate::problems::{problem, read_problem, strips};
 use crate::texts::{halves, numbers, piece, small_at};
 use choice_problem::{
-    Choice, Node, Problem, Ranges, Tree, alike_problems, closed_ranges, closing_numbers, cost_of,
-    count_nodes, driven_tree, few_uses, fewer_vectors, first_passed, fits, floored_tree,
-    joined_trees, node_vector_exists, open_pieces, part_ranges, price_vectors, renumbered_vectors,
-    search_start, sound_tree, split_trees, strip_list,
+    Choice, Node, Problem, Ranges, Tree, cost_of, count_nodes, first_passed, fits, open_pieces,
 };
 use std::alloc::Global;
 use std::test::Fail;
@@ -264,25 +261,4 @@ fn nodes_are_counted(rt: HostRuntime) -> Result<(), Fail> {
     assert_eq!(rt; tree.items(), nodes(alloc, "1 O U L U")?.as_slice());
     assert_eq!(rt; count_nodes(&tree), 3);
     Ok(())
-}
-
-// The laws do nothing.
-#[test]
-fn laws_return() {
-    strip_list();
-    alike_problems();
-    fewer_vectors();
-    renumbered_vectors();
-    node_vector_exists();
-    closing_numbers();
-    part_ranges();
-    price_vectors();
-    closed_ranges();
-    sound_tree();
-    floored_tree();
-    split_trees();
-    joined_trees();
-    search_start();
-    few_uses();
-    driven_tree();
 }

@@ -27,7 +27,7 @@ use Rattle.scr_reader.specs.declared.message.Placed.{Placed}
 use Rattle.scr_reader.specs.declared.message.Message.{Message}
 use Rattle.schedule_text.specs.Days.{IsDays}
 use Rattle.slot_program.specs.Capacity.{IsServedRule, rule_line, capacity_lines, IsCapacityText}
-use Rattle.slot_program.specs.Order.{longest_file}
+use Rattle.slot_program.specs.declared.files.TheConstants.{LONGEST_FILE}
 use Rattle.slot_program.proofs.CapacityLemmas.{step_bound}
 
 -- ---- lines
@@ -41,7 +41,7 @@ ended_within : (lines : List (List ℕ)) → AllWithin 49 lines → length (ende
 ended_within [] all = omega arith
 ended_within (line ∷ lines) all = omega (arith, length-append line (10 ∷ ended lines), all.0, ended_within lines all.1)
 
-few_lines : (text : List ℕ) (lines : List (List ℕ)) → text ≡ ended lines → AllWithin 49 lines → length lines ≤ 7 → length text ≤ longest_file
+few_lines : (text : List ℕ) (lines : List (List ℕ)) → text ≡ ended lines → AllWithin 49 lines → length lines ≤ 7 → length text ≤ LONGEST_FILE
 few_lines text lines is all few = omega (arith, ap length is, ended_within lines all, few)
 
 station_long : (station : List ℕ) → IsStation station → length station ≡ 3
@@ -67,7 +67,7 @@ rule_within : (rule : Rule) (days : List ℕ) → IsServedRule rule → IsDays d
 rule_within rule days is named =
     simp length-append (omega (arith, number_within rule.length (omega (arith, is.at_most_a_day)), number_within rule.limit is.small, days_within days rule.days named))
 
-pub capacity_short : (text : List ℕ) (d : Declaration) → IsCapacityText text d → length text ≤ longest_file
+pub capacity_short : (text : List ℕ) (d : Declaration) → IsCapacityText text d → length text ≤ LONGEST_FILE
 capacity_short text d is =
     let fits = is.fits in
     few_lines text (capacity_lines d is.rule is.days) is.lines (
@@ -159,7 +159,7 @@ fields_within code line period days seats (Some coming) None some none fits p d 
       s,
     )
 
-pub message_short : (season : Term) (airport : Station) (message : Message) → IsStation airport.0 → IsHistoricMessage season airport message → length (message_text message) ≤ longest_file
+pub message_short : (season : Term) (airport : Station) (message : Message) → IsStation airport.0 → IsHistoricMessage season airport message → length (message_text message) ≤ LONGEST_FILE
 message_short season airport message is historic =
     let line = historic.asked in
     let asked = historic.historic in

@@ -1,10 +1,12 @@
-mod WordLemmas
 mod CuttingLemmas
 mod HighLemmas
 mod EndedLemmas
 mod CapacityLemmas
 mod LengthLemmas
-mod DeskLemmas
 mod TextLemmas
 mod WindowLemmas
-mod HandedLemmas
+mod LeadLemmas
+mod JudgementLemmas
+mod AnswerLemmas
+mod AllocationLemmas
+mod DeskLemmas

@@ -1,38 +1,84 @@
 -- What a command prints at its end, and with which status.
 use Rattle.std.specs.Prelude.{ℕ, List, [], ◌∷◌, ◌++◌, codes}
 use Rattle.std.specs.Fmt.{decimal}
-use Rattle.slot_program.specs.Words.{Word}
-use Rattle.slot_program.specs.Texts.{stage_lines, settled_stages}
+use Rattle.cert_checker.specs.declared.verdict.Reason.{Reason}
+use Rattle.cert_checker.specs.declared.verdict.Reason.TheVariants as because
+use Rattle.command_words.specs.Words.{Word}
 
--- the stages of an allocation; that the words are no command's; that a file is not there, is too
--- large, could not be read or could not be written; or the first line of a file that is not in the
--- form that is served
+-- What is refused before any work is done: a file that is not there, or is larger than what is
+-- read; the first line of a file that is not in its form; a limit that is passed, by which number;
+-- the first failing line of a certificate, and why it fails; and the first line that is not in the
+-- form that is served today.
+pub data Refusal : Type 0 where
+  missing : Word → Refusal
+  large : Word → Refusal
+  out_of_form : Word → ℕ → Refusal
+  over_limit : Word → ℕ → Refusal
+  not_valid : ℕ → Reason → Refusal
+  unbuilt : Word → ℕ → Refusal
+
+-- How a command ends: the words are no command's; a refusal; a read or a write failed; or the work
+-- is done, with this status and text.
 pub data Report : Type 0 where
-  settled : Report
   no_command : Report
-  missing : Word → Report
-  large : Word → Report
+  refused : Refusal → Report
   unread : Word → Report
   unwritten : Word → Report
-  unbuilt : Word → ℕ → Report
+  finished : ℕ → List ℕ → Report
+
+-- ---- statuses
+
+abbrev pub refusal_status : Refusal → ℕ
+refusal_status (missing name) = 5
+refusal_status (large name) = 5
+refusal_status (out_of_form name line) = 3
+refusal_status (over_limit name number) = 4
+refusal_status (not_valid line reason) = 1
+refusal_status (unbuilt name line) = 12
 
 abbrev pub status_of : Report → ℕ
-status_of settled = 0
 status_of no_command = 2
-status_of (missing name) = 5
-status_of (large name) = 5
+status_of (refused refusal) = refusal_status refusal
 status_of (unread name) = 5
 status_of (unwritten name) = 5
-status_of (unbuilt name line) = 12
+status_of (finished status text) = status
 
-abbrev pub cabinet_line : Word → List ℕ → List ℕ
-cabinet_line name what = codes "CABINET " ++ (name ++ what)
+-- ---- texts
+
+abbrev pub cabinet_line : Word → Word → List ℕ
+cabinet_line name what = codes "CABINET " ++ (name ++ (32 ∷ (what ++ (10 ∷ []))))
+
+abbrev pub numbered_line : Word → Word → ℕ → List ℕ
+numbered_line first name number = first ++ (32 ∷ (name ++ (32 ∷ (decimal number ++ (10 ∷ [])))))
+
+abbrev pub reason_text : Reason → List ℕ
+reason_text because.Mark = codes "MARK"
+reason_text because.Units = codes "UNITS"
+reason_text because.Choice = codes "CHOICE"
+reason_text because.Cost = codes "COST"
+reason_text because.Fit = codes "FIT"
+reason_text because.Bound = codes "BOUND"
+reason_text because.Price = codes "PRICE"
+reason_text because.Shape = codes "SHAPE"
+reason_text because.Closed = codes "CLOSED"
+reason_text because.Split = codes "SPLIT"
+reason_text because.Leaf = codes "LEAF"
+reason_text because.Over = codes "OVER"
+reason_text because.Undone = codes "UNDONE"
+reason_text because.Floor = codes "FLOOR"
+
+abbrev pub refusal_text : Refusal → List ℕ
+refusal_text (missing name) = cabinet_line name (codes "MISSING")
+refusal_text (large name) = cabinet_line name (codes "LARGE")
+refusal_text (out_of_form name line) = numbered_line (codes "FORM") name line
+refusal_text (over_limit name number) = numbered_line (codes "LIMIT") name number
+refusal_text (not_valid line reason) =
+    codes "NO " ++ (decimal line ++ (32 ∷ (reason_text reason ++ (10 ∷ []))))
+refusal_text (unbuilt name line) = numbered_line (codes "UNBUILT") name line
 
 abbrev pub text_of : Report → List ℕ
-text_of settled = stage_lines 1 settled_stages
 text_of no_command = codes "WORDS\n"
-text_of (missing name) = cabinet_line name (codes " MISSING\n")
-text_of (large name) = cabinet_line name (codes " LARGE\n")
-text_of (unread name) = cabinet_line name (codes " READ\n")
-text_of (unwritten name) = cabinet_line name (codes " WRITE\n")
-text_of (unbuilt name line) = codes "UNBUILT " ++ (name ++ (32 ∷ (decimal line ++ (10 ∷ []))))
+text_of (refused refusal) = refusal_text refusal
+text_of (unread name) = cabinet_line name (codes "READ")
+text_of (unwritten name) = cabinet_line name (codes "WRITE")
+text_of (finished status text) = text

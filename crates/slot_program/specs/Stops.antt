@@ -1,78 +1,65 @@
--- Why an allocation stops: the report of each refusal, and its cause.
-use Rattle.std.specs.Prelude.{◌≡◌, ℕ, ◌<◌, List, length, Option, None, MatchOption, IfSome}
-use Rattle.std.specs.Prelude.{IsSomeAnd, Some}
-use Rattle.desk_outside.specs.Cause.{Rose}
-use Rattle.desk_outside.specs.Files.{Files}
-use Rattle.slot_program.specs.Words.{Word}
-use Rattle.slot_program.specs.Reports.{Report, missing, large, unread, unwritten, unbuilt}
-use Rattle.slot_program.specs.Order.{longest_file}
-use Rattle.slot_program.specs.Desk.{FileNames, AllocationEnds}
-use Rattle.slot_program.specs.declared.refusal.File.{File}
-use Rattle.slot_program.specs.declared.refusal.File.TheVariants.{Capacity, Requests, Certificate}
-use Rattle.slot_program.specs.declared.refusal.File.TheVariants.{Replies}
-use Rattle.slot_program.specs.declared.refusal.Refusal.{Refusal}
-use Rattle.slot_program.specs.declared.refusal.Refusal.TheVariants.{Missing, Large, Unread}
-use Rattle.slot_program.specs.declared.refusal.Refusal.TheVariants.{Unwritten, Unbuilt}
-use Rattle.slot_program.specs.declared.refusal.Stop.{Stop}
-use Rattle.slot_program.specs.declared.refusal.Stop.TheVariants.{Refused, Memory}
-use Rattle.slot_program.specs.declared.refusal.Names.{Names}
+-- Why a job stopped, as the code has it. Contracts of private functions alone cite this.
+use Rattle.std.specs.Prelude.{ℕ, List, Option, Some, None, codes}
+use Rattle.capacity_file.specs.Texts.{cap_limit_text}
+use Rattle.command_words.specs.Words.{Word}
+use Rattle.slot_program.specs.Reports.{Report, Refusal, refused, unread, unwritten}
+use Rattle.slot_program.specs.Reports.{missing, large, out_of_form, over_limit, not_valid, unbuilt}
+use Rattle.slot_program.specs.Judgements.{NamedBytes, Judgement}
+use Rattle.slot_program.specs.Steps.{Step}
+use Rattle.slot_program.specs.Jobs.{name_at}
+use Rattle.slot_program.specs.Desk.{World}
+use Rattle.slot_program.specs.Leads.{RefusesAlone, RefusedLead, UnreadLead, MemoryLead}
+use Rattle.slot_program.specs.declared.stop.Limit.{Limit}
+use Rattle.slot_program.specs.declared.stop.Limit.TheVariants as limits
+use Rattle.slot_program.specs.declared.stop.Stop.{Stop}
+use Rattle.slot_program.specs.declared.stop.Stop.TheVariants as stops
 
--- the names by their bytes
-abbrev pub names_of : Names → FileNames
-names_of names = record {
-  capacity = names.capacity.now;
-  requests = names.requests.now;
-  certificate = names.certificate.now;
-  replies = names.replies.now;
-}
+abbrev pub limit_text : Limit → List ℕ
+limit_text (limits.Capacity limit) = cap_limit_text limit
+limit_text limits.Units = codes "UNITS"
 
-abbrev pub name_of : FileNames → File → Word
-name_of names Capacity = names.capacity
-name_of names Requests = names.requests
-name_of names Certificate = names.certificate
-name_of names Replies = names.replies
+-- what is reported, by the names of the job; want of memory is no report
+abbrev pub report_of : List Word → Stop → Option Report
+report_of names (stops.Missing place) = Some (refused (missing (name_at names place)))
+report_of names (stops.Large place) = Some (refused (large (name_at names place)))
+report_of names (stops.Unread place) = Some (unread (name_at names place))
+report_of names (stops.Unwritten place) = Some (unwritten (name_at names place))
+report_of names (stops.OutOfForm place line) =
+    Some (refused (out_of_form (name_at names place) line))
+report_of names (stops.OverLimit limit number) =
+    Some (refused (over_limit (limit_text limit) number))
+report_of names (stops.NotValid line reason) = Some (refused (not_valid line reason))
+report_of names (stops.Unbuilt place line) = Some (refused (unbuilt (name_at names place) line))
+report_of names stops.Memory = None
 
-abbrev pub report_of : FileNames → Refusal → Report
-report_of names (Missing file) = missing (name_of names file)
-report_of names (Large file) = large (name_of names file)
-report_of names (Unread file) = unread (name_of names file)
-report_of names (Unwritten file) = unwritten (name_of names file)
-report_of names (Unbuilt file line) = unbuilt (name_of names file) line
+-- the stop is a refusal that the property has, or want of memory
+abbrev pub IsRefusalBy : List Word → (Refusal → Type 0) → Stop → Type 0
+IsRefusalBy names Has (stops.Missing place) = ⊥
+IsRefusalBy names Has (stops.Large place) = ⊥
+IsRefusalBy names Has (stops.Unread place) = ⊥
+IsRefusalBy names Has (stops.Unwritten place) = ⊥
+IsRefusalBy names Has (stops.OutOfForm place line) = Has (out_of_form (name_at names place) line)
+IsRefusalBy names Has (stops.OverLimit limit number) = Has (over_limit (limit_text limit) number)
+IsRefusalBy names Has (stops.NotValid line reason) = Has (not_valid line reason)
+IsRefusalBy names Has (stops.Unbuilt place line) = Has (unbuilt (name_at names place) line)
+IsRefusalBy names Has stops.Memory = Unit {0}
 
--- the allocation stopped: with a refusal that ends it, or for want of memory
-abbrev pub IsStopped : Option Files → FileNames → ℕ → ℕ → Option Files → Stop → Type 0
-IsStopped files names before now after (Refused refusal) =
-    AllocationEnds files names before now (report_of names refusal) after
-IsStopped files names before now after Memory = Unit {0}
+-- why files that were read are refused, by a judgement
+abbrev pub IsJudged : List Word → Judgement → Word → List NamedBytes → Stop → Type 0
+IsJudged names j name read stop = IsRefusalBy names (RefusesAlone j name read) stop
 
--- the bytes are those under the name, where the files are told
-abbrev pub Holds : Option Files → Word → List ℕ → Type 0
-Holds files name bytes = IfSome files (λ held. held name ≡ Some bytes)
-
--- why a file was not read
-abbrev pub IsReadRefusal : Option Files → Word → File → ℕ → ℕ → Refusal → Type 0
-IsReadRefusal files name file before now (Missing f) = (f ≡ file)
-    × MatchOption files (Rose before now) (λ held. held name ≡ None)
-IsReadRefusal files name file before now (Large f) = (f ≡ file)
-    × MatchOption files (Rose before now)
-    (λ held. IsSomeAnd (held name) (λ bytes. longest_file < length bytes))
-IsReadRefusal files name file before now (Unread f) = (f ≡ file) × Rose before now
-IsReadRefusal files name file before now (Unwritten f) = ⊥
-IsReadRefusal files name file before now (Unbuilt f line) = ⊥
-
-abbrev pub IsReadStop : Option Files → Word → File → ℕ → ℕ → Stop → Type 0
-IsReadStop files name file before now (Refused refusal) =
-    IsReadRefusal files name file before now refusal
-IsReadStop files name file before now Memory = Unit {0}
-
--- why a file that was read is refused
-abbrev pub IsFormRefusal : File → (ℕ → Type 0) → Refusal → Type 0
-IsFormRefusal file IsBad (Missing f) = ⊥
-IsFormRefusal file IsBad (Large f) = ⊥
-IsFormRefusal file IsBad (Unread f) = ⊥
-IsFormRefusal file IsBad (Unwritten f) = ⊥
-IsFormRefusal file IsBad (Unbuilt f line) = (f ≡ file) × IsBad line
-
-abbrev pub IsFormStop : File → (ℕ → Type 0) → Stop → Type 0
-IsFormStop file IsBad (Refused refusal) = IsFormRefusal file IsBad refusal
-IsFormStop file IsBad Memory = Unit {0}
+-- where a job stopped that has written nothing
+abbrev pub StopLeads : List Word → World → List Step → Stop → World → Type 0
+StopLeads names w all (stops.Missing place) v = RefusedLead w all (missing (name_at names place)) v
+StopLeads names w all (stops.Large place) v = RefusedLead w all (large (name_at names place)) v
+StopLeads names w all (stops.Unread place) v = UnreadLead w all (name_at names place) v
+StopLeads names w all (stops.Unwritten place) v = ⊥
+StopLeads names w all (stops.OutOfForm place line) v =
+    RefusedLead w all (out_of_form (name_at names place) line) v
+StopLeads names w all (stops.OverLimit limit number) v =
+    RefusedLead w all (over_limit (limit_text limit) number) v
+StopLeads names w all (stops.NotValid line reason) v =
+    RefusedLead w all (not_valid line reason) v
+StopLeads names w all (stops.Unbuilt place line) v =
+    RefusedLead w all (unbuilt (name_at names place) line) v
+StopLeads names w all stops.Memory v = MemoryLead w all v

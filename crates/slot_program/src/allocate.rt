@@ -1,28 +1,23 @@
-ghost use Rattle.std.specs.Prelude.{◌≡◌, ◌≤◌, ◌∷◌, [], ◌++◌, ℕ, List, length, IfOk, IfErr, OnOk};
-ghost use Rattle.std.specs.Prelude.{OnErr};
-ghost use Rattle.desk_outside.specs.Passages.{read, wrote, write_failed};
-ghost use Rattle.slot_text.specs.Forms.{IsFirstBadLine};
+ghost use Rattle.std.specs.Prelude.{◌≡◌, ◌∷◌, [], ℕ, List, IfOk, IfErr, OnOk};
 ghost use Rattle.slot_text.specs.Stations.{IsStation};
-ghost use Rattle.desk_outside.specs.Files.{Files, Writes, WritesPart, ChangesOnly};
-ghost use Rattle.desk_outside.specs.Cause.{Rose};
-ghost use Rattle.scr_reader.specs.Printed.{LineFits, message_text, line_text};
-ghost use Rattle.historic_reader.specs.Historic.{IsHistoricMessage, IsHistoricText};
+ghost use Rattle.desk_outside.specs.Files.{ChangesOnly};
 ghost use Rattle.scr_reader.specs.declared.line.Item.TheVariants.{One};
-ghost use Rattle.slot_program.specs.Capacity.{IsCapacityText, IsCapacityForm};
-ghost use Rattle.slot_program.specs.Texts.{certificate_text, settled_stages, confirmation};
-ghost use Rattle.slot_program.specs.Reports.{settled};
-ghost use Rattle.slot_program.specs.Order.{longest_file};
-ghost use Rattle.slot_program.specs.Desk.{AllocationEnds, written_names};
-ghost use Rattle.slot_program.specs.Stops.{names_of, name_of, IsStopped, Holds, IsReadStop};
-ghost use Rattle.slot_program.specs.Stops.{IsFormStop};
+ghost use Rattle.command_words.specs.Words.{Word};
+ghost use Rattle.slot_program.specs.Capacity.{IsCapacityText};
 ghost use Rattle.slot_program.specs.Messages.{HasOneLine, Confirms};
-ghost use Rattle.slot_program.specs.Handed.{LogGrew, PassedWhole};
-ghost use Rattle.slot_program.specs.HandedStops.{StopPassed};
+ghost use Rattle.slot_program.specs.Judgements.{NamedBytes, served_capacity, served_requests};
+ghost use Rattle.slot_program.specs.Jobs.{name_at, allocate_steps};
+ghost use Rattle.slot_program.specs.Desk.{world_of};
+ghost use Rattle.slot_program.specs.Leads.{Leads, AcceptsAlone};
+ghost use Rattle.slot_program.specs.Stops.{IsJudged, StopLeads};
+ghost use Rattle.slot_program.specs.Allocations.{IsServedSeason, IsAllocated, AllocationStops};
 
 use crate::capacity::{CapacityFault, read_capacity};
-use crate::refusal::{File, Names, Refusal, Stop};
+use crate::files::{LONGEST_FILE, read_file, write_file};
+use crate::stop::Stop;
+use command_words::NameList;
+use desk_outside::Cabinet;
 use desk_outside::laws::file_changes;
-use desk_outside::{Cabinet, CabinetFault};
 use historic_reader::{HistoricFault, read_historic_message};
 use scr_reader::{Code, Item, Line, Message, print_header, print_line};
 use season_days::Declaration;
@@ -34,117 +29,88 @@ use std::alloc::Global;
 const CERTIFICATE: &[u8] =
     b"CERT 1\nSTAGE 1 OPTIMAL\nCHOICES 1\nC 0 0\nCOST 0\nVECTORS 0\nTREE 1\nL 0 1 0\nSTAGE 2 OPTIMAL\nCHOICES 0\nCOST 0\nVECTORS 0\nTREE 1\nL 0 1 0\nSTAGE 3 OPTIMAL\nCHOICES 0\nCOST 0\nVECTORS 0\nTREE 1\nL 0 1 0\nSTAGE 4 OPTIMAL\nCHOICES 0\nCOST 0\nVECTORS 0\nTREE 1\nL 0 1 0\nEND\n";
 
-/// The most bytes that are read of a file: 4 MiB.
-const LONGEST_FILE: usize = 4_194_304;
-
 /// Reads the capacity file and the requests, and writes the certificate and then the replies.
 pub(crate) fn allocate<C: Cabinet>(
     alloc: Global,
-    names: &Names<'_>,
+    names: &NameList,
     cabinet: &mut C,
 ) -> Result<(), Stop>
-    ensures done { OnOk result (AllocationEnds (C.files cabinet.old) (names_of names.now)
-        (C.fault_count cabinet.old) (C.fault_count cabinet.new) settled (C.files cabinet.new)) }
-    ensures done_passed { OnOk result (LogGrew (C.log cabinet.old)
-        (PassedWhole (C.files cabinet.old) (names_of names.now)) (C.log cabinet.new)) }
-    ensures stop { IfErr result (IsStopped (C.files cabinet.old) (names_of names.now)
-        (C.fault_count cabinet.old) (C.fault_count cabinet.new) (C.files cabinet.new)) }
-    ensures stop_passed { IfErr result (λ stop. LogGrew (C.log cabinet.old)
-        (StopPassed (C.files cabinet.old) (names_of names.now) stop) (C.log cabinet.new)) }
-    ensures others { ChangesOnly (C.files cabinet.old) (written_names (names_of names.now))
-        (C.files cabinet.new) }
+    ensures done { OnOk result (IsAllocated names.now
+        (world_of C.files C.fault_count C.log cabinet.old)
+        (world_of C.files C.fault_count C.log cabinet.new)) }
+    ensures stop { IfErr result (λ stop. AllocationStops names.now
+        (world_of C.files C.fault_count C.log cabinet.old) stop
+        (world_of C.files C.fault_count C.log cabinet.new)) }
+    ensures others { ChangesOnly (C.files cabinet.old)
+        (name_at names.now 2 ∷ name_at names.now 3 ∷ []) (C.files cabinet.new) }
 {
     file_changes();
-    let capacity = read_file(alloc, names, File::Capacity, cabinet)?;
-    let declaration = judge_capacity(alloc, &capacity)?;
-    let requests = read_file(alloc, names, File::Requests, cabinet)?;
-    let message = judge_message(alloc, &declaration, &requests)?;
+    let message = read_served(alloc, names, cabinet)?;
     let replies = confirm(alloc, &message)?;
-    write_file(names, File::Certificate, CERTIFICATE, cabinet)?;
-    write_file(names, File::Replies, &replies, cabinet)?;
+    write_file(names, 2, CERTIFICATE, cabinet)?;
+    write_file(names, 3, &replies, cabinet)?;
     Ok(())
 }
 
-fn read_file<C: Cabinet>(
+/// Reads the capacity file and the requests in the forms that are served.
+fn read_served<C: Cabinet>(
     alloc: Global,
-    names: &Names<'_>,
-    file: File,
+    names: &NameList,
     cabinet: &mut C,
-) -> Result<Vec<u8>, Stop>
-    ensures held { IfOk result (λ bytes. Holds (C.files cabinet.old)
-        (name_of (names_of names.now) file) bytes.items × (length bytes.items ≤ longest_file)) }
-    ensures stop { IfErr result (IsReadStop (C.files cabinet.old)
-        (name_of (names_of names.now) file) file
-        (C.fault_count cabinet.old) (C.fault_count cabinet.new)) }
-    ensures passed { IfOk result (λ bytes. C.log cabinet.new
-        ≡ C.log cabinet.old ++ read (name_of (names_of names.now) file) bytes.items ∷ []) }
-    ensures none_passed { OnErr result (C.log cabinet.new ≡ C.log cabinet.old) }
+) -> Result<Message, Stop>
+    ensures found { IfOk result (λ message. (capacity requests : NamedBytes)
+        × IsServedSeason capacity.bytes requests.bytes message
+        × Leads (world_of C.files C.fault_count C.log cabinet.old) (allocate_steps names.now)
+        (capacity ∷ requests ∷ []) [] (world_of C.files C.fault_count C.log cabinet.new)) }
+    ensures stop { IfErr result (λ stop. StopLeads names.now
+        (world_of C.files C.fault_count C.log cabinet.old) (allocate_steps names.now) stop
+        (world_of C.files C.fault_count C.log cabinet.new)) }
     ensures unchanged { C.files cabinet.new ≡ C.files cabinet.old }
-    ensures kept { OnOk result (C.fault_count cabinet.new ≡ C.fault_count cabinet.old) }
 {
-    match cabinet.read(alloc, names.name(file), LONGEST_FILE) {
-        Ok(bytes) => Ok(bytes),
-        Err(CabinetFault::Failed) => Err(Stop::Refused(Refusal::Unread(file))),
-        Err(CabinetFault::Missing) => Err(Stop::Refused(Refusal::Missing(file))),
-        Err(CabinetFault::Larger) => Err(Stop::Refused(Refusal::Large(file))),
-        Err(CabinetFault::Memory) => Err(Stop::Memory),
-    }
+    let capacity = read_file(alloc, names, 0, LONGEST_FILE, cabinet)?;
+    let declaration = judge_capacity(alloc, 0, &capacity)?;
+    let requests = read_file(alloc, names, 1, LONGEST_FILE, cabinet)?;
+    let message = judge_message(alloc, 1, &declaration, &requests)?;
+    Ok(message)
 }
 
-fn write_file<C: Cabinet>(
-    names: &Names<'_>,
-    file: File,
-    bytes: &[u8],
-    cabinet: &mut C,
-) -> Result<(), Stop>
-    ensures ok { OnOk result (Writes (C.files cabinet.old)
-        (name_of (names_of names.now) file) bytes.now (C.files cabinet.new)) }
-    ensures part { OnErr result (WritesPart (C.files cabinet.old)
-        (name_of (names_of names.now) file) bytes.now (C.files cabinet.new)) }
-    ensures ok_passed { OnOk result (C.log cabinet.new
-        ≡ C.log cabinet.old ++ wrote (name_of (names_of names.now) file) bytes.now ∷ []) }
-    ensures part_passed { OnErr result (C.log cabinet.new
-        ≡ C.log cabinet.old ++ write_failed (name_of (names_of names.now) file) bytes.now ∷ []) }
-    ensures stop { IfErr result (λ stop. stop ≡ Stop.Refused (Refusal.Unwritten file)) }
-    ensures rose { OnErr result (Rose (C.fault_count cabinet.old) (C.fault_count cabinet.new)) }
-    ensures kept { OnOk result (C.fault_count cabinet.new ≡ C.fault_count cabinet.old) }
-{
-    match cabinet.write(names.name(file), bytes) {
-        Ok(()) => Ok(()),
-        Err(_) => Err(Stop::Refused(Refusal::Unwritten(file))),
-    }
-}
-
-/// The declaration of a capacity file.
-fn judge_capacity(alloc: Global, bytes: &[u8]) -> Result<Declaration, Stop>
-    ensures declared { IfOk result (IsCapacityText bytes.now) }
-    ensures stop { IfErr result
-        (IsFormStop File.Capacity (IsFirstBadLine IsCapacityForm bytes.now)) }
+/// The declaration of a capacity file in the form that is served.
+fn judge_capacity(alloc: Global, place: usize, bytes: &[u8]) -> Result<Declaration, Stop>
+    ensures found { IfOk result (λ d. IsCapacityText bytes.now d) }
+    ensures alone { OnOk result ((name : Word) (rest : List NamedBytes) →
+        AcceptsAlone served_capacity name (record { name = name; bytes = bytes.now } ∷ rest)) }
+    ensures stop { IfErr result (λ stop. (names : List Word) (rest : List NamedBytes) →
+        IsJudged names served_capacity (name_at names place)
+        (record { name = name_at names place; bytes = bytes.now } ∷ rest) stop) }
 {
     match read_capacity(alloc, bytes) {
         Ok(declaration) => Ok(declaration),
-        Err(CapacityFault::BadLine { line }) => {
-            Err(Stop::Refused(Refusal::Unbuilt(File::Capacity, line)))
-        }
+        Err(CapacityFault::BadLine { line }) => Err(Stop::Unbuilt(place, line)),
         Err(CapacityFault::Memory) => Err(Stop::Memory),
     }
 }
 
-/// The message of the requests, under a declaration.
-fn judge_message(alloc: Global, declaration: &Declaration, bytes: &[u8]) -> Result<Message, Stop>
+/// The message of the requests in the form that is served, under a declaration.
+fn judge_message(
+    alloc: Global,
+    place: usize,
+    declaration: &Declaration,
+    bytes: &[u8],
+) -> Result<Message, Stop>
     requires { IsStation declaration.now.airport.0 }
-    ensures historic { IfOk result (λ message.
-        IsHistoricMessage declaration.now.season declaration.now.airport message
-        × (bytes.now ≡ message_text message)) }
-    ensures stop { IfErr result (IsFormStop File.Requests
-        (IsFirstBadLine (IsHistoricText declaration.now.season declaration.now.airport)
-        bytes.now)) }
+    ensures found { IfOk result (λ message. (capacity : List ℕ) →
+        IsCapacityText capacity declaration.now → IsServedSeason capacity bytes.now message) }
+    ensures alone { OnOk result ((name : Word) (capacity : NamedBytes) (rest : List NamedBytes) →
+        IsCapacityText capacity.bytes declaration.now → AcceptsAlone served_requests name
+        (capacity ∷ record { name = name; bytes = bytes.now } ∷ rest)) }
+    ensures stop { IfErr result (λ stop. (names : List Word) (capacity : NamedBytes)
+        (rest : List NamedBytes) → IsCapacityText capacity.bytes declaration.now →
+        IsJudged names served_requests (name_at names place)
+        (capacity ∷ record { name = name_at names place; bytes = bytes.now } ∷ rest) stop) }
 {
     match read_historic_message(alloc, &declaration.season, declaration.airport, bytes) {
         Ok(message) => Ok(message),
-        Err(HistoricFault::OutOfForm { line }) => {
-            Err(Stop::Refused(Refusal::Unbuilt(File::Requests, line)))
-        }
+        Err(HistoricFault::OutOfForm { line }) => Err(Stop::Unbuilt(place, line)),
         Err(HistoricFault::Memory) => Err(Stop::Memory),
     }
 }

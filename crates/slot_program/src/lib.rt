@@ -4,15 +4,14 @@
 
 mod allocate;
 mod capacity;
+mod check;
 mod cutting;
-mod job;
+mod files;
 pub mod laws;
-mod refusal;
 mod rule;
+mod season;
+mod stop;
 mod top_call;
 mod values;
-mod words;
 
-pub use job::{Job, Name, NameList, WordFault};
 pub use top_call::desk;
-pub use words::read_words;

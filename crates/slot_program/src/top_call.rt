@@ -1,44 +1,45 @@
 ghost use Rattle.std.specs.Prelude.{◌≡◌, ◌≢◌, ◌⊎◌, ◌++◌, ◌∷◌, [], ℕ, List, Option, Some, None};
-ghost use Rattle.std.specs.Prelude.{IfOk, length};
+ghost use Rattle.std.specs.Prelude.{IfOk, length, Contains, map};
 ghost use Rattle.std.specs.String.{string_bytes};
 ghost use Rattle.desk_outside.specs.Cause.{Rose};
 ghost use Rattle.desk_outside.specs.Files.{Files, ChangesOnly};
 ghost use Rattle.desk_outside.specs.Bytes.{Puts, PutsPart};
 ghost use Rattle.desk_outside.specs.Passages.{put, put_failed};
-ghost use Rattle.slot_program.specs.Words.{Word, words_of, job_of};
-ghost use Rattle.slot_program.specs.Reports.{Report, status_of, text_of, settled};
-ghost use Rattle.slot_program.specs.Order.{FirstDue};
-ghost use Rattle.slot_program.specs.Desk.{file_names, allocation_steps, IsPlan, Allocates};
-ghost use Rattle.slot_program.specs.Desk.{names_written, IsStatus};
-ghost use Rattle.slot_program.specs.Handed.{LogGrew, PassedWhole, OnlyOfJob, world_of, WorkEnds};
-ghost use Rattle.slot_program.specs.Handed.{IsAnswer};
-ghost use Rattle.slot_program.specs.Stops.{names_of};
-ghost use Rattle.slot_program.specs.declared.job.Job.TheVariants.{Allocate};
+ghost use Rattle.command_words.specs.Words.{words_of};
+ghost use Rattle.command_words.specs.Jobs.{job_of};
+ghost use Rattle.slot_program.specs.Reports.{Report, Refusal, refused, finished, status_of, text_of};
+ghost use Rattle.slot_program.specs.Judgements.{NamedBytes};
+ghost use Rattle.slot_program.specs.Steps.{AllPass, FirstDue, form_steps};
+ghost use Rattle.slot_program.specs.Writing.{read_of, written_of};
+ghost use Rattle.slot_program.specs.Jobs.{name_at, steps_of, finishing_of, MarksAreTrue};
+ghost use Rattle.slot_program.specs.Desk.{LogGrew, OnlyOfJob, world_of, Ends, IsFinished};
+ghost use Rattle.slot_program.specs.Desk.{names_changed, IsStatus};
+ghost use Rattle.slot_program.specs.Answers.{IsAnswer};
+ghost use Rattle.command_words.specs.declared.job.Job.{Job as JobValue};
+ghost use Rattle.command_words.specs.declared.job.Job.TheVariants.{Allocate as AllocateJob};
+ghost use Rattle.command_words.specs.declared.job.Job.TheVariants.{Check as CheckJob};
 
 use crate::allocate::allocate;
-use crate::job::{Job, NameList, WordFault};
-use crate::refusal::{Names, Stop};
-use crate::words::read_words;
+use crate::check::check;
+use crate::stop::Answer;
+use command_words::{Job, NameList, WordFault, read_words};
 use desk_outside::{Cabinet, Sink};
 use slot_text::Memory;
 use std::alloc::Global;
+use wasg_stages::laws::valid_marks;
 
 const STAGE_LINES: &str =
     "STAGE 1 OPTIMAL 0\nSTAGE 2 OPTIMAL 0\nSTAGE 3 OPTIMAL 0\nSTAGE 4 OPTIMAL 0\n";
 
-/// A status, and the text that goes with it.
-#[derive(Drop)]
-struct Answer {
-    status: u8,
-    text: String,
-}
-
 /// Does what the words of a command line ask, on the files of a cabinet, and says the result to a
 /// sink.
 ///
-/// The answer is the status of the program: 0 where the work is done; 2 where the words are no
-/// command's; 5 where the cabinet failed, or has no such file or one of more than 4 MiB; 6 where
-/// the sink failed; 7 for want of memory; and 12 where a file is not in the form that is served.
+/// The answer is the status of the program: 0 where the work is done; 1 where the certificate is not
+/// valid; 2 where the words are no command's; 3 where a file is not in its form; 4 where a limit is
+/// passed; 5 where the cabinet failed, or has no such file or one of more bytes than are read; 6
+/// where the sink failed; 7 for want of memory; and 12 where a file is not in the form that is
+/// served today. The clauses say the same of every command; what a command's steps, writes and work
+/// are stands in `specs/Jobs.antt`.
 pub fn desk<R, C: Cabinet, S: Sink>(
     _rt: &R,
     alloc: Global,
@@ -46,45 +47,48 @@ pub fn desk<R, C: Cabinet, S: Sink>(
     cabinet: &mut C,
     out: &mut S,
 ) -> u8
-    // The status, what passed between the desk and the cabinet, and what was put are those of one
-    // report, which is due by the words and by what was handed out.
+    // The status, what passed between the desk and the cabinet, the files after it, and what was
+    // put are those of one report, which is due by the words and by what was handed out.
     ensures said { result ≢ 6 → result ≢ 7 → (report : Report) × (result ≡ status_of report)
-        × WorkEnds (job_of (words_of words.now)) (world_of C.files C.fault_count C.log cabinet.old)
+        × Ends (job_of (words_of words.now)) (world_of C.files C.fault_count C.log cabinet.old)
         report (world_of C.files C.fault_count C.log cabinet.new)
         × Puts (S.contents out.old) (text_of report) (S.contents out.new)
         × (S.log out.new ≡ S.log out.old ++ put (text_of report) ∷ []) }
     ensures statuses { IsStatus result }
 
-    // Done, also over a cabinet that tells nothing: the two files that were handed out are a
-    // capacity file and a message in their forms, the certificate and the replies that were written
-    // are right of these two, and the four stage lines were put, after all that had passed before.
-    ensures handed { (names : List Word) → job_of (words_of words.now) ≡ Some (Allocate names)
-        → result ≡ 0 →
-        LogGrew (C.log cabinet.old) (PassedWhole (C.files cabinet.old) (file_names names))
-        (C.log cabinet.new)
-        × (S.log out.new ≡ S.log out.old ++ put (text_of settled) ∷ []) }
+    // The headline: what a certificate that was written, or found valid, says of each stage is so.
+    // Exactly the files of the job were read and written, also over a cabinet that tells nothing.
+    ensures headline { (job : JobValue) → job_of (words_of words.now) ≡ Some job →
+        Contains (finishing_of job) result → (inputs writes : List NamedBytes)
+        × (C.log cabinet.new ≡ C.log cabinet.old ++ (map read_of inputs ++ map written_of writes))
+        × MarksAreTrue job inputs writes }
 
-    // Done: the certificate and then the replies are written, the sink got the four stage lines,
-    // and nothing failed.
-    ensures allocated { (names : List Word) → job_of (words_of words.now) ≡ Some (Allocate names)
-        → result ≡ 0 →
-        Allocates (C.files cabinet.old) (file_names names) (C.files cabinet.new)
-        × Puts (S.contents out.old) (text_of settled) (S.contents out.new) }
+    // Done: each step passed, the work is that of the files that were read, exactly its files were
+    // written, its text was put, and nothing failed.
+    ensures handed { (job : JobValue) → job_of (words_of words.now) ≡ Some job →
+        Contains (finishing_of job) result → (text : List ℕ)
+        × IsFinished job (world_of C.files C.fault_count C.log cabinet.old) result text
+        (world_of C.files C.fault_count C.log cabinet.new)
+        × Puts (S.contents out.old) text (S.contents out.new)
+        × (S.log out.new ≡ S.log out.old ++ put text ∷ []) }
     ensures done { result ≡ 0 → (C.fault_count cabinet.new ≡ C.fault_count cabinet.old)
         × (S.fault_count out.new ≡ S.fault_count out.old) }
 
-    // The words are no command's, exactly then, and no file is changed or read.
+    // The words are no command's, exactly then, and nothing of the cabinet is changed or asked.
     ensures words { result ≡ 2 → job_of (words_of words.now) ≡ None }
     ensures refused { job_of (words_of words.now) ≡ None →
-        (C.files cabinet.new ≡ C.files cabinet.old)
+        (world_of C.files C.fault_count C.log cabinet.new
+        ≡ world_of C.files C.fault_count C.log cabinet.old)
         × ((result ≡ 2) ⊎ ((result ≡ 6) ⊎ (result ≡ 7))) }
 
-    // What the files give as the first refusal is answered, unless a call of the cabinet failed,
-    // the sink failed or memory ran out.
-    ensures due { (names : List Word) (held : Files) (report : Report)
-        → job_of (words_of words.now) ≡ Some (Allocate names) → C.files cabinet.old ≡ Some held →
-        FirstDue held (allocation_steps (file_names names)) report →
-        (result ≡ status_of report)
+    // What the files give as the first refusal is answered, with its line, its number and its
+    // reason, unless a call of the cabinet failed, the sink failed or memory ran out.
+    ensures due { (job : JobValue) (held : Files) (refusal : Refusal)
+        → job_of (words_of words.now) ≡ Some job → C.files cabinet.old ≡ Some held →
+        FirstDue held (steps_of job) refusal →
+        ((result ≡ status_of (refused refusal))
+        × Puts (S.contents out.old) (text_of (refused refusal)) (S.contents out.new)
+        × (S.log out.new ≡ S.log out.old ++ put (text_of (refused refusal)) ∷ []))
         ⊎ (((result ≡ 5) × Rose (C.fault_count cabinet.old) (C.fault_count cabinet.new))
         ⊎ ((result ≡ 6) ⊎ (result ≡ 7))) }
 
@@ -92,7 +96,7 @@ pub fn desk<R, C: Cabinet, S: Sink>(
     // a front of that text went out.
     ensures cut { result ≡ 6 → Rose (S.fault_count out.old) (S.fault_count out.new)
         × ((report : Report)
-        × WorkEnds (job_of (words_of words.now)) (world_of C.files C.fault_count C.log cabinet.old)
+        × Ends (job_of (words_of words.now)) (world_of C.files C.fault_count C.log cabinet.old)
         report (world_of C.files C.fault_count C.log cabinet.new)
         × PutsPart (S.contents out.old) (text_of report) (S.contents out.new)
         × (S.log out.new ≡ S.log out.old ++ put_failed (text_of report) ∷ [])) }
@@ -100,20 +104,30 @@ pub fn desk<R, C: Cabinet, S: Sink>(
     // Whatever the status, only files that the command writes have other bytes than before, and
     // only the command's files were asked of the cabinet: it read those that it reads, and wrote
     // those that it writes.
-    ensures others { ChangesOnly (C.files cabinet.old) (names_written (job_of (words_of words.now)))
+    ensures others { ChangesOnly (C.files cabinet.old) (names_changed (job_of (words_of words.now)))
         (C.files cabinet.new) }
     ensures asked { LogGrew (C.log cabinet.old) (OnlyOfJob (job_of (words_of words.now)))
         (C.log cabinet.new) }
 
-    // With a command's words, both files in their forms and no rise of a count the work is done, or
-    // memory ran out.
-    ensures complete { (names : List Word) (held : Files) (replies : List ℕ)
-        → job_of (words_of words.now) ≡ Some (Allocate names) → C.files cabinet.old ≡ Some held →
-        IsPlan held (file_names names) replies →
+    // With a command's words, where each of its steps passes in the files and no count rises, the
+    // work is done, or memory ran out.
+    ensures complete { (job : JobValue) (held : Files) (inputs : List NamedBytes)
+        → job_of (words_of words.now) ≡ Some job → C.files cabinet.old ≡ Some held →
+        AllPass (Some held) (steps_of job) inputs →
         (Rose (C.fault_count cabinet.old) (C.fault_count cabinet.new) → ⊥) →
         (Rose (S.fault_count out.old) (S.fault_count out.new) → ⊥) →
-        (result ≡ 0) ⊎ (result ≡ 7) }
+        Contains (finishing_of job) result ⊎ (result ≡ 7) }
+
+    // Where all files are only in their forms, the one other answer is that the certificate is not
+    // valid.
+    ensures in_form { (job : JobValue) (held : Files) (inputs : List NamedBytes)
+        → job_of (words_of words.now) ≡ Some job → C.files cabinet.old ≡ Some held →
+        AllPass (Some held) (form_steps (steps_of job)) inputs →
+        (Rose (C.fault_count cabinet.old) (C.fault_count cabinet.new) → ⊥) →
+        (Rose (S.fault_count out.old) (S.fault_count out.new) → ⊥) →
+        (result ≡ 1) ⊎ (Contains (finishing_of job) result ⊎ (result ≡ 7)) }
 {
+    valid_marks();
     match carry_out(alloc, words, cabinet) {
         Ok(answer) => match out.put(answer.text.as_bytes()) {
             Ok(()) => answer.status,
@@ -128,15 +142,17 @@ fn carry_out<C: Cabinet>(alloc: Global, words: &[String], cabinet: &mut C) -> Re
     ensures answer { IfOk result (λ a. IsAnswer (job_of (words_of words.now))
         (world_of C.files C.fault_count C.log cabinet.old) a.status (string_bytes a.text)
         (world_of C.files C.fault_count C.log cabinet.new)) }
-    ensures others { ChangesOnly (C.files cabinet.old) (names_written (job_of (words_of words.now)))
+    ensures others { ChangesOnly (C.files cabinet.old) (names_changed (job_of (words_of words.now)))
         (C.files cabinet.new) }
     ensures asked { LogGrew (C.log cabinet.old) (OnlyOfJob (job_of (words_of words.now)))
         (C.log cabinet.new) }
-    ensures refused { job_of (words_of words.now) ≡ None
-        → C.files cabinet.new ≡ C.files cabinet.old }
+    ensures refused { job_of (words_of words.now) ≡ None →
+        world_of C.files C.fault_count C.log cabinet.new
+        ≡ world_of C.files C.fault_count C.log cabinet.old }
 {
     match read_words(alloc, words) {
-        Ok(Job::Allocate { names }) => carry_out_allocation(alloc, &names, cabinet),
+        Ok(Job::Allocate { names, .. }) => Ok(carry_out_allocation(alloc, &names, cabinet)?),
+        Ok(Job::Check { names }) => Ok(carry_out_check(alloc, &names, cabinet)?),
         Err(WordFault::Words) => Ok(Answer {
             status: 2,
             text: String::from_str(alloc, "WORDS\n")?,
@@ -151,41 +167,42 @@ fn carry_out_allocation<C: Cabinet>(
     names: &NameList,
     cabinet: &mut C,
 ) -> Result<Answer, Memory>
-    requires { length names.now ≡ 4 }
-    ensures answer { IfOk result (λ a. IsAnswer (Some (Allocate names.now))
+    ensures answer { IfOk result (λ a. (nodes workers : ℕ) →
+        IsAnswer (Some (AllocateJob names.now nodes workers))
         (world_of C.files C.fault_count C.log cabinet.old) a.status (string_bytes a.text)
         (world_of C.files C.fault_count C.log cabinet.new)) }
-    ensures others { ChangesOnly (C.files cabinet.old) (names_written (Some (Allocate names.now)))
-        (C.files cabinet.new) }
-    ensures asked { LogGrew (C.log cabinet.old) (OnlyOfJob (Some (Allocate names.now)))
-        (C.log cabinet.new) }
+    ensures others { ChangesOnly (C.files cabinet.old)
+        (name_at names.now 2 ∷ name_at names.now 3 ∷ []) (C.files cabinet.new) }
+    ensures asked { (nodes workers : ℕ) → LogGrew (C.log cabinet.old)
+        (OnlyOfJob (Some (AllocateJob names.now nodes workers))) (C.log cabinet.new) }
 {
-    let names = names_in(names);
-    match allocate(alloc, &names, cabinet) {
+    match allocate(alloc, names, cabinet) {
         Ok(()) => Ok(Answer {
             status: 0,
             text: String::from_str(alloc, STAGE_LINES)?,
         }),
-        Err(Stop::Refused(refusal)) => Ok(Answer {
-            status: refusal.status(&names),
-            text: refusal.text(alloc, &names)?,
-        }),
-        Err(Stop::Memory) => Err(Memory),
+        Err(stop) => Ok(stop.answer(alloc, names)?),
     }
 }
 
-/// The four names of an allocation.
-fn names_in(names: &NameList) -> Names<'_>
-    requires { length names.now ≡ 4 }
-    ensures { names_of result ≡ file_names names.now }
+/// Checks a certificate, and gives what is to be said.
+fn carry_out_check<C: Cabinet>(
+    alloc: Global,
+    names: &NameList,
+    cabinet: &mut C,
+) -> Result<Answer, Memory>
+    ensures answer { IfOk result (λ a. IsAnswer (Some (CheckJob names.now))
+        (world_of C.files C.fault_count C.log cabinet.old) a.status (string_bytes a.text)
+        (world_of C.files C.fault_count C.log cabinet.new)) }
+    ensures unchanged { C.files cabinet.new ≡ C.files cabinet.old }
+    ensures asked { LogGrew (C.log cabinet.old) (OnlyOfJob (Some (CheckJob names.now)))
+        (C.log cabinet.new) }
 {
-    let [capacity, requests, certificate, replies] = names.items() else {
-        unreachable!()
-    };
-    Names {
-        capacity: capacity.text(),
-        requests: requests.text(),
-        certificate: certificate.text(),
-        replies: replies.text(),
+    match check(alloc, names, cabinet) {
+        Ok(()) => Ok(Answer {
+            status: 0,
+            text: String::from_str(alloc, "YES\n")?,
+        }),
+        Err(stop) => Ok(stop.answer(alloc, names)?),
     }
 }

@@ -3,11 +3,12 @@
 
 use crate::rows::{Case, number, say, walk};
 use capacity_file::read_capacity;
+use choice_problem::MOST_UNITS;
 use scr_reader::laws::read_lines_fit;
 use scr_reader::read_all;
 use season_maker::make_season;
+use series_model::Submission;
 use series_model::laws::read_messages;
-use series_model::{MOST_UNITS, Submission};
 use slot_text::Lines;
 use std::alloc::Global;
 use std::test::Fail;

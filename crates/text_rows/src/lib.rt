@@ -1,4 +1,4 @@
-//! Tests of the text crates: worked rows, as tables of text.
+//! Tests of the text crates, of the words of a command line and of generated seasons: worked rows, as tables of text.
 #![tactic(auto)]
 
 #[cfg(test)]

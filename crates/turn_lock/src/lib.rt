@@ -11,6 +11,3 @@ mod view;
 pub use seat::TurnSeat;
 pub use story::Story;
 pub use turn::Turn;
-
-#[cfg(test)]
-mod tests;

@@ -1,20 +1,33 @@
-use Rattle.std.proofs.Common.{◌≡◌, sym, subst, refl, Option, None}
-use Rattle.slot_program.specs.Words.{words_of, job_of}
-use Rattle.slot_program.specs.Reports.{no_command}
-use Rattle.slot_program.specs.Handed.{World, world_of, WorkEnds}
-use Rattle.slot_program.specs.declared.job.Job.{Job}
-use Rattle.slot_program.proofs.DeskLemmas.{no_job}
-use Rattle.slot_program.proofs.HandedLemmas.{none_passed}
-use Rattle.slot_program.proofs.WordLemmas.{no_words}
+use Rattle.std.proofs.Common.{sym, ap, ◌∙◌, subst, Option, Some}
+use Rattle.slot_program.specs.Desk.{LogGrew, OnlyOfJob}
+use Rattle.command_words.specs.declared.job.Job.{Job}
+use Rattle.command_words.specs.Words.{words_of}
+use Rattle.command_words.specs.Jobs.{job_of}
+use Rattle.slot_program.proofs.AnswerLemmas.{nothing_asked}
 use Rattle.slot_program.proofs.top_call.carry_out.Goals as goal
 
-pub returns-in_ok-from_str-in-Err-Words-clause-answer : goal.returns-in_ok-from_str-in-Err-Words-clause-answer
-returns-in_ok-from_str-in-Err-Words-clause-answer g c =
-    let world : World = world_of g.C.Cabinet.files g.C.Cabinet.fault_count g.C.Cabinet.log c.args.cabinet.now in
-    let none : job_of (words_of c.args.words.now) ≡ None = no_job (job_of (words_of c.args.words.now)) (λ job e. no_words c.in-Err-Words.field-0 job c.in-Err-Words.field-0-is (c.in-Err-Words.ensures.only job e)) in
-    record {
-      report = no_command;
-      status_is = refl;
-      text_is = c.in_ok-from_str-in-Err-Words.ensures.ok;
-      work = subst (λ (o : Option Job). WorkEnds o world no_command world) (sym none) (record { ends = (refl, refl); passed = none_passed world.files no_command world.log });
-    }
+pub returns-in_err-carry_out_allocation-in-Ok-Allocate-clause-asked : goal.returns-in_err-carry_out_allocation-in-Ok-Allocate-clause-asked
+returns-in_err-carry_out_allocation-in-Ok-Allocate-clause-asked g c =
+    subst (λ (o : Option Job). LogGrew (g.C.Cabinet.log c.args.cabinet.now) (OnlyOfJob o) (g.C.Cabinet.log c.carry_out_allocation.new.cabinet)) (sym (c.in-Ok-Allocate.ensures.found ∙ ap Some c.in-Ok-Allocate.field-0-is))
+    (c.carry_out_allocation.ensures.asked c.in-Ok-Allocate.field-0-1 c.in-Ok-Allocate.field-0-2)
+
+pub returns-in_ok-carry_out_allocation-in-Ok-Allocate-clause-asked : goal.returns-in_ok-carry_out_allocation-in-Ok-Allocate-clause-asked
+returns-in_ok-carry_out_allocation-in-Ok-Allocate-clause-asked g c =
+    subst (λ (o : Option Job). LogGrew (g.C.Cabinet.log c.args.cabinet.now) (OnlyOfJob o) (g.C.Cabinet.log c.carry_out_allocation.new.cabinet)) (sym (c.in-Ok-Allocate.ensures.found ∙ ap Some c.in-Ok-Allocate.field-0-is))
+    (c.carry_out_allocation.ensures.asked c.in-Ok-Allocate.field-0-1 c.in-Ok-Allocate.field-0-2)
+
+pub returns-in_ok-carry_out_check-in-Ok-Check-clause-asked : goal.returns-in_ok-carry_out_check-in-Ok-Check-clause-asked
+returns-in_ok-carry_out_check-in-Ok-Check-clause-asked g c =
+    subst (λ (o : Option Job). LogGrew (g.C.Cabinet.log c.args.cabinet.now) (OnlyOfJob o) (g.C.Cabinet.log c.carry_out_check.new.cabinet)) (sym (c.in-Ok-Check.ensures.found ∙ ap Some c.in-Ok-Check.field-0-is))
+    c.carry_out_check.ensures.asked
+
+pub returns-in_err-carry_out_check-in-Ok-Check-clause-asked : goal.returns-in_err-carry_out_check-in-Ok-Check-clause-asked
+returns-in_err-carry_out_check-in-Ok-Check-clause-asked g c =
+    subst (λ (o : Option Job). LogGrew (g.C.Cabinet.log c.args.cabinet.now) (OnlyOfJob o) (g.C.Cabinet.log c.carry_out_check.new.cabinet)) (sym (c.in-Ok-Check.ensures.found ∙ ap Some c.in-Ok-Check.field-0-is))
+    c.carry_out_check.ensures.asked
+
+pub returns-in_err-from_str-in-Err-Words-clause-asked : goal.returns-in_err-from_str-in-Err-Words-clause-asked
+returns-in_err-from_str-in-Err-Words-clause-asked g c = nothing_asked (job_of (words_of c.args.words.now)) (g.C.Cabinet.log c.args.cabinet.now)
+
+pub returns-in-Err-Memory-clause-asked : goal.returns-in-Err-Memory-clause-asked
+returns-in-Err-Memory-clause-asked g c = nothing_asked (job_of (words_of c.args.words.now)) (g.C.Cabinet.log c.args.cabinet.now)

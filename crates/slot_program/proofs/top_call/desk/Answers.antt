@@ -1,35 +1,96 @@
-use Rattle.std.proofs.Common.{sym, ◌∙◌, subst, refl, inl, inr, Option, Some, ℕ, arith}
-use Rattle.desk_outside.specs.Files.{Files}
-use Rattle.slot_program.specs.Words.{words_of, job_of}
-use Rattle.slot_program.specs.Desk.{AllocationEnds, file_names, IsStatus}
-use Rattle.slot_program.proofs.DeskLemmas.{report_status, job_ends, due_answered, plan_settles}
+use Rattle.std.proofs.Common.{◌≡◌, ◌∷◌, [], ◌++◌, sym, ◌∙◌, ap, subst, refl, inl, inr, ℕ, arith, rules}
+use Rattle.std.specs.Prelude.{Contains}
+use Rattle.desk_outside.specs.Bytes.{Puts}
+use Rattle.desk_outside.specs.Passages.{put}
+use Rattle.command_words.specs.Words.{words_of}
+use Rattle.command_words.specs.Jobs.{job_of}
+use Rattle.slot_program.specs.Reports.{Report, status_of, text_of}
+use Rattle.slot_program.specs.Jobs.{finishing_of}
+use Rattle.slot_program.specs.Desk.{World, world_of, IsFinished, IsStatus}
+use Rattle.slot_program.proofs.DeskLemmas.{is_status, not_six, is_finished, marks_true, told_exact, finishing_zero}
 use Rattle.slot_program.proofs.top_call.desk.Goals as goal
 
 pub returns-in-Ok-put-clause-statuses : goal.returns-in-Ok-put-clause-statuses
-returns-in-Ok-put-clause-statuses g c = subst (λ (n : ℕ). IsStatus n) (sym c.in-Ok.ensures.answer.status_is) (report_status c.in-Ok.ensures.answer.report)
+returns-in-Ok-put-clause-statuses g c =
+    let a = c.in-Ok.ensures.answer in
+    subst (λ (n : ℕ). IsStatus n) (sym a.status_is) (is_status (job_of (words_of c.args.words.now)) _ a.report _ a.ends)
+
+pub returns-in-Ok-put-clause-headline : goal.returns-in-Ok-put-clause-headline
+returns-in-Ok-put-clause-headline g c = λ job e one.
+    let w : World = world_of g.C.Cabinet.files g.C.Cabinet.fault_count g.C.Cabinet.log c.args.cabinet.now in
+    let v : World = world_of g.C.Cabinet.files g.C.Cabinet.fault_count g.C.Cabinet.log c.carry_out.new.cabinet in
+    let a = c.in-Ok.ensures.answer in
+    marks_true c.valid_marks.ensures job w (status_of a.report) (text_of a.report) v
+    (is_finished (job_of (words_of c.args.words.now)) job w a.report v e (subst (λ (n : ℕ). Contains (finishing_of job) n) a.status_is one) a.ends)
+
+pub returns-in-Ok-put-clause-handed : goal.returns-in-Ok-put-clause-handed
+returns-in-Ok-put-clause-handed g c = λ job e one.
+    let w : World = world_of g.C.Cabinet.files g.C.Cabinet.fault_count g.C.Cabinet.log c.args.cabinet.now in
+    let v : World = world_of g.C.Cabinet.files g.C.Cabinet.fault_count g.C.Cabinet.log c.carry_out.new.cabinet in
+    let a = c.in-Ok.ensures.answer in
+    let done : IsFinished job w (status_of a.report) (text_of a.report) v =
+    is_finished (job_of (words_of c.args.words.now)) job w a.report v e (subst (λ (n : ℕ). Contains (finishing_of job) n) a.status_is one) a.ends in
+    (text_of a.report, subst (λ (n : ℕ). IsFinished job w n (text_of a.report) v) (sym a.status_is) done, search rules, search rules)
 
 pub returns-in-Ok-put-clause-due : goal.returns-in-Ok-put-clause-due
-returns-in-Ok-put-clause-due g c = λ names held due job told is.
+returns-in-Ok-put-clause-due g c = λ job held refusal e told is.
+    let w : World = world_of g.C.Cabinet.files g.C.Cabinet.fault_count g.C.Cabinet.log c.args.cabinet.now in
+    let v : World = world_of g.C.Cabinet.files g.C.Cabinet.fault_count g.C.Cabinet.log c.carry_out.new.cabinet in
     let a = c.in-Ok.ensures.answer in
-    let files = g.C.Cabinet.files in
-    let count = g.C.Cabinet.fault_count in
-    let ends : AllocationEnds (Some held) (file_names names) (count c.args.cabinet.now) (count c.carry_out.new.cabinet) a.report (files c.carry_out.new.cabinet) =
-    subst (λ (o : Option Files). AllocationEnds o (file_names names) (count c.args.cabinet.now) (count c.carry_out.new.cabinet) a.report (files c.carry_out.new.cabinet)) told
-    (job_ends (job_of (words_of c.args.words.now)) names (files c.args.cabinet.now) (count c.args.cabinet.now) (count c.carry_out.new.cabinet) a.report (files c.carry_out.new.cabinet) job a.work.ends) in
-    elim (due_answered held (file_names names) (count c.args.cabinet.now) (count c.carry_out.new.cabinet) due a.report (files c.carry_out.new.cabinet) is ends) [
-      | inl same ↦ inl (a.status_is ∙ same)
+    let exact = told_exact (job_of (words_of c.args.words.now)) job w a.report v held e told a.exact in
+    let puts : Puts (g.S.Sink.contents c.args.out.now) (text_of a.report) (g.S.Sink.contents c.put.new.self) = search rules in
+    let logs : g.S.Sink.log c.put.new.self ≡ g.S.Sink.log c.args.out.now ++ put (text_of a.report) ∷ [] = search rules in
+    elim (exact.due refusal is) [
+      | inl same ↦ inl (
+        a.status_is ∙ ap status_of same,
+        subst (λ (r : Report). Puts (g.S.Sink.contents c.args.out.now) (text_of r) (g.S.Sink.contents c.put.new.self)) same puts,
+        subst (λ (r : Report). g.S.Sink.log c.put.new.self ≡ g.S.Sink.log c.args.out.now ++ put (text_of r) ∷ []) same logs,
+      )
       | inr failed ↦ inr (inl (a.status_is ∙ failed.0, failed.1))
     ]
 
 pub returns-in-Ok-put-clause-complete : goal.returns-in-Ok-put-clause-complete
-returns-in-Ok-put-clause-complete g c = λ names held replies job told plan calm quiet.
+returns-in-Ok-put-clause-complete g c = λ job held inputs e told pass calm quiet.
+    let w : World = world_of g.C.Cabinet.files g.C.Cabinet.fault_count g.C.Cabinet.log c.args.cabinet.now in
+    let v : World = world_of g.C.Cabinet.files g.C.Cabinet.fault_count g.C.Cabinet.log c.carry_out.new.cabinet in
     let a = c.in-Ok.ensures.answer in
-    let files = g.C.Cabinet.files in
-    let count = g.C.Cabinet.fault_count in
-    let ends : AllocationEnds (Some held) (file_names names) (count c.args.cabinet.now) (count c.carry_out.new.cabinet) a.report (files c.carry_out.new.cabinet) =
-    subst (λ (o : Option Files). AllocationEnds o (file_names names) (count c.args.cabinet.now) (count c.carry_out.new.cabinet) a.report (files c.carry_out.new.cabinet)) told
-    (job_ends (job_of (words_of c.args.words.now)) names (files c.args.cabinet.now) (count c.args.cabinet.now) (count c.carry_out.new.cabinet) a.report (files c.carry_out.new.cabinet) job a.work.ends) in
-    inl (a.status_is ∙ plan_settles held (file_names names) replies (count c.args.cabinet.now) (count c.carry_out.new.cabinet) a.report (files c.carry_out.new.cabinet) plan calm ends)
+    let exact = told_exact (job_of (words_of c.args.words.now)) job w a.report v held e told a.exact in
+    elim (exact.whole inputs pass) [
+      | inl one ↦ inl (subst (λ (n : ℕ). Contains (finishing_of job) n) (sym a.status_is) one)
+      | inr rose ↦ absurd (calm rose)
+    ]
+
+pub returns-in-Ok-put-clause-in_form : goal.returns-in-Ok-put-clause-in_form
+returns-in-Ok-put-clause-in_form g c = λ job held inputs e told pass calm quiet.
+    let w : World = world_of g.C.Cabinet.files g.C.Cabinet.fault_count g.C.Cabinet.log c.args.cabinet.now in
+    let v : World = world_of g.C.Cabinet.files g.C.Cabinet.fault_count g.C.Cabinet.log c.carry_out.new.cabinet in
+    let a = c.in-Ok.ensures.answer in
+    let exact = told_exact (job_of (words_of c.args.words.now)) job w a.report v held e told a.exact in
+    elim (exact.forms inputs pass) [
+      | inl one ↦ inl (a.status_is ∙ one)
+      | inr (inl one) ↦ inr (inl (subst (λ (n : ℕ). Contains (finishing_of job) n) (sym a.status_is) one))
+      | inr (inr rose) ↦ absurd (calm rose)
+    ]
 
 pub returns-in-Ok-clause-statuses : goal.returns-in-Ok-clause-statuses
-returns-in-Ok-clause-statuses g c = (3, omega arith, refl)
+returns-in-Ok-clause-statuses g c = (6, omega arith, refl)
+
+pub returns-in-Ok-clause-headline : goal.returns-in-Ok-clause-headline
+returns-in-Ok-clause-headline g c = λ job e one. absurd (omega (arith, finishing_zero job 6 one))
+
+pub returns-in-Ok-clause-handed : goal.returns-in-Ok-clause-handed
+returns-in-Ok-clause-handed g c = λ job e one. absurd (omega (arith, finishing_zero job 6 one))
+
+pub returns-clause-headline : goal.returns-clause-headline
+returns-clause-headline g c = λ job e one. absurd (omega (arith, finishing_zero job 7 one))
+
+pub returns-clause-handed : goal.returns-clause-handed
+returns-clause-handed g c = λ job e one. absurd (omega (arith, finishing_zero job 7 one))
+
+pub returns-clause-statuses : goal.returns-clause-statuses
+returns-clause-statuses g c = (7, omega arith, refl)
+
+pub returns-in-Ok-put-clause-cut : goal.returns-in-Ok-put-clause-cut
+returns-in-Ok-put-clause-cut g c = λ e.
+    let a = c.in-Ok.ensures.answer in
+    absurd (not_six (job_of (words_of c.args.words.now)) _ a.report _ (sym a.status_is ∙ e) a.ends)

@@ -1,6 +1,0 @@
-use Rattle.std.proofs.Common.{◌≡◌}
-use Rattle.incumbent_word.specs.Seats.{IsSeatOf}
-use Rattle.incumbent_word.proofs.tests.draw_all.Given as goal
-
-abbrev pub invariant-loop : goal.invariant-loop
-invariant-loop l = IsSeatOf l.board l.seat × (l.seat.view.share ≡ l.fn.seat.view.share)

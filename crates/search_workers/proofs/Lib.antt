@@ -1,0 +1,17 @@
+mod CostLemmas
+mod NodeLemmas
+mod GraftLemmas
+mod WorkLemmas
+mod EnterLemmas
+mod PieceLemmas
+mod RoundLemmas
+mod TreesLemmas
+mod EndLemmas
+mod OpenLemmas
+mod SizeLemmas
+mod FinishLemmas
+mod PlaceLemmas
+mod SeatLemmas
+mod TaskLemmas
+mod OutcomeLemmas
+mod LookLemmas

@@ -1,0 +1,46 @@
+-- What the workers of one board have, and what a round of a search comes to.
+use Rattle.std.specs.Prelude.{◌≡◌, ℕ, ◌+◌, ◌≤◌, ◌==◌, true, List, [], ◌∷◌, count_by, Option, ◌⊎◌}
+use Rattle.choice_problem.specs.declared.nodes.Node.{Node}
+use Rattle.choice_problem.specs.Trees.{node_count}
+use Rattle.incumbent_word.specs.Core.{AtMost}
+use Rattle.incumbent_word.specs.Seats.{BoardView, IsSeatOf}
+use Rattle.search_workers.specs.declared.searchers.Searcher.{Searcher}
+use Rattle.search_workers.specs.Searchers.{pieces_of, IsSearcher}
+use Rattle.search_workers.specs.Settings.{Setting}
+use Rattle.search_workers.specs.Work.{IsSoFar}
+
+-- a worker that may claim, and has made a tree in each piece that it claimed
+pub record IsReady (s : Setting) (pieces : List (List (ℕ × ℕ))) (board : BoardView)
+    (w : Searcher) : Type 0 where
+  pub own : IsSeatOf board w.seat
+  pub searcher : IsSearcher s pieces w.seat.view w.cost w.best w.done.items
+  pub claims : w.seat.view.worker.pieces ≡ pieces_of w.done.items
+
+-- a worker that found all pieces claimed, or wanted memory
+pub record IsFinished (s : Setting) (pieces : List (List (ℕ × ℕ))) (board : BoardView)
+    (w : Searcher) : Type 0 where
+  pub own : IsSeatOf board w.seat
+  pub ended : (w.failed ≡ true) ⊎ (IsReady s pieces board w × (w.seat.view.no_piece_left ≡ true))
+
+-- the shares of their seats
+abbrev pub shares : List Searcher → ℕ
+shares [] = 0
+shares (w ∷ ws) = w.seat.view.share + shares ws
+
+-- no piece stands twice in the list
+abbrev pub AreApart : List ℕ → Type 0
+AreApart pieces = (x : ℕ) → count_by (λ y. y == x) pieces ≤ 1
+
+-- the tree before some visits became the tree after them, as many as numbers were taken, and the least cost did not rise
+pub record IsStretch (s : Setting) (taken : ℕ) (was cost : Option ℕ) (best : Option (List ℕ))
+    (before tree : List Node) : Type 0 where
+  pub so_far : IsSoFar s cost best tree
+  pub count : node_count tree ≡ node_count before + taken
+  pub fell : AtMost cost was
+
+-- the visits of a round: at most so many, and all of them or at least one
+pub record IsRound (s : Setting) (rest taken : ℕ) (was cost : Option ℕ) (best : Option (List ℕ))
+    (before tree : List Node) : Type 0 where
+  pub stretch : IsStretch s taken was cost best before tree
+  pub within : taken ≤ rest
+  pub progress : (taken ≡ rest) ⊎ (1 ≤ taken)

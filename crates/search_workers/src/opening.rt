@@ -1,0 +1,166 @@
+//! The first visits, which the caller makes until enough parts are open for all workers.
+
+ghost use Rattle.std.specs.Prelude.{◌≡◌, ℕ, ◌+◌, ◌<◌, ◌≤◌, [], ◌∷◌, IfOk, OnOk, IsTrue, length};
+ghost use Rattle.choice_problem.specs.Bounds.{whole_of};
+ghost use Rattle.choice_problem.specs.Trees.{IsWhole, node_count};
+ghost use Rattle.incumbent_word.specs.Core.{AtMost};
+ghost use Rattle.branch_tree.specs.Visits.{NoneOver};
+ghost use Rattle.search_workers.specs.Settings.{IsPlaceIn};
+ghost use Rattle.search_workers.specs.Work.{IsSoFar, IsStart, sprout};
+ghost use Rattle.search_workers.specs.Rounds.{IsStretch};
+
+use crate::looks::look;
+use crate::places::Place;
+use crate::rounds::first_open;
+use crate::searchers::Done;
+use crate::states::{Start, State};
+use crate::tasks::Task;
+use crate::trees::{graft_nodes, is_whole, trees_of};
+use choice_problem::Node;
+use slot_text::Memory;
+use std::alloc::Global;
+
+// How many parts are to be open for each worker before they begin.
+const OPEN_PARTS: u32 = 4;
+
+// The visit of all alternatives, which records the cost of the best choice that is known.
+pub(crate) fn first_visit(
+    alloc: Global,
+    task: &Task<'_>,
+    place: &Place<'_>,
+    start: Start,
+) -> Result<State, Memory>
+    requires place { IsPlaceIn task.now place.now }
+    requires whole { place.now.walk.ranges ≡ whole_of task.now.problem }
+    requires start { IsStart task.now.problem start }
+    requires greedy { task.now.greedy ≡ start.greedy }
+    requires none_over { NoneOver task.now.problem (whole_of task.now.problem) }
+    ensures so_far { IfOk result (λ s. IsSoFar task.now s.cost s.best s.tree.items) }
+    ensures count { IfOk result (λ s. node_count s.tree.items ≡ 1) }
+    ensures fell { IfOk result (λ s. AtMost s.cost start.cost) }
+{
+    let Start { cost, best, .. } = start;
+    let (node, found) = look(alloc, task, place, cost)?;
+    let tree = sprout(alloc, node)?;
+    Ok(State::with_found(task.problem(), tree, cost, best, found))
+}
+
+// A node, with its parts undone.
+fn sprout(alloc: Global, node: Node) -> Result<Vec<Node>, Memory>
+    ensures { IfOk result (λ tree. tree.items ≡ sprout node) }
+{
+    let mut tree = Vec::new(alloc);
+    tree.push(node)?;
+    if let Node::Split { .. } = node {
+        tree.push(Node::Undone)?;
+        tree.push(Node::Undone)?;
+    }
+    Ok(tree)
+}
+
+// Visits open parts, the shallowest first, until enough are open, none is, or the budget is spent. It says how many visits
+// there were in all.
+pub(crate) fn open_parts<'a>(
+    alloc: Global,
+    task: &Task<'a>,
+    place: &mut Place<'a>,
+    budget: u32,
+    workers: u32,
+    state: State,
+) -> Result<(State, u32), Memory>
+    requires place { IsPlaceIn task.now place.old }
+    requires budget { 1 ≤ budget }
+    requires workers { workers ≤ 16 }
+    requires so_far { IsSoFar task.now state.cost state.best state.tree.items }
+    requires count { node_count state.tree.items ≡ 1 }
+    ensures so_far { IfOk result (λ r. IsSoFar task.now r.0.cost r.0.best r.0.tree.items) }
+    ensures count { IfOk result (λ r. node_count r.0.tree.items ≡ r.1) }
+    ensures within { IfOk result (λ r. r.1 ≤ budget) }
+    ensures fell { IfOk result (λ r. AtMost r.0.cost state.cost) }
+{
+    let mut state = state;
+    let mut taken = 1;
+    while taken < budget && has_room(&state.tree, OPEN_PARTS * workers) {
+        state = visit_part(alloc, task, place, state)?;
+        taken += 1;
+    }
+    Ok((state, taken))
+}
+
+// Whether parts are open, but fewer than so many.
+fn has_room(tree: &[Node], most: u32) -> bool
+    ensures { IsTrue result → IsWhole tree.now → ⊥ }
+{
+    if is_whole(tree) {
+        return false;
+    }
+    let mut open: u32 = 0;
+    for node in tree {
+        if *node == Node::Undone {
+            open = open.saturating_add(1);
+        }
+    }
+    open < most
+}
+
+// Visits the shallowest open part.
+fn visit_part<'a>(
+    alloc: Global,
+    task: &Task<'a>,
+    place: &mut Place<'a>,
+    state: State,
+) -> Result<State, Memory>
+    requires place { IsPlaceIn task.now place.old }
+    requires so_far { IsSoFar task.now state.cost state.best state.tree.items }
+    requires open_node { IsWhole state.tree.items → ⊥ }
+    ensures place { OnOk result (IsPlaceIn task.now place.new) }
+    ensures stretch { IfOk result (λ s. IsStretch task.now 1 state.cost s.cost s.best
+        state.tree.items s.tree.items) }
+{
+    let part = shallowest(alloc, &state.tree)?;
+    let pieces = first_open(alloc, task, &state, part as usize + 1)?;
+    let piece = pieces.len() - 1;
+    place.go(alloc, task, &pieces[piece])?;
+    let (node, found) = look(alloc, task, place, state.cost)?;
+    let tree = sprout(alloc, node)?;
+    let done = one_done(alloc, piece as u32, tree)?;
+    let trees = trees_of(alloc, task, &pieces, done)?;
+    let tree = graft_nodes(alloc, &state.tree, &trees)?;
+    Ok(State::with_found(task.problem(), tree, state.cost, state.best, found))
+}
+
+// One tree.
+fn one_done(alloc: Global, piece: u32, tree: Vec<Node>) -> Result<Vec<Done>, Memory>
+    ensures { IfOk result (λ done. done.items ≡ record { piece = piece; tree = tree } ∷ []) }
+{
+    let mut done = Vec::new(alloc);
+    done.push(Done { piece, tree })?;
+    Ok(done)
+}
+
+// Which of the undone nodes is the shallowest, the first one on ties, counted from 0.
+fn shallowest(alloc: Global, tree: &[Node]) -> Result<u32, Memory> {
+    let mut depths = Vec::new(alloc);
+    depths.push(0u32)?;
+    let mut open: u32 = 0;
+    let mut least = u32::MAX;
+    let mut which = 0;
+    for node in tree {
+        let depth = depths.pop().unwrap_or(0);
+        match node {
+            Node::Split { .. } => {
+                depths.push(depth.saturating_add(1))?;
+                depths.push(depth.saturating_add(1))?;
+            }
+            Node::Undone => {
+                if depth < least {
+                    least = depth;
+                    which = open;
+                }
+                open = open.saturating_add(1);
+            }
+            _ => {}
+        }
+    }
+    Ok(which)
+}

@@ -1,0 +1,181 @@
+//! What all workers of a search read.
+
+ghost use Rattle.std.specs.Prelude.{◌≡◌, ◌≤◌, ◌++◌, IfOk, OnOk, All};
+ghost use Rattle.choice_problem.specs.Bounds.{IsVector};
+ghost use Rattle.price_table.specs.Tables.{IsTableFor, vectors_of};
+ghost use Rattle.search_workers.specs.Outcomes.{price_count};
+
+use choice_problem::{Problem, Vector, VectorList};
+use dual_bound::root_vector;
+use price_table::{PriceTable, price_table};
+use slot_text::Memory;
+use std::alloc::Global;
+use std::marker::Model;
+
+// The greatest number of vectors, and of the prices of those after the first.
+pub(crate) const MOST_VECTORS: usize = 64;
+
+pub(crate) const MOST_PRICES: usize = 1_000_000;
+
+// The problem, the cost of its greedy choice, and the tables of the vectors: the root vector, those that were handed in, and
+// those that rounds added. Contracts see the problem, the cost and the vectors.
+#[derive(Drop)]
+pub(crate) struct Task<'a> {
+    problem: &'a Problem,
+    greedy: Option<u64>,
+    tables: Vec<PriceTable>,
+    given: usize,
+    prices: usize,
+}
+
+impl<'a> Model for Task<'a> {
+    ghost use Rattle.price_table.specs.Tables.{vectors_of};
+    ghost use Rattle.search_workers.specs.Settings.{Setting, AreTables};
+
+    ghost Value = { Setting };
+
+    ghost view = { λ t. record { problem = t.problem.now; greedy = t.greedy; vectors = vectors_of t.tables.items } };
+
+    ghost invariant = { λ t. AreTables t.problem.now t.greedy t.tables.items t.given t.prices };
+}
+
+impl<'a> Task<'a> {
+    ghost use Rattle.std.specs.Prelude.{◌≡◌, ◌<◌, ◌≤◌, ◌∷◌, [], IfOk, OnOk, take, drop, length, All};
+    ghost use Rattle.choice_problem.specs.Bounds.{IsVector};
+    ghost use Rattle.choice_problem.specs.Greedy.{IsGreedyCost};
+    ghost use Rattle.price_table.specs.Tables.{IsTableFor, vectors_of};
+    ghost use Rattle.search_workers.specs.Outcomes.{AreFurther};
+    ghost use Rattle.search_workers.specs.Settings.{IsSetting, IsWider, root_of};
+
+    // The task of a problem with these further vectors. It computes the root vector.
+    pub(crate) fn new(
+        alloc: Global,
+        problem: &'a Problem,
+        greedy: Option<u64>,
+        further: &[Vector],
+    ) -> Result<Task<'a>, Memory>
+        requires greedy { IsGreedyCost problem.now greedy }
+        requires further { AreFurther problem.now further.now }
+        ensures problem { IfOk result (λ task. task.problem ≡ problem.now) }
+        ensures greedy { IfOk result (λ task. task.greedy ≡ greedy) }
+        ensures further { IfOk result (λ task. drop 1 task.vectors ≡ further.now) }
+    {
+        let root = root_vector(alloc, problem)?;
+        let mut tables = Vec::new(alloc);
+        tables.push(price_table(alloc, problem, &root)?)?;
+        push_tables(alloc, problem, further, &mut tables)?;
+        Ok(Task {
+            problem,
+            greedy,
+            tables,
+            given: further.len(),
+            prices: count_prices(further),
+        })
+    }
+
+    pub(crate) fn problem(&self) -> &'a Problem
+        ensures { result.now ≡ self.now.problem }
+    {
+        self.problem
+    }
+
+    // What is known of the task.
+    pub(crate) fn known(&self)
+        ensures { IsSetting self.now }
+    {
+        let _ = &self.problem;
+    }
+
+    pub(crate) fn tables(&self) -> &[PriceTable]
+        ensures valid { All (IsTableFor self.now.problem) result.now }
+        ensures vectors { vectors_of result.now ≡ self.now.vectors }
+        ensures few { (1 ≤ length result.now) × (length result.now ≤ 64) }
+    {
+        &self.tables
+    }
+
+    // How many vectors were handed in.
+    pub(crate) fn given(&self) -> usize
+        ensures { result < length self.now.vectors }
+    {
+        self.given
+    }
+
+    // Whether there is no room for more vectors.
+    pub(crate) fn is_full(&self) -> bool {
+        self.tables.len() >= MOST_VECTORS
+    }
+
+    // Adds a vector, unless it is empty or there is no room for it.
+    pub(crate) fn add(&mut self, alloc: Global, vector: &Vector) -> Result<(), Memory>
+        requires { IsVector self.old.problem vector.now }
+        ensures { IsWider self.old self.new }
+    {
+        let prices = self.prices + vector.items().len();
+        if vector.items().is_empty() || self.tables.len() >= MOST_VECTORS || prices > MOST_PRICES {
+            return Ok(());
+        }
+        let table = price_table(alloc, self.problem, vector)?;
+        self.tables.push(table)?;
+        self.prices = prices;
+        Ok(())
+    }
+
+    // The first vectors, at most so many.
+    pub(crate) fn vectors(&self, alloc: Global, most: usize) -> Result<VectorList, Memory>
+        ensures { IfOk result (λ list. list ≡ take most self.now.vectors) }
+    {
+        let count = most.min(self.tables.len());
+        let vectors = copy_vectors(alloc, &self.tables[..count])?;
+        Ok(VectorList::new(vectors))
+    }
+}
+
+// Copies of the tables' vectors.
+fn copy_vectors(alloc: Global, tables: &[PriceTable]) -> Result<Vec<Vector>, Memory>
+    ensures { IfOk result (λ vectors. vectors.items ≡ vectors_of tables.now) }
+{
+    let mut vectors = Vec::new(alloc);
+    for table in tables {
+        vectors.push(copy_of(alloc, table)?)?;
+    }
+    Ok(vectors)
+}
+
+// A copy of a table's vector.
+fn copy_of(alloc: Global, table: &PriceTable) -> Result<Vector, Memory>
+    ensures { IfOk result (λ vector. vector ≡ table.now.prices) }
+{
+    Ok(Vector::new(Vec::from_slice(alloc, table.vector().items())?))
+}
+
+// Adds the tables of vectors.
+fn push_tables(
+    alloc: Global,
+    problem: &Problem,
+    vectors: &[Vector],
+    tables: &mut Vec<PriceTable>,
+) -> Result<(), Memory>
+    requires tables { All (IsTableFor problem.now) tables.old.items }
+    requires vectors { All (IsVector problem.now) vectors.now }
+    ensures valid { OnOk result (All (IsTableFor problem.now) tables.new.items) }
+    ensures vectors { OnOk result (vectors_of tables.new.items
+        ≡ vectors_of tables.old.items ++ vectors.now) }
+{
+    for vector in vectors {
+        tables.push(price_table(alloc, problem, vector)?)?;
+    }
+    Ok(())
+}
+
+// How many prices some vectors have together.
+fn count_prices(vectors: &[Vector]) -> usize
+    requires { price_count vectors.now ≤ 1000000 }
+    ensures { result ≡ price_count vectors.now }
+{
+    let mut count = 0;
+    for vector in vectors {
+        count += vector.items().len();
+    }
+    count
+}

@@ -1,0 +1,55 @@
+use Rattle.std.proofs.Common.{codes, refl, ap, ◌∙◌}
+use Rattle.command_words.specs.Words.{Word}
+use Rattle.slot_program.specs.Reports.{refused, unread, unwritten, missing, large, out_of_form, over_limit, not_valid, unbuilt, cabinet_line, numbered_line}
+use Rattle.slot_program.specs.Jobs.{name_at}
+use Rattle.slot_program.specs.Stops.{limit_text}
+use Rattle.slot_program.proofs.TextLemmas.{verdict_of}
+use Rattle.slot_program.proofs.stop.Stop.text.Goals as goal
+
+pub returns-in_ok-cabinet_line-in-Missing : goal.returns-in_ok-cabinet_line-in-Missing
+returns-in_ok-cabinet_line-in-Missing c =
+    (refused (missing (name_at c.args.names.now c.in-Missing.place)), rw c.in-Missing.is refl, c.in_ok-cabinet_line-in-Missing.ensures ∙ ap (λ (n : Word). cabinet_line n (codes "MISSING")) c.name_at.ensures)
+
+pub returns-in_ok-cabinet_line-in-Large : goal.returns-in_ok-cabinet_line-in-Large
+returns-in_ok-cabinet_line-in-Large c =
+    (refused (large (name_at c.args.names.now c.in-Large.place)), rw c.in-Large.is refl, c.in_ok-cabinet_line-in-Large.ensures ∙ ap (λ (n : Word). cabinet_line n (codes "LARGE")) c.name_at-in-Large.ensures)
+
+pub returns-in_ok-cabinet_line-in-Unread : goal.returns-in_ok-cabinet_line-in-Unread
+returns-in_ok-cabinet_line-in-Unread c =
+    (unread (name_at c.args.names.now c.in-Unread.place), rw c.in-Unread.is refl, c.in_ok-cabinet_line-in-Unread.ensures ∙ ap (λ (n : Word). cabinet_line n (codes "READ")) c.name_at-in-Unread.ensures)
+
+pub returns-in_ok-cabinet_line-in-Unwritten : goal.returns-in_ok-cabinet_line-in-Unwritten
+returns-in_ok-cabinet_line-in-Unwritten c =
+    (unwritten (name_at c.args.names.now c.in-Unwritten.place), rw c.in-Unwritten.is refl, c.in_ok-cabinet_line-in-Unwritten.ensures ∙ ap (λ (n : Word). cabinet_line n (codes "WRITE")) c.name_at-in-Unwritten.ensures)
+
+pub returns-in_ok-numbered_line-in-OutOfForm : goal.returns-in_ok-numbered_line-in-OutOfForm
+returns-in_ok-numbered_line-in-OutOfForm c =
+    let name = name_at c.args.names.now c.in-OutOfForm.place in (
+      refused (out_of_form name c.in-OutOfForm.line),
+      rw c.in-OutOfForm.is refl,
+      c.in_ok-numbered_line-in-OutOfForm.ensures
+          ∙ (ap (λ (n : Word). numbered_line (codes "FORM") n c.from.result) c.name_at-name.ensures ∙ ap (numbered_line (codes "FORM") name) c.from.ensures),
+    )
+
+pub returns-in_ok-numbered_line-in-OverLimit : goal.returns-in_ok-numbered_line-in-OverLimit
+returns-in_ok-numbered_line-in-OverLimit c = (
+  refused (over_limit (limit_text c.in-OverLimit.limit) c.in-OverLimit.number),
+  rw c.in-OverLimit.is refl,
+  c.in_ok-numbered_line-in-OverLimit.ensures ∙ ap (λ (n : Word). numbered_line (codes "LIMIT") n c.in-OverLimit.number) c.limit_name.ensures,
+)
+
+pub returns-in_ok-verdict_line-in-NotValid : goal.returns-in_ok-verdict_line-in-NotValid
+returns-in_ok-verdict_line-in-NotValid c = (
+  refused (not_valid c.in-NotValid.line c.in-NotValid.reason),
+  rw c.in-NotValid.is refl,
+  c.in_ok-verdict_line-in-NotValid.ensures ∙ ap (verdict_of c.in-NotValid.line) c.reason_name.ensures,
+)
+
+pub returns-in_ok-numbered_line-in-Unbuilt : goal.returns-in_ok-numbered_line-in-Unbuilt
+returns-in_ok-numbered_line-in-Unbuilt c =
+    let name = name_at c.args.names.now c.in-Unbuilt.place in (
+      refused (unbuilt name c.in-Unbuilt.line),
+      rw c.in-Unbuilt.is refl,
+      c.in_ok-numbered_line-in-Unbuilt.ensures
+          ∙ (ap (λ (n : Word). numbered_line (codes "UNBUILT") n c.from-in-Unbuilt.result) c.name_at-name-in-Unbuilt.ensures ∙ ap (numbered_line (codes "UNBUILT") name) c.from-in-Unbuilt.ensures),
+    )

@@ -1,0 +1,34 @@
+-- The answer of a job, and that no other was due. Contracts of private functions alone cite this.
+use Rattle.std.specs.Prelude.{◌≡◌, ◌⊎◌, ℕ, List, Option, Some, None, IfSome, Contains}
+use Rattle.desk_outside.specs.Cause.{Rose}
+use Rattle.desk_outside.specs.Files.{Files}
+use Rattle.slot_program.specs.Reports.{Report, Refusal, refused, status_of, text_of}
+use Rattle.slot_program.specs.Judgements.{NamedBytes}
+use Rattle.slot_program.specs.Steps.{AllPass, FirstDue, form_steps}
+use Rattle.slot_program.specs.Jobs.{steps_of, finishing_of}
+use Rattle.slot_program.specs.Desk.{World, Ends}
+use Rattle.command_words.specs.declared.job.Job.{Job}
+
+-- where files are told: what is due is reported, and what passes is finished, unless a call failed
+pub record ToldExact (held : Files) (job : Job) (w : World) (report : Report) (v : World) : Type 0
+  where
+    pub due : (other : Refusal) → FirstDue held (steps_of job) other →
+        (report ≡ refused other) ⊎ ((status_of report ≡ 5) × Rose w.faults v.faults)
+    pub whole : (read : List NamedBytes) → AllPass (Some held) (steps_of job) read →
+        Contains (finishing_of job) (status_of report) ⊎ Rose w.faults v.faults
+    pub forms : (read : List NamedBytes) → AllPass (Some held) (form_steps (steps_of job)) read →
+        (status_of report ≡ 1)
+        ⊎ (Contains (finishing_of job) (status_of report) ⊎ Rose w.faults v.faults)
+
+abbrev pub IsExact : Option Job → World → Report → World → Type 0
+IsExact None w report v = Unit {0}
+IsExact (Some job) w report v = IfSome w.files (λ held. ToldExact held job w report v)
+
+-- the command ends with a report of this status and text
+pub record IsAnswer (job : Option Job) (w : World) (status : ℕ) (text : List ℕ) (v : World) : Type 0
+  where
+    pub report : Report
+    pub status_is : status ≡ status_of report
+    pub text_is : text ≡ text_of report
+    pub ends : Ends job w report v
+    pub exact : IsExact job w report v

@@ -1,0 +1,149 @@
+-- What the files that a command has read are judged to be, and what is refused of them. Each
+-- judgement speaks of the bytes that were handed out so far, in the order of the reads.
+use Rattle.std.specs.Prelude.{◌≡◌, ◌⊎◌, ℕ, ◌+◌, List, ◌∷◌, length, Ok, Err, codes}
+use Rattle.slot_text.specs.Forms.{IsFirstBadLine}
+use Rattle.slot_text.specs.Lines.{lines_of}
+use Rattle.season_days.specs.declared.declaration.Declaration.{Declaration}
+use Rattle.capacity_file.specs.Declares.{IsCapacityFile}
+use Rattle.capacity_file.specs.Faults.{HasCapacityFault}
+use Rattle.capacity_file.specs.Texts.{cap_limit_text}
+use Rattle.capacity_file.specs.declared.fault.CapFault.{CapFault}
+use Rattle.capacity_file.specs.declared.fault.CapFault.TheVariants as capacity_fault
+use Rattle.scr_reader.specs.Messages.{ReadsAll, HasScrFault}
+use Rattle.scr_reader.specs.declared.message.Message.{Message}
+use Rattle.scr_reader.specs.declared.fault.ScrFault.{ScrFault}
+use Rattle.scr_reader.specs.declared.fault.ScrFault.TheVariants as message_fault
+use Rattle.historic_reader.specs.Historic.{IsHistoricText}
+use Rattle.series_model.specs.Submissions.{SubmissionView, submission_answer}
+use Rattle.series_model.specs.declared.fault.ModelFault.{ModelFault}
+use Rattle.series_model.specs.declared.fault.ModelFault.TheVariants as model_fault
+use Rattle.cert_format.specs.Forms.{IsCertText}
+use Rattle.cert_format.specs.Spelling.{IsCert, spelling}
+use Rattle.cert_format.specs.declared.cert.Certificate.{Certificate}
+use Rattle.wasg_stages.specs.Valid.{IsValid}
+use Rattle.cert_checker.specs.Certificates.{FailsAt}
+use Rattle.cert_checker.specs.declared.verdict.Reason.{Reason}
+use Rattle.command_words.specs.Words.{Word}
+use Rattle.slot_program.specs.Capacity.{IsCapacityText, IsCapacityForm}
+use Rattle.slot_program.specs.Reports.{Refusal, out_of_form, over_limit, not_valid, unbuilt}
+
+-- the name of a file, and bytes that were read from it or are written to it
+pub record NamedBytes : Type 0 where
+  pub name : Word
+  pub bytes : List ℕ
+
+-- ---- what the bytes of files are
+
+-- the season of a capacity file and of requests: the declaration that the one makes, and the
+-- submission that the messages of the other make under it
+pub record IsSeasonOf (capacity requests : List ℕ) (s : SubmissionView) : Type 0 where
+  pub messages : List Message
+  pub declared : IsCapacityFile capacity s.declaration
+  pub read : ReadsAll requests messages
+  pub made : submission_answer s.declaration messages ≡ Ok s
+
+-- the bytes spell the certificate
+pub record SpellsCert (bytes : List ℕ) (c : Certificate) : Type 0 where
+  pub has_spelling : IsCert c
+  pub spelled : bytes ≡ spelling c
+
+-- ---- judgements, in the order in which commands make them
+
+-- capacity_form: a capacity file. requests_form: messages that make a submission under it.
+-- certificate_form: a certificate. valid_certificate: it is valid for the submission. The first two
+-- are those of the form that `allocate` serves today: a capacity file of seven lines, and a message
+-- with one historic arrival.
+pub data Judgement : Type 0 where
+  served_capacity : Judgement
+  served_requests : Judgement
+  capacity_form : Judgement
+  requests_form : Judgement
+  certificate_form : Judgement
+  valid_certificate : Judgement
+
+-- the files that were read are so: the capacity file is the first, the requests are the second, and
+-- the certificate is the third
+abbrev pub Accepts : Judgement → List NamedBytes → Type 0
+Accepts served_capacity (capacity ∷ rest) = IsCapacityForm capacity.bytes
+Accepts served_requests (capacity ∷ requests ∷ rest) =
+    (d : Declaration) × IsCapacityText capacity.bytes d
+    × IsHistoricText d.season d.airport requests.bytes
+Accepts capacity_form (capacity ∷ rest) = (d : Declaration) × IsCapacityFile capacity.bytes d
+Accepts requests_form (capacity ∷ requests ∷ rest) =
+    (s : SubmissionView) × IsSeasonOf capacity.bytes requests.bytes s
+Accepts certificate_form (capacity ∷ requests ∷ certificate ∷ rest) =
+    (c : Certificate) × SpellsCert certificate.bytes c
+Accepts valid_certificate (capacity ∷ requests ∷ certificate ∷ rest) =
+    (s : SubmissionView) × (c : Certificate) × IsSeasonOf capacity.bytes requests.bytes s
+    × SpellsCert certificate.bytes c × IsValid s c
+Accepts judgement read = ⊥
+
+-- ---- refusals, each with the name of the file, as the words give it
+
+-- a missing line has the place after the last one of so many
+abbrev pub IsCapacityRefusal : Word → ℕ → CapFault → Refusal → Type 0
+IsCapacityRefusal name lines (capacity_fault.BadLine line) refusal = refusal ≡ out_of_form name line
+IsCapacityRefusal name lines (capacity_fault.Missing word) refusal =
+    refusal ≡ out_of_form name (lines + 1)
+IsCapacityRefusal name lines (capacity_fault.Twice line) refusal = refusal ≡ out_of_form name line
+IsCapacityRefusal name lines (capacity_fault.OverLimit limit number) refusal =
+    refusal ≡ over_limit (cap_limit_text limit) number
+IsCapacityRefusal name lines capacity_fault.Memory refusal = ⊥
+
+abbrev pub IsMessageRefusal : Word → ScrFault → Refusal → Type 0
+IsMessageRefusal name (message_fault.BadLine line field) refusal = refusal ≡ out_of_form name line
+IsMessageRefusal name (message_fault.BadHeader line) refusal = refusal ≡ out_of_form name line
+IsMessageRefusal name (message_fault.Unpaired line) refusal = refusal ≡ out_of_form name line
+IsMessageRefusal name (message_fault.TooLong line) refusal = refusal ≡ out_of_form name line
+IsMessageRefusal name message_fault.Memory refusal = ⊥
+
+abbrev pub IsSubmissionRefusal : Word → ModelFault → Refusal → Type 0
+IsSubmissionRefusal name (model_fault.OtherSeason line) refusal = refusal ≡ out_of_form name line
+IsSubmissionRefusal name (model_fault.OtherAirport line) refusal = refusal ≡ out_of_form name line
+IsSubmissionRefusal name (model_fault.NotInitial line) refusal = refusal ≡ out_of_form name line
+IsSubmissionRefusal name (model_fault.TooMany units) refusal =
+    refusal ≡ over_limit (codes "UNITS") units
+IsSubmissionRefusal name model_fault.Memory refusal = ⊥
+
+-- the first line that is not in the form that is served
+abbrev pub IsUnbuilt : Word → (List ℕ → Type 0) → List ℕ → Refusal → Type 0
+IsUnbuilt name IsInForm bytes refusal =
+    (line : ℕ) × IsFirstBadLine IsInForm bytes line × (refusal ≡ unbuilt name line)
+
+-- the capacity file's first fault
+abbrev pub RefusesCapacity : Word → List ℕ → Refusal → Type 0
+RefusesCapacity name bytes refusal =
+    (fault : CapFault) × HasCapacityFault bytes fault
+    × IsCapacityRefusal name (length (lines_of bytes)) fault refusal
+
+-- the messages' lowest bad line; or where there is none, why they make no submission
+abbrev pub RefusesRequests : Word → List ℕ → List ℕ → Refusal → Type 0
+RefusesRequests name capacity requests refusal =
+    ((fault : ScrFault) × HasScrFault requests fault × IsMessageRefusal name fault refusal)
+    ⊎ ((d : Declaration) × (messages : List Message) × (fault : ModelFault)
+    × IsCapacityFile capacity d × ReadsAll requests messages
+    × (submission_answer d messages ≡ Err fault) × IsSubmissionRefusal name fault refusal)
+
+-- the first failing line, and its first reason
+abbrev pub RefusesCertificate : List ℕ → List ℕ → List ℕ → Refusal → Type 0
+RefusesCertificate capacity requests certificate refusal =
+    (s : SubmissionView) × (c : Certificate) × (line : ℕ) × (reason : Reason)
+    × IsSeasonOf capacity requests s × SpellsCert certificate c × FailsAt s c line reason
+    × (refusal ≡ not_valid line reason)
+
+-- the files that were read are refused with this
+abbrev pub Refuses : Judgement → Word → List NamedBytes → Refusal → Type 0
+Refuses served_capacity name (capacity ∷ rest) refusal =
+    IsUnbuilt name IsCapacityForm capacity.bytes refusal
+Refuses served_requests name (capacity ∷ requests ∷ rest) refusal =
+    (d : Declaration) × IsCapacityText capacity.bytes d
+    × IsUnbuilt name (IsHistoricText d.season d.airport) requests.bytes refusal
+Refuses capacity_form name (capacity ∷ rest) refusal = RefusesCapacity name capacity.bytes refusal
+Refuses requests_form name (capacity ∷ requests ∷ rest) refusal =
+    RefusesRequests name capacity.bytes requests.bytes refusal
+Refuses certificate_form name (capacity ∷ requests ∷ certificate ∷ rest) refusal =
+    (line : ℕ) × IsFirstBadLine IsCertText certificate.bytes line
+    × (refusal ≡ out_of_form name line)
+Refuses valid_certificate name (capacity ∷ requests ∷ certificate ∷ rest) refusal =
+    RefusesCertificate capacity.bytes requests.bytes certificate.bytes refusal
+Refuses judgement name read refusal = ⊥

@@ -1,0 +1,415 @@
+//! Searches of plain problems: worked rows, budgets, numbers of workers, and what is handed in.
+
+ghost use Rattle.std.specs.Prelude.{◌≤◌, IfOk, length};
+ghost use Rattle.choice_problem.specs.Choices.{IsFeasible};
+ghost use Rattle.choice_problem.specs.Bounds.{IsVector};
+ghost use Rattle.search_workers.specs.Outcomes.{AreFurther};
+
+use choice_problem::{
+    Alt, Choice, Chooser, Node, Part, Price, Problem, Strip, Tree, Vector, cost_of, fits,
+};
+use desk_outside::{Gate, RealGate};
+use search_workers::{Outcome, search, search_from};
+use std::alloc::{AllocError, Global};
+use std::sync::atomic::{AtomicU64, Ordering};
+use std::test::Fail;
+use std::thread::Threads;
+
+fn alt(cost: u64, one: Option<u32>) -> Alt {
+    Alt {
+        cost,
+        one,
+        two: None,
+    }
+}
+
+fn once(resource: u32) -> Strip {
+    Strip {
+        first: resource,
+        width: 1,
+        gap: 0,
+        times: 1,
+    }
+}
+
+// A unit of one part, if it is allowed.
+fn unit(alloc: Global, strips: &[Strip], alts: Vec<Alt>) -> Result<Chooser, Fail> {
+    let parts = vec![in alloc; Part::new(Vec::from_slice(alloc, strips)?)]?;
+    if Chooser::allows(&parts, &alts) {
+        Ok(Chooser::new(parts, alts))
+    } else {
+        Err("unit".into())
+    }
+}
+
+fn problem(units: Vec<Chooser>, limits: Vec<i64>) -> Result<Problem, Fail> {
+    if Problem::allows(&units, &limits) {
+        Ok(Problem::new(units, limits))
+    } else {
+        Err("problem".into())
+    }
+}
+
+// So many units that want one place each, of so many, and may pay 20 instead where `pays`.
+fn crowd(alloc: Global, count: u32, limit: i64, pays: bool) -> Result<Problem, Fail> {
+    let mut units = Vec::new(alloc);
+    for _ in 0..count {
+        let mut alts = vec![in alloc; alt(0, Some(0))]?;
+        if pays {
+            alts.push(alt(20, None))?;
+        }
+        units.push(unit(alloc, &[once(0)], alts)?)?;
+    }
+    problem(units, vec![in alloc; limit]?)
+}
+
+// Three units of which each two exclude each other: each uses two of three resources with limit 1, or pays 20.
+fn three(alloc: Global) -> Result<Problem, Fail> {
+    let mut units = Vec::new(alloc);
+    for (one, two) in [(0, 1), (1, 2), (0, 2)] {
+        let alts = vec![in alloc; alt(0, Some(0)), alt(20, None)]?;
+        units.push(unit(alloc, &[once(one), once(two)], alts)?)?;
+    }
+    problem(units, vec![in alloc; 1, 1, 1]?)
+}
+
+// One unit on so many dates, whose times lie 5 minutes apart, the requested one in the middle; from half an hour before to
+// 25 minutes after it they use a window that is full on each date.
+fn shifted(alloc: Global, dates: u32) -> Result<Problem, Fail> {
+    let mut alts = Vec::new(alloc);
+    for place in 0..25u64 {
+        let minutes = 5 * place.abs_diff(12);
+        let part = if (6..18).contains(&place) {
+            Some(0)
+        } else {
+            None
+        };
+        alts.push(alt(minutes * u64::from(dates), part))?;
+    }
+    let strip = Strip {
+        first: 0,
+        width: 1,
+        gap: 1,
+        times: dates,
+    };
+    let units = vec![in alloc; unit(alloc, &[strip], alts)?]?;
+    problem(units, vec![in alloc; 0; dates as usize]?)
+}
+
+// The place after this one in a ring.
+fn after(place: u32, count: u32) -> u32 {
+    let next = place.saturating_add(1);
+    if next == count { 0 } else { next }
+}
+
+// So many units in a ring, each of which excludes the next one and the one after it, or pays a price of its own.
+fn ring(alloc: Global, count: u32) -> Result<Problem, Fail> {
+    let mut units = Vec::new(alloc);
+    for place in 0..count {
+        let next = after(place, count);
+        let later = after(next, count);
+        let price = u64::from(place).wrapping_mul(u64::from(place)) % 7;
+        let alts = vec![in alloc; alt(0, Some(0)), alt(price.saturating_add(20), None)]?;
+        units.push(unit(alloc, &[once(place), once(next), once(later)], alts)?)?;
+    }
+    problem(units, vec![in alloc; 1; count as usize]?)
+}
+
+fn seen_text(seen: Option<u64>) -> i64 {
+    match seen {
+        Some(cost) if cost < 1_000_000 => cost as i64,
+        _ => -1,
+    }
+}
+
+// The nodes of a tree: S unit cut seen, L vector scale seen, O resource, U; -1 stands for none.
+fn tree_text(alloc: Global, tree: &Tree) -> Result<String, Fail> {
+    let mut text = String::new(alloc);
+    for node in tree.items() {
+        let line = match *node {
+            Node::Split { unit, cut, seen } => {
+                format!(in alloc; " S {unit} {cut} {}", seen_text(seen))?
+            }
+            Node::Leaf {
+                vector,
+                scale,
+                seen,
+            } => { format!(in alloc; " L {vector} {scale} {}", seen_text(seen))? }
+            Node::Over { resource } => format!(in alloc; " O {resource}")?,
+            Node::Undone => format!(in alloc; " U")?,
+        };
+        text.push_str(line.as_str())?;
+    }
+    Ok(text)
+}
+
+// The mark, the cost, the number of vectors, and the tree where it is short.
+fn outcome_text(
+    alloc: Global,
+    problem: &Problem,
+    outcome: &Outcome,
+    tree: bool,
+) -> Result<String, Fail> {
+    let (mut text, nodes, vectors) = match outcome {
+        Outcome::Optimal {
+            cost,
+            tree,
+            vectors,
+            ..
+        } => (format!(in alloc; "OPTIMAL {cost}")?, tree, vectors),
+        Outcome::Infeasible { tree, vectors } => (format!(in alloc; "INFEASIBLE")?, tree, vectors),
+        Outcome::Spent {
+            best,
+            tree,
+            vectors,
+        } => (spent_text(alloc, problem, best)?, tree, vectors),
+    };
+    if tree {
+        let more = format!(in alloc; " {}{}", vectors.items().len(), tree_text(alloc, nodes)?)?;
+        text.push_str(more.as_str())?;
+    }
+    Ok(text)
+}
+
+fn spent_text(alloc: Global, problem: &Problem, best: &Option<Choice>) -> Result<String, Fail> {
+    if let Some(choice) = best {
+        if choice.is_for(problem) {
+            return Ok(format!(in alloc; "SPENT {}", cost_of(problem, choice))?);
+        }
+    }
+    Ok(format!(in alloc; "SPENT NONE")?)
+}
+
+fn searched<R: Threads + Sync>(
+    rt: &R,
+    alloc: Global,
+    problem: &Problem,
+    budget: u32,
+    workers: u32,
+    tree: bool,
+) -> Result<String, Fail> {
+    let outcome = search(rt, alloc, problem, budget, workers.clamp(1, 16), &RealGate)?;
+    outcome_text(alloc, problem, &outcome, tree)
+}
+
+#[test]
+fn worked_rows(rt: HostRuntime) -> Result<(), Fail> {
+    let alloc = rt.alloc();
+    let empty = problem(Vec::new(alloc), Vec::new(alloc))?;
+    let rows = [
+        (empty, 100, 4, "OPTIMAL 0 0 L 0 1 0"),
+        (crowd(alloc, 2, 1, false)?, 100, 4, "INFEASIBLE 0 O 0"),
+        (shifted(alloc, 210)?, 100, 4, "OPTIMAL 6300 1 L 1 1024 6300"),
+        (three(alloc)?, 1, 1, "SPENT 40 1 S 0 1 40 U U"),
+        (three(alloc)?, 0, 1, "SPENT 40 0 U"),
+        (three(alloc)?, 1, 16, "SPENT 40 1 S 0 1 40 U U"),
+    ];
+    for (problem, budget, workers, want) in &rows {
+        let text = searched(&rt, alloc, problem, *budget, *workers, true)?;
+        assert_eq!(rt; text.as_str(), *want);
+    }
+    Ok(())
+}
+
+// What is found by several workers is what one finds: the least costs are those of all choices, tried one by one.
+#[test]
+fn any_number_of_workers(rt: HostRuntime) -> Result<(), Fail> {
+    let alloc = rt.alloc();
+    for (count, want) in [(5, "OPTIMAL 85"), (8, "OPTIMAL 126"), (12, "OPTIMAL 172")] {
+        let problem = ring(alloc, count)?;
+        for workers in [1, 2, 4, 16] {
+            let text = searched(&rt, alloc, &problem, 100_000, workers, false)?;
+            assert_eq!(rt; text.as_str(), want, "{count} {workers}");
+        }
+    }
+    Ok(())
+}
+
+fn tree_of(outcome: &Outcome) -> &Tree {
+    match outcome {
+        Outcome::Optimal { tree, .. } => tree,
+        Outcome::Infeasible { tree, .. } => tree,
+        Outcome::Spent { tree, .. } => tree,
+    }
+}
+
+// How many nodes but undone ones.
+fn visits(outcome: &Outcome) -> u32 {
+    let mut count: u32 = 0;
+    for node in tree_of(outcome).items() {
+        if *node != Node::Undone {
+            count = count.saturating_add(1);
+        }
+    }
+    count
+}
+
+// A budget is spent to its last visit, and one that is just enough is enough.
+#[test]
+fn budgets(rt: HostRuntime) -> Result<(), Fail> {
+    let alloc = rt.alloc();
+    let problem = ring(alloc, 8)?;
+    let whole = search(&rt, alloc, &problem, 100_000, 1, &RealGate)?;
+    let needed = visits(&whole);
+    let rows = [
+        (0, 0, "SPENT 132"),
+        (1, 1, "SPENT 132"),
+        (2, 2, "SPENT 132"),
+        (3, 3, "SPENT 132"),
+        (
+            needed.saturating_sub(1),
+            needed.saturating_sub(1),
+            "SPENT 126",
+        ),
+        (needed, needed, "OPTIMAL 126"),
+        (u32::MAX, needed, "OPTIMAL 126"),
+    ];
+    for (budget, count, want) in rows {
+        let outcome = search(&rt, alloc, &problem, budget, 1, &RealGate)?;
+        let text = outcome_text(alloc, &problem, &outcome, false)?;
+        assert_eq!(rt; text.as_str(), want, "{budget}");
+        assert_eq!(rt; visits(&outcome), count, "{budget}");
+    }
+    Ok(())
+}
+
+// Three units, each of which takes one of two places.
+fn places(alloc: Global) -> Result<Problem, Fail> {
+    let mut units = Vec::new(alloc);
+    for _ in 0..3 {
+        let one = Part::new(vec![in alloc; once(0); 1]?);
+        let two = Part::new(vec![in alloc; once(1); 1]?);
+        let parts = vec![in alloc; one, two]?;
+        let alts = vec![in alloc; alt(0, Some(0)), alt(0, Some(1))]?;
+        if !Chooser::allows(&parts, &alts) {
+            return Err("places".into());
+        }
+        units.push(Chooser::new(parts, alts))?;
+    }
+    problem(units, vec![in alloc; 1; 2]?)
+}
+
+// The list of one small vector of a problem.
+fn one_further(alloc: Global, problem: &Problem, vector: Vector) -> Result<Vec<Vector>, Fail>
+    ensures { IfOk result (λ further. AreFurther problem.now further.items) }
+{
+    if !vector.is_for(problem) {
+        return Err("prices".into());
+    }
+    if vector.items().len() > 2 {
+        return Err("length".into());
+    }
+    Ok(vec_of(alloc, problem, vector)?)
+}
+
+fn vec_of(alloc: Global, _problem: &Problem, vector: Vector) -> Result<Vec<Vector>, AllocError>
+    requires vector { IsVector _problem.now vector }
+    requires few { length vector ≤ 2 }
+    ensures { IfOk result (λ further. AreFurther _problem.now further.items) }
+{
+    let mut further = Vec::new(alloc);
+    further.push(vector)?;
+    Ok(further)
+}
+
+// A choice of these alternatives, if it is feasible.
+fn feasible(alloc: Global, problem: &Problem, alts: &[u32]) -> Result<Choice, Fail>
+    ensures { IfOk result (IsFeasible problem.now) }
+{
+    let choice = Choice::new(Vec::from_slice(alloc, alts)?);
+    if !choice.is_for(problem) {
+        return Err("no choice".into());
+    }
+    if !fits(alloc, problem, &choice)? {
+        return Err("does not fit".into());
+    }
+    Ok(choice)
+}
+
+// A vector of the price 1 for each of two resources shows at scale 0 that three units have no room in two places.
+#[test]
+fn a_vector_handed_in(rt: HostRuntime) -> Result<(), Fail> {
+    let alloc = rt.alloc();
+    let problem = places(alloc)?;
+    let prices = vec![in alloc;
+        Price {
+            resource: 0,
+            price: 1
+        },
+        Price {
+            resource: 1,
+            price: 1
+        },
+    ]?;
+    let further = one_further(alloc, &problem, Vector::new(prices))?;
+    let outcome = search_from(&rt, alloc, &problem, 100, 1, &RealGate, None, further)?;
+    let text = outcome_text(alloc, &problem, &outcome, true)?;
+    assert_eq!(rt; text.as_str(), "INFEASIBLE 2 L 2 0 -1");
+    Ok(())
+}
+
+// The cost of a choice that is handed in is recorded by the first visit, and the result costs no more.
+#[test]
+fn a_choice_handed_in(rt: HostRuntime) -> Result<(), Fail> {
+    let alloc = rt.alloc();
+    let problem = ring(alloc, 5)?;
+    let choice = feasible(alloc, &problem, &[1, 1, 0, 1, 1])?;
+    let none = Vec::new(alloc);
+    let outcome = search_from(&rt, alloc, &problem, 1, 1, &RealGate, Some(choice), none)?;
+    let text = outcome_text(alloc, &problem, &outcome, true)?;
+    assert_eq!(rt; text.as_str(), "SPENT 85 1 S 0 1 85 U U");
+    Ok(())
+}
+
+// Holds each of two workers at its first node until the other has come to its own, for a limited number of turns.
+#[derive(Drop)]
+struct Meeting {
+    came: [AtomicU64; 2],
+    met: AtomicU64,
+}
+
+const TURNS: u64 = 4_000_000;
+
+impl Gate for Meeting {
+    fn before_node(&self, worker: u32) {
+        let place = (worker % 2) as usize;
+        if self.came[place].fetch_add(1, Ordering::SeqCst) > 0 {
+            return;
+        }
+        for _ in 0..TURNS {
+            if self.came[1 - place].load(Ordering::SeqCst) > 0 {
+                self.met.fetch_add(1, Ordering::SeqCst);
+                return;
+            }
+        }
+    }
+
+    fn before_line(&self, _worker: u32) {}
+}
+
+#[test]
+fn two_workers_meet(rt: HostRuntime) -> Result<(), Fail> {
+    let alloc = rt.alloc();
+    let problem = ring(alloc, 12)?;
+    let gate = Meeting {
+        came: [AtomicU64::new(0), AtomicU64::new(0)],
+        met: AtomicU64::new(0),
+    };
+    let outcome = search(&rt, alloc, &problem, 100_000, 2, &gate)?;
+    let text = outcome_text(alloc, &problem, &outcome, false)?;
+    assert_eq!(rt; text.as_str(), "OPTIMAL 172");
+    assert_eq!(rt; gate.met.load(Ordering::SeqCst), 2);
+    Ok(())
+}
+
+// More visits than the pieces of one round can make: the four of the first have at most 1,024 each.
+#[test]
+fn more_than_one_round(rt: HostRuntime) -> Result<(), Fail> {
+    let alloc = rt.alloc();
+    let problem = ring(alloc, 25)?;
+    let outcome = search(&rt, alloc, &problem, 10_000, 1, &RealGate)?;
+    let count = visits(&outcome);
+    assert!(rt; matches!(outcome, Outcome::Optimal { .. }), "{count}");
+    assert!(rt; count >= 6000, "{count}");
+    Ok(())
+}
