@@ -14,11 +14,11 @@ use std::test::Fail;
 // is used has 0700, which is number 18 of those from 0530 to 0730; where the stage has no allotment,
 // or a refusal costs less, none. A turnaround from 0630 to 0715 has 0555 and 0715: of 0530 and 0535
 // there are 25 pairs, then 24, 23 and 22, and 0555 begins with 0635. Of a pair the historic times
-// are number 1. Of four new entrants two are refused in stage 3, and one of these in stage 4. A pair
-// that asks for 2300 in place of 0630 on the next date may have 2325, number 5, or the historic
-// times, number 12. With a night between, arrivals are from 2200 to 2355 and departures from 0000
-// to 0110, so 2205 and 0020 are number 19. Alone a departure has 0635, number 13. Two messages have
-// their own units, and one without items its header alone.
+// are number 1; confirmed or refused is its L line. Of four new entrants two are refused in stage 3,
+// and one of these in stage 4. A pair that asks for 2300 in place of 0630 on the next date may have
+// 2325, number 5, or the historic times, number 12. With a night between, arrivals are from 2200 to
+// 2355 and departures from 0000 to 0110, so 2205 and 0020 are number 19. Alone a departure has 0635,
+// number 13. Two messages have their own units, and one without items its header alone.
 const ROWS: &str = "\
 FLEX 60;REFUSE NONE;CAP ARR 60 0600 0600 1234567 1|FBA001 30MAR25OCT 1234567 180320 JFK0610 J|0;;;\
     |KBA001 30MAR25OCT 1234567 180320 JFK0610 J
@@ -51,6 +51,12 @@ FLEX 60;REFUSE NONE|SCR\r;/ABC123\r;S25\r;20NOV\r;ABC\r;NU21234 U21235 31MAR24OC
     LTNBFS0815 0905BFSLTN JJ\r;NEZY12A 01APR 2 180319 LGW1000 J\r;GI BRGDS\r|;;;257 12\
     |SCR;S25;20NOV;ABC;KU21234 U21235 31MAR24OCT 1030500 186320 LTNBFS0815 0905BFSLTN \
     JJ;KEZY012A 01APR01APR 0200000 180319 LGW1000 J;
+FLEX 60;REFUSE NONE|CBA002 30MAR 7 180320 JFK0610 J;LBA002 30MAR 7 190321 JFK0630 J|;0;;\
+    |KBA002 30MAR30MAR 0000007 190321 JFK0630 J
+FLEX 60;REFUSE NONE|CBA002 30MAR 7 180320 JFK0610 J;LBA002 30MAR 7 190321 JFK0630 J|;1;;\
+    |UBA002 30MAR30MAR 0000007 190321 JFK0630 J;HBA002 30MAR30MAR 0000007 180320 JFK0610 J
+FLEX 60;REFUSE NONE|CBA002 30MAR 7 180320 JFK0610 J;LBA002 30MAR 7 190321 JFK0630 \
+    J|;none;untried;untried|UBA002 30MAR30MAR 0000007 190321 JFK0630 J
 FLEX 60;REFUSE NONE|CBA001 BA002 30MAR 7 180320 JFK2200 06301JFK JJ;RBA001 BA002 30MAR 7 180320 \
     JFK2200 2300JFK JJ|;5;;|UBA001 BA002 30MAR30MAR 0000007 180320 JFK2200 2300JFK JJ;OBA001 BA002 \
     30MAR30MAR 0000007 180320 JFK2200 2325JFK JJ
