@@ -368,7 +368,7 @@ struct Meeting {
     met: AtomicU64,
 }
 
-const TURNS: u64 = 4_000_000;
+const TURNS: u64 = 400_000_000;
 
 impl Gate for Meeting {
     fn before_node(&self, worker: u32) {
