@@ -1,8 +1,9 @@
 //! The replies to the messages of worked seasons, byte for byte. The season S25 has 210 dates.
 
 use crate::seasons::{lines, numbers, submission};
-use cert_format::{Certificate, read_cert};
+use cert_format::read_cert;
 use scr_replies::season_replies;
+use series_model::Submission;
 use std::alloc::Global;
 use std::test::Fail;
 
@@ -81,16 +82,25 @@ fn replies_are_as_worked(rt: HostRuntime) -> Result<(), Fail> {
         let (season, choices) = season.rsplit_once('|').ok_or("choices")?;
         let (capacity, messages) = season.split_once('|').ok_or("messages")?;
         let submission = submission(alloc, "S25", capacity, messages)?;
-        let cert = certificate(alloc, choices)?;
-        let text = season_replies(alloc, &submission, &cert)?;
+        let text = replies(alloc, &submission, choices)?;
         let want = whole(alloc, want)?;
         assert_eq!(rt; text.as_slice(), want.as_bytes(), "{messages}");
     }
     Ok(())
 }
 
+// The replies by a certificate with these choices.
+fn replies(alloc: Global, submission: &Submission, choices: &str) -> Result<Vec<u8>, Fail> {
+    let text = certificate(alloc, choices)?;
+    if text.len() > 1_000_000 {
+        return Err("too long".into());
+    }
+    let cert = read_cert(alloc, text.as_bytes())?;
+    Ok(season_replies(alloc, submission, &cert)?)
+}
+
 // A certificate with these choices. Its marks and trees have their form, and prove nothing.
-fn certificate(alloc: Global, choices: &str) -> Result<Certificate, Fail> {
+fn certificate(alloc: Global, choices: &str) -> Result<String, Fail> {
     let mut text = String::new(alloc);
     text.push_str("CERT 1\n")?;
     for (i, choice) in choices.split(';').enumerate() {
@@ -99,7 +109,7 @@ fn certificate(alloc: Global, choices: &str) -> Result<Certificate, Fail> {
         text.push_str(&block)?;
     }
     text.push_str("END\n")?;
-    Ok(read_cert(alloc, text.as_bytes())?)
+    Ok(text)
 }
 
 // The lines of a stage, from its mark on.
