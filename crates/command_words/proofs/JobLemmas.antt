@@ -20,13 +20,13 @@ use Rattle.clap.specs.declared.parser.matches.ArgMatches.{ArgMatches}
 use Rattle.slot_text.specs.Numbers.{IsNumber}
 use Rattle.slot_text.specs.Reads.{GivesOr}
 use Rattle.command_words.specs.declared.job.Job.{Job}
-use Rattle.command_words.specs.declared.job.Job.TheVariants.{Allocate, Check}
+use Rattle.command_words.specs.declared.job.Job.TheVariants.{Allocate, Check, Make, Trial}
 use Rattle.command_words.specs.declared.job.WordFault.{WordFault}
 use Rattle.command_words.specs.declared.job.WordFault.TheVariants.{Words, Memory}
 use Rattle.command_words.specs.Words.{Word}
 use Rattle.command_words.specs.Uses.{Use, uses_of, once_after}
 use Rattle.command_words.specs.Values.{names_in, values_given, names_exactly, number_within, number_or}
-use Rattle.command_words.specs.Jobs.{Command, commands, command_named, allocate_job, check_job, job_by_uses, job_of, IsJob}
+use Rattle.command_words.specs.Jobs.{Command, commands, command_named, allocate_job, check_job, make_job, trial_job, generated_job, job_by_uses, job_of, IsJob}
 use Rattle.command_words.specs.App.{desk_app, values_held, job_by_rows, job_named, AsksFor}
 use Rattle.command_words.specs.Answers.{Answers}
 use Rattle.command_words.proofs.Taken.{AreTaken}
@@ -93,6 +93,26 @@ check_is : (words : List Word) (values : List (Option Word)) (job : Job) → che
 check_is words [] job e = map_some Check (names_exactly 3 words) job e (λ names is same. subst IsJob same (exactly_counts 3 words names is))
 check_is words (value ∷ values) job e = absurd cc
 
+within : (least most n : ℕ) (w : Word) → number_within least most w ≡ Some n → (least ≤ n) × (n ≤ most)
+within least most n w e = let p = number_takes least most n w e in (p.above, p.below)
+
+generated_is : (make : ℕ → ℕ → List Word → Job) (count : ℕ) (words : List Word) (job : Job) → ((n u : ℕ) (names : List Word) → n ≤ 65536 → (1 ≤ u) × (u ≤ 4096) → length names ≡ count → IsJob (make n u names)) → generated_job make count words ≡ Some job → IsJob job
+generated_is make count [] job is e = absurd cc
+generated_is make count (number ∷ []) job is e = absurd cc
+generated_is make count (number ∷ units ∷ words) job is e =
+    option_and_then_some _ (number_within 0 65536 number) job e (λ n n_is rest.
+    option_and_then_some _ (number_within 1 4096 units) job rest (λ u u_is last.
+    map_some (λ names. make n u names) (names_exactly count words) job last (λ names names_are same.
+    subst IsJob same (is n u names (within 0 65536 n number n_is).1 (within 1 4096 u units u_is) (exactly_counts count words names names_are)))))
+
+make_is : (words : List Word) (values : List (Option Word)) (job : Job) → make_job words values ≡ Some job → IsJob job
+make_is words [] job e = generated_is (λ n u names. Make n u names) 2 words job (λ n u names low range counts. (low, range, counts)) e
+make_is words (value ∷ values) job e = absurd cc
+
+trial_is : (words : List Word) (values : List (Option Word)) (job : Job) → trial_job words values ≡ Some job → IsJob job
+trial_is words [] job e = generated_is (λ n u names. Trial n u) 0 words job (λ n u names low range counts. (low, range)) e
+trial_is words (value ∷ values) job e = absurd cc
+
 abbrev MakesJobs : Command → Type 0
 MakesJobs c = (names : List Word) (values : List (Option Word)) (job : Job) → c.job names values ≡ Some job → IsJob job
 
@@ -122,7 +142,7 @@ pub job_is : (words : List Word) (job : Job) → job_of words ≡ Some job → I
 job_is [] job e = absurd cc
 job_is (word ∷ words) job e =
     option_and_then_some _ (command_named commands word) job e (λ c named asked.
-    jobs_by c (uses_of c.options None words) job (all_make commands word c (allocate_is, (check_is, tt)) named) asked)
+    jobs_by c (uses_of c.options None words) job (all_make commands word c (allocate_is, (check_is, (make_is, (trial_is, tt)))) named) asked)
 
 -- ---- clap takes the words of a job, and its matches ask for it
 

@@ -1,12 +1,13 @@
 -- The commands, and what the words of a command line ask for.
-use Rattle.std.specs.Prelude.{◌≡◌, ◌≤◌, List, [], ◌∷◌, length, Option, Some, None, codes, find}
+use Rattle.std.specs.Prelude.{◌≡◌, ◌≤◌, ℕ, List, [], ◌∷◌, length, Option, Some, None, codes, find}
 use Rattle.std.specs.Prelude.{if◌then◌else◌, option_map, option_and_then}
 use Rattle.std.specs.Str.{bytes_eq}
 use Rattle.command_words.specs.Words.{Word}
 use Rattle.command_words.specs.Uses.{Use, uses_of, once_after}
-use Rattle.command_words.specs.Values.{names_in, values_given, names_exactly, number_or}
+use Rattle.command_words.specs.Values.{names_in, values_given, names_exactly, number_within}
+use Rattle.command_words.specs.Values.{number_or}
 use Rattle.command_words.specs.declared.job.Job.{Job}
-use Rattle.command_words.specs.declared.job.Job.TheVariants.{Allocate, Check}
+use Rattle.command_words.specs.declared.job.Job.TheVariants.{Allocate, Check, Make, Trial}
 
 -- A command: its word, the names of its options, and the job that it makes of the names and of what
 -- each option is given.
@@ -29,6 +30,27 @@ abbrev pub check_job : List Word → List (Option Word) → Option Job
 check_job words [] = option_map Check (names_exactly 3 words)
 check_job words (value ∷ values) = None
 
+-- What a command makes of the number of a generated season, from 0 to 65536, how many units it has,
+-- from 1 to 4096, and the words behind these two, which are so many names.
+abbrev pub generated_job : (ℕ → ℕ → List Word → Job) → ℕ → List Word → Option Job
+generated_job job count [] = None
+generated_job job count (number ∷ []) = None
+generated_job job count (number ∷ units ∷ words) =
+    option_and_then (λ n. option_and_then (λ u. option_map (λ names. job n u names)
+    (names_exactly count words))
+    (number_within 1 4096 units))
+    (number_within 0 65536 number)
+
+-- `make NUMBER UNITS CAP SCR`
+abbrev pub make_job : List Word → List (Option Word) → Option Job
+make_job words [] = generated_job (λ n u names. Make n u names) 2 words
+make_job words (value ∷ values) = None
+
+-- `trial NUMBER UNITS`
+abbrev pub trial_job : List Word → List (Option Word) → Option Job
+trial_job words [] = generated_job (λ n u names. Trial n u) 0 words
+trial_job words (value ∷ values) = None
+
 abbrev pub allocate_command : Command
 allocate_command = record {
   word = codes "allocate";
@@ -39,9 +61,15 @@ allocate_command = record {
 abbrev pub check_command : Command
 check_command = record { word = codes "check"; options = []; job = check_job }
 
+abbrev pub make_command : Command
+make_command = record { word = codes "make"; options = []; job = make_job }
+
+abbrev pub trial_command : Command
+trial_command = record { word = codes "trial"; options = []; job = trial_job }
+
 -- the commands that are served
 abbrev pub commands : List Command
-commands = allocate_command ∷ check_command ∷ []
+commands = allocate_command ∷ check_command ∷ make_command ∷ trial_command ∷ []
 
 abbrev pub command_named : List Command → Word → Option Command
 command_named cs word = find (λ c. bytes_eq c.word word) cs
@@ -63,3 +91,6 @@ abbrev pub IsJob : Job → Type 0
 IsJob (Allocate names nodes workers) = (length names ≡ 4) × ((1 ≤ nodes) × (nodes ≤ 1000000))
     × ((1 ≤ workers) × (workers ≤ 16))
 IsJob (Check names) = length names ≡ 3
+IsJob (Make number units names) = (number ≤ 65536) × ((1 ≤ units) × (units ≤ 4096))
+    × (length names ≡ 2)
+IsJob (Trial number units) = (number ≤ 65536) × ((1 ≤ units) × (units ≤ 4096))

@@ -5,7 +5,9 @@ ghost use Rattle.clap.specs.Words.{app_of, shape_of, FailsBy, fault_of, HasMatch
 ghost use Rattle.clap.specs.declared.builder.command.Command.TheViews.{out-Command};
 ghost use Rattle.command_words.specs.Words.{words_of};
 ghost use Rattle.command_words.specs.Jobs.{allocate_command, check_command};
-ghost use Rattle.command_words.specs.App.{option_arg, names_arg, command_shape, bare_app, desk_app};
+ghost use Rattle.command_words.specs.Jobs.{make_command, trial_command};
+ghost use Rattle.command_words.specs.App.{option_arg, names_arg, command_shape, bare_app, reading_app};
+ghost use Rattle.command_words.specs.App.{desk_app};
 
 use clap::{Arg, ArgAction, ArgMatches, Command, Error};
 use std::alloc::{AllocError, Global};
@@ -43,6 +45,20 @@ fn check<'a>(alloc: Global) -> Result<Command<'a>, AllocError>
     Command::new(alloc, "check").arg(names(alloc))
 }
 
+fn make<'a>(alloc: Global) -> Result<Command<'a>, AllocError>
+    ensures shape { IfOk result (λ c. shape_of c ≡ command_shape make_command) }
+    ensures local { IfOk result (λ c. (out-Command c).has_globals ≡ false) }
+{
+    Command::new(alloc, "make").arg(names(alloc))
+}
+
+fn trial<'a>(alloc: Global) -> Result<Command<'a>, AllocError>
+    ensures shape { IfOk result (λ c. shape_of c ≡ command_shape trial_command) }
+    ensures local { IfOk result (λ c. (out-Command c).has_globals ≡ false) }
+{
+    Command::new(alloc, "trial").arg(names(alloc))
+}
+
 fn bare<'a>(alloc: Global) -> Command<'a>
     ensures { app_of result ≡ bare_app }
 {
@@ -53,12 +69,21 @@ fn bare<'a>(alloc: Global) -> Command<'a>
         .subcommand_required(true)
 }
 
-fn desk<'a>(alloc: Global) -> Result<Command<'a>, AllocError>
-    ensures { IfOk result (λ c. app_of c ≡ desk_app) }
+/// The desk with the commands that read a season's files.
+fn reading_desk<'a>(alloc: Global) -> Result<Command<'a>, AllocError>
+    ensures { IfOk result (λ c. app_of c ≡ reading_app) }
 {
     let allocate = allocate(alloc)?;
     let check = check(alloc)?;
     bare(alloc).subcommand(allocate)?.subcommand(check)
+}
+
+fn desk<'a>(alloc: Global) -> Result<Command<'a>, AllocError>
+    ensures { IfOk result (λ c. app_of c ≡ desk_app) }
+{
+    let make = make(alloc)?;
+    let trial = trial(alloc)?;
+    reading_desk(alloc)?.subcommand(make)?.subcommand(trial)
 }
 
 /// What `clap` finds in the words.

@@ -85,6 +85,22 @@ pub enum Job {
     Check {
         names: NameList,
     },
+    /// Make a generated season, and write it. The names are those of the capacity file and the
+    /// requests.
+    Make {
+        /// The season's number, at most 65,536.
+        number: u32,
+        /// How many units it has, from 1 to 4,096.
+        units: u32,
+        names: NameList,
+    },
+    /// Allot a generated season, and check its certificate. No file is read or written.
+    Trial {
+        /// The season's number, at most 65,536.
+        number: u32,
+        /// How many units it has, from 1 to 4,096.
+        units: u32,
+    },
 }
 
 /// Why words are no job.

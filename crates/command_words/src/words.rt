@@ -1,4 +1,4 @@
-ghost use Rattle.std.specs.Prelude.{◌≡◌, ◌≢◌, None, Some, Ok, Err, IfOk, IfErr, map};
+ghost use Rattle.std.specs.Prelude.{◌≡◌, ◌≢◌, [], None, Some, Ok, Err, IfOk, IfErr, map};
 ghost use Rattle.std.specs.List.{AllByRecursion};
 ghost use Rattle.std.specs.Str.{IsUtf8};
 ghost use Rattle.clap.specs.Words.{rows_of, found_of, first_of};
@@ -7,6 +7,7 @@ ghost use Rattle.command_words.specs.declared.job.Job.{Job};
 ghost use Rattle.command_words.specs.Words.{Word, words_of};
 ghost use Rattle.command_words.specs.Values.{names_exactly, number_within, number_or};
 ghost use Rattle.command_words.specs.Jobs.{job_of, IsJob, allocate_command, check_command};
+ghost use Rattle.command_words.specs.Jobs.{make_command, trial_command, make_job, trial_job};
 ghost use Rattle.command_words.specs.App.{names_held, job_by_rows, job_named, AsksFor};
 ghost use Rattle.command_words.specs.Answers.{Answers};
 
@@ -78,6 +79,8 @@ fn read_job(alloc: Global, name: &str, found: &ArgMatches<'_>) -> Result<Job, Wo
     match name {
         "allocate" => read_allocate(alloc, found),
         "check" => read_check(alloc, found),
+        "make" => read_make(alloc, found),
+        "trial" => read_trial(found),
         _ => Err(WordFault::Words),
     }
 }
@@ -100,6 +103,51 @@ fn read_check(alloc: Global, found: &ArgMatches<'_>) -> Result<Job, WordFault>
 {
     let names = read_names(alloc, found, 3)?;
     Ok(Job::Check { names })
+}
+
+fn read_make(alloc: Global, found: &ArgMatches<'_>) -> Result<Job, WordFault>
+    ensures { Answers (job_by_rows make_command (rows_of (found_of found.now))) result }
+{
+    match found.get_strs("names") {
+        Some(words) => make_of(alloc, words),
+        None => make_of(alloc, &[]),
+    }
+}
+
+fn make_of(alloc: Global, words: &[&str]) -> Result<Job, WordFault>
+    ensures { Answers (make_job (map (λ word. word.now) words.now) []) result }
+{
+    let [number, units, names @ ..] = words else {
+        return Err(WordFault::Words);
+    };
+    let number = read_number(number, 0, 65_536)?;
+    let units = read_number(units, 1, 4_096)?;
+    let names = copy_names(alloc, names, 2)?;
+    Ok(Job::Make {
+        number,
+        units,
+        names,
+    })
+}
+
+fn read_trial(found: &ArgMatches<'_>) -> Result<Job, WordFault>
+    ensures { Answers (job_by_rows trial_command (rows_of (found_of found.now))) result }
+{
+    match found.get_strs("names") {
+        Some(words) => trial_of(words),
+        None => trial_of(&[]),
+    }
+}
+
+fn trial_of(words: &[&str]) -> Result<Job, WordFault>
+    ensures { Answers (trial_job (map (λ word. word.now) words.now) []) result }
+{
+    let [number, units] = words else {
+        return Err(WordFault::Words);
+    };
+    let number = read_number(number, 0, 65_536)?;
+    let units = read_number(units, 1, 4_096)?;
+    Ok(Job::Trial { number, units })
 }
 
 /// The names, where there are exactly so many.

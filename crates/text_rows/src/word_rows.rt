@@ -39,11 +39,26 @@ fn say_job(alloc: Global, out: &mut Vec<u8>, job: &Job) -> Result<(), Fail> {
             workers,
         } => {
             say_names(alloc, out, "allocate", names)?;
-            let (nodes, workers) = (*nodes, *workers);
-            say(alloc, out, format!(in alloc; " {nodes} {workers}")?)
+            say_numbers(alloc, out, *nodes, *workers)
         }
         Job::Check { names } => say_names(alloc, out, "check", names),
+        Job::Make {
+            number,
+            units,
+            names,
+        } => {
+            say_names(alloc, out, "make", names)?;
+            say_numbers(alloc, out, *number, *units)
+        }
+        Job::Trial { number, units } => {
+            say(alloc, out, "trial")?;
+            say_numbers(alloc, out, *number, *units)
+        }
     }
+}
+
+fn say_numbers(alloc: Global, out: &mut Vec<u8>, one: u32, two: u32) -> Result<(), Fail> {
+    say(alloc, out, format!(in alloc; " {one} {two}")?)
 }
 
 fn say_names(
@@ -163,9 +178,64 @@ help check|no
 -V|no
 amend A B C D E|no
 serve A B C D|no
-make 1 4 A B|no
-trial 1 4|no
 "
             .as_bytes(),
+    )
+}
+
+/// The two numbers stand before the names.
+#[test]
+fn words_ask_for_generated_seasons(rt: HostRuntime) -> Result<(), Fail> {
+    walk(
+        rt.alloc(),
+        &mut CommandWords,
+        b"\
+make 1 4 A B|make A,B 1 4
+make 0 1 A B|make A,B 0 1
+make 65536 4096 A B|make A,B 65536 4096
+make 65537 1 A B|no
+make 18446744073709551617 1 A B|no
+make 1 0 A B|no
+make 1 4097 A B|no
+make 01 4 A B|no
+make 1 04 A B|no
+make +1 4 A B|no
+make 1x 4 A B|no
+make - 4 A B|no
+make -1 4 A B|no
+make -- -1 4 A B|no
+make -- 1 4 -a -b|make -a,-b 1 4
+make 1 -- 4 A --|make A,-- 1 4
+make 1 4  -|make ,- 1 4
+make  1 4 A B|no
+make 1 4 A|no
+make 1 4 A B C|no
+make A B 1 4|no
+make 1 4 A B --nodes 5|no
+make 1 4 A B --nodes=5|no
+make --units 4 1 A B|no
+make|no
+Make 1 4 A B|no
+trial 1 4|trial 1 4
+trial 0 1|trial 0 1
+trial 65536 4096|trial 65536 4096
+trial 65537 1|no
+trial 1 0|no
+trial 1 4097|no
+trial 1 04|no
+trial 1 4x|no
+trial 1 |no
+trial  4|no
+trial -1 4|no
+trial 1 --4|no
+trial -- 1 4|trial 1 4
+trial 1 -- 4|trial 1 4
+trial 1 4 --|trial 1 4
+trial 1 4 --workers 2|no
+trial 1 4 A|no
+trial 1|no
+trial|no
+trials 1 4|no
+",
     )
 }
