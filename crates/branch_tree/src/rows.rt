@@ -99,7 +99,8 @@ fn begin_twos(
     requires within { AreWithin (resource_count problem.now) twos.old.items }
     ensures from { IfOk result (λ from. row.first ≤ from) }
     ensures to { IfOk result (λ from. from ≤ row.last) }
-    ensures twos { IfOk result (λ from. AreLeastTwos problem.now unit from row.last twos.new.items) }
+    ensures twos { IfOk result (λ from.
+        AreLeastTwos problem.now unit from row.last twos.new.items) }
     ensures within { OnOk result (AreWithin (resource_count problem.now) twos.new.items) }
 {
     let known = was.last - was.first;

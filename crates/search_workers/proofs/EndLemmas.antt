@@ -19,9 +19,9 @@ use Rattle.incumbent_word.specs.declared.view.View.{View}
 use Rattle.incumbent_word.specs.Core.{AtMost, EachOnce, lesser, newcomer}
 use Rattle.search_workers.specs.declared.searchers.Done.{Done}
 use Rattle.search_workers.specs.Settings.{Setting, AreGrown, Drives, IsLook, IsBelow, RecordsSeen}
-use Rattle.search_workers.specs.Work.{IsWork, IsMadeOf, IsSoFar, all_nodes, lesser_choice, sprout}
+use Rattle.search_workers.specs.Work.{IsWork, IsMadeOf, IsSoFar, all_nodes, lesser_choice, with_undone_parts}
 use Rattle.search_workers.specs.Searchers.{made, pieces_of, IsSearcher}
-use Rattle.search_workers.specs.Rounds.{IsStretch, IsRound, AreApart}
+use Rattle.search_workers.specs.Rounds.{AreVisitsMade, IsRound, AreApart}
 use Rattle.search_workers.proofs.CostLemmas.{at_most_refl, lesser_left, lesser_none}
 use Rattle.search_workers.proofs.NodeLemmas.{node_count-append}
 use Rattle.search_workers.proofs.GraftLemmas.{AreOn-take, graft-trees, graft-made}
@@ -70,7 +70,7 @@ round_ends s pieces w cost best done start first chosen before tree trees m clai
     let count = board_count s start least first best w.worker before (made done) tree h k.work falls under shape m' in
     let falls' : AtMost least start = rw falls (lesser_left start w.worker.best) in
     record {
-      stretch = record {
+      visits = record {
         so_far = rw picked (board_ends s start least first best w.worker before (made done) tree h k.work falls under shape m');
         count = omega (arith, count, many);
         fell = falls';
@@ -83,49 +83,49 @@ round_ends s pieces w cost best done start first chosen before tree trees m clai
       ];
     }
 
-sprout-has : (node other : Node) → Contains (sprout node ++ []) other → (other ≡ Undone) ⊎ Contains (node ∷ []) other
-sprout-has (Split unit cut seen) other h = elim (Contains-append_cases (Split unit cut seen ∷ []) (Undone ∷ Undone ∷ []) other h) [
+with_undone_parts-has : (node other : Node) → Contains (with_undone_parts node ++ []) other → (other ≡ Undone) ⊎ Contains (node ∷ []) other
+with_undone_parts-has (Split unit cut seen) other h = elim (Contains-append_cases (Split unit cut seen ∷ []) (Undone ∷ Undone ∷ []) other h) [
   | inl a ↦ inr a
   | inr b ↦ inl (All-contains (λ n. n ≡ Undone) (Undone ∷ Undone ∷ []) other
       (All-cons (λ n. n ≡ Undone) Undone (Undone ∷ []) refl (All-cons (λ n. n ≡ Undone) Undone [] refl (All-nil (λ n. n ≡ Undone)))) b)
 ]
-sprout-has (Leaf vector scale seen) other h = inr h
-sprout-has (Over resource) other h = inr h
-sprout-has Undone other h = inr h
+with_undone_parts-has (Leaf vector scale seen) other h = inr h
+with_undone_parts-has (Over resource) other h = inr h
+with_undone_parts-has Undone other h = inr h
 
-sprout-from : (node other : Node) → Contains (node ∷ []) other → Contains (sprout node ++ []) other
-sprout-from (Split unit cut seen) other h = Contains-append_left (Split unit cut seen ∷ []) (Undone ∷ Undone ∷ []) other h
-sprout-from (Leaf vector scale seen) other h = h
-sprout-from (Over resource) other h = h
-sprout-from Undone other h = h
+with_undone_parts-from : (node other : Node) → Contains (node ∷ []) other → Contains (with_undone_parts node ++ []) other
+with_undone_parts-from (Split unit cut seen) other h = Contains-append_left (Split unit cut seen ∷ []) (Undone ∷ Undone ∷ []) other h
+with_undone_parts-from (Leaf vector scale seen) other h = h
+with_undone_parts-from (Over resource) other h = h
+with_undone_parts-from Undone other h = h
 
-sprout-count : (node : Node) → node_count (sprout node ++ []) ≡ node_count (node ∷ [])
-sprout-count (Split unit cut seen) = refl
-sprout-count (Leaf vector scale seen) = refl
-sprout-count (Over resource) = refl
-sprout-count Undone = refl
+with_undone_parts-count : (node : Node) → node_count (with_undone_parts node ++ []) ≡ node_count (node ∷ [])
+with_undone_parts-count (Split unit cut seen) = refl
+with_undone_parts-count (Leaf vector scale seen) = refl
+with_undone_parts-count (Over resource) = refl
+with_undone_parts-count Undone = refl
 
-sprout-made : (tree before : List Node) (node : Node) → IsMadeOf tree (before ++ (sprout node ++ [])) → IsMadeOf tree (before ++ node ∷ [])
-sprout-made tree before node m = record {
+with_undone_parts-made : (tree before : List Node) (node : Node) → IsMadeOf tree (before ++ (with_undone_parts node ++ [])) → IsMadeOf tree (before ++ node ∷ [])
+with_undone_parts-made tree before node m = record {
   from_list = λ other h. elim (m.from_list other h) [
     | inl u ↦ inl u
-    | inr c ↦ elim (Contains-append_cases before (sprout node ++ []) other c) [
+    | inr c ↦ elim (Contains-append_cases before (with_undone_parts node ++ []) other c) [
       | inl a ↦ inr (Contains-append_left before (node ∷ []) other a)
-      | inr b ↦ elim (sprout-has node other b) [ inl u ↦ inl u | inr d ↦ inr (Contains-append_right before (node ∷ []) other d) ]
+      | inr b ↦ elim (with_undone_parts-has node other b) [ inl u ↦ inl u | inr d ↦ inr (Contains-append_right before (node ∷ []) other d) ]
     ]
   ];
   in_tree = λ other h. elim (Contains-append_cases before (node ∷ []) other h) [
-    | inl a ↦ m.in_tree other (Contains-append_left before (sprout node ++ []) other a)
-    | inr b ↦ m.in_tree other (Contains-append_right before (sprout node ++ []) other (sprout-from node other b))
+    | inl a ↦ m.in_tree other (Contains-append_left before (with_undone_parts node ++ []) other a)
+    | inr b ↦ m.in_tree other (Contains-append_right before (with_undone_parts node ++ []) other (with_undone_parts-from node other b))
   ];
-  count = omega (arith, m.count, node_count-append before (sprout node ++ []), node_count-append before (node ∷ []), sprout-count node);
+  count = omega (arith, m.count, node_count-append before (with_undone_parts node ++ []), node_count-append before (node ∷ []), with_undone_parts-count node);
 }
 
-pub sprout_grown : (s : Setting) (ranges : List (ℕ × ℕ)) (node : Node) → Drives s ranges node → AreGrown s (ranges ∷ []) (sprout node)
-sprout_grown s ranges (Split unit cut seen) d = (d, (tt, (tt, tt)))
-sprout_grown s ranges (Leaf vector scale seen) d = (d, tt)
-sprout_grown s ranges (Over resource) d = (d, tt)
-sprout_grown s ranges Undone d = (d, tt)
+pub undone_parts_grown : (s : Setting) (ranges : List (ℕ × ℕ)) (node : Node) → Drives s ranges node → AreGrown s (ranges ∷ []) (with_undone_parts node)
+undone_parts_grown s ranges (Split unit cut seen) d = (d, (tt, (tt, tt)))
+undone_parts_grown s ranges (Leaf vector scale seen) d = (d, tt)
+undone_parts_grown s ranges (Over resource) d = (d, tt)
+undone_parts_grown s ranges Undone d = (d, tt)
 
 -- what one visit of the caller did, as the work of a worker
 abbrev pub one_worker : Option ℕ → Option ℕ → Worker
@@ -148,13 +148,13 @@ one_work s ranges cost best before node (Some x) h l =
 -- one visit of an open part
 pub part_visited : (s : Setting) (ranges : List (ℕ × ℕ)) (cost : Option ℕ) (best : Option (List ℕ)) (before tree : List Node) (node : Node) (found : Option (List ℕ)) →
     IsSoFar s cost best before → IsLook s ranges cost node found → AreGrown s (whole_of s.problem ∷ []) tree →
-    IsMadeOf tree (before ++ (sprout node ++ [])) →
-    IsStretch s 1 cost (lesser cost (option_map (choice_cost s.problem) found)) (lesser_choice cost (option_map (choice_cost s.problem) found) best found) before tree
+    IsMadeOf tree (before ++ (with_undone_parts node ++ [])) →
+    AreVisitsMade s 1 cost (lesser cost (option_map (choice_cost s.problem) found)) (lesser_choice cost (option_map (choice_cost s.problem) found) best found) before tree
 part_visited s ranges cost best before tree node found h l shape m =
     let more : Option ℕ = option_map (choice_cost s.problem) found in
     let w : Worker = one_worker cost more in
     let work = one_work s ranges cost best before node found h l in
-    let m' = sprout-made tree before node m in
+    let m' = with_undone_parts-made tree before node m in
     let least : Option ℕ = lesser cost more in
     record {
       so_far = board_ends s cost least best found w before (node ∷ []) tree h work refl (at_most_refl least) shape m';
@@ -162,17 +162,17 @@ part_visited s ranges cost best before tree node found h l shape m =
       fell = lesser_left cost more;
     }
 
-sprout-all : (P : Node → Type 0) (node : Node) → P node → P Undone → All P (sprout node)
-sprout-all P (Split unit cut seen) h u = All-cons P (Split unit cut seen) (Undone ∷ Undone ∷ []) h (All-cons P Undone (Undone ∷ []) u (All-cons P Undone [] u (All-nil P)))
-sprout-all P (Leaf vector scale seen) h u = All-cons P (Leaf vector scale seen) [] h (All-nil P)
-sprout-all P (Over resource) h u = All-cons P (Over resource) [] h (All-nil P)
-sprout-all P Undone h u = All-cons P Undone [] h (All-nil P)
+with_undone_parts-all : (P : Node → Type 0) (node : Node) → P node → P Undone → All P (with_undone_parts node)
+with_undone_parts-all P (Split unit cut seen) h u = All-cons P (Split unit cut seen) (Undone ∷ Undone ∷ []) h (All-cons P Undone (Undone ∷ []) u (All-cons P Undone [] u (All-nil P)))
+with_undone_parts-all P (Leaf vector scale seen) h u = All-cons P (Leaf vector scale seen) [] h (All-nil P)
+with_undone_parts-all P (Over resource) h u = All-cons P (Over resource) [] h (All-nil P)
+with_undone_parts-all P Undone h u = All-cons P Undone [] h (All-nil P)
 
-sprout-here : (node : Node) → Contains (sprout node) node
-sprout-here (Split unit cut seen) = Contains-append_left (Split unit cut seen ∷ []) (Undone ∷ Undone ∷ []) (Split unit cut seen) (Contains-push [] (Split unit cut seen))
-sprout-here (Leaf vector scale seen) = Contains-push [] (Leaf vector scale seen)
-sprout-here (Over resource) = Contains-push [] (Over resource)
-sprout-here Undone = Contains-push [] Undone
+with_undone_parts-here : (node : Node) → Contains (with_undone_parts node) node
+with_undone_parts-here (Split unit cut seen) = Contains-append_left (Split unit cut seen ∷ []) (Undone ∷ Undone ∷ []) (Split unit cut seen) (Contains-push [] (Split unit cut seen))
+with_undone_parts-here (Leaf vector scale seen) = Contains-push [] (Leaf vector scale seen)
+with_undone_parts-here (Over resource) = Contains-push [] (Over resource)
+with_undone_parts-here Undone = Contains-push [] Undone
 
 lesser_below : (cost : Option ℕ) (n : ℕ) → IsBelow n cost → lesser cost (Some n) ≡ Some n
 lesser_below None n l = refl
@@ -186,14 +186,14 @@ choice_below (Some c) n best x l = let e : nat_lt n c ≡ true = grind (arith, n
 pub first_visited : (s : Setting) (cost : Option ℕ) (best : Option (List ℕ)) (node : Node) (found : Option (List ℕ)) →
     IsBestFound s.problem cost best → IsSeenBetween cost s.greedy cost → NoneOver s.problem (whole_of s.problem) →
     IsLook s (whole_of s.problem) cost node found →
-    IsSoFar s (lesser cost (option_map (choice_cost s.problem) found)) (lesser_choice cost (option_map (choice_cost s.problem) found) best found) (sprout node)
+    IsSoFar s (lesser cost (option_map (choice_cost s.problem) found)) (lesser_choice cost (option_map (choice_cost s.problem) found) best found) (with_undone_parts node)
 first_visited s cost best node None found now none l = rw (lesser_none cost) (record {
   found = found;
   now = now;
   driven = record {
-    trees = sprout_grown s (whole_of s.problem) node l.driven;
-    between = sprout-all (RecordsBetween cost s.greedy) node (records_seen cost s.greedy cost node l.choice now) tt;
-    reached = inr (node, sprout-here node, reached node l.driven l.choice);
+    trees = undone_parts_grown s (whole_of s.problem) node l.driven;
+    between = with_undone_parts-all (RecordsBetween cost s.greedy) node (records_seen cost s.greedy cost node l.choice now) tt;
+    reached = inr (node, with_undone_parts-here node, reached node l.driven l.choice);
   };
 })
   where

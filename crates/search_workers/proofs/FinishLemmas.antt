@@ -17,7 +17,7 @@ use Rattle.choice_problem.specs.Greedy.{IsGreedyCost}
 use Rattle.choice_problem.specs.Renumbered.{NamesUpTo}
 use Rattle.choice_problem.specs.Roots.{IsRootVector}
 use Rattle.incumbent_word.specs.Core.{AtMost}
-use Rattle.search_workers.specs.Outcomes.{IsBestFound, AreListed, IsSearched, IsCut, Names, CostsAtMost}
+use Rattle.search_workers.specs.Outcomes.{IsBestFound, AreListed, IsSearched, EndsAtNamed, Names, OutcomeCostsAtMost}
 use Rattle.search_workers.specs.declared.outcomes.Outcome.{Outcome}
 use Rattle.search_workers.specs.Settings.{Setting, IsSetting, IsWider, HasGiven, Drives, AreGrown, root_of}
 use Rattle.search_workers.specs.Work.{IsSoFar}
@@ -116,7 +116,7 @@ module _ (s : Setting) (cost : Option ℕ) (best : Option (List ℕ)) (tree : Li
       }
 
 pub cut_named : (vectors : List (List Price)) (tree : List Node) (m : ℕ) → m ≤ length vectors →
-    (m ≡ 0) ⊎ ((leaf : Node) × Contains tree leaf × Names m leaf) → IsCut (take m vectors) tree
+    (m ≡ 0) ⊎ ((leaf : Node) × Contains tree leaf × Names m leaf) → EndsAtNamed (take m vectors) tree
 cut_named vectors tree m there named =
     let count : length (take m vectors) ≡ m = omega (arith, length-take m vectors, there) in
     elim named [
@@ -176,7 +176,7 @@ so_far_wider s t cost best tree w k l h more one_cost one_vector =
 -- a choice that was handed in
 pub some_start : (p : ProblemView) (start : Option (List ℕ)) (cost : Option ℕ) (outcome : Outcome) → IfSome start (IsFeasible p) →
     AtMost cost (option_map (choice_cost p) start) →
-    ((x : List ℕ) → IsFeasible p x → AtMost cost (Some (choice_cost p x)) → CostsAtMost p (choice_cost p x) outcome) →
-    IfSome start (λ x. CostsAtMost p (choice_cost p x) outcome)
+    ((x : List ℕ) → IsFeasible p x → AtMost cost (Some (choice_cost p x)) → OutcomeCostsAtMost p (choice_cost p x) outcome) →
+    IfSome start (λ x. OutcomeCostsAtMost p (choice_cost p x) outcome)
 some_start p None cost outcome f a h = tt
 some_start p (Some x) cost outcome f a h = h x f a

@@ -11,7 +11,7 @@ use Rattle.incumbent_word.specs.Seats.{BoardView, IsSeatOf}
 use Rattle.search_workers.specs.declared.searchers.Done.{Done}
 use Rattle.search_workers.specs.declared.searchers.Searcher.{Searcher}
 use Rattle.search_workers.specs.Settings.{Setting, AreGrown}
-use Rattle.search_workers.specs.Rounds.{IsReady, IsFinished, shares}
+use Rattle.search_workers.specs.Rounds.{IsReady, HasStopped, shares}
 use Rattle.search_workers.proofs.WorkLemmas.{work_none}
 
 -- a worker that has done nothing may claim
@@ -56,7 +56,7 @@ room_left n share few room =
     (omega (arith, more, some, room'), rw down (omega (arith, more, some, room')))
 
 -- a worker that did not want memory is ready, and found all pieces claimed
-pub finished_ready : (s : Setting) (pieces : List (List (ℕ × ℕ))) (board : BoardView) (w : Searcher) → IsFinished s pieces board w → w.failed ≡ false →
+pub finished_ready : (s : Setting) (pieces : List (List (ℕ × ℕ))) (board : BoardView) (w : Searcher) → HasStopped s pieces board w → w.failed ≡ false →
     IsReady s pieces board w × (w.seat.view.no_piece_left ≡ true)
 finished_ready s pieces board w h e = elim h.ended [
   | inl f ↦ absurd (cc (sym f ∙ e))

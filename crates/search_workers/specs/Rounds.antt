@@ -17,7 +17,7 @@ pub record IsReady (s : Setting) (pieces : List (List (ℕ × ℕ))) (board : Bo
   pub claims : w.seat.view.worker.pieces ≡ pieces_of w.done.items
 
 -- a worker that found all pieces claimed, or wanted memory
-pub record IsFinished (s : Setting) (pieces : List (List (ℕ × ℕ))) (board : BoardView)
+pub record HasStopped (s : Setting) (pieces : List (List (ℕ × ℕ))) (board : BoardView)
     (w : Searcher) : Type 0 where
   pub own : IsSeatOf board w.seat
   pub ended : (w.failed ≡ true) ⊎ (IsReady s pieces board w × (w.seat.view.no_piece_left ≡ true))
@@ -32,7 +32,7 @@ abbrev pub AreApart : List ℕ → Type 0
 AreApart pieces = (x : ℕ) → count_by (λ y. y == x) pieces ≤ 1
 
 -- the tree before some visits became the tree after them, as many as numbers were taken, and the least cost did not rise
-pub record IsStretch (s : Setting) (taken : ℕ) (was cost : Option ℕ) (best : Option (List ℕ))
+pub record AreVisitsMade (s : Setting) (taken : ℕ) (was cost : Option ℕ) (best : Option (List ℕ))
     (before tree : List Node) : Type 0 where
   pub so_far : IsSoFar s cost best tree
   pub count : node_count tree ≡ node_count before + taken
@@ -41,6 +41,6 @@ pub record IsStretch (s : Setting) (taken : ℕ) (was cost : Option ℕ) (best :
 -- the visits of a round: at most so many, and all of them or at least one
 pub record IsRound (s : Setting) (rest taken : ℕ) (was cost : Option ℕ) (best : Option (List ℕ))
     (before tree : List Node) : Type 0 where
-  pub stretch : IsStretch s taken was cost best before tree
+  pub visits : AreVisitsMade s taken was cost best before tree
   pub within : taken ≤ rest
   pub progress : (taken ≡ rest) ⊎ (1 ≤ taken)

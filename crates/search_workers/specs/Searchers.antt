@@ -17,7 +17,8 @@ made (d ∷ ds) = d.tree.items ++ made ds
 pub record IsBegun (s : Setting) (ranges : List (ℕ × ℕ)) (nodes : List Node)
     (pending : List (List (ℕ × ℕ))) : Type 0 where
   pub valid : All (AreRanges s.problem) pending
-  pub trees : (rest : List Node) → AreGrown s pending rest → AreGrown s (ranges ∷ []) (nodes ++ rest)
+  pub trees : (rest : List Node) → AreGrown s pending rest →
+      AreGrown s (ranges ∷ []) (nodes ++ rest)
 
 -- no number is left, or a node was entered
 abbrev pub HasProgress : View → List Node → Type 0

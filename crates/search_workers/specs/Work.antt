@@ -74,11 +74,11 @@ pub record IsSoFar (s : Setting) (cost : Option ℕ) (best : Option (List ℕ))
   pub driven : IsDrivenFrom s.problem s.vectors (root_of s) s.greedy cost tree
 
 -- a node, with its parts undone
-abbrev pub sprout : Node → List Node
-sprout (Split unit cut seen) = Split unit cut seen ∷ Undone ∷ Undone ∷ []
-sprout (Leaf vector scale seen) = Leaf vector scale seen ∷ []
-sprout (Over resource) = Over resource ∷ []
-sprout Undone = Undone ∷ []
+abbrev pub with_undone_parts : Node → List Node
+with_undone_parts (Split unit cut seen) = Split unit cut seen ∷ Undone ∷ Undone ∷ []
+with_undone_parts (Leaf vector scale seen) = Leaf vector scale seen ∷ []
+with_undone_parts (Over resource) = Over resource ∷ []
+with_undone_parts Undone = Undone ∷ []
 
 -- what is known at the start: the cost of the greedy choice, and the best choice with its cost, from the greedy one down
 pub record IsStart (p : ProblemView) (start : Start) : Type 0 where

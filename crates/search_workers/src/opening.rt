@@ -6,8 +6,8 @@ ghost use Rattle.choice_problem.specs.Trees.{IsWhole, node_count};
 ghost use Rattle.incumbent_word.specs.Core.{AtMost};
 ghost use Rattle.branch_tree.specs.Visits.{NoneOver};
 ghost use Rattle.search_workers.specs.Settings.{IsPlaceIn};
-ghost use Rattle.search_workers.specs.Work.{IsSoFar, IsStart, sprout};
-ghost use Rattle.search_workers.specs.Rounds.{IsStretch};
+ghost use Rattle.search_workers.specs.Work.{IsSoFar, IsStart, with_undone_parts};
+ghost use Rattle.search_workers.specs.Rounds.{AreVisitsMade};
 
 use crate::looks::look;
 use crate::places::Place;
@@ -41,13 +41,13 @@ pub(crate) fn first_visit(
 {
     let Start { cost, best, .. } = start;
     let (node, found) = look(alloc, task, place, cost)?;
-    let tree = sprout(alloc, node)?;
+    let tree = with_undone_parts(alloc, node)?;
     Ok(State::with_found(task.problem(), tree, cost, best, found))
 }
 
 // A node, with its parts undone.
-fn sprout(alloc: Global, node: Node) -> Result<Vec<Node>, Memory>
-    ensures { IfOk result (λ tree. tree.items ≡ sprout node) }
+fn with_undone_parts(alloc: Global, node: Node) -> Result<Vec<Node>, Memory>
+    ensures { IfOk result (λ tree. tree.items ≡ with_undone_parts node) }
 {
     let mut tree = Vec::new(alloc);
     tree.push(node)?;
@@ -114,7 +114,7 @@ fn visit_part<'a>(
     requires so_far { IsSoFar task.now state.cost state.best state.tree.items }
     requires open_node { IsWhole state.tree.items → ⊥ }
     ensures place { OnOk result (IsPlaceIn task.now place.new) }
-    ensures stretch { IfOk result (λ s. IsStretch task.now 1 state.cost s.cost s.best
+    ensures visits { IfOk result (λ s. AreVisitsMade task.now 1 state.cost s.cost s.best
         state.tree.items s.tree.items) }
 {
     let part = shallowest(alloc, &state.tree)?;
@@ -122,7 +122,7 @@ fn visit_part<'a>(
     let piece = pieces.len() - 1;
     place.go(alloc, task, &pieces[piece])?;
     let (node, found) = look(alloc, task, place, state.cost)?;
-    let tree = sprout(alloc, node)?;
+    let tree = with_undone_parts(alloc, node)?;
     let done = one_done(alloc, piece as u32, tree)?;
     let trees = trees_of(alloc, task, &pieces, done)?;
     let tree = graft_nodes(alloc, &state.tree, &trees)?;

@@ -9,7 +9,7 @@ ghost use Rattle.search_workers.specs.Settings.{IsPlaceIn};
 
 use crate::tasks::Task;
 use branch_tree::Walk;
-use choice_problem::{Problem, Ranges};
+use choice_problem::{PRICED_SCALE, Problem, Ranges};
 use price_table::{PriceTable, Totals, set_kept};
 use slot_text::Memory;
 use std::alloc::Global;
@@ -100,7 +100,7 @@ fn totals_of(
 {
     let mut totals = Vec::new(alloc);
     for table in tables {
-        totals.push(Totals::of(alloc, problem, ranges, table, 1024)?)?;
+        totals.push(Totals::of(alloc, problem, ranges, table, PRICED_SCALE)?)?;
     }
     Ok(totals)
 }

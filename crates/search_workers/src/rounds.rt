@@ -36,7 +36,8 @@ pub(crate) fn round<R: Threads + Sync, G: Gate>(
     requires rest { 1 ≤ rest }
     requires so_far { IsSoFar task.now state.cost state.best state.tree.items }
     requires open_node { IsWhole state.tree.items → ⊥ }
-    ensures { IfOk result (λ r. IsRound task.now rest r.1 state.cost r.0.cost r.0.best state.tree.items r.0.tree.items) }
+    ensures { IfOk result (λ r. IsRound task.now rest r.1 state.cost r.0.cost r.0.best
+        state.tree.items r.0.tree.items) }
 {
     let pieces = first_open(alloc, task, &state, MOST_PIECES as usize * workers as usize)?;
     let start = cost_if_any(task.problem(), &state.best);

@@ -276,6 +276,7 @@ impl Searcher {
     {
         let walk = Walk::of(alloc, task.problem(), pieces[0].copy(alloc)?)?;
         let mut place = Place::new(alloc, task, walk)?;
+        // Pieces are claimed in rising order: those below this number are gone, so that the loop ends.
         let mut _next = 0u64;
         while let Some(piece) = self.seat.claim(board) {
             self.search_piece(alloc, gate, board, task, &mut place, pieces, piece)?;

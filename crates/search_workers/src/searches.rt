@@ -11,16 +11,16 @@ ghost use Rattle.choice_problem.specs.Renumbered.{NamesUpTo};
 ghost use Rattle.choice_problem.specs.Trees.{IsWhole, node_count};
 ghost use Rattle.incumbent_word.specs.Core.{AtMost};
 ghost use Rattle.branch_tree.specs.Visits.{NoneOver, ClosesBy};
-ghost use Rattle.search_workers.specs.Outcomes.{AreFurther, IsOutcome, IsSettled, CostsAtMost, choice_count};
+ghost use Rattle.search_workers.specs.Outcomes.{AreFurther, IsOutcome, IsSettled, OutcomeCostsAtMost, choice_count};
 ghost use Rattle.search_workers.specs.Settings.{IsWider, HasGiven};
 ghost use Rattle.search_workers.specs.Work.{IsSoFar, IsStart};
 
 use crate::opening::{first_visit, open_parts};
-use crate::outcomes::Outcome;
+use crate::outcomes::{MOST_LISTED, Outcome};
 use crate::places::Place;
 use crate::rounds::{first_open, round};
 use crate::states::{Start, State};
-use crate::tasks::{MOST_VECTORS, Task};
+use crate::tasks::Task;
 use crate::trees::{greatest_named, is_whole};
 use branch_tree::{Walk, greedy, visited_nodes};
 use choice_problem::{
@@ -72,7 +72,7 @@ pub fn search_from<R: Threads + Sync, G: Gate>(
     requires further { AreFurther problem.now further.items }
     ensures outcome { IfOk result (IsOutcome problem.now further.items budget) }
     ensures start { 1 ≤ budget → IfOk result (λ outcome. IfSome start
-        (λ x. CostsAtMost problem.now (choice_cost problem.now x) outcome)) }
+        (λ x. OutcomeCostsAtMost problem.now (choice_cost problem.now x) outcome)) }
     ensures settled { 2 * choice_count problem.now ≤ budget + 1 → IfOk result IsSettled }
 {
     let whole = Ranges::whole(alloc, problem)?;
@@ -133,7 +133,7 @@ fn closed_at_once(
     ensures settled { IfOk result IsSettled }
     ensures start { IfOk result (λ outcome. (x : List ℕ) → IsFeasible problem.now x →
         AtMost start.cost (Some (choice_cost problem.now x)) →
-        CostsAtMost problem.now (choice_cost problem.now x) outcome) }
+        OutcomeCostsAtMost problem.now (choice_cost problem.now x) outcome) }
 {
     node_vector_exists();
     visited_nodes();
@@ -187,7 +187,7 @@ fn search_priced<R: Threads + Sync, G: Gate>(
     ensures settled { 2 * choice_count problem.now ≤ budget + 1 → IfOk result IsSettled }
     ensures start { IfOk result (λ outcome. (x : List ℕ) → IsFeasible problem.now x →
         AtMost start.cost (Some (choice_cost problem.now x)) →
-        CostsAtMost problem.now (choice_cost problem.now x) outcome) }
+        OutcomeCostsAtMost problem.now (choice_cost problem.now x) outcome) }
 {
     let mut task = Task::new(alloc, problem, start.greedy, further)?;
     let mut place = Place::new(alloc, &task, walk)?;
@@ -271,12 +271,12 @@ fn finish(
     ensures settled { 2 * choice_count task.now.problem ≤ budget + 1 → IfOk result IsSettled }
     ensures start { IfOk result (λ outcome. (x : List ℕ) → IsFeasible task.now.problem x →
         AtMost state.cost (Some (choice_cost task.now.problem x)) →
-        CostsAtMost task.now.problem (choice_cost task.now.problem x) outcome) }
+        OutcomeCostsAtMost task.now.problem (choice_cost task.now.problem x) outcome) }
 {
     driven_tree();
     task.known();
     if !is_whole(&state.tree) {
-        let vectors = task.vectors(alloc, MOST_VECTORS)?;
+        let vectors = task.vectors(alloc, MOST_LISTED)?;
         let State { tree, best, .. } = state;
         let tree = Tree::new(tree);
         return Ok(Outcome::Spent {

@@ -8,7 +8,7 @@ ghost use Rattle.incumbent_word.specs.Calls.{first_view};
 ghost use Rattle.incumbent_word.specs.Seats.{IsSeatOf};
 ghost use Rattle.search_workers.specs.declared.searchers.Searcher.{Searcher};
 ghost use Rattle.search_workers.specs.Work.{lesser_choice};
-ghost use Rattle.search_workers.specs.Rounds.{IsReady, IsFinished, shares};
+ghost use Rattle.search_workers.specs.Rounds.{IsReady, HasStopped, shares};
 
 use crate::searchers::Searcher;
 use crate::tasks::Task;
@@ -76,7 +76,7 @@ pub(crate) fn search_all<R: Threads + Sync, G: Gate>(
     requires some { 1 ≤ length pieces.now }
     requires pieces { All (AreRanges task.now.problem) pieces.now }
     requires ready { All (IsReady task.now pieces.now board.now) searchers.items }
-    ensures finished { IfOk result (λ r. All (IsFinished task.now pieces.now board.now) r.items) }
+    ensures finished { IfOk result (λ r. All (HasStopped task.now pieces.now board.now) r.items) }
     ensures count { IfOk result (λ r. length r.items ≡ length searchers.items) }
     ensures shares { IfOk result (λ r. (i : ℕ) (d : Searcher) → i < length searchers.items →
         (slice_index_or r.items i d).seat.view.share
@@ -90,7 +90,7 @@ pub(crate) fn search_all<R: Threads + Sync, G: Gate>(
             requires some { 1 ≤ length pieces.now }
             requires pieces { All (AreRanges task.now.problem) pieces.now }
             requires ready { IsReady task.now pieces.now board.now searcher }
-            ensures finished { IsFinished task.entry.now pieces.entry.now board.entry.now result }
+            ensures finished { HasStopped task.entry.now pieces.entry.now board.entry.now result }
             ensures share { result.seat.view.share ≡ searcher.seat.view.share }
         { search_out(searcher, alloc, gate, board, task, pieces) },
     )?;
@@ -110,7 +110,7 @@ fn search_out<G: Gate>(
     requires some { 1 ≤ length pieces.now }
     requires pieces { All (AreRanges task.now.problem) pieces.now }
     requires ready { IsReady task.now pieces.now board.now searcher }
-    ensures finished { IsFinished task.now pieces.now board.now result }
+    ensures finished { HasStopped task.now pieces.now board.now result }
     ensures share { result.seat.view.share ≡ searcher.seat.view.share }
 {
     let mut searcher = searcher;
@@ -128,14 +128,14 @@ pub(crate) fn unite_all(
     searchers: Vec<Searcher>,
 ) -> Result<Searcher, Memory>
     requires some { 1 ≤ length searchers.items }
-    requires finished { All (IsFinished task.now pieces.now board.now) searchers.items }
+    requires finished { All (HasStopped task.now pieces.now board.now) searchers.items }
     ensures ready { IfOk result (IsReady task.now pieces.now board.now) }
     ensures share { IfOk result (λ s. s.seat.view.share ≡ shares searchers.items) }
     ensures mark { IfOk result (λ s. s.seat.view.no_piece_left ≡ true) }
 {
     let mut rest = searchers;
     let Some(mut all) = rest.pop() else {
-        return Err(Memory);
+        unreachable!()
     };
     if all.failed {
         return Err(Memory);

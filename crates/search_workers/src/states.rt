@@ -95,7 +95,8 @@ impl State {
         requires { IfSome found (IsFeasible problem.now) }
         ensures tree { result.tree.items ≡ tree.items }
         ensures cost { result.cost ≡ lesser cost (option_map (choice_cost problem.now) found) }
-        ensures best { result.best ≡ lesser_choice cost (option_map (choice_cost problem.now) found) best found }
+        ensures best { result.best
+            ≡ lesser_choice cost (option_map (choice_cost problem.now) found) best found }
     {
         let more = cost_if_any(problem, &found);
         let best = cheaper(cost, best, more, found);

@@ -3,19 +3,16 @@
 ghost use Rattle.std.specs.Prelude.{◌≡◌, ◌≤◌, ◌++◌, IfOk, OnOk, All};
 ghost use Rattle.choice_problem.specs.Bounds.{IsVector};
 ghost use Rattle.price_table.specs.Tables.{IsTableFor, vectors_of};
+ghost use Rattle.search_workers.specs.declared.outcomes.TheConstants.{MOST_LISTED_PRICES};
 ghost use Rattle.search_workers.specs.Outcomes.{price_count};
 
+use crate::outcomes::{MOST_LISTED, MOST_LISTED_PRICES};
 use choice_problem::{Problem, Vector, VectorList};
 use dual_bound::root_vector;
 use price_table::{PriceTable, price_table};
 use slot_text::Memory;
 use std::alloc::Global;
 use std::marker::Model;
-
-// The greatest number of vectors, and of the prices of those after the first.
-pub(crate) const MOST_VECTORS: usize = 64;
-
-pub(crate) const MOST_PRICES: usize = 1_000_000;
 
 // The problem, the cost of its greedy choice, and the tables of the vectors: the root vector, those that were handed in, and
 // those that rounds added. Contracts see the problem, the cost and the vectors.
@@ -44,6 +41,7 @@ impl<'a> Task<'a> {
     ghost use Rattle.choice_problem.specs.Bounds.{IsVector};
     ghost use Rattle.choice_problem.specs.Greedy.{IsGreedyCost};
     ghost use Rattle.price_table.specs.Tables.{IsTableFor, vectors_of};
+    ghost use Rattle.search_workers.specs.declared.outcomes.TheConstants.{MOST_LISTED};
     ghost use Rattle.search_workers.specs.Outcomes.{AreFurther};
     ghost use Rattle.search_workers.specs.Settings.{IsSetting, IsWider, root_of};
 
@@ -89,7 +87,7 @@ impl<'a> Task<'a> {
     pub(crate) fn tables(&self) -> &[PriceTable]
         ensures valid { All (IsTableFor self.now.problem) result.now }
         ensures vectors { vectors_of result.now ≡ self.now.vectors }
-        ensures few { (1 ≤ length result.now) × (length result.now ≤ 64) }
+        ensures few { (1 ≤ length result.now) × (length result.now ≤ MOST_LISTED) }
     {
         &self.tables
     }
@@ -103,7 +101,7 @@ impl<'a> Task<'a> {
 
     // Whether there is no room for more vectors.
     pub(crate) fn is_full(&self) -> bool {
-        self.tables.len() >= MOST_VECTORS
+        self.tables.len() >= MOST_LISTED
     }
 
     // Adds a vector, unless it is empty or there is no room for it.
@@ -112,7 +110,10 @@ impl<'a> Task<'a> {
         ensures { IsWider self.old self.new }
     {
         let prices = self.prices + vector.items().len();
-        if vector.items().is_empty() || self.tables.len() >= MOST_VECTORS || prices > MOST_PRICES {
+        if vector.items().is_empty()
+            || self.tables.len() >= MOST_LISTED
+            || prices > MOST_LISTED_PRICES
+        {
             return Ok(());
         }
         let table = price_table(alloc, self.problem, vector)?;
@@ -170,7 +171,7 @@ fn push_tables(
 
 // How many prices some vectors have together.
 fn count_prices(vectors: &[Vector]) -> usize
-    requires { price_count vectors.now ≤ 1000000 }
+    requires { price_count vectors.now ≤ MOST_LISTED_PRICES }
     ensures { result ≡ price_count vectors.now }
 {
     let mut count = 0;

@@ -79,7 +79,8 @@ pub(crate) fn trees_of(
     done: Vec<Done>,
 ) -> Result<Vec<Vec<Node>>, Memory>
     requires there { All (λ d. d.piece < length pieces.now) done.items }
-    requires trees { All (λ d. AreGrown task.now (slice_index_or pieces.now d.piece [] ∷ []) d.tree.items) done.items }
+    requires trees { All (λ d.
+        AreGrown task.now (slice_index_or pieces.now d.piece [] ∷ []) d.tree.items) done.items }
     requires apart { AreApart (pieces_of done.items) }
     ensures shape { IfOk result (λ r. AreOn (λ ranges node. Drives task.now ranges node) pieces.now
         (map (λ t. t.items) r.items)) }

@@ -5,7 +5,7 @@ use Rattle.search_workers.proofs.opening.open_parts.Goals as goal
 pub loop-taken-preserved : goal.loop-taken-preserved
 loop-taken-preserved c =
     let i = c.loop-taken.invariant in
-    let k = c.in_ok-state.ensures.stretch in
+    let k = c.in_ok-state.ensures.visits in
     record {
       place = c.in_ok-state.ensures.place;
       so_far = k.so_far;

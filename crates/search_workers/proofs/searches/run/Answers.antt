@@ -11,7 +11,7 @@ loop-taken-preserved g c =
     record {
       wider = wider_trans c.args.task.now c.loop-taken.task c.widen.new.task i.wider w.wider;
       so_far = w.so_far;
-      count = omega (arith, k.stretch.count, i.count);
+      count = omega (arith, k.visits.count, i.count);
       within = omega (arith, k.within);
-      fell = at_most_trans c.in_ok-next.next.cost c.loop-taken.state.cost c.args.state.cost k.stretch.fell i.fell;
+      fell = at_most_trans c.in_ok-next.next.cost c.loop-taken.state.cost c.args.state.cost k.visits.fell i.fell;
     }

@@ -1,6 +1,6 @@
 use Rattle.std.proofs.Common.{◌∙◌, ◌∷◌, [], Some, ap, arith}
 use Rattle.std.proofs.lemmas.List.Elements.{All-pop}
-use Rattle.search_workers.specs.Rounds.{IsFinished, shares}
+use Rattle.search_workers.specs.Rounds.{HasStopped, shares}
 use Rattle.search_workers.proofs.RoundLemmas.{or_left}
 use Rattle.search_workers.proofs.SeatLemmas.{finished_ready, shares-append}
 use Rattle.search_workers.proofs.seats.unite_all.Goals as goal
@@ -11,7 +11,7 @@ loop-other-init c =
     let rest = c.pop.new.self.items in
     let all = c.in-Some.all in
     let items = c.in-Some.ensures.items in
-    let both = All-pop (IsFinished s c.args.pieces.now c.args.board.now) c.args.searchers.items rest (Some all) items c.requires.finished in
+    let both = All-pop (HasStopped s c.args.pieces.now c.args.board.now) c.args.searchers.items rest (Some all) items c.requires.finished in
     let k = finished_ready s c.args.pieces.now c.args.board.now all both.1 c.if-all.false in
     let e = ap shares items ∙ shares-append rest (all ∷ []) in
     record {
@@ -26,7 +26,7 @@ unite-requires-clause-second c =
     let s = c.args.task.now in
     let rest = c.pop-in-loop-other.new.self.items in
     let other = c.in-Some-pop.other in
-    let both = All-pop (IsFinished s c.args.pieces.now c.args.board.now) c.loop-other.rest.items rest (Some other) c.in-Some-pop.ensures.items c.loop-other.invariant.finished in
+    let both = All-pop (HasStopped s c.args.pieces.now c.args.board.now) c.loop-other.rest.items rest (Some other) c.in-Some-pop.ensures.items c.loop-other.invariant.finished in
     (finished_ready s c.args.pieces.now c.args.board.now other both.1 c.if-other.false).0
 
 pub loop-other-preserved : goal.loop-other-preserved
@@ -36,7 +36,7 @@ loop-other-preserved c =
     let other = c.in-Some-pop.other in
     let items = c.in-Some-pop.ensures.items in
     let i = c.loop-other.invariant in
-    let both = All-pop (IsFinished s c.args.pieces.now c.args.board.now) c.loop-other.rest.items rest (Some other) items i.finished in
+    let both = All-pop (HasStopped s c.args.pieces.now c.args.board.now) c.loop-other.rest.items rest (Some other) items i.finished in
     let e = ap shares items ∙ shares-append rest (other ∷ []) in
     let k = c.in_ok-unite.ensures in
     record {

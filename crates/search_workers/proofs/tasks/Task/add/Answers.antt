@@ -11,7 +11,7 @@ invariant_of-self-2 c =
     let pushed : c.push.new.self.items ≡ s.tables.items ++ t ∷ [] = search rules in
     let room : length s.tables.items < 64 = search (rules, arith) in
     let count : length c.items.result.now ≡ length t.prices = ap length (c.items.ensures ∙ sym c.in_ok-table.ensures.vector) in
-    let few : s.prices + length t.prices ≤ 1000000 = omega (arith, count, c.if-prices-gt-MOST_PRICES.false) in
+    let few : s.prices + length t.prices ≤ 1000000 = omega (arith, count, c.if-prices-gt-MOST_LISTED_PRICES.false) in
     rw (pushed, count) (tables_more s.problem.now s.greedy s.tables.items s.given s.prices c.self.invariant t c.in_ok-table.ensures.valid room few)
 
 pub returns : goal.returns
@@ -21,7 +21,7 @@ returns c =
     let pushed : c.push.new.self.items ≡ s.tables.items ++ t ∷ [] = search rules in
     let room : length s.tables.items < 64 = search (rules, arith) in
     let count : length c.items.result.now ≡ length t.prices = ap length (c.items.ensures ∙ sym c.in_ok-table.ensures.vector) in
-    let few : s.prices + length t.prices ≤ 1000000 = omega (arith, count, c.if-prices-gt-MOST_PRICES.false) in
+    let few : s.prices + length t.prices ≤ 1000000 = omega (arith, count, c.if-prices-gt-MOST_LISTED_PRICES.false) in
     let w : IsWider (record { problem = s.problem.now; greedy = s.greedy; vectors = vectors_of s.tables.items })
     (record { problem = s.problem.now; greedy = s.greedy; vectors = vectors_of c.push.new.self.items }) =
     rw pushed (setting_wider s.problem.now s.greedy s.tables.items s.given s.prices c.self.invariant t c.in_ok-table.ensures.valid room few) in
