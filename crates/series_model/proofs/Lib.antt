@@ -12,3 +12,4 @@ mod BoundLemmas
 mod FewLemmas
 mod StageLemmas
 mod TimedLemmas
+mod NumberedLemmas

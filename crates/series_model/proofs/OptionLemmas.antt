@@ -12,9 +12,10 @@ use Rattle.series_model.specs.declared.times.Times.TheVariants.{Refused, At}
 use Rattle.series_model.specs.declared.shifts.Span.{Span}
 use Rattle.scr_reader.specs.Printed.{StopsFit, LineFits}
 use Rattle.series_model.specs.declared.shifts.Shifts.{Shifts}
+use Rattle.series_model.specs.declared.shifts.LineShifts.{LineShifts}
 use Rattle.series_model.specs.Units.{IsHistoric}
 use Rattle.series_model.specs.Options.{relative_minute, arrival_minute, departure_minute, line_times, is_shift, date_minutes, stop_shifts, pairs_at, pairs_of, least_ground, shifts_by, shifts_of, is_between, lies_between, with_times, with_refused, flexible_options}
-use Rattle.series_model.specs.Loops.{shifts_from, all_shifts, shifts_in, within_by, shifts_within}
+use Rattle.series_model.specs.Loops.{shifts_from, all_shifts, shifts_in, within_by, shifts_within, line_shifts}
 use Rattle.series_model.proofs.RangeLemmas.{filter-range_skip, filter-range_cut, filter-range_same, filter-filter, filter-map, filter-agree, filter-fails}
 
 -- ---- departures some time after an arrival
@@ -203,11 +204,6 @@ pub refused_none : (price : Option ℕ) (options : List Times) → is_some price
 refused_none None options is = refl
 refused_none (Some price) options is = absurd cc
 
-pub new_made : (d : Declaration) (request : Line) (coming_in going_in : Span) (start shifts : List Times) → start ≡ [] → shifts ≡ start ++ shifts_within d request coming_in going_in
-    → coming_in.low ≡ 0 → coming_in.high ≡ 1439 → going_in.low ≡ 1440 * request.nights → going_in.high ≡ 1440 * request.nights + 1439 → shifts ≡ shifts_of d request
-new_made d request coming_in going_in start shifts empty pushed a b c e =
-    pushed ∙ ap (λ (xs : List Times). xs ++ shifts_within d request coming_in going_in) empty ∙ whole_line d request.nights coming_in going_in request.arrival request.departure a b c e
-
 -- ---- between historic and requested times
 
 missing : (o p : Option Stop) → is_some o ≡ is_some p → p ≡ None → o ≡ None
@@ -251,17 +247,13 @@ between_line d request historic coming_in going_in fits is a b c e =
     let found = between_shifts d request.nights hd (1440 * request.nights + stop.minute) going_in (omega (arith, c, asked)) (omega (arith, e, asked)) (omega arith) (omega (arith, few)) in
     found ∙ ap (λ (k : ℕ). filter (is_between hd k) (filter (is_shift d.step d.flex (1440 * request.nights + stop.minute)) (date_minutes request.nights))) (sym asked))
 
-flexible_by : (d : Declaration) (request historic : Line) (given : Option Line) → given ≡ Some historic → IsSomeAnd given (IsHistoric d.season request) → IsHistoric d.season request historic
+pub flexible_by : (d : Declaration) (request historic : Line) (given : Option Line) → given ≡ Some historic → IsSomeAnd given (IsHistoric d.season request) → IsHistoric d.season request historic
 flexible_by d request historic None is has = absurd has
 flexible_by d request historic (Some line) is has = let same : line ≡ historic = cc in subst (IsHistoric d.season request) same has
 
-pub flexible_made : (d : Declaration) (request historic : Line) (given : Option Line) (coming_in going_in : Span) (start shifts : List Times) (times : Times)
-    → given ≡ Some historic → start ≡ [] → shifts ≡ start ++ shifts_within d request coming_in going_in → times ≡ line_times historic → LineFits d.season request → IsSomeAnd given (IsHistoric d.season request)
-    → coming_in.low ≡ max 0 (min (arrival_minute historic) (arrival_minute request)) → coming_in.high ≡ min 1439 (max (arrival_minute historic) (arrival_minute request))
-    → going_in.low ≡ max (1440 * request.nights) (min (departure_minute historic) (departure_minute request)) → going_in.high ≡ min (1440 * request.nights + 1439) (max (departure_minute historic) (departure_minute request))
+pub flexible_made : (d : Declaration) (request historic : Line) (given : Option Line) (between : LineShifts) (start shifts : List Times) (times : Times)
+    → given ≡ Some historic → start ≡ [] → shifts ≡ start ++ line_shifts between → line_shifts between ≡ filter (lies_between historic request) (shifts_of d request) → times ≡ line_times historic
     → with_times shifts times ≡ flexible_options d request given
-flexible_made d request historic given coming_in going_in start shifts times is empty pushed times_is fits has a b c e =
-    let old = flexible_by d request historic given is has in
-    let same = between_line d request historic coming_in going_in fits old a b c e in
-    let all : shifts ≡ filter (lies_between historic request) (shifts_of d request) = pushed ∙ ap (λ (xs : List Times). xs ++ shifts_within d request coming_in going_in) empty ∙ same in
+flexible_made d request historic given between start shifts times is empty pushed same times_is =
+    let all : shifts ≡ filter (lies_between historic request) (shifts_of d request) = pushed ∙ ap (λ (xs : List Times). xs ++ line_shifts between) empty ∙ same in
     rw is (ap (λ (xs : List Times). with_times xs times) all ∙ ap (λ (t : Times). with_times (filter (lies_between historic request) (shifts_of d request)) t) times_is)

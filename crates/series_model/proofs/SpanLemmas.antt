@@ -4,7 +4,7 @@ use Rattle.std.proofs.lemmas.Bool.{cases_lt}
 use Rattle.std.proofs.lemmas.Nat.{mod_below}
 use Rattle.series_model.specs.declared.shifts.Shifts.{Shifts}
 use Rattle.series_model.specs.Options.{is_shift}
-use Rattle.series_model.specs.Loops.{shifts_from, AreShifts}
+use Rattle.series_model.specs.Loops.{shifts_from, AreShifts, IsShiftOf}
 use Rattle.series_model.proofs.RangeLemmas.{filter-range_first, filter-range_none}
 use Rattle.series_model.proofs.RestLemmas.{gap_rest, gap_none, shift_yes, shift_early, shift_late}
 
@@ -29,6 +29,13 @@ first_shift s given from last gap is start high late some rest few near =
     filter-range_first (is_shift s.step s.flex s.requested) given (from + gap) (s.high + 1) (omega (arith, start)) (omega (arith, high, near, some))
     (λ m le lt. early s given from gap m is start rest few le lt)
     (shift_yes s.step s.flex s.requested (from + gap) is.step (rests s from gap is rest) (omega (arith, late, near, some)) (omega (arith, start)))
+
+pub found_shift : (s : Shifts) (given from last gap : ℕ) → AreShifts s → from ≡ max given (s.requested - s.flex) → last ≤ s.requested + s.flex → from ≤ last → IsGap s from gap → gap ≤ last - from → IsShiftOf s (from + gap)
+found_shift s given from last gap is start late some rest near = record {
+  rest = rests s from gap is rest;
+  early = omega (arith, start);
+  late = omega (arith, late, near, some);
+}
 
 -- nothing is left
 past : (s : Shifts) (m last : ℕ) → ((k : ℕ) → k ≤ s.high → k ≤ s.requested + s.flex → k ≤ last) → m ≤ s.high → last < m → is_shift s.step s.flex s.requested m ≡ false

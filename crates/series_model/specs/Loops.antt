@@ -1,6 +1,6 @@
--- Shifts within spans of minutes, as loops find them: contracts of private functions alone cite
--- them.
-use Rattle.std.specs.Prelude.{ℕ, ◌+◌, ◌-◌, ◌*◌, ◌<◌, List, [], map, filter, Option, Some, None}
+-- Shifts within spans of minutes, as loops find and number them: contracts of private functions alone
+-- cite them.
+use Rattle.std.specs.Prelude.{◌≡◌, ℕ, zero, suc, ◌+◌, ◌-◌, ◌*◌, ◌%◌, ◌<◌, ◌≤◌, List, [], ◌∷◌, map, filter, Option, Some, None, Result, Ok, Err}
 use Rattle.std.specs.List.{range_with_len}
 use Rattle.season_days.specs.declared.declaration.Declaration.{Declaration}
 use Rattle.season_days.specs.declared.declaration.TheConstants.{MINUTES_OF_DAY}
@@ -9,6 +9,8 @@ use Rattle.scr_reader.specs.declared.line.Stop.{Stop}
 use Rattle.series_model.specs.declared.shifts.TheConstants.{MINUTE_BOUND}
 use Rattle.series_model.specs.declared.shifts.Span.{Span}
 use Rattle.series_model.specs.declared.shifts.Shifts.{Shifts}
+use Rattle.series_model.specs.declared.shifts.LineShifts.{LineShifts}
+use Rattle.series_model.specs.declared.shifts.LineShifts.TheVariants.{Neither, Arrivals, Departures, Pairs}
 use Rattle.series_model.specs.declared.times.Times.{Times}
 use Rattle.series_model.specs.declared.times.Times.TheVariants.{At}
 use Rattle.series_model.specs.Options.{is_shift, least_ground, pairs_of}
@@ -26,6 +28,12 @@ all_shifts s = shifts_from s s.low
 pub record AreShifts (s : Shifts) : Type 0 where
   pub step : 0 < s.step
   pub high : s.high < MINUTE_BOUND
+
+-- a minute with the remainder of the requested one, within the flexibility
+pub record IsShiftOf (s : Shifts) (minute : ℕ) : Type 0 where
+  pub rest : minute % s.step ≡ s.requested % s.step
+  pub early : s.requested ≤ minute + s.flex
+  pub late : minute ≤ s.requested + s.flex
 
 -- the shifts of a declaration within a span
 abbrev pub shifts_in : Declaration → ℕ → Span → Shifts
@@ -48,3 +56,24 @@ within_by d nights coming_in going_in (Some coming) (Some going) =
 abbrev pub shifts_within : Declaration → Line → Span → Span → List Times
 shifts_within d line coming_in going_in =
     within_by d line.nights coming_in going_in line.arrival line.departure
+
+-- the shifts of a line: of its one movement, or pairs of its two
+abbrev pub line_shifts : LineShifts → List Times
+line_shifts Neither = []
+line_shifts (Arrivals arrivals) = map (λ arrival. At arrival 0) (all_shifts arrivals)
+line_shifts (Departures departures) = map (λ departure. At 0 departure) (all_shifts departures)
+line_shifts (Pairs arrivals departures least) =
+    pairs_of least (all_shifts arrivals) (all_shifts departures)
+
+abbrev pub AreLineShifts : LineShifts → Type 0
+AreLineShifts Neither = Unit {0}
+AreLineShifts (Arrivals arrivals) = AreShifts arrivals
+AreLineShifts (Departures departures) = AreShifts departures
+AreLineShifts (Pairs arrivals departures least) =
+    AreShifts arrivals × AreShifts departures × (least < MINUTE_BOUND)
+
+-- the element with a number, or by how much the number is past the last one
+abbrev pub numbered : {X : Type 0} → List X → ℕ → Result X ℕ
+numbered [] n = Err n
+numbered (x ∷ xs) zero = Ok x
+numbered (x ∷ xs) (suc n) = numbered xs n

@@ -1,13 +1,14 @@
 //! The alternatives of a unit.
 
-ghost use Rattle.std.specs.Prelude.{◌≡◌, ◌+◌, ◌*◌, ◌<◌, ◌++◌, ◌∷◌, [], IfOk, OnOk, IsSomeAnd};
+ghost use Rattle.std.specs.Prelude.{◌≡◌, ◌+◌, ◌*◌, ◌<◌, ◌++◌, ◌∷◌, [], filter, IfOk, OnOk, IsSomeAnd};
 ghost use Rattle.std.specs.List.{list_any};
 ghost use Rattle.scr_reader.specs.Printed.{LineFits};
 ghost use Rattle.series_model.specs.Units.{UnitFits, IsHistoric};
+ghost use Rattle.series_model.specs.Loops.{line_shifts, AreLineShifts};
 ghost use Rattle.series_model.specs.Options.{relative_minute, line_times, shifts_of, lies_between, are_same, with_times, with_refused, flexible_options, either_options, new_options, options_of};
 
 use crate::group::Group;
-use crate::shifts::{Span, minute_after, push_shifts};
+use crate::shifts::{LineShifts, Span, minute_after, push_line};
 use crate::times::Times;
 use crate::unit::Unit;
 use scr_reader::{Line, Stop};
@@ -57,10 +58,41 @@ pub fn shifts_of(
     ensures { IfOk result (λ shifts. shifts.items ≡ shifts_of declaration.now line.now) }
 {
     let mut shifts = Vec::new(alloc);
+    push_line(&mut shifts, &whole_shifts(line, declaration))?;
+    Ok(shifts)
+}
+
+// All shifts of a line.
+pub(crate) fn whole_shifts(line: &Line, declaration: &Declaration) -> LineShifts
+    requires step { 0 < declaration.now.step }
+    requires line { LineFits declaration.now.season line.now }
+    ensures shifts { line_shifts result ≡ shifts_of declaration.now line.now }
+    ensures valid { AreLineShifts result }
+{
     let coming_in = Span::of_date(0);
     let going_in = Span::of_date(line.nights);
-    push_shifts(&mut shifts, declaration, line, coming_in, going_in)?;
-    Ok(shifts)
+    LineShifts::of(declaration, line, coming_in, going_in)
+}
+
+// The shifts of a line between the historic and the requested times.
+pub(crate) fn shifts_between(
+    declaration: &Declaration,
+    request: &Line,
+    historic: &Line,
+) -> LineShifts
+    requires step { 0 < declaration.now.step }
+    requires request { LineFits declaration.now.season request.now }
+    requires historic { IsHistoric declaration.now.season request.now historic.now }
+    ensures shifts { line_shifts result
+        ≡ filter (lies_between historic.now request.now) (shifts_of declaration.now request.now) }
+    ensures valid { AreLineShifts result }
+{
+    let coming_in = Span::of_date(0).between(arrival_minute(historic), arrival_minute(request));
+    let going_in = Span::of_date(request.nights).between(
+        departure_minute(historic),
+        departure_minute(request),
+    );
+    LineShifts::of(declaration, request, coming_in, going_in)
 }
 
 // All shifts, and then the refusal.
@@ -99,12 +131,7 @@ fn push_flexible(
     let Some(historic) = historic else {
         return Ok(());
     };
-    let coming_in = Span::of_date(0).between(arrival_minute(&historic), arrival_minute(request));
-    let going_in = Span::of_date(request.nights).between(
-        departure_minute(&historic),
-        departure_minute(request),
-    );
-    push_shifts(options, declaration, request, coming_in, going_in)?;
+    push_line(options, &shifts_between(declaration, request, &historic))?;
     push_missing(options, line_times(&historic))
 }
 
@@ -142,7 +169,7 @@ fn has_times(options: &[Times], times: Times) -> bool
 }
 
 // Whether these are the same times.
-fn are_same(one: &Times, other: &Times) -> bool
+pub(crate) fn are_same(one: &Times, other: &Times) -> bool
     ensures { result ≡ are_same one.now other.now }
 {
     match (one, other) {
@@ -159,7 +186,7 @@ fn are_same(one: &Times, other: &Times) -> bool
 }
 
 // The times that a line names.
-fn line_times(line: &Line) -> Times
+pub(crate) fn line_times(line: &Line) -> Times
     ensures { result ≡ line_times line.now }
 {
     Times::At {
@@ -168,13 +195,13 @@ fn line_times(line: &Line) -> Times
     }
 }
 
-fn arrival_minute(line: &Line) -> u32
+pub(crate) fn arrival_minute(line: &Line) -> u32
     ensures { result ≡ relative_minute 0 line.now.arrival }
 {
     relative_minute(0, line.arrival)
 }
 
-fn departure_minute(line: &Line) -> u32
+pub(crate) fn departure_minute(line: &Line) -> u32
     ensures { result ≡ relative_minute line.now.nights line.now.departure }
 {
     relative_minute(line.nights, line.departure)

@@ -1,10 +1,10 @@
 //! Shifts of a line's movements within spans of minutes.
 
-ghost use Rattle.std.specs.Prelude.{◌≡◌, ◌⊎◌, ◌+◌, ◌*◌, ◌-◌, ◌<◌, ◌≤◌, OnOk, IfSome, IfNone, ◌++◌, ◌∷◌, [], map, min, max};
+ghost use Rattle.std.specs.Prelude.{◌≡◌, ℕ, ◌⊎◌, ◌+◌, ◌*◌, ◌-◌, ◌<◌, ◌≤◌, OnOk, IfSome, IfNone, ◌++◌, ◌∷◌, [], map, min, max};
 ghost use Rattle.season_days.specs.declared.declaration.TheConstants.{MINUTES_OF_DAY};
 ghost use Rattle.scr_reader.specs.Printed.{StopsFit};
 ghost use Rattle.series_model.specs.Options.{pairs_of};
-ghost use Rattle.series_model.specs.Loops.{shifts_from, all_shifts, AreShifts, shifts_in, shifts_within};
+ghost use Rattle.series_model.specs.Loops.{shifts_from, all_shifts, AreShifts, shifts_in, shifts_within, line_shifts, AreLineShifts, IsShiftOf};
 ghost use Rattle.series_model.specs.declared.shifts.TheConstants.{MINUTE_BOUND};
 ghost use Rattle.series_model.specs.declared.times.Times.TheVariants.{At as at_times};
 
@@ -62,7 +62,7 @@ pub(crate) struct Shifts {
 
 impl Shifts {
     // The shifts of a declaration within a span.
-    fn of(declaration: &Declaration, requested: u32, span: Span) -> Shifts
+    pub fn of(declaration: &Declaration, requested: u32, span: Span) -> Shifts
         ensures { result ≡ shifts_in declaration.now requested span }
     {
         Shifts {
@@ -74,16 +74,27 @@ impl Shifts {
         }
     }
 
+    // The last minute that may be a shift.
+    pub fn last(&self) -> u32
+        ensures high { result ≤ self.now.high }
+        ensures late { result ≤ self.now.requested + self.now.flex }
+        ensures most { (k : ℕ) → k ≤ self.now.high → k ≤ self.now.requested + self.now.flex →
+            k ≤ result }
+    {
+        self.high.min(self.requested.saturating_add(self.flex))
+    }
+
     // The first shift from a minute on.
-    fn first_from(&self, from: u32) -> Option<u32>
+    pub fn first_from(&self, from: u32) -> Option<u32>
         requires { AreShifts self.now }
         ensures found { IfSome result
             (λ minute. shifts_from self.now from ≡ minute ∷ shifts_from self.now (minute + 1)) }
         ensures within { IfSome result (λ minute. (from ≤ minute) × (minute ≤ self.now.high)) }
+        ensures shift { IfSome result (λ minute. IsShiftOf self.now minute) }
         ensures none { IfNone result (shifts_from self.now from ≡ []) }
     {
         let from = from.max(self.requested.saturating_sub(self.flex));
-        let last = self.high.min(self.requested.saturating_add(self.flex));
+        let last = self.last();
         if from > last {
             return None;
         }
@@ -170,41 +181,74 @@ fn push_pairs(
     Ok(())
 }
 
-// Appends the shifts of a line, each movement within its span: the time of a single movement in
-// rising order; of a turnaround the pairs, by rising arrival and then by rising departure.
-pub(crate) fn push_shifts(
-    options: &mut Vec<Times>,
-    declaration: &Declaration,
-    line: &Line,
-    coming_in: Span,
-    going_in: Span,
-) -> Result<(), Memory>
-    requires step { 0 < declaration.now.step }
-    requires stops { StopsFit line.now line.now.arrival line.now.departure }
-    requires coming { coming_in.high < MINUTE_BOUND }
-    requires going { going_in.high < MINUTE_BOUND }
-    ensures { OnOk result
-        (options.new.items ≡ options.old.items
-        ++ shifts_within declaration.now line.now coming_in going_in) }
+// The shifts of a line: of its one movement, or of its two the pairs whose departure is at least so
+// long after the arrival.
+#[derive(Clone, Copy, Debug, PartialEq, Eq)]
+pub(crate) enum LineShifts {
+    Neither,
+    Arrivals(Shifts),
+    Departures(Shifts),
+    Pairs {
+        arrivals: Shifts,
+        departures: Shifts,
+        least: u32,
+    },
+}
+
+impl LineShifts {
+    // Those of a declaration, each movement within its span.
+    pub fn of(declaration: &Declaration, line: &Line, coming_in: Span, going_in: Span) -> LineShifts
+        requires step { 0 < declaration.now.step }
+        requires stops { StopsFit line.now line.now.arrival line.now.departure }
+        requires coming { coming_in.high < MINUTE_BOUND }
+        requires going { going_in.high < MINUTE_BOUND }
+        ensures shifts { line_shifts result
+            ≡ shifts_within declaration.now line.now coming_in going_in }
+        ensures valid { AreLineShifts result }
+    {
+        match (line.arrival, line.departure) {
+            (Some(coming), None) => LineShifts::Arrivals(Shifts::of(
+                declaration,
+                u32::from(coming.minute),
+                coming_in,
+            )),
+            (None, Some(going)) => {
+                let requested = minute_after(line.nights, going.minute);
+                LineShifts::Departures(Shifts::of(declaration, requested, going_in))
+            }
+            (Some(coming), Some(going)) => {
+                let arrivals = Shifts::of(declaration, u32::from(coming.minute), coming_in);
+                let requested = minute_after(line.nights, going.minute);
+                let departures = Shifts::of(declaration, requested, going_in);
+                let least = declaration.ground.min(requested - arrivals.requested);
+                LineShifts::Pairs {
+                    arrivals,
+                    departures,
+                    least,
+                }
+            }
+            (None, None) => LineShifts::Neither,
+        }
+    }
+}
+
+// Appends the shifts of a line: the time of a single movement in rising order; of a turnaround the
+// pairs, by rising arrival and then by rising departure.
+pub(crate) fn push_line(options: &mut Vec<Times>, shifts: &LineShifts) -> Result<(), Memory>
+    requires { AreLineShifts shifts.now }
+    ensures { OnOk result (options.new.items ≡ options.old.items ++ line_shifts shifts.now) }
 {
-    match (line.arrival, line.departure) {
-        (Some(coming), None) => {
-            let arrivals = Shifts::of(declaration, u32::from(coming.minute), coming_in);
-            push_arrivals(options, &arrivals)
+    match shifts {
+        LineShifts::Arrivals(arrivals) => push_arrivals(options, arrivals),
+        LineShifts::Departures(departures) => {
+            push_departures(options, 0, departures, departures.low)
         }
-        (None, Some(going)) => {
-            let requested = minute_after(line.nights, going.minute);
-            let departures = Shifts::of(declaration, requested, going_in);
-            push_departures(options, 0, &departures, going_in.low)
-        }
-        (Some(coming), Some(going)) => {
-            let arrivals = Shifts::of(declaration, u32::from(coming.minute), coming_in);
-            let requested = minute_after(line.nights, going.minute);
-            let departures = Shifts::of(declaration, requested, going_in);
-            let least = declaration.ground.min(requested - arrivals.requested);
-            push_pairs(options, &arrivals, &departures, least)
-        }
-        (None, None) => Ok(()),
+        LineShifts::Pairs {
+            arrivals,
+            departures,
+            least,
+        } => push_pairs(options, arrivals, departures, *least),
+        LineShifts::Neither => Ok(()),
     }
 }
 

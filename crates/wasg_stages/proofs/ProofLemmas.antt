@@ -14,7 +14,7 @@ use Rattle.series_model.specs.Allotments.{IsFeasibleAllotment, IsDisplacementBou
 use Rattle.series_model.specs.Stages.{times_named, states_after}
 use Rattle.series_model.specs.Marks.{HasCost, ClaimsOptimal}
 use Rattle.wasg_stages.specs.StageProblems.{IsAllotmentProblem}
-use Rattle.wasg_stages.specs.Valid.{Claims, StageClaims, AreClaims, AreStages, IsStageAs}
+use Rattle.wasg_stages.specs.Valid.{MarkClaims, StageClaims, AreClaims, AreStages, IsStageAs}
 use Rattle.wasg_stages.proofs.ChoiceLemmas.{choice-displacement, choice-feasible, choice-bound, choice-least, choice-none}
 
 true_is_not_false : true ≡ false → ⊥
@@ -45,7 +45,7 @@ open-bound d units limit p None problem least = tt
 open-bound d units limit p (Some b) problem least = choice-bound d units limit p b problem least
 
 claims-by : (d : Declaration) (units : List SlotUnit) (limit : ℕ → ℕ) (p : ProblemView) (c : StageCert) (mark : Mark) → IsAllotmentProblem d units limit p →
-    IfSome c.choice (IsFeasible p) → c.cost ≡ option_map (choice_cost p) c.choice → ClaimsOf p c mark → Claims d units limit c mark
+    IfSome c.choice (IsFeasible p) → c.cost ≡ option_map (choice_cost p) c.choice → ClaimsOf p c mark → MarkClaims d units limit c mark
 claims-by d units limit p c Optimal problem feasible cost_is claimed = optimal-claims d units limit p c.choice c.cost problem cost_is claimed
 claims-by d units limit p c Infeasible problem feasible cost_is claimed = choice-none d units limit p problem claimed
 claims-by d units limit p c Unsettled problem feasible cost_is claimed =
@@ -54,10 +54,10 @@ claims-by d units limit p c NotTried problem feasible cost_is claimed = tt
 
 -- what a proof shows
 pub proof-claims : Proven → (d : Declaration) (units : List SlotUnit) (limit : ℕ → ℕ) (p : ProblemView) (c : StageCert) → IsAllotmentProblem d units limit p → IsProof p c →
-    Claims d units limit c c.mark
+    MarkClaims d units limit c c.mark
 proof-claims proven d units limit p c problem proof = claims-by d units limit p c c.mark problem proof.feasible proof.cost (proven p c proof)
 
-not_tried-claims : (d : Declaration) (units : List SlotUnit) (limit : ℕ → ℕ) (c : StageCert) (mark : Mark) → is_tried mark ≡ false → Claims d units limit c mark
+not_tried-claims : (d : Declaration) (units : List SlotUnit) (limit : ℕ → ℕ) (c : StageCert) (mark : Mark) → is_tried mark ≡ false → MarkClaims d units limit c mark
 not_tried-claims d units limit c Optimal is = absurd (true_is_not_false is)
 not_tried-claims d units limit c Infeasible is = absurd (true_is_not_false is)
 not_tried-claims d units limit c Unsettled is = absurd (true_is_not_false is)

@@ -50,17 +50,17 @@ pub record IsValid (s : SubmissionView) (c : Certificate) : Type 0 where
 -- ---- what the marks claim, each given the allotments of the stages before it
 
 -- of some units under a limit for each resource
-abbrev pub Claims : Declaration → List SlotUnit → (ℕ → ℕ) → StageCert → Mark → Type 0
-Claims d units limit c Optimal =
+abbrev pub MarkClaims : Declaration → List SlotUnit → (ℕ → ℕ) → StageCert → Mark → Type 0
+MarkClaims d units limit c Optimal =
     ClaimsOptimal d units limit (option_map (times_named d units) c.choice) c.cost
-Claims d units limit c Infeasible = ClaimsInfeasible d units limit
-Claims d units limit c Unsettled =
+MarkClaims d units limit c Infeasible = ClaimsInfeasible d units limit
+MarkClaims d units limit c Unsettled =
     ClaimsOpen d units limit (option_map (times_named d units) c.choice) c.cost c.bound
-Claims d units limit c NotTried = Unit {0}
+MarkClaims d units limit c NotTried = Unit {0}
 
 abbrev pub StageClaims : Declaration → ℕ → List UnitState → StageCert → Type 0
 StageClaims d stage states c =
-    Claims d (stage_units stage states) (stage_limit d stage states) c c.mark
+    MarkClaims d (stage_units stage states) (stage_limit d stage states) c c.mark
 
 abbrev pub AreClaims : Declaration → List SlotUnit → List (Option (List ℕ)) → List StageCert →
     Type 0

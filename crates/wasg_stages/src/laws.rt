@@ -12,7 +12,7 @@ ghost use Rattle.series_model.specs.Submissions.{SubmissionView};
 ghost use Rattle.cert_format.specs.declared.cert.StageCert.{StageCert as StageCertValue};
 ghost use Rattle.cert_format.specs.declared.cert.Certificate.{Certificate as CertificateValue};
 ghost use Rattle.cert_format.specs.Proofs.{IsProof};
-ghost use Rattle.wasg_stages.specs.Valid.{Claims, IsValid, MarksHold};
+ghost use Rattle.wasg_stages.specs.Valid.{MarkClaims, IsValid, MarksHold};
 ghost use Rattle.wasg_stages.specs.StageProblems.{IsAllotmentProblem, AreNumbers};
 
 use cert_format::proven_stage;
@@ -67,7 +67,7 @@ pub fn problem_choices()
 pub fn proven_claims()
     ensures { (d : DeclarationValue) (units : List SlotUnit) (limit : ℕ → ℕ) (p : ProblemView)
         (c : StageCertValue) →
-        IsAllotmentProblem d units limit p → IsProof p c → Claims d units limit c c.mark }
+        IsAllotmentProblem d units limit p → IsProof p c → MarkClaims d units limit c c.mark }
 {
     proven_stage();
 }

@@ -83,8 +83,8 @@ pub fn states_of(alloc: Global, submission: &Submission) -> Result<Vec<UnitState
     states_after(alloc, declaration, submission.units(), &[])
 }
 
-/// The units of a submission after one more stage, which may have no choice. The alternatives of
-/// the stage's units are listed.
+/// The units of a submission after one more stage, which may have no choice. One step a unit, and
+/// for each of the stage's units one for each shift of an arrival: no alternatives are listed.
 pub fn after_stage(
     alloc: Global,
     submission: &Submission,
@@ -106,9 +106,10 @@ pub fn after_stage(
 /// costs, and of each resource what is left of its limit, in stage 3 the share of new entrants of
 /// that.
 ///
-/// The time is that of listing the alternatives of the stage's units, and one step for each
-/// resource and capacity line. A part is kept once for each minute at which a movement of the unit
-/// may be.
+/// The time is that of listing the alternatives of the stage's units, one step for each resource and
+/// capacity line, and one for each resource that a movement which was given uses: those are counted
+/// once a stage, which costs about what one alternative of each given unit does in its problem. A
+/// part is kept once for each minute at which a movement of the unit may be.
 pub fn problem_after(
     alloc: Global,
     submission: &Submission,
@@ -149,9 +150,8 @@ pub fn units_of_stage(
 /// alternatives and costs, and of each resource what is left of its limit, in stage 3 the share of
 /// new entrants of that.
 ///
-/// The time is that of listing the alternatives of all units once and of a stage's units twice, and
-/// one step for each resource and capacity line. A part is kept once for each minute at which a
-/// movement of the unit may be.
+/// The time is that of `after_stage` for each earlier stage and of `problem_after`, so the
+/// alternatives of the stage's own units alone are listed.
 pub fn stage_problem(
     alloc: Global,
     submission: &Submission,

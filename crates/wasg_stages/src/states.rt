@@ -10,7 +10,7 @@ ghost use Rattle.wasg_stages.specs.Steps.{AreFitting, Advances};
 
 use choice_problem::Choice;
 use season_days::Declaration;
-use series_model::{Group, Times, Unit, UnitState, options_of};
+use series_model::{Group, Times, Unit, UnitState, times_at};
 use slot_text::Memory;
 use std::alloc::Global;
 use std::marker::Model;
@@ -83,52 +83,39 @@ pub(crate) fn is_due(stage: u32, state: &UnitState) -> bool
 }
 
 // The times of a number among a unit's alternatives.
-fn times_of(
-    alloc: Global,
-    declaration: &Declaration,
-    unit: &Unit,
-    number: u32,
-) -> Result<Times, Memory>
+fn times_of(declaration: &Declaration, unit: &Unit, number: u32) -> Times
     requires step { 0 < declaration.now.step }
     requires unit { UnitFits declaration.now.season unit.now }
-    ensures { IfOk result
-        (λ times. times ≡ slice_index_or (options_of declaration.now unit.now) number Refused) }
+    ensures { result ≡ slice_index_or (options_of declaration.now unit.now) number Refused }
 {
-    let options = options_of(alloc, unit, declaration)?;
-    if (number as usize) < options.len() {
-        Ok(options[number as usize])
-    } else {
-        Ok(Times::Refused)
-    }
+    times_at(unit, number, declaration).unwrap_or(Times::Refused)
 }
 
 // A unit after the stage, where these numbers are left for it and the units after it, and how many
 // of them it takes.
 fn advanced(
-    alloc: Global,
     declaration: &Declaration,
     stage: u32,
     state: &UnitState,
     numbers: &[u32],
-) -> Result<(UnitState, usize), Memory>
+) -> (UnitState, usize)
     requires step { 0 < declaration.now.step }
     requires unit { UnitFits declaration.now.season state.now.unit }
-    ensures few { IfOk result (λ x. x.1 ≤ length numbers.now) }
-    ensures after { IfOk result
-        (λ x. Advances declaration.now stage state.now numbers.now x.0 x.1) }
+    ensures few { result.1 ≤ length numbers.now }
+    ensures after { Advances declaration.now stage state.now numbers.now result.0 result.1 }
 {
     if !is_due(stage, state) {
-        return Ok((*state, 0));
+        return (*state, 0);
     }
     if numbers.is_empty() {
-        return Ok((*state, 0));
+        return (*state, 0);
     }
-    let times = times_of(alloc, declaration, &state.unit, numbers[0])?;
+    let times = times_of(declaration, &state.unit, numbers[0]);
     let after = UnitState {
         unit: state.unit,
         given: Some(times),
     };
-    Ok((after, 1))
+    (after, 1)
 }
 
 // What the units have after a stage with a choice.
@@ -147,7 +134,7 @@ pub(crate) fn with_choice(
     let mut after = Vec::new(alloc);
     let mut next = 0;
     for state in states {
-        let (state_after, taken) = advanced(alloc, declaration, stage, state, &numbers[next..])?;
+        let (state_after, taken) = advanced(declaration, stage, state, &numbers[next..]);
         after.push(state_after)?;
         next += taken;
     }
