@@ -14,8 +14,6 @@ mod leaves;
 #[cfg(test)]
 mod problems;
 #[cfg(test)]
-mod relaxed;
-#[cfg(test)]
 mod texts;
 #[cfg(test)]
 mod visits;
