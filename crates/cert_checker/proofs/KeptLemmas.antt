@@ -1,6 +1,6 @@
 -- Bounds that are kept while the ranges change.
-use Rattle.std.proofs.Common.{◌≡◌, ℕ, zero, suc, ◌+◌, ◌<◌, ◌≤◌, refl, sym, ◌∙◌, ap, subst, arith, List, [], ◌∷◌, ◌++◌, length, get_or, set, inl, inr, length-append}
-use Rattle.std.specs.Prelude.{All, drop, Option, Some, None, IfSome, slice_set, slice_index_or, ◌↔◌, IsTrue, Bool}
+use Rattle.std.proofs.Common.{◌≡◌, ℕ, zero, suc, ◌+◌, ◌<◌, ◌≤◌, refl, sym, ◌∙◌, ap, subst, arith, List, [], ◌∷◌, ◌++◌, length, get_or, set, inl, inr, length-append, length-drop, ◌-◌}
+use Rattle.std.specs.Prelude.{All, drop, take, Option, Some, None, IfSome, slice_set, slice_index_or, ◌↔◌, IsTrue, Bool}
 use Rattle.std.proofs.lemmas.Bool.{cases_lt}
 use Rattle.std.proofs.lemmas.List.{set-get_or, get_or-set_same, get_or-set_other, length-set, drop_more, drop_all, drop-append-le}
 use Rattle.std.specs.List.{Contains}
@@ -62,16 +62,21 @@ seen-all ranges changes k at all = record {
 }
 
 -- some changes more
+pub others-more : (old new at : List (ℕ × ℕ)) (before after : List ℕ) (seen : ℕ) → AreChanges old new before after → seen ≤ length before → AgreeBut (drop seen before) at old →
+    (seen ≤ length after) × AgreeBut (drop seen after) at new
+others-more old new at before after seen changed few agree =
+    let is = changed.after_is in
+    let later : drop seen after ≡ drop seen before ++ changed.more = ap (λ (xs : List ℕ). drop seen xs) is ∙ drop-append-le seen before changed.more few in (
+      omega (arith, few, ap (λ (xs : List ℕ). length xs) is, length-append before changed.more),
+      (λ u out.
+          agree u (λ h. out (subst (λ (xs : List ℕ). Contains xs u) (sym later) (Contains-append_left (drop seen before) changed.more u h)))
+          ∙ sym (changed.same u (λ h. out (subst (λ (xs : List ℕ). Contains xs u) (sym later) (Contains-append_right (drop seen before) changed.more u h))))),
+    )
+
 seen-more : (old new : List (ℕ × ℕ)) (before after : List ℕ) (k : KeptBound) → AreChanges old new before after → HasSeen old before k → HasSeen new after k
 seen-more old new before after k changed has =
-    let is = changed.after_is in
-    let later : drop k.seen after ≡ drop k.seen before ++ changed.more = ap (λ (xs : List ℕ). drop k.seen xs) is ∙ drop-append-le k.seen before changed.more has.seen in
-    record {
-      seen = omega (arith, has.seen, ap (λ (xs : List ℕ). length xs) is, length-append before changed.more);
-      others = λ u out.
-          has.others u (λ h. out (subst (λ (xs : List ℕ). Contains xs u) (sym later) (Contains-append_left (drop k.seen before) changed.more u h)))
-          ∙ sym (changed.same u (λ h. out (subst (λ (xs : List ℕ). Contains xs u) (sym later) (Contains-append_right (drop k.seen before) changed.more u h))));
-    }
+    let more = others-more old new k.totals.ranges before after k.seen changed has.seen has.others in
+    record { seen = more.0; others = more.1 }
 
 abbrev IsFilled : ProblemView → List (List Price) → List (ℕ × ℕ) → List ℕ → ℕ → KeptBound → Type 0
 IsFilled p vectors ranges changes i k = IsKept p k × (k.table.prices ≡ vector_at vectors i) × HasSeen ranges changes k
@@ -140,3 +145,11 @@ none-kept p vectors ranges kept count none = record {
   there = All-nil (λ u. u < unit_count p);
   each = λ i lt. subst (λ (o : Option KeptBound). IfSome o (IsFilled p vectors ranges [] i)) (sym (none i)) tt;
 }
+
+-- the end of a list
+take-length : (xs : List ℕ) → take (length xs) xs ≡ xs
+take-length [] = refl
+take-length (x ∷ xs) = ap (λ (ys : List ℕ). x ∷ ys) (take-length xs)
+
+pub take-rest : (xs : List ℕ) (n : ℕ) → take (length xs - n) (drop n xs) ≡ drop n xs
+take-rest xs n = ap (λ (k : ℕ). take k (drop n xs)) (sym (length-drop n xs)) ∙ take-length (drop n xs)

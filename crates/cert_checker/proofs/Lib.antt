@@ -8,5 +8,6 @@ mod CertificateLemmas
 mod KeptLemmas
 mod UniqueLemmas
 mod MarkedLemmas
+mod KeptLoadLemmas
 mod LoadLemmas
 mod StateLemmas

@@ -11,7 +11,9 @@ use Rattle.choice_problem.specs.Walks.{AreChanges}
 use Rattle.cert_checker.specs.declared.loads.Loads.{Loads}
 use Rattle.cert_checker.specs.Kept.{AgreeBut}
 use Rattle.cert_checker.specs.Marked.{AreOnce}
-use Rattle.cert_checker.specs.Loads.{least_at, AreLoads, AreWholeLoads}
+use Rattle.cert_checker.specs.KeptLoads.{least_at, AreKeptLoads}
+use Rattle.cert_checker.specs.Loads.{IsLoadState, AreWholeLoads}
+use Rattle.cert_checker.proofs.KeptLoadLemmas.{places-more}
 use Rattle.cert_checker.proofs.KeptLemmas.{agree-next, agree-all}
 use Rattle.cert_checker.proofs.MarkedLemmas.{any-default}
 
@@ -99,11 +101,13 @@ drop-front (x ∷ xs) ys = drop-front xs ys
 pub changes-more : (old new : List (ℕ × ℕ)) (before after : List ℕ) → (changed : AreChanges old new before after) → drop (length before) after ≡ changed.more
 changes-more old new before after changed = ap (λ (xs : List ℕ). drop (length before) xs) changed.after_is ∙ drop-front before changed.more
 
-pub loads-more : (p : ProblemView) (old new : List (ℕ × ℕ)) (before after : List ℕ) (l next : Loads) → AreChanges old new before after → next.whole ≡ l.whole → next.known ≡ l.known → next.changed.most ≡ l.changed.most →
-    ((u : ℕ) → Contains (drop (length before) after) u → Contains next.changed.units u) → ((u : ℕ) → Contains l.changed.units u → Contains next.changed.units u) → AreLoads p old l → AreLoads p new next
-loads-more p old new before after l next changed whole known most all stay are =
+pub loads-more : (p : ProblemView) (old new : List (ℕ × ℕ)) (before after : List ℕ) (l next : Loads) → AreChanges old new before after → next.whole ≡ l.whole → next.known ≡ l.known → next.kept ≡ l.kept → next.changed.most ≡ l.changed.most →
+    ((u : ℕ) → Contains (drop (length before) after) u → Contains next.changed.units u) → ((u : ℕ) → Contains l.changed.units u → Contains next.changed.units u) → IsLoadState p old before l → IsLoadState p new after next
+loads-more p old new before after l next changed whole known kept most all stay are =
     let more = changes-more old new before after changed in
     let one : AreWholeLoads p l.whole next.known.items = subst (λ (k : _). AreWholeLoads p l.whole k.items) (sym known) are.known in
+    let places : AreKeptLoads p new l.whole after next.changed.units next.kept.items =
+    subst (λ (k : _). AreKeptLoads p new l.whole after next.changed.units k.items) (sym kept) (places-more p old new l.whole before after l.changed.units next.changed.units l.kept.items changed stay are.kept) in
     record {
       whole = whole ∙ are.whole;
       valid = subst (AreRanges p) (sym whole) are.valid;
@@ -111,6 +115,8 @@ loads-more p old new before after l next changed whole known most all stay are =
       others = λ u out. ap (λ (w : List (ℕ × ℕ)). get_or w u (0, 0)) whole ∙ are.others u (λ h. out (stay u h))
           ∙ sym (changed.same u (λ h. out (all u (subst (λ (xs : List ℕ). Contains xs u) (sym more) h))));
       known = subst (λ (w : List (ℕ × ℕ)). AreWholeLoads p w next.known.items) (sym whole) one;
+      some = subst (λ (k : _). 0 < length k.items) (sym kept) are.some;
+      kept = subst (λ (w : List (ℕ × ℕ)). AreKeptLoads p new w after next.changed.units next.kept.items) (sym whole) places;
     }
 
 pub changes-there : (p : ProblemView) (old new : List (ℕ × ℕ)) (before after : List ℕ) → length old ≡ unit_count p → AreChanges old new before after → All (λ u. u < unit_count p) (drop (length before) after)

@@ -15,7 +15,7 @@ use Rattle.cert_checker.specs.declared.verdict.Verdict.{Verdict}
 use Rattle.cert_checker.specs.declared.verdict.Verdict.TheVariants.{Yes, No}
 use Rattle.cert_checker.specs.Tests.{Test, Passes, node_line, node_tests, floors_after}
 use Rattle.cert_checker.specs.Verdicts.{FailsFirst, IsFirstFailing}
-use Rattle.cert_checker.specs.Parts.{IsPart, Leads, IsLineFault, GoesOnBy}
+use Rattle.cert_checker.specs.Parts.{IsPart, Completes, IsLineFault, GoesOnBy}
 
 -- a line whose tests pass
 tests-passed : (p : ProblemView) (c : StageCert) (number : ℕ) (tests : List Test) (left : List (List Test)) (verdict : Verdict) (next : ℕ) → AllByRecursion (Passes p c) tests → IsPart p c (number + 1) left verdict next →
@@ -73,7 +73,7 @@ untested p c at (node ∷ nodes) floors =
     tests-passed p c at [] (node_tests [] nodes floors) Yes (at + suc (length nodes)) tt (subst (IsPart p c (at + 1) (node_tests [] nodes floors) Yes) next later)
 
 pub nodes-done : (p : ProblemView) (c : StageCert) (number at : ℕ) (walk : List (List (ℕ × ℕ))) (nodes : List Node) (floors : List Floor) (lines : List (List Test)) (next : ℕ) → walk ≡ [] → next ≡ at + length nodes →
-    Leads p c at (node_tests walk nodes floors) number lines → IsPart p c number lines Yes next
+    Completes p c at (node_tests walk nodes floors) number lines → IsPart p c number lines Yes next
 nodes-done p c number at walk nodes floors lines next done count leads =
     leads Yes next (subst (IsPart p c at (node_tests walk nodes floors) Yes) (sym count) (subst (λ (w : List (List (ℕ × ℕ))). IsPart p c at (node_tests w nodes floors) Yes (at + length nodes)) (sym done) (untested p c at nodes floors)))
 
@@ -87,20 +87,20 @@ no-nodes : (p : ProblemView) (c : StageCert) (at : ℕ) (walk : List (List (ℕ 
 no-nodes p c at walk floors = record { verdict_is = tt; counted = λ _. omega arith }
 
 pub nodes-end : (p : ProblemView) (c : StageCert) (number at i : ℕ) (walk : List (List (ℕ × ℕ))) (nodes : List Node) (floors : List Floor) (lines : List (List Test)) → length nodes ≤ i →
-    Leads p c at (node_tests walk (drop i nodes) floors) number lines → IsPart p c number lines Yes at
+    Completes p c at (node_tests walk (drop i nodes) floors) number lines → IsPart p c number lines Yes at
 nodes-end p c number at i walk nodes floors lines past leads =
     leads Yes at (subst (λ (ns : List Node). IsPart p c at (node_tests walk ns floors) Yes at) (sym (nothing-left nodes i past)) (no-nodes p c at walk floors))
 
 pub nodes-next : (p : ProblemView) (c : StageCert) (number at i : ℕ) (old new : List (List (ℕ × ℕ))) (nodes : List Node) (floors : List Floor) (lines : List (List Test)) (d : Node) → i < length nodes →
-    GoesOnBy p c old (get_or nodes i d) floors new None → Leads p c at (node_tests old (drop i nodes) floors) number lines →
-    Leads p c (at + 1) (node_tests new (drop (i + 1) nodes) (floors_after (get_or nodes i d) floors)) number lines
+    GoesOnBy p c old (get_or nodes i d) floors new None → Completes p c at (node_tests old (drop i nodes) floors) number lines →
+    Completes p c (at + 1) (node_tests new (drop (i + 1) nodes) (floors_after (get_or nodes i d) floors)) number lines
 nodes-next p c number at i old new nodes floors lines d lt goes leads =
-    goes (drop (i + 1) nodes) at number lines (subst (λ (ns : List Node). Leads p c at (node_tests old ns floors) number lines) (drop_more nodes i d lt) leads)
+    goes (drop (i + 1) nodes) at number lines (subst (λ (ns : List Node). Completes p c at (node_tests old ns floors) number lines) (drop_more nodes i d lt) leads)
 
 pub nodes-refused : (p : ProblemView) (c : StageCert) (number at i next : ℕ) (old new : List (List (ℕ × ℕ))) (nodes : List Node) (floors : List Floor) (lines : List (List Test)) (d : Node) (reason : Reason) → i < length nodes →
-    GoesOnBy p c old (get_or nodes i d) floors new (Some reason) → Leads p c at (node_tests old (drop i nodes) floors) number lines → IsPart p c number lines (No at reason) next
+    GoesOnBy p c old (get_or nodes i d) floors new (Some reason) → Completes p c at (node_tests old (drop i nodes) floors) number lines → IsPart p c number lines (No at reason) next
 nodes-refused p c number at i next old new nodes floors lines d reason lt goes leads =
-    goes (drop (i + 1) nodes) at number next lines (subst (λ (ns : List Node). Leads p c at (node_tests old ns floors) number lines) (drop_more nodes i d lt) leads)
+    goes (drop (i + 1) nodes) at number next lines (subst (λ (ns : List Node). Completes p c at (node_tests old ns floors) number lines) (drop_more nodes i d lt) leads)
 
 -- ---- no node is undone
 

@@ -15,7 +15,7 @@ use Rattle.cert_checker.specs.declared.verdict.Verdict.{Verdict}
 use Rattle.cert_checker.specs.declared.verdict.Verdict.TheVariants.{Yes, No}
 use Rattle.cert_checker.specs.Tests.{Test, reason_of, Passes, HasChoice, IsAbove, price_allowed, alternative_tests, choice_tests, cost_tests, price_tests, vector_tests}
 use Rattle.cert_checker.specs.Verdicts.{FailsFirst, NoneFails, IsFirstFailing, IsVerdict}
-use Rattle.cert_checker.specs.Parts.{IsPart, Leads}
+use Rattle.cert_checker.specs.Parts.{IsPart, Completes}
 
 pub NoneFails-append : (Holds : Test → Type 0) (xs ys : List (List Test)) → NoneFails Holds xs → NoneFails Holds ys → NoneFails Holds (xs ++ ys)
 NoneFails-append Holds [] ys one other = other
@@ -240,8 +240,8 @@ cost-passed p c number x cost choice_is cost_is same fits = record {
 
 -- ---- lines that are left
 
-pub Leads-start : (p : ProblemView) (c : StageCert) (number : ℕ) (lines : List (List Test)) → Leads p c number lines number lines
-Leads-start p c number lines verdict next part = part
+pub Completes-start : (p : ProblemView) (c : StageCert) (number : ℕ) (lines : List (List Test)) → Completes p c number lines number lines
+Completes-start p c number lines verdict next part = part
 
 -- one line passes
 line-passed : (p : ProblemView) (c : StageCert) (number : ℕ) (test : Test) (left : List (List Test)) (verdict : Verdict) (next : ℕ) → Passes p c test → IsPart p c (number + 1) left verdict next →
@@ -259,14 +259,14 @@ line-refused p c number next test left refused = record { verdict_is = inl (refl
 
 -- prices
 pub prices-next : (p : ProblemView) (c : StageCert) (number at i : ℕ) (before : Option ℕ) (prices : List Price) (lines : List (List Test)) (e : Price) → i < length prices →
-    (IsAbove before (get_or prices i e).resource × IsPrice p (get_or prices i e)) → Leads p c at (price_tests before (drop i prices)) number lines →
-    Leads p c (at + 1) (price_tests (Some (get_or prices i e).resource) (drop (i + 1) prices)) number lines
+    (IsAbove before (get_or prices i e).resource × IsPrice p (get_or prices i e)) → Completes p c at (price_tests before (drop i prices)) number lines →
+    Completes p c (at + 1) (price_tests (Some (get_or prices i e).resource) (drop (i + 1) prices)) number lines
 prices-next p c number at i before prices lines e lt allowed leads verdict next part =
     leads verdict next (subst (λ (ps : List Price). IsPart p c at (price_tests before ps) verdict next) (sym (drop_more prices i e lt))
     (line-passed p c at (price_allowed before (get_or prices i e)) (price_tests (Some (get_or prices i e).resource) (drop (i + 1) prices)) verdict next allowed part))
 
 pub prices-refused : (p : ProblemView) (c : StageCert) (number at i next : ℕ) (before : Option ℕ) (prices : List Price) (lines : List (List Test)) (e : Price) → i < length prices →
-    ((IsAbove before (get_or prices i e).resource × IsPrice p (get_or prices i e)) → ⊥) → Leads p c at (price_tests before (drop i prices)) number lines →
+    ((IsAbove before (get_or prices i e).resource × IsPrice p (get_or prices i e)) → ⊥) → Completes p c at (price_tests before (drop i prices)) number lines →
     IsPart p c number lines (No at because.Price) next
 prices-refused p c number at i next before prices lines e lt refused leads =
     leads (No at because.Price) next (subst (λ (ps : List Price). IsPart p c at (price_tests before ps) (No at because.Price) next) (sym (drop_more prices i e lt))
@@ -282,7 +282,7 @@ part-end : (p : ProblemView) (c : StageCert) (number : ℕ) → IsPart p c numbe
 part-end p c number = record { verdict_is = tt; counted = λ _. omega arith }
 
 pub prices-end : (p : ProblemView) (c : StageCert) (number at i : ℕ) (before : Option ℕ) (prices : List Price) (lines : List (List Test)) → length prices ≤ i →
-    Leads p c at (price_tests before (drop i prices)) number lines → IsPart p c number lines Yes at
+    Completes p c at (price_tests before (drop i prices)) number lines → IsPart p c number lines Yes at
 prices-end p c number at i before prices lines past leads =
     leads Yes at (subst (λ (ps : List Price). IsPart p c at (price_tests before ps) Yes at) (sym (past-end prices i past)) (part-end p c at))
 
@@ -292,22 +292,22 @@ prices-count before (e ∷ prices) = ap suc (prices-count (Some e.resource) pric
 
 -- vectors
 pub vectors-next : (p : ProblemView) (c : StageCert) (number at i next : ℕ) (verdict : Verdict) (vector : List Price) (vectors : List (List Price)) (lines : List (List Test)) → i < length vectors → vector ≡ get_or vectors i vector →
-    IsPart p c at (vector_tests vector) verdict next → verdict ≡ Yes → Leads p c at (flat_map vector_tests (drop i vectors)) number lines →
-    Leads p c next (flat_map vector_tests (drop (i + 1) vectors)) number lines
+    IsPart p c at (vector_tests vector) verdict next → verdict ≡ Yes → Completes p c at (flat_map vector_tests (drop i vectors)) number lines →
+    Completes p c next (flat_map vector_tests (drop (i + 1) vectors)) number lines
 vectors-next p c number at i next verdict vector vectors lines lt is part passed leads other last rest =
     let head : drop i vectors ≡ vector ∷ drop (i + 1) vectors = drop_more vectors i vector lt ∙ ap (λ (v : List Price). v ∷ drop (i + 1) vectors) (sym is) in
     leads other last (subst (λ (vs : List (List Price)). IsPart p c at (flat_map vector_tests vs) other last) (sym head)
     (IsPart-then p c at (vector_tests vector) (flat_map vector_tests (drop (i + 1) vectors)) verdict other next last part passed rest))
 
 pub vectors-refused : (p : ProblemView) (c : StageCert) (number at i next : ℕ) (verdict : Verdict) (vector : List Price) (vectors : List (List Price)) (lines : List (List Test)) → i < length vectors → vector ≡ get_or vectors i vector →
-    IsPart p c at (vector_tests vector) verdict next → (verdict ≡ Yes → ⊥) → Leads p c at (flat_map vector_tests (drop i vectors)) number lines → IsPart p c number lines verdict next
+    IsPart p c at (vector_tests vector) verdict next → (verdict ≡ Yes → ⊥) → Completes p c at (flat_map vector_tests (drop i vectors)) number lines → IsPart p c number lines verdict next
 vectors-refused p c number at i next verdict vector vectors lines lt is part refused leads =
     let head : drop i vectors ≡ vector ∷ drop (i + 1) vectors = drop_more vectors i vector lt ∙ ap (λ (v : List Price). v ∷ drop (i + 1) vectors) (sym is) in
     leads verdict next (subst (λ (vs : List (List Price)). IsPart p c at (flat_map vector_tests vs) verdict next) (sym head)
     (IsPart-stop p c at (vector_tests vector) (flat_map vector_tests (drop (i + 1) vectors)) verdict next part refused))
 
 pub vectors-end : (p : ProblemView) (c : StageCert) (number at i : ℕ) (vectors : List (List Price)) (lines : List (List Test)) → length vectors ≤ i →
-    Leads p c at (flat_map vector_tests (drop i vectors)) number lines → IsPart p c number lines Yes at
+    Completes p c at (flat_map vector_tests (drop i vectors)) number lines → IsPart p c number lines Yes at
 vectors-end p c number at i vectors lines past leads =
     leads Yes at (subst (λ (vs : List (List Price)). IsPart p c at (flat_map vector_tests vs) Yes at) (sym (past-end vectors i past)) (part-end p c at))
 

@@ -6,5 +6,6 @@ pub mod Blocks
 pub mod Shapes
 pub mod Kept
 pub mod Marked
+pub mod KeptLoads
 pub mod Loads
 pub mod States

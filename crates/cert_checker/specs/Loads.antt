@@ -1,14 +1,10 @@
 -- Least loads that are kept while the ranges change. Contracts of private functions alone cite this.
-use Rattle.std.specs.Prelude.{◌≡◌, ℕ, List, length, Option, None, IfSome, slice_index_or}
-use Rattle.finite_sums.specs.Sums.{least_within}
-use Rattle.choice_problem.specs.Problems.{ProblemView, unit_count, resource_count, alt_uses}
-use Rattle.choice_problem.specs.Bounds.{AreRanges, low_of, high_of, least_load, whole_of}
+use Rattle.std.specs.Prelude.{◌≡◌, ℕ, ◌<◌, List, length, Option, None, IfSome, slice_index_or}
+use Rattle.choice_problem.specs.Problems.{ProblemView, unit_count, resource_count}
+use Rattle.choice_problem.specs.Bounds.{AreRanges, least_load, whole_of}
 use Rattle.cert_checker.specs.declared.loads.Loads.{Loads}
 use Rattle.cert_checker.specs.Kept.{AgreeBut}
-
--- a unit's least number of uses of a resource in its range
-abbrev pub least_at : ProblemView → List (ℕ × ℕ) → ℕ → ℕ → ℕ
-least_at p ranges r u = least_within (low_of ranges u) (high_of ranges u) (λ a. alt_uses p u a r)
+use Rattle.cert_checker.specs.KeptLoads.{AreKeptLoads}
 
 -- a place for each resource, with its least load in these ranges once a node has named it
 pub record AreWholeLoads (p : ProblemView) (whole : List (ℕ × ℕ))
@@ -16,10 +12,14 @@ pub record AreWholeLoads (p : ProblemView) (whole : List (ℕ × ℕ))
   pub count : length known ≡ resource_count p
   pub each : (r : ℕ) → IfSome (slice_index_or known r None) (λ load. load ≡ least_load p whole r)
 
--- all units but the changed ones have all their alternatives in range
-pub record AreLoads (p : ProblemView) (ranges : List (ℕ × ℕ)) (l : Loads) : Type 0 where
+-- all units but the changed ones have all their alternatives in range, and what is kept is of these
+-- ranges, after these changes
+pub record IsLoadState (p : ProblemView) (ranges : List (ℕ × ℕ)) (changes : List ℕ)
+    (l : Loads) : Type 0 where
   pub whole : l.whole ≡ whole_of p
   pub valid : AreRanges p l.whole
   pub most : l.changed.most ≡ unit_count p
   pub others : AgreeBut l.changed.units l.whole ranges
   pub known : AreWholeLoads p l.whole l.known.items
+  pub some : 0 < length l.kept.items
+  pub kept : AreKeptLoads p ranges l.whole changes l.changed.units l.kept.items

@@ -32,8 +32,9 @@ abbrev pub cost_part : ProblemView → StageCert → List (List Test)
 cost_part p c = cost_tests c.cost ++ bound_part p c
 
 -- what is still to come decides the whole: a verdict on the lines that are left is one on all lines
-abbrev pub Leads : ProblemView → StageCert → ℕ → List (List Test) → ℕ → List (List Test) → Type 0
-Leads p c at left number lines =
+abbrev pub Completes : ProblemView → StageCert → ℕ → List (List Test) → ℕ → List (List Test) →
+    Type 0
+Completes p c at left number lines =
     (verdict : Verdict) (next : ℕ) → IsPart p c at left verdict next →
     IsPart p c number lines verdict next
 
@@ -48,9 +49,9 @@ abbrev pub GoesOnBy : ProblemView → StageCert → List (List (ℕ × ℕ)) →
     List (List (ℕ × ℕ)) → Option Reason → Type 0
 GoesOnBy p c old node floors new None =
     (nodes : List Node) (at number : ℕ) (lines : List (List Test)) →
-    Leads p c at (node_tests old (node ∷ nodes) floors) number lines →
-    Leads p c (at + 1) (node_tests new nodes (floors_after node floors)) number lines
+    Completes p c at (node_tests old (node ∷ nodes) floors) number lines →
+    Completes p c (at + 1) (node_tests new nodes (floors_after node floors)) number lines
 GoesOnBy p c old node floors new (Some reason) =
     (nodes : List Node) (at number next : ℕ) (lines : List (List Test)) →
-    Leads p c at (node_tests old (node ∷ nodes) floors) number lines →
+    Completes p c at (node_tests old (node ∷ nodes) floors) number lines →
     IsPart p c number lines (No at reason) next

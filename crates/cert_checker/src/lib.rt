@@ -6,6 +6,7 @@
 
 mod checks;
 mod kept;
+mod kept_loads;
 mod laws;
 mod lines;
 mod loads;

@@ -1,37 +1,42 @@
 //! Least loads of resources, by the units whose ranges have changed.
 
-ghost use Rattle.std.specs.Prelude.{◌≡◌, ◌↔◌, ◌+◌, ◌*◌, ◌<◌, ◌≤◌, ◌^◌, List, ℕ, All, IsTrue, IfOk, length};
+ghost use Rattle.std.specs.Prelude.{◌≡◌, ◌↔◌, ◌+◌, ◌*◌, ◌<◌, ◌≤◌, ◌^◌, List, [], ℕ, All, None, IsTrue, IfOk, IfSome, length, slice_index_or};
 ghost use Rattle.choice_problem.specs.declared.problems.TheConstants.{MOST_UNITS, MOST_USES};
 ghost use Rattle.choice_problem.specs.Problems.{unit_count, resource_count};
 ghost use Rattle.choice_problem.specs.Bounds.{AreRanges, least_load, whole_of};
 ghost use Rattle.choice_problem.specs.Trees.{OverHolds};
 ghost use Rattle.cert_checker.specs.Kept.{AgreeBut};
-ghost use Rattle.cert_checker.specs.Loads.{AreLoads, AreWholeLoads, least_at};
+ghost use Rattle.cert_checker.specs.KeptLoads.{least_at};
+ghost use Rattle.cert_checker.specs.Loads.{IsLoadState, AreWholeLoads};
 ghost use Rattle.cert_checker.specs.Marked.{AreOnce};
 
+use crate::kept_loads::{KeptLoad, empty_places, has_other, renewed};
 use crate::marked::Marked;
 use choice_problem::{Problem, Ranges, least_uses};
 use slot_text::Memory;
 use std::alloc::Global;
 
-// The ranges of all alternatives, the units whose ranges have changed since, and the least loads of
-// the resources that a node has named, over all alternatives.
+// The ranges of all alternatives, and the units whose ranges have changed since; the least loads over
+// all alternatives of the resources that have no place of their own, and of those that have one what
+// is kept of them.
 #[derive(Drop)]
 pub(crate) struct Loads {
     pub(crate) whole: Ranges,
     pub(crate) changed: Marked,
     pub(crate) known: Vec<Option<u32>>,
+    pub(crate) kept: Vec<Option<KeptLoad>>,
 }
 
 /// Loads before any change.
 pub(crate) fn first_loads(alloc: Global, problem: &Problem) -> Result<Loads, Memory>
-    ensures { IfOk result (λ loads. AreLoads problem.now (whole_of problem.now) loads) }
+    ensures { IfOk result (λ loads. IsLoadState problem.now (whole_of problem.now) [] loads) }
 {
     let known = vec![in alloc; None; problem.resources() as usize]?;
     Ok(Loads {
         whole: Ranges::whole(alloc, problem)?,
         changed: Marked::none(alloc, problem.units())?,
         known,
+        kept: empty_places(alloc, problem)?,
     })
 }
 
@@ -118,25 +123,98 @@ fn load_now(
     now
 }
 
-/// Whether a resource is there, and its least load passes its limit. The first node that names a
-/// resource costs one step a unit; each one step for each unit whose range has changed since the
-/// walk began, and both one an alternative in range that uses the resource.
-pub(crate) fn over_holds(
+// The least load of a resource that has no place of its own.
+fn load_by_changes(problem: &Problem, ranges: &Ranges, loads: &mut Loads, resource: u32) -> u128
+    requires ranges { AreRanges problem.now ranges.now }
+    requires loads { (changes : List ℕ) × IsLoadState problem.now ranges.now changes loads.old }
+    requires resource { resource < resource_count problem.now }
+    ensures loads { (changes : List ℕ) → IsLoadState problem.now ranges.now changes loads.old →
+        IsLoadState problem.now ranges.now changes loads.new }
+    ensures load { result ≡ least_load problem.now ranges.now resource }
+{
+    let load = whole_load(problem, &loads.whole, &mut loads.known, resource);
+    let units = loads.changed.units();
+    load_now(problem, &loads.whole, ranges, units, load, resource)
+}
+
+// The least load of a resource that has a place, or whose place is empty.
+fn load_kept(
+    alloc: Global,
     problem: &Problem,
     ranges: &Ranges,
     loads: &mut Loads,
+    changes: &[u32],
     resource: u32,
-) -> bool
+    place: usize,
+) -> Result<u128, Memory>
     requires ranges { AreRanges problem.now ranges.now }
-    requires loads { AreLoads problem.now ranges.now loads.old }
-    ensures loads { AreLoads problem.now ranges.now loads.new }
-    ensures holds { IsTrue result ↔ OverHolds problem.now ranges.now resource }
+    requires loads { IsLoadState problem.now ranges.now changes.now loads.old }
+    requires changes { All (λ u. u < unit_count problem.now) changes.now }
+    requires resource { resource < resource_count problem.now }
+    requires place { place < length loads.old.kept.items }
+    requires same { IfSome (slice_index_or loads.old.kept.items place None)
+        (λ kept. kept.resource ≡ resource) }
+    ensures loads { IfOk result
+        (λ load. IsLoadState problem.now ranges.now changes.now loads.new) }
+    ensures load { IfOk result (λ load. load ≡ least_load problem.now ranges.now resource) }
+{
+    let old = loads.kept[place].take();
+    let marked = loads.changed.units();
+    let kept = renewed(alloc, problem, old, ranges, changes, marked, resource)?;
+    let load = kept.load;
+    loads.kept[place] = Some(kept);
+    Ok(u128::from(load))
+}
+
+// The least load of a resource, by what is kept of it, where its place has no other.
+fn load_of(
+    alloc: Global,
+    problem: &Problem,
+    ranges: &Ranges,
+    loads: &mut Loads,
+    changes: &[u32],
+    resource: u32,
+) -> Result<u128, Memory>
+    requires ranges { AreRanges problem.now ranges.now }
+    requires loads { IsLoadState problem.now ranges.now changes.now loads.old }
+    requires changes { All (λ u. u < unit_count problem.now) changes.now }
+    requires resource { resource < resource_count problem.now }
+    ensures loads { IfOk result
+        (λ load. IsLoadState problem.now ranges.now changes.now loads.new) }
+    ensures load { IfOk result (λ load. load ≡ least_load problem.now ranges.now resource) }
+{
+    let place = resource as usize % loads.kept.len();
+    if has_other(&loads.kept[place], resource) {
+        return Ok(load_by_changes(problem, ranges, loads, resource));
+    }
+    load_kept(alloc, problem, ranges, loads, changes, resource, place)
+}
+
+/// Whether a resource is there, and its least load passes its limit. The first node that names a
+/// resource costs one step a unit, and one an alternative in range that uses it. Then a node costs
+/// one step for each change of a range since one last named it, at most one for each unit whose
+/// range has changed since the walk began, and one an alternative that uses it of each range that
+/// differs. Where another resource has its place, a node goes over each unit whose range has changed
+/// since the walk began, and its alternatives that use the resource.
+pub(crate) fn over_holds(
+    alloc: Global,
+    problem: &Problem,
+    ranges: &Ranges,
+    loads: &mut Loads,
+    changes: &[u32],
+    resource: u32,
+) -> Result<bool, Memory>
+    requires ranges { AreRanges problem.now ranges.now }
+    requires loads { IsLoadState problem.now ranges.now changes.now loads.old }
+    requires changes { All (λ u. u < unit_count problem.now) changes.now }
+    ensures loads { IfOk result
+        (λ holds. IsLoadState problem.now ranges.now changes.now loads.new) }
+    ensures holds { IfOk result
+        (λ holds. IsTrue holds ↔ OverHolds problem.now ranges.now resource) }
 {
     if resource >= problem.resources() {
-        return false;
+        return Ok(false);
     }
-    let load = whole_load(problem, &loads.whole, &mut loads.known, resource);
-    let units = loads.changed.units();
-    let now = load_now(problem, &loads.whole, ranges, units, load, resource);
-    now > problem.limit(resource) as u128
+    let load = load_of(alloc, problem, ranges, loads, changes, resource)?;
+    Ok(load > problem.limit(resource) as u128)
 }

@@ -11,8 +11,7 @@ ghost use Rattle.cert_checker.specs.Parts.{IsLineFault, GoesOnBy, IsPart, tree_p
 
 use crate::kept::Named;
 use crate::lines::Judged;
-use crate::loads::over_holds;
-use crate::states::{State, first_state, go_on, leaf_holds};
+use crate::states::{State, first_state, go_on, leaf_holds, resource_over};
 use crate::trees::{is_tree, is_whole};
 use crate::verdict::Reason;
 use cert_format::{Floor, Mark, StageCert};
@@ -109,10 +108,11 @@ fn node_fault(
             let holds = leaf_holds(alloc, problem, vectors, state, cost, ranges, named)?;
             Ok(fault_unless(holds, Reason::Leaf))
         }
-        Node::Over { resource } => Ok(fault_unless(
-            over_holds(problem, ranges, &mut state.loads, resource),
-            Reason::Over,
-        )),
+        Node::Over { resource } => {
+            let vectors = &cert.vectors;
+            let holds = resource_over(alloc, problem, vectors, state, ranges, resource)?;
+            Ok(fault_unless(holds, Reason::Over))
+        }
         Node::Undone => undone_fault(alloc, problem, cert, state, ranges, floors),
     }
 }

@@ -2,12 +2,12 @@
 
 ghost use Rattle.std.specs.Prelude.{◌≡◌, ◌↔◌, ◌<◌, ◌∷◌, [], All, IsTrue, IfOk, length};
 ghost use Rattle.choice_problem.specs.Bounds.{AreRanges, IsVector, whole_of};
-ghost use Rattle.choice_problem.specs.Trees.{LeafHolds};
+ghost use Rattle.choice_problem.specs.Trees.{LeafHolds, OverHolds};
 ghost use Rattle.choice_problem.specs.Walks.{CanStep, IsStep};
 ghost use Rattle.cert_checker.specs.States.{IsState, IsStateFirst};
 
 use crate::kept::{KeptBound, Named, empty_kept, renewed};
-use crate::loads::{Loads, first_loads};
+use crate::loads::{Loads, first_loads, over_holds};
 use crate::marked::mark_all;
 use choice_problem::{Node, Problem, RangeWalk, Ranges, SCALE_BOUND, VectorList};
 use slot_text::Memory;
@@ -36,6 +36,31 @@ pub(crate) fn first_state(
         loads: first_loads(alloc, problem)?,
         changes: Vec::new(alloc),
     })
+}
+
+/// Whether a resource is there, and its least load at the ranges of a node passes its limit.
+pub(crate) fn resource_over(
+    alloc: Global,
+    problem: &Problem,
+    vectors: &VectorList,
+    state: &mut State,
+    ranges: &Ranges,
+    resource: u32,
+) -> Result<bool, Memory>
+    requires ranges { AreRanges problem.now ranges.now }
+    requires state { IsState problem.now vectors.now ranges.now state.old }
+    ensures state { IfOk result (λ holds. IsState problem.now vectors.now ranges.now state.new) }
+    ensures holds { IfOk result
+        (λ holds. IsTrue holds ↔ OverHolds problem.now ranges.now resource) }
+{
+    over_holds(
+        alloc,
+        problem,
+        ranges,
+        &mut state.loads,
+        &state.changes,
+        resource,
+    )
 }
 
 /// Whether the bound that a node names closes its ranges for a cost, or for none.

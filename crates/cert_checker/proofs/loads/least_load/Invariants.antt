@@ -1,7 +1,7 @@
 use Rattle.std.proofs.Common.{◌≡◌, ◌*◌, ◌≤◌}
 use Rattle.finite_sums.specs.Sums.{sum_below}
 use Rattle.choice_problem.specs.declared.problems.TheConstants.{MOST_USES}
-use Rattle.cert_checker.specs.Loads.{least_at}
+use Rattle.cert_checker.specs.KeptLoads.{least_at}
 use Rattle.cert_checker.proofs.loads.least_load.Given as goal
 
 abbrev pub invariant-loop-unit : goal.invariant-loop-unit

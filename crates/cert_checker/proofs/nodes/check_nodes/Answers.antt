@@ -7,7 +7,7 @@ use Rattle.choice_problem.specs.Bounds.{AreRanges, whole_of}
 use Rattle.cert_checker.specs.declared.lines.Judged.{Judged}
 use Rattle.cert_checker.specs.declared.verdict.Reason.{Reason}
 use Rattle.cert_checker.specs.Tests.{node_tests, floors_after}
-use Rattle.cert_checker.specs.Parts.{IsPart, GoesOnBy, Leads}
+use Rattle.cert_checker.specs.Parts.{IsPart, GoesOnBy, Completes}
 use Rattle.cert_format.specs.declared.cert.Floor.{Floor}
 use Rattle.cert_checker.proofs.StateLemmas.{state-back}
 use Rattle.cert_checker.proofs.NodeLemmas.{nodes-done, nodes-next, nodes-refused, nodes-end}
@@ -83,7 +83,7 @@ loop-node-preserved c =
       at = omega (arith, c.loop-node.invariant.at);
       ranges = c.in_ok-fault.ensures.ranges found;
       state = c.in_ok-fault.ensures.state found;
-      leads = subst (λ (fs : List Floor). Leads p cert (c.loop-node.at + 1) (node_tests c.check_node.new.walk (drop (i + 1) cert.tree) fs) c.args.line lines) floors
+      leads = subst (λ (fs : List Floor). Completes p cert (c.loop-node.at + 1) (node_tests c.check_node.new.walk (drop (i + 1) cert.tree) fs) c.args.line lines) floors
           (nodes-next p cert c.args.line c.loop-node.at i c.loop-node.walk c.check_node.new.walk cert.tree c.loop-node.floors.now lines no_node lt there_goes c.loop-node.invariant.leads);
     }
 

@@ -1,6 +1,7 @@
 use Rattle.std.proofs.Common.{ℕ, List, sym, subst}
 use Rattle.choice_problem.specs.Bounds.{whole_of}
 use Rattle.cert_checker.specs.Kept.{AreKept}
+use Rattle.cert_checker.specs.Loads.{IsLoadState}
 use Rattle.cert_checker.proofs.states.first_state.Goals as goal
 
 pub returns : goal.returns
@@ -8,5 +9,5 @@ returns c =
     let p = c.args.problem.now in
     record {
       bounds = subst (λ (xs : List ℕ). AreKept p c.args.vectors.now (whole_of p) xs c.in_ok-empty_kept.field-0.items) (sym c.new.ensures.items) (c.in_ok-empty_kept.ensures p (whole_of p));
-      loads = c.in_ok-first_loads.ensures;
+      loads = subst (λ (xs : List ℕ). IsLoadState p (whole_of p) xs c.in_ok-first_loads.field-0) (sym c.new.ensures.items) c.in_ok-first_loads.ensures;
     }
