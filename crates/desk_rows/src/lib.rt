@@ -1,9 +1,13 @@
-//! Tests of the desk's call: worked rows, and one case for each answer.
+//! Tests of the desk's call: worked rows, and one case for each answer, as scripts.
 #![tactic(auto)]
 
 #[cfg(test)]
-mod check_tests;
+mod allocate_rows;
 #[cfg(test)]
-mod tests;
+mod check_rows;
 #[cfg(test)]
-mod tools;
+mod desk_calls;
+#[cfg(test)]
+mod play;
+#[cfg(test)]
+mod texts;

@@ -1,0 +1,280 @@
+//! Scripts of runs of the desk.
+//!
+//! A line of a script is a word and what follows it. In a text `;` stands for a line end, `^` for
+//! the byte 255, and `{3 AB}` for `AB` three times.
+//! - `file NAME TEXT` puts a file into the cabinet of each run below.
+//! - `words WORDS` sets the words of each run below.
+//! - `says SAID` runs the desk, and wants this status and this printed text.
+//! - `again` runs the desk, and wants what the last run said.
+//! - `line OLD|NEW|SAID` runs it where the lines OLD of each file are NEW; OLD may be the numbers of
+//!   a first and a last line, as `3-5`, and NEW may be `(none)`.
+//! - `cabinet CALL|SAID` and `sink CALL|SAID` run it where this call fails; `2:6` is call 2, which
+//!   takes six bytes.
+//! - `fronts NAME` runs it with each front of this file, which fails at its first line that is not
+//!   whole.
+//! - `holds NAME TEXT` wants this text of a file after the last run, `(none)` where there is none.
+//! - `take NAME` puts this file, as the last run left it, into the cabinet of each run below.
+//!
+//! In what is wanted `*` stands for any text. Each certificate that a run wrote is checked.
+
+use crate::desk_calls::{Failing, call_desk, new_cabinet};
+use crate::texts::{edited, fits, folded, spelled_out};
+use desk_outside::{Failure, MemoryCabinet};
+use std::alloc::{AllocError, Global};
+use std::test::Fail;
+use std::thread::Threads;
+
+/// A file of a script, by its text.
+#[derive(Drop)]
+struct File {
+    name: String,
+    text: String,
+}
+
+/// What the lines of a script have set so far, and what the last run said and left.
+#[derive(Drop)]
+struct Play {
+    files: Vec<File>,
+    words: String,
+    said: String,
+    cabinet: MemoryCabinet,
+}
+
+/// Plays a script, and fails with the first of its lines that is not as it says.
+pub(crate) fn play_script<R: Threads + Sync>(
+    rt: &R,
+    alloc: Global,
+    script: &str,
+) -> Result<(), Fail> {
+    let mut play = Play {
+        files: Vec::new(alloc),
+        words: String::new(alloc),
+        said: String::new(alloc),
+        cabinet: new_cabinet(alloc, 0, None)?,
+    };
+    for line in script.split('\n') {
+        if !play_line(rt, alloc, &mut play, line)? {
+            return Err(Fail::new(format!(in alloc; "{line} has {}", play.said)?));
+        }
+    }
+    Ok(())
+}
+
+fn play_line<R: Threads + Sync>(
+    rt: &R,
+    alloc: Global,
+    play: &mut Play,
+    line: &str,
+) -> Result<bool, Fail> {
+    let (word, rest) = line.split_once(' ').unwrap_or((line, ""));
+    match word {
+        "" => Ok(true),
+        "file" => put_file(alloc, play, rest),
+        "words" => set_words(alloc, play, rest),
+        "take" => take_file(alloc, play, rest),
+        "holds" => compare_file(alloc, play, rest),
+        "fronts" => play_fronts(rt, alloc, play, rest),
+        _ => play_run(rt, alloc, play, word, rest),
+    }
+}
+
+fn put_file(alloc: Global, play: &mut Play, rest: &str) -> Result<bool, Fail> {
+    let (name, text) = rest.split_once(' ').unwrap_or((rest, ""));
+    let text = String::from_str(alloc, text)?;
+    keep_file(alloc, play, name, text)?;
+    Ok(true)
+}
+
+/// Keeps a file in place of the one of its name.
+fn keep_file(alloc: Global, play: &mut Play, name: &str, text: String) -> Result<(), AllocError> {
+    for file in &mut play.files {
+        if file.name.as_str() == name {
+            file.text = text;
+            return Ok(());
+        }
+    }
+    let name = String::from_str(alloc, name)?;
+    play.files.push(File { name, text })?;
+    Ok(())
+}
+
+fn set_words(alloc: Global, play: &mut Play, words: &str) -> Result<bool, Fail> {
+    play.words = String::from_str(alloc, words)?;
+    Ok(true)
+}
+
+fn take_file(alloc: Global, play: &mut Play, name: &str) -> Result<bool, Fail> {
+    let text = file_text(alloc, &play.cabinet, name)?;
+    keep_file(alloc, play, name, text)?;
+    Ok(true)
+}
+
+/// The text of a file that a run left.
+fn file_text(alloc: Global, cabinet: &MemoryCabinet, name: &str) -> Result<String, AllocError> {
+    match cabinet.file(name) {
+        Some(bytes) => folded(alloc, bytes),
+        None => String::from_str(alloc, "(none)"),
+    }
+}
+
+fn compare_file(alloc: Global, play: &mut Play, rest: &str) -> Result<bool, Fail> {
+    let (name, wanted) = rest.split_once(' ').unwrap_or((rest, ""));
+    play.said = file_text(alloc, &play.cabinet, name)?;
+    Ok(fits(play.said.as_str(), wanted))
+}
+
+/// A run: the lines that stand in place of others, the calls that fail, and what it is to say.
+#[derive(Clone, Copy)]
+struct Run<'a> {
+    old: &'a str,
+    new: &'a str,
+    cabinet: Option<Failure>,
+    sink: Option<Failure>,
+    said: &'a str,
+}
+
+/// A run on the files as they are, of which no call fails.
+fn plain(said: &str) -> Run<'_> {
+    Run {
+        old: "",
+        new: "",
+        cabinet: None,
+        sink: None,
+        said,
+    }
+}
+
+fn play_run<R: Threads + Sync>(
+    rt: &R,
+    alloc: Global,
+    play: &mut Play,
+    word: &str,
+    rest: &str,
+) -> Result<bool, Fail> {
+    match word {
+        "says" => run_desk(rt, alloc, play, &plain(rest)),
+        "again" => {
+            let said = play.said.clone()?;
+            run_desk(rt, alloc, play, &plain(said.as_str()))
+        }
+        _ => run_desk(rt, alloc, play, &changed_run(word, rest)?),
+    }
+}
+
+/// A run with other lines, or of which a call fails.
+fn changed_run<'a>(word: &str, rest: &'a str) -> Result<Run<'a>, Fail> {
+    let (what, said) = rest.split_once('|').ok_or("a bar")?;
+    match word {
+        "line" => edited_run(what, said),
+        "cabinet" => {
+            let mut run = plain(said);
+            run.cabinet = Some(read_failure(what)?);
+            Ok(run)
+        }
+        "sink" => {
+            let mut run = plain(said);
+            run.sink = Some(read_failure(what)?);
+            Ok(run)
+        }
+        _ => Err("a line begins with no word of a script".into()),
+    }
+}
+
+fn edited_run<'a>(old: &'a str, rest: &'a str) -> Result<Run<'a>, Fail> {
+    let (new, said) = rest.split_once('|').ok_or("a second bar")?;
+    let mut run = plain(said);
+    run.old = old;
+    run.new = new;
+    Ok(run)
+}
+
+/// A call that fails, and how many bytes it takes.
+fn read_failure(text: &str) -> Result<Failure, Fail> {
+    match text.split_once(':') {
+        Some((call, bytes)) => Ok(Failure::after(call.parse()?, bytes.parse()?)),
+        None => Ok(Failure::at(text.parse()?)),
+    }
+}
+
+/// Runs the desk, and says whether it says what it is to say.
+fn run_desk<R: Threads + Sync>(
+    rt: &R,
+    alloc: Global,
+    play: &mut Play,
+    run: &Run<'_>,
+) -> Result<bool, Fail> {
+    let mut cabinet = filled_cabinet(alloc, &play.files, run)?;
+    let said = call_desk(rt, alloc, play.words.as_str(), &mut cabinet, run.sink)?;
+    let is_said = fits(said.as_str(), run.said);
+    let is_checked = has_valid_certificate(rt, alloc, play.words.as_str(), &said, &mut cabinet)?;
+    play.said = said;
+    play.cabinet = cabinet;
+    Ok(is_said && is_checked)
+}
+
+/// A cabinet with the files of a run.
+fn filled_cabinet(alloc: Global, files: &[File], run: &Run<'_>) -> Result<MemoryCabinet, Fail> {
+    let mut cabinet = new_cabinet(alloc, room_for(files), run.cabinet)?;
+    for file in files {
+        let text = edited(alloc, file.text.as_str(), run.old, run.new)?;
+        let bytes = spelled_out(alloc, text.as_str())?;
+        if !cabinet.load(file.name.as_str(), &bytes) {
+            return Err("a file has no room".into());
+        }
+    }
+    Ok(cabinet)
+}
+
+/// Room for each file of a run: more where a text repeats a part.
+fn room_for(files: &[File]) -> usize {
+    let mut room = 300_000;
+    for file in files {
+        if file.text.as_str().contains('{') {
+            room = 4_194_305;
+        }
+    }
+    room
+}
+
+/// Whether the certificate is valid that these words wrote, where they wrote one.
+fn has_valid_certificate<R: Threads + Sync>(
+    rt: &R,
+    alloc: Global,
+    words: &str,
+    said: &str,
+    cabinet: &mut MemoryCabinet,
+) -> Result<bool, Fail> {
+    if !words.starts_with("allocate CAP SCR CERT ") || !said.contains("STAGE 4") {
+        return Ok(true);
+    }
+    let verdict = call_desk(rt, alloc, "check CAP SCR CERT", cabinet, None)?;
+    Ok(verdict.as_str() == "0 YES;")
+}
+
+/// Whether the form of a file fails at its first line that is not whole, for each front of it.
+fn play_fronts<R: Threads + Sync>(
+    rt: &R,
+    alloc: Global,
+    play: &mut Play,
+    name: &str,
+) -> Result<bool, Fail> {
+    let whole = filled_cabinet(alloc, &play.files, &plain(""))?;
+    let bytes = whole.file(name).ok_or("no such file")?;
+    for end in 0..bytes.len() {
+        let mut cabinet = filled_cabinet(alloc, &play.files, &plain(""))?;
+        let _ = cabinet.load(name, &bytes[..end]);
+        let said = call_desk(rt, alloc, play.words.as_str(), &mut cabinet, None)?;
+        let line = whole_lines(&bytes[..end]).saturating_add(1);
+        let due = format!(in alloc; "3 FORM {name} {line};")?;
+        if said.as_str() != due.as_str() {
+            play.said = said;
+            return Ok(false);
+        }
+    }
+    Ok(true)
+}
+
+/// How many whole lines the bytes have.
+fn whole_lines(bytes: &[u8]) -> usize {
+    bytes.iter().filter(|b| **b == b'\n').count()
+}
