@@ -1,0 +1,286 @@
+//! What leaves the basis: of what passes its bounds, the one with the greatest ratio of the square of its violation and the
+//! square of the length of its direction.
+
+use crate::programs::{Column, Program};
+use crate::relaxations::Relaxation;
+use crate::slots::{
+    NOTHING, PASSED, add, clear_flags, copy_into, fill, number_at, place_after, product, put,
+    put_flag, put_number, size_of_number, value_at,
+};
+use slot_text::Memory;
+use std::alloc::Global;
+
+// How many of the most passed classes are looked at.
+const LOOKED_AT: usize = 8;
+
+// What leaves.
+#[derive(Clone, Copy)]
+pub(crate) enum Place {
+    // Nothing: all bounds are kept.
+    Nothing,
+    // A basic alternative by its place, below 0, or above it where that is so.
+    Basic(usize, bool),
+    // The key of a unit.
+    Key(u32),
+    // A class without a price.
+    Class(u32),
+}
+
+// What leaves, how far it passes its bound, and the ratio.
+#[derive(Clone, Copy)]
+pub(crate) struct Leaving {
+    pub(crate) place: Place,
+    pub(crate) violation: f64,
+    pub(crate) ratio: f64,
+}
+
+impl Leaving {
+    // Nothing.
+    fn nothing() -> Leaving {
+        Leaving {
+            place: Place::Nothing,
+            violation: 0.0,
+            ratio: 0.0,
+        }
+    }
+
+    // Takes what has a greater ratio.
+    fn offer(&mut self, place: Place, violation: f64, square: f64) {
+        let ratio = violation * violation / square;
+        if ratio > self.ratio {
+            *self = Leaving {
+                place,
+                violation,
+                ratio,
+            };
+        }
+    }
+}
+
+// Numbers that one step computes and the next one overwrites.
+#[derive(Drop)]
+pub(crate) struct Work {
+    // A number for each part: uses of a class, or a price. All are 0 between two uses.
+    pub(crate) parts: Vec<f64>,
+    // Whether a unit has a part with such a number.
+    pub(crate) touched: Vec<bool>,
+    // How the reduced costs of the touched units move.
+    pub(crate) steps: Vec<f64>,
+    // How often each class is used.
+    loads: Vec<f64>,
+    // For each unit the sum of the values of its basic alternatives.
+    sums: Vec<f64>,
+    // For each unit the number of its basic alternatives.
+    pub(crate) counts: Vec<f64>,
+}
+
+impl Work {
+    // Zeros for a program.
+    pub(crate) fn new(alloc: Global, program: &Program<'_>) -> Result<Work, Memory> {
+        let units = program.units() as usize;
+        Ok(Work {
+            parts: vec![in alloc; 0.0; program.parts()]?,
+            touched: vec![in alloc; false; units]?,
+            steps: vec![in alloc; 0.0; program.columns().len()]?,
+            loads: vec![in alloc; 0.0; program.limits().len()]?,
+            sums: vec![in alloc; 0.0; units]?,
+            counts: vec![in alloc; 0.0; units]?,
+        })
+    }
+
+    // The sum of the numbers of an alternative's parts.
+    pub(crate) fn at(&self, one: u32, two: u32) -> f64 {
+        value_at(&self.parts, one as usize) + value_at(&self.parts, two as usize)
+    }
+
+    // Computes how the reduced costs of some alternatives move, beside a key whose parts have this number.
+    pub(crate) fn take_steps(&mut self, columns: &[Column], span: (usize, usize), base: f64) {
+        let (first, end) = span;
+        if first <= end && end <= self.steps.len() {
+            let parts = &self.parts;
+            for (slot, column) in self.steps[first..end].iter_mut().zip(columns) {
+                let one = value_at(parts, column.one as usize);
+                *slot = one + value_at(parts, column.two as usize) - base;
+            }
+        }
+    }
+
+    // Sets the prices of the parts to those of one class, and marks the units.
+    pub(crate) fn add_price(&mut self, program: &Program<'_>, class: u32, price: f64) {
+        program.add_price(class, price, &mut self.parts);
+        for run in program.reduced().users(class) {
+            let unit = program.part_unit(run.first);
+            put_flag(&mut self.touched, unit as usize, true);
+        }
+    }
+
+    // Clears the marks of the units.
+    pub(crate) fn clear_touched(&mut self) {
+        clear_flags(&mut self.touched);
+    }
+}
+
+impl Relaxation {
+    // What leaves.
+    pub(crate) fn leaving(
+        &self,
+        alloc: Global,
+        program: &Program<'_>,
+        work: &mut Work,
+    ) -> Result<Leaving, Memory> {
+        let mut leaving = Leaving::nothing();
+        fill(&mut work.sums, 0.0);
+        self.offer_basics(program, work, &mut leaving);
+        self.offer_keys(alloc, program, work, &mut leaving)?;
+        self.take_loads(program, work);
+        let classes = self.most_passed(program, &work.loads);
+        for class in classes {
+            self.offer_class(alloc, program, work, class, &mut leaving)?;
+        }
+        Ok(leaving)
+    }
+
+    // Offers the basic alternatives, and adds up their values.
+    fn offer_basics(&self, program: &Program<'_>, work: &mut Work, leaving: &mut Leaving) {
+        for (at, (place, value)) in self.basics.iter().zip(&self.values).enumerate() {
+            let column = program.column(*place);
+            add(&mut work.sums, column.unit as usize, *value);
+            let violation = self.violation(&column, *value);
+            if violation > 0.0 {
+                let square = self.inverse.square(at) + NOTHING;
+                leaving.offer(Place::Basic(at, *value > 0.0), violation, square);
+            }
+        }
+    }
+
+    // Offers the keys of the units with basic alternatives.
+    fn offer_keys(
+        &self,
+        alloc: Global,
+        program: &Program<'_>,
+        work: &Work,
+        leaving: &mut Leaving,
+    ) -> Result<(), Memory> {
+        for unit in 0..program.units() {
+            let sum = value_at(&work.sums, unit as usize);
+            if value_at(&work.counts, unit as usize) > 0.0 {
+                let key = program.column(self.key_place(unit));
+                let violation = self.violation(&key, 1.0 - sum);
+                if violation > 0.0 {
+                    let row = self.unit_row(alloc, program, unit)?;
+                    leaving.offer(Place::Key(unit), violation, product(&row, &row) + NOTHING);
+                }
+            }
+        }
+        Ok(())
+    }
+
+    // How far an alternative with this value passes its bounds.
+    fn violation(&self, column: &Column, value: f64) -> f64 {
+        if value < -PASSED {
+            -value
+        } else if value > PASSED && !self.is_allowed(column) {
+            value
+        } else {
+            0.0
+        }
+    }
+
+    // Computes how often each class is used.
+    fn take_loads(&self, program: &Program<'_>, work: &mut Work) {
+        copy_into(&mut work.loads, &self.loads);
+        for (place, value) in self.basics.iter().zip(&self.values) {
+            if size_of_number(*value) > NOTHING {
+                let column = program.column(*place);
+                let key = program.column(self.key_place(column.unit));
+                program.add_uses(&column, *value, &mut work.loads);
+                program.add_uses(&key, -*value, &mut work.loads);
+            }
+        }
+    }
+
+    // The classes without a price that are passed most.
+    fn most_passed(&self, program: &Program<'_>, loads: &[f64]) -> [u32; LOOKED_AT] {
+        let mut tops = Tops {
+            classes: [u32::MAX; LOOKED_AT],
+            passed: [0.0; LOOKED_AT],
+            least: PASSED,
+        };
+        for (class, (load, limit)) in loads.iter().zip(program.limits()).enumerate() {
+            let passed = *load - *limit;
+            if passed > tops.least && number_at(&self.places, class) == u32::MAX {
+                tops.offer(place_after(0, class), passed);
+            }
+        }
+        tops.classes
+    }
+
+    // Offers a class.
+    fn offer_class(
+        &self,
+        alloc: Global,
+        program: &Program<'_>,
+        work: &mut Work,
+        class: u32,
+        leaving: &mut Leaving,
+    ) -> Result<(), Memory> {
+        let violation = value_at(&work.loads, class as usize) - program.limit(class);
+        if class != u32::MAX && violation > 0.0 {
+            let direction = self.class_direction(alloc, program, work, class)?;
+            let square = 1.0 + product(&direction, &direction);
+            leaving.offer(Place::Class(class), violation, square);
+        }
+        Ok(())
+    }
+
+    // How the prices change while that of a class without one rises by 1.
+    pub(crate) fn class_direction(
+        &self,
+        alloc: Global,
+        program: &Program<'_>,
+        work: &mut Work,
+        class: u32,
+    ) -> Result<Vec<f64>, Memory> {
+        program.add_price(class, 1.0, &mut work.parts);
+        let mut weights = Vec::with_capacity(alloc, self.basics.len())?;
+        for place in &self.basics {
+            let column = program.column(*place);
+            let key = program.column(self.key_place(column.unit));
+            weights.push(work.at(key.one, key.two) - work.at(column.one, column.two))?;
+        }
+        program.clear_users(class, &mut work.parts);
+        self.inverse.weighted(alloc, &weights)
+    }
+}
+
+// The classes that are passed most, how far, and how far one must be passed to be among them.
+#[derive(Clone, Copy)]
+struct Tops {
+    classes: [u32; LOOKED_AT],
+    passed: [f64; LOOKED_AT],
+    least: f64,
+}
+
+impl Tops {
+    // Takes in a class in place of the least one.
+    fn offer(&mut self, class: u32, passed: f64) {
+        let at = least_place(&self.passed);
+        put_number(&mut self.classes, at, class);
+        put(&mut self.passed, at, passed);
+        let least = value_at(&self.passed, least_place(&self.passed));
+        if least > PASSED {
+            self.least = least;
+        }
+    }
+}
+
+// The place of the first least number.
+fn least_place(values: &[f64]) -> usize {
+    let mut least = 0;
+    for (at, value) in values.iter().enumerate() {
+        if *value < value_at(values, least) {
+            least = at;
+        }
+    }
+    least
+}

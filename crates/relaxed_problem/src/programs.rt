@@ -1,0 +1,299 @@
+//! The alternatives that take part in a relaxation.
+
+use crate::slots::{add, is_set, number_at, value_at};
+use choice_problem::{Alt, Problem};
+use reduced_problem::Reduced;
+use slot_text::Memory;
+use std::alloc::Global;
+use std::num::nearest_i64_to_f64;
+
+/// The number of no part.
+pub const NO_PART: u32 = u32::MAX;
+
+/// An alternative that takes part.
+#[derive(Clone, Copy, Debug)]
+pub struct Column {
+    /// Its unit.
+    pub unit: u32,
+    /// Its number in the unit.
+    pub number: u32,
+    /// Its cost.
+    pub cost: f64,
+    /// The number of a part among those of all units, or `NO_PART`.
+    pub one: u32,
+    /// The number of another part, or of the same one, or `NO_PART`.
+    pub two: u32,
+}
+
+// An alternative that does not take part, and a class of limit 0 that it uses.
+#[derive(Clone, Copy)]
+pub(crate) struct Barred {
+    pub(crate) column: Column,
+    pub(crate) class: u32,
+}
+
+/// The alternatives that take part in relaxations of a problem, by unit and number, over the resources that matter.
+#[derive(Drop)]
+pub struct Program<'a> {
+    reduced: &'a Reduced,
+    columns: Vec<Column>,
+    firsts: Vec<u32>,
+    barred: Vec<Barred>,
+    limits: Vec<f64>,
+    part_units: Vec<u32>,
+}
+
+impl<'a> Program<'a> {
+    /// The alternatives of a problem but for the excluded ones: a flag for each alternative, unit after unit, where those
+    /// without a flag take part. A price that costs nothing keeps an excluded alternative away that uses a resource of
+    /// limit 0.
+    pub fn new(
+        alloc: Global,
+        problem: &Problem,
+        reduced: &'a Reduced,
+        excluded: &[bool],
+    ) -> Result<Program<'a>, Memory> {
+        let mut program = Program {
+            reduced,
+            columns: Vec::new(alloc),
+            firsts: Vec::new(alloc),
+            barred: Vec::new(alloc),
+            limits: limits_of(alloc, reduced)?,
+            part_units: Vec::new(alloc),
+        };
+        let mut seen: usize = 0;
+        for unit in 0..problem.units() {
+            program.begin_unit()?;
+            let alts = problem.unit_alts(unit);
+            program.add_unit(unit, alts, flags_from(excluded, seen))?;
+            seen = seen.saturating_add(alts.len());
+        }
+        program.begin_unit()?;
+        program.number_parts(problem)?;
+        Ok(program)
+    }
+
+    // Notes where the next unit's alternatives begin.
+    fn begin_unit(&mut self) -> Result<(), Memory> {
+        let first = u32::try_from(self.columns.len()).unwrap_or(u32::MAX);
+        self.firsts.push(first)?;
+        Ok(())
+    }
+
+    // Takes in the alternatives of a unit.
+    fn add_unit(&mut self, unit: u32, alts: &[Alt], excluded: &[bool]) -> Result<(), Memory> {
+        let first = self.reduced.first_part(unit);
+        for (number, alt) in alts.iter().enumerate() {
+            let column = Column {
+                unit,
+                number: u32::try_from(number).unwrap_or(u32::MAX),
+                cost: cost_of(alt.cost),
+                one: global_part(first, alt.one),
+                two: global_part(first, alt.two),
+            };
+            self.add_column(column, is_set(excluded, number))?;
+        }
+        Ok(())
+    }
+
+    // Takes in an alternative, or notes that it is left out.
+    fn add_column(&mut self, column: Column, is_excluded: bool) -> Result<(), Memory> {
+        if !is_excluded {
+            self.columns.push(column)?;
+        } else if let Some(class) = self.closed_class(&column) {
+            self.barred.push(Barred { column, class })?;
+        }
+        Ok(())
+    }
+
+    // A class of limit 0 that an alternative uses.
+    fn closed_class(&self, column: &Column) -> Option<u32> {
+        match self.closed_class_of(column.one) {
+            Some(class) => Some(class),
+            None => self.closed_class_of(column.two),
+        }
+    }
+
+    // A class of limit 0 that a part uses.
+    fn closed_class_of(&self, part: u32) -> Option<u32> {
+        for entry in self.reduced.part_uses(part) {
+            if self.limit(entry.class) < 0.5 {
+                return Some(entry.class);
+            }
+        }
+        None
+    }
+
+    // Notes the unit of each part.
+    fn number_parts(&mut self, problem: &Problem) -> Result<(), Memory> {
+        for unit in 0..problem.units() {
+            for _ in 0..problem.parts(unit) {
+                self.part_units.push(unit)?;
+            }
+        }
+        Ok(())
+    }
+
+    /// The alternatives that take part.
+    pub fn columns(&self) -> &[Column] {
+        &self.columns
+    }
+
+    /// The place of a unit's first alternative among all that take part.
+    pub fn first_column(&self, unit: u32) -> u32 {
+        number_at(&self.firsts, unit as usize)
+    }
+
+    /// A unit's alternatives that take part.
+    pub fn unit_columns(&self, unit: u32) -> &[Column] {
+        let (first, end) = self.span(unit);
+        if first <= end && end <= self.columns.len() {
+            &self.columns[first..end]
+        } else {
+            &[]
+        }
+    }
+
+    // Where a unit's alternatives begin and end.
+    pub(crate) fn span(&self, unit: u32) -> (usize, usize) {
+        let at = unit as usize;
+        let first = number_at(&self.firsts, at);
+        let end = number_at(&self.firsts, at.saturating_add(1));
+        (first as usize, end as usize)
+    }
+
+    // How many units there are.
+    pub(crate) fn units(&self) -> u32 {
+        u32::try_from(self.firsts.len())
+            .unwrap_or(u32::MAX)
+            .saturating_sub(1)
+    }
+
+    // An alternative by its place.
+    pub(crate) fn column(&self, place: u32) -> Column {
+        match self.columns.get(place as usize) {
+            Some(column) => *column,
+            None => Column {
+                unit: u32::MAX,
+                number: u32::MAX,
+                cost: 0.0,
+                one: NO_PART,
+                two: NO_PART,
+            },
+        }
+    }
+
+    // The resources that matter.
+    pub(crate) fn reduced(&self) -> &Reduced {
+        self.reduced
+    }
+
+    // The alternatives that are kept away by prices that cost nothing.
+    pub(crate) fn barred(&self) -> &[Barred] {
+        &self.barred
+    }
+
+    // The limits of the classes.
+    pub(crate) fn limits(&self) -> &[f64] {
+        &self.limits
+    }
+
+    // The limit of a class.
+    pub(crate) fn limit(&self, class: u32) -> f64 {
+        value_at(&self.limits, class as usize)
+    }
+
+    // How many parts there are.
+    pub(crate) fn parts(&self) -> usize {
+        self.part_units.len()
+    }
+
+    // The unit of a part.
+    pub(crate) fn part_unit(&self, part: u32) -> u32 {
+        number_at(&self.part_units, part as usize)
+    }
+
+    // Adds so many times the uses of an alternative to numbers of the classes.
+    pub(crate) fn add_uses(&self, column: &Column, by: f64, loads: &mut [f64]) {
+        self.add_part(column.one, by, loads);
+        self.add_part(column.two, by, loads);
+    }
+
+    // Adds so many times the uses of a part.
+    fn add_part(&self, part: u32, by: f64, loads: &mut [f64]) {
+        for entry in self.reduced.part_uses(part) {
+            add(loads, entry.class as usize, by * f64::from(entry.uses));
+        }
+    }
+
+    // Adds the price of a class, so often as a part uses it, to numbers of the parts.
+    pub(crate) fn add_price(&self, class: u32, price: f64, parts: &mut [f64]) {
+        for run in self.reduced.users(class) {
+            add_in(
+                parts,
+                run.first as usize,
+                run.end as usize,
+                price * f64::from(run.uses),
+            );
+        }
+    }
+
+    // Makes the numbers of the parts that use a class 0.
+    pub(crate) fn clear_users(&self, class: u32, parts: &mut [f64]) {
+        for run in self.reduced.users(class) {
+            clear_in(parts, run.first as usize, run.end as usize);
+        }
+    }
+}
+
+// Adds to the numbers from one place to another.
+fn add_in(values: &mut [f64], first: usize, end: usize, value: f64) {
+    if first <= end && end <= values.len() {
+        for slot in values[first..end].iter_mut() {
+            *slot += value;
+        }
+    }
+}
+
+// Makes the numbers from one place to another 0.
+fn clear_in(values: &mut [f64], first: usize, end: usize) {
+    if first <= end && end <= values.len() {
+        for slot in values[first..end].iter_mut() {
+            *slot = 0.0;
+        }
+    }
+}
+
+// The flags from a place on.
+fn flags_from(flags: &[bool], place: usize) -> &[bool] {
+    if place <= flags.len() {
+        &flags[place..]
+    } else {
+        &[]
+    }
+}
+
+// The number of a part among those of all units.
+fn global_part(first: u32, part: Option<u32>) -> u32 {
+    match part {
+        Some(part) => first.saturating_add(part),
+        None => NO_PART,
+    }
+}
+
+// A cost as a float.
+fn cost_of(cost: u64) -> f64 {
+    match i64::try_from(cost) {
+        Ok(cost) => nearest_i64_to_f64(cost),
+        Err(_) => 0.0,
+    }
+}
+
+// The limits of the classes.
+fn limits_of(alloc: Global, reduced: &Reduced) -> Result<Vec<f64>, Memory> {
+    let mut limits = Vec::with_capacity(alloc, reduced.classes().len())?;
+    for class in reduced.classes() {
+        limits.push(nearest_i64_to_f64(class.limit))?;
+    }
+    Ok(limits)
+}

@@ -1,0 +1,351 @@
+//! The state of a relaxation: its basis, prices and reduced costs, and the ranges of its units.
+
+use crate::inverses::Inverse;
+use crate::programs::{Column, Program};
+use crate::slots::{
+    NOTHING, PASSED, add, add_multiple, is_set, number_at, place_after, put_flag, put_number,
+    size_of_number, value_at,
+};
+use slot_text::Memory;
+use std::alloc::Global;
+
+// How much the costs are changed at most, so that few are equal.
+const MOST_CHANGE: f64 = 0.0001;
+
+/// What a relaxation takes of an alternative.
+#[derive(Clone, Copy, Debug)]
+pub struct Share {
+    /// The unit.
+    pub unit: u32,
+    /// The number of the alternative in the unit.
+    pub alt: u32,
+    /// How much of it is taken: the shares of a unit add up to about 1.
+    pub share: f64,
+}
+
+/// A linear relaxation in the making: a basis, from which `solve` goes on.
+#[derive(Drop)]
+pub struct Relaxation {
+    // The lowest and the highest alternative that each unit may take.
+    pub(crate) spans: Vec<(u32, u32)>,
+    // The place of each unit's key alternative.
+    pub(crate) keys: Vec<u32>,
+    // The places of the basic alternatives.
+    pub(crate) basics: Vec<u32>,
+    // The classes with a price.
+    pub(crate) priced: Vec<u32>,
+    // The place of each class among those with a price.
+    pub(crate) places: Vec<u32>,
+    pub(crate) inverse: Inverse,
+    // The reduced cost of each alternative, with changed costs.
+    pub(crate) reduced: Vec<f64>,
+    // Whether an alternative is basic.
+    pub(crate) is_basic: Vec<bool>,
+    // The price of each class, with changed costs.
+    pub(crate) prices: Vec<f64>,
+    // How often the keys use each class.
+    pub(crate) loads: Vec<f64>,
+    // The value of each basic alternative.
+    pub(crate) values: Vec<f64>,
+    // Where there is no solution: prices of classes that show it.
+    pub(crate) ray: Vec<(u32, f64)>,
+    pub(crate) value: f64,
+}
+
+impl Relaxation {
+    /// The start: each unit takes its cheapest alternative, and no resource has a price.
+    pub fn start(alloc: Global, program: &Program<'_>) -> Result<Relaxation, Memory> {
+        let classes = program.limits().len();
+        let columns = program.columns().len();
+        let mut relaxation = Relaxation {
+            spans: Vec::new(alloc),
+            keys: Vec::new(alloc),
+            basics: Vec::new(alloc),
+            priced: Vec::new(alloc),
+            places: vec![in alloc; u32::MAX; classes]?,
+            inverse: Inverse::new(alloc),
+            reduced: Vec::with_capacity(alloc, columns)?,
+            is_basic: vec![in alloc; false; columns]?,
+            prices: vec![in alloc; 0.0; classes]?,
+            loads: vec![in alloc; 0.0; classes]?,
+            values: Vec::new(alloc),
+            ray: Vec::new(alloc),
+            value: 0.0,
+        };
+        for unit in 0..program.units() {
+            relaxation.start_unit(program, unit)?;
+        }
+        Ok(relaxation)
+    }
+
+    // Lets a unit take its cheapest alternative.
+    fn start_unit(&mut self, program: &Program<'_>, unit: u32) -> Result<(), Memory> {
+        let first = program.first_column(unit);
+        let columns = program.unit_columns(unit);
+        let (place, least) = cheapest(columns, first).unwrap_or((u32::MAX, 0.0));
+        self.spans.push((0, u32::MAX))?;
+        self.keys.push(place)?;
+        self.value += least;
+        program.add_uses(&program.column(place), 1.0, &mut self.loads);
+        for (number, column) in columns.iter().enumerate() {
+            let at = place_after(first, number);
+            self.reduced.push(changed_cost(column, at) - least)?;
+        }
+        Ok(())
+    }
+
+    /// A copy, from which both can go on.
+    pub fn copy(&self, alloc: Global) -> Result<Relaxation, Memory> {
+        Ok(Relaxation {
+            spans: Vec::from_slice(alloc, &self.spans)?,
+            keys: Vec::from_slice(alloc, &self.keys)?,
+            basics: Vec::from_slice(alloc, &self.basics)?,
+            priced: Vec::from_slice(alloc, &self.priced)?,
+            places: Vec::from_slice(alloc, &self.places)?,
+            inverse: self.inverse.copy(alloc)?,
+            reduced: Vec::from_slice(alloc, &self.reduced)?,
+            is_basic: Vec::from_slice(alloc, &self.is_basic)?,
+            prices: Vec::from_slice(alloc, &self.prices)?,
+            loads: Vec::from_slice(alloc, &self.loads)?,
+            values: Vec::from_slice(alloc, &self.values)?,
+            ray: Vec::from_slice(alloc, &self.ray)?,
+            value: self.value,
+        })
+    }
+
+    /// Lets a unit take only alternatives from a lowest to a highest one, by their numbers in the unit.
+    pub fn restrict(&mut self, unit: u32, low: u32, high: u32) {
+        if let Some(span) = self.spans.get_mut(unit as usize) {
+            *span = (low, high);
+        }
+    }
+
+    /// The value with changed costs: where the relaxation is not solved yet, at most the solution's. A cost is changed by
+    /// at most 1/10,000.
+    pub fn value(&self) -> f64 {
+        self.value
+    }
+
+    /// The value of the basis at the costs themselves.
+    pub fn true_value(&self, program: &Program<'_>) -> f64 {
+        let mut total = 0.0;
+        for place in &self.keys {
+            total += program.column(*place).cost;
+        }
+        for (place, value) in self.basics.iter().zip(&self.values) {
+            let column = program.column(*place);
+            let key = program.column(self.key_place(column.unit));
+            total += *value * (column.cost - key.cost);
+        }
+        total
+    }
+
+    /// The reduced costs of the program's columns, in their order, with changed costs.
+    pub fn reduced_costs(&self) -> &[f64] {
+        &self.reduced
+    }
+
+    /// The alternative that a unit takes where `shares` does not name it.
+    pub fn key(&self, program: &Program<'_>, unit: u32) -> u32 {
+        program.column(self.key_place(unit)).number
+    }
+
+    /// The shares of the units that have a basic alternative, by unit and alternative. Shares of less than 1/10,000,000 are
+    /// left out.
+    pub fn shares(&self, alloc: Global, program: &Program<'_>) -> Result<Vec<Share>, Memory> {
+        let sums = self.sums(alloc, program)?;
+        let mut places = Vec::new(alloc);
+        for (place, value) in self.basics.iter().zip(&self.values) {
+            if *value > PASSED {
+                places.push((*place, *value))?;
+            }
+        }
+        for (key, sum) in self.keys.iter().zip(&sums) {
+            if size_of_number(*sum) > NOTHING && 1.0 - *sum > PASSED {
+                places.push((*key, 1.0 - *sum))?;
+            }
+        }
+        places.sort_unstable_by_key(|entry| entry.0);
+        shares_at(alloc, program, &places)
+    }
+
+    // The sum of the values of each unit's basic alternatives.
+    fn sums(&self, alloc: Global, program: &Program<'_>) -> Result<Vec<f64>, Memory> {
+        let mut sums = vec![in alloc; 0.0; self.keys.len()]?;
+        for (place, value) in self.basics.iter().zip(&self.values) {
+            let unit = program.column(*place).unit;
+            add(&mut sums, unit as usize, *value);
+        }
+        Ok(sums)
+    }
+
+    // The place of a unit's key.
+    pub(crate) fn key_place(&self, unit: u32) -> u32 {
+        number_at(&self.keys, unit as usize)
+    }
+
+    // Whether an alternative is in its unit's range.
+    pub(crate) fn is_allowed(&self, column: &Column) -> bool {
+        match self.spans.get(column.unit as usize) {
+            Some((low, high)) => *low <= column.number && column.number <= *high,
+            None => false,
+        }
+    }
+
+    // Makes an alternative the key of its unit.
+    fn set_key(&mut self, program: &Program<'_>, unit: u32, place: u32) {
+        let old = program.column(self.key_place(unit));
+        program.add_uses(&old, -1.0, &mut self.loads);
+        program.add_uses(&program.column(place), 1.0, &mut self.loads);
+        put_number(&mut self.keys, unit as usize, place);
+    }
+
+    // Makes a basic alternative the key of its unit; the key takes its place.
+    pub(crate) fn switch_key(
+        &mut self,
+        alloc: Global,
+        program: &Program<'_>,
+        place: usize,
+    ) -> Result<(), Memory> {
+        let new = number_at(&self.basics, place);
+        let unit = program.column(new).unit;
+        let old = self.key_place(unit);
+        let mut row = self.unit_row(alloc, program, unit)?;
+        negate(&mut row);
+        self.inverse.put_row(place, row);
+        self.set_key(program, unit, new);
+        put_number(&mut self.basics, place, old);
+        put_flag(&mut self.is_basic, new as usize, false);
+        put_flag(&mut self.is_basic, old as usize, true);
+        Ok(())
+    }
+
+    // The sum of the rows of a unit's basic alternatives.
+    pub(crate) fn unit_row(
+        &self,
+        alloc: Global,
+        program: &Program<'_>,
+        unit: u32,
+    ) -> Result<Vec<f64>, Memory> {
+        let mut sums = vec![in alloc; 0.0; self.priced.len()]?;
+        for (place, row) in self.basics.iter().zip(self.inverse.rows()) {
+            if program.column(*place).unit == unit {
+                add_multiple(&mut sums, row, 1.0);
+            }
+        }
+        Ok(sums)
+    }
+
+    // Lets a unit without basic alternatives take its best allowed one. Answers whether there is one.
+    pub(crate) fn set_best_key(&mut self, program: &Program<'_>, unit: u32) -> bool {
+        let Some((place, least)) = self.best_allowed(program, unit) else {
+            return false;
+        };
+        self.set_key(program, unit, place);
+        self.value += least;
+        let (first, end) = program.span(unit);
+        lower_all(&mut self.reduced, first, end, least);
+        true
+    }
+
+    // The place of a unit's first allowed alternative of least reduced cost, and that cost.
+    fn best_allowed(&self, program: &Program<'_>, unit: u32) -> Option<(u32, f64)> {
+        let first = program.first_column(unit);
+        let mut best: Option<(u32, f64)> = None;
+        for (number, column) in program.unit_columns(unit).iter().enumerate() {
+            let at = place_after(first, number);
+            let cost = value_at(&self.reduced, at as usize);
+            if is_less(cost, best) && self.is_allowed(column) {
+                best = Some((at, cost));
+            }
+        }
+        best
+    }
+
+    // Computes the values of the basic alternatives.
+    pub(crate) fn take_values(
+        &mut self,
+        alloc: Global,
+        program: &Program<'_>,
+    ) -> Result<(), Memory> {
+        let mut room = Vec::with_capacity(alloc, self.priced.len())?;
+        for class in &self.priced {
+            let load = value_at(&self.loads, *class as usize);
+            room.push(program.limit(*class) - load)?;
+        }
+        self.values = self.inverse.times(alloc, &room)?;
+        Ok(())
+    }
+
+    // Whether an alternative is basic or a key, or not allowed.
+    pub(crate) fn is_out(&self, column: &Column, place: u32) -> bool {
+        is_set(&self.is_basic, place as usize)
+            || self.key_place(column.unit) == place
+            || !self.is_allowed(column)
+    }
+}
+
+// The place of the first cheapest alternative with changed costs, and that cost.
+fn cheapest(columns: &[Column], first: u32) -> Option<(u32, f64)> {
+    let mut best: Option<(u32, f64)> = None;
+    for (number, column) in columns.iter().enumerate() {
+        let at = place_after(first, number);
+        let cost = changed_cost(column, at);
+        if is_less(cost, best) {
+            best = Some((at, cost));
+        }
+    }
+    best
+}
+
+// Whether a cost is less than the best one, if there is one.
+fn is_less(cost: f64, best: Option<(u32, f64)>) -> bool {
+    match best {
+        Some((_, least)) => cost < least,
+        None => true,
+    }
+}
+
+// A cost, raised by up to 1/10,000 by the number of the place.
+fn changed_cost(column: &Column, place: u32) -> f64 {
+    let mixed = u64::from(place)
+        .wrapping_add(1)
+        .wrapping_mul(11_400_714_819_323_198_485);
+    let folded = (mixed ^ (mixed >> 29)).wrapping_mul(13_787_848_793_156_543_929);
+    let drawn = (folded >> 40) as u32;
+    column.cost + MOST_CHANGE * f64::from(drawn) / 16_777_216.0
+}
+
+// Turns the sign of each number.
+fn negate(values: &mut [f64]) {
+    for value in values.iter_mut() {
+        *value = -*value;
+    }
+}
+
+// Takes a number from those from one place to another.
+fn lower_all(values: &mut [f64], first: usize, end: usize, by: f64) {
+    if first <= end && end <= values.len() {
+        for value in values[first..end].iter_mut() {
+            *value -= by;
+        }
+    }
+}
+
+// The shares of the alternatives at these places.
+fn shares_at(
+    alloc: Global,
+    program: &Program<'_>,
+    places: &[(u32, f64)],
+) -> Result<Vec<Share>, Memory> {
+    let mut shares = Vec::with_capacity(alloc, places.len())?;
+    for (place, share) in places {
+        let column = program.column(*place);
+        shares.push(Share {
+            unit: column.unit,
+            alt: column.number,
+            share: *share,
+        })?;
+    }
+    Ok(shares)
+}

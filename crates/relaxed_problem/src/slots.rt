@@ -1,0 +1,124 @@
+//! Entries of lists by their place, where a place beyond the end holds 0 and takes nothing.
+
+// The least size of a pivot.
+pub(crate) const LEAST_PIVOT: f64 = 0.000000001;
+
+// How far above a limit, or below 0, a value passes it.
+pub(crate) const PASSED: f64 = 0.0000001;
+
+// What counts as 0.
+pub(crate) const NOTHING: f64 = 0.000000000001;
+
+// The number at a place.
+pub(crate) fn value_at(values: &[f64], place: usize) -> f64 {
+    match values.get(place) {
+        Some(value) => *value,
+        None => 0.0,
+    }
+}
+
+// The number of a thing at a place.
+pub(crate) fn number_at(numbers: &[u32], place: usize) -> u32 {
+    match numbers.get(place) {
+        Some(number) => *number,
+        None => u32::MAX,
+    }
+}
+
+// Whether the flag at a place is set.
+pub(crate) fn is_set(flags: &[bool], place: usize) -> bool {
+    match flags.get(place) {
+        Some(flag) => *flag,
+        None => false,
+    }
+}
+
+// The place that is so many after another one.
+pub(crate) fn place_after(first: u32, number: usize) -> u32 {
+    first.saturating_add(u32::try_from(number).unwrap_or(u32::MAX))
+}
+
+// The numbers from one place to another.
+pub(crate) fn part_of(values: &[f64], span: (usize, usize)) -> &[f64] {
+    let (first, end) = span;
+    if first <= end && end <= values.len() {
+        &values[first..end]
+    } else {
+        &[]
+    }
+}
+
+// Puts a number at a place.
+pub(crate) fn put(values: &mut [f64], place: usize, value: f64) {
+    if let Some(slot) = values.get_mut(place) {
+        *slot = value;
+    }
+}
+
+// Adds to the number at a place.
+pub(crate) fn add(values: &mut [f64], place: usize, value: f64) {
+    if let Some(slot) = values.get_mut(place) {
+        *slot += value;
+    }
+}
+
+// Puts the number of a thing at a place.
+pub(crate) fn put_number(numbers: &mut [u32], place: usize, number: u32) {
+    if let Some(slot) = numbers.get_mut(place) {
+        *slot = number;
+    }
+}
+
+// Sets or clears the flag at a place.
+pub(crate) fn put_flag(flags: &mut [bool], place: usize, flag: bool) {
+    if let Some(slot) = flags.get_mut(place) {
+        *slot = flag;
+    }
+}
+
+// Puts one value into each place.
+pub(crate) fn fill(values: &mut [f64], value: f64) {
+    for slot in values.iter_mut() {
+        *slot = value;
+    }
+}
+
+// Clears all flags.
+pub(crate) fn clear_flags(flags: &mut [bool]) {
+    for slot in flags.iter_mut() {
+        *slot = false;
+    }
+}
+
+// Copies numbers into the places of others.
+pub(crate) fn copy_into(values: &mut [f64], from: &[f64]) {
+    for (slot, value) in values.iter_mut().zip(from) {
+        *slot = *value;
+    }
+}
+
+// Adds a multiple of one list of numbers to another.
+pub(crate) fn add_multiple(values: &mut [f64], other: &[f64], by: f64) {
+    for (slot, value) in values.iter_mut().zip(other) {
+        *slot += by * *value;
+    }
+}
+
+// The sum of the products of two lists of numbers.
+pub(crate) fn product(one: &[f64], other: &[f64]) -> f64 {
+    let mut total = 0.0;
+    for (left, right) in one.iter().zip(other) {
+        total += *left * *right;
+    }
+    total
+}
+
+// The greater of a number and 0.
+pub(crate) fn above_zero(value: f64) -> f64 {
+    if value > 0.0 { value } else { 0.0 }
+}
+
+// The size of a number.
+pub(crate) fn size_of_number(value: f64) -> f64 {
+    if value < 0.0 { -value } else { value }
+}
