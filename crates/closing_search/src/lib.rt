@@ -3,8 +3,19 @@
 //! after an exact test of its tree, its vectors and its choice.
 #![tactic(auto)]
 
+mod accepted;
+mod barred;
 mod closed;
+mod dives;
+mod entries;
+mod exact;
+mod growing;
+mod pricings;
+mod rough;
 mod searched;
+mod spans;
+mod splits;
+mod states;
 
 pub use closed::Closed;
 pub use searched::closing_search;
