@@ -1,0 +1,2 @@
+mod ExactLemmas
+mod AcceptedLemmas

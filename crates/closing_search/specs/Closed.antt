@@ -1,0 +1,33 @@
+-- What is answered of a problem that was closed.
+use Rattle.std.specs.Prelude.{◌≡◌, ℕ, ◌≤◌, List, drop, length, sum_by, All, Option, Some, None}
+use Rattle.choice_problem.specs.declared.vectors.Price.{Price}
+use Rattle.choice_problem.specs.declared.nodes.Node.{Node}
+use Rattle.choice_problem.specs.Problems.{ProblemView}
+use Rattle.choice_problem.specs.Choices.{IsFeasible, IsBest, HasNone, choice_cost}
+use Rattle.choice_problem.specs.Bounds.{IsVector, whole_of}
+use Rattle.choice_problem.specs.Trees.{IsSound, IsWhole, node_count}
+use Rattle.closing_search.specs.declared.closed.Closed.{Closed}
+use Rattle.closing_search.specs.declared.closed.Closed.TheVariants.{Optimal, Infeasible}
+
+-- a whole tree of at most so many nodes that is sound for the cost, or for none, with at most 64 vectors of the problem, of
+-- which all but the first have together at most 1,000,000 prices
+pub record ClosesWhole (p : ProblemView) (budget : ℕ) (cost : Option ℕ) (tree : List Node)
+    (vectors : List (List Price)) : Type 0 where
+  pub sound : IsSound p vectors cost (whole_of p) tree
+  pub whole : IsWhole tree
+  pub few_nodes : node_count tree ≤ budget
+  pub each : All (IsVector p) vectors
+  pub few : length vectors ≤ 64
+  pub few_prices : sum_by (λ (prices : List Price). length prices) (drop 1 vectors) ≤ 1000000
+
+-- a choice that is best, with its cost and what proves it, or what proves that there is none
+abbrev pub IsClosed : ProblemView → ℕ → Closed → Type 0
+IsClosed p budget (Optimal choice cost tree vectors) =
+    ClosesWhole p budget (Some cost) tree vectors × IsFeasible p choice
+    × (choice_cost p choice ≡ cost) × IsBest p choice
+IsClosed p budget (Infeasible tree vectors) = ClosesWhole p budget None tree vectors × HasNone p
+
+-- there is a best choice, and it costs at most this
+abbrev pub IsClosedAtMost : ℕ → Closed → Type 0
+IsClosedAtMost most (Optimal choice cost tree vectors) = cost ≤ most
+IsClosedAtMost most (Infeasible tree vectors) = ⊥

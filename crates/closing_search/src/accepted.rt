@@ -1,0 +1,218 @@
+//! What is answered of a tree that was found, after its test.
+
+ghost use Rattle.std.specs.Prelude.{◌≡◌, ◌<◌, ◌≤◌, ◌^◌, ℕ, List, All, IsTrue, IfOk, IfSome, drop, length, sum_by, Some, None};
+ghost use Rattle.choice_problem.specs.declared.vectors.Price.{Price};
+ghost use Rattle.choice_problem.specs.Choices.{IsFeasible, choice_cost};
+ghost use Rattle.choice_problem.specs.Trees.{node_count};
+ghost use Rattle.closing_search.specs.Closed.{ClosesWhole, IsClosed, IsClosedAtMost};
+
+use crate::closed::Closed;
+use crate::exact::{is_proof, tables_of};
+use choice_problem::{
+    Choice, Node, Problem, Tree, Vector, VectorList, cost_of, count_nodes, fits, sound_tree,
+};
+use slot_text::Memory;
+use std::alloc::Global;
+
+// The most vectors, and the most prices of all but the first.
+const MOST_LISTED: usize = 64;
+
+const MOST_PRICES: usize = 1_000_000;
+
+// A tree that was found, with the vectors that its leaves name, and the choice that it is to prove best, if any. Nothing is
+// known of them.
+#[derive(Drop)]
+pub(crate) struct Found {
+    pub(crate) choice: Option<Choice>,
+    pub(crate) nodes: Vec<Node>,
+    pub(crate) vectors: Vec<Vector>,
+}
+
+/// The answer that was found, if it passes the test.
+pub(crate) fn accepted(
+    alloc: Global,
+    problem: &Problem,
+    start: &Option<Choice>,
+    budget: u32,
+    found: Found,
+) -> Result<Option<Closed>, Memory>
+    requires { IfSome start.now (IsFeasible problem.now) }
+    ensures closed { IfOk result (λ found. IfSome found (IsClosed problem.now budget)) }
+    ensures start { IfOk result (λ found. IfSome found (λ closed. IfSome start.now
+        (λ x. IsClosedAtMost (choice_cost problem.now x) closed))) }
+{
+    let Found {
+        choice,
+        nodes,
+        vectors,
+    } = found;
+    let tree = Tree::new(nodes);
+    let vectors = VectorList::new(vectors);
+    match choice {
+        Some(choice) => accepted_best(alloc, problem, start, budget, choice, tree, vectors),
+        None if start.is_some() => Ok(None),
+        None => accepted_none(alloc, problem, budget, tree, vectors),
+    }
+}
+
+// A best choice, if it passes the test.
+fn accepted_best(
+    alloc: Global,
+    problem: &Problem,
+    start: &Option<Choice>,
+    budget: u32,
+    choice: Choice,
+    tree: Tree,
+    vectors: VectorList,
+) -> Result<Option<Closed>, Memory>
+    requires { IfSome start.now (IsFeasible problem.now) }
+    ensures closed { IfOk result (λ found. IfSome found (IsClosed problem.now budget)) }
+    ensures start { IfOk result (λ found. IfSome found (λ closed. IfSome start.now
+        (λ x. IsClosedAtMost (choice_cost problem.now x) closed))) }
+{
+    if !choice.is_for(problem) || !fits(alloc, problem, &choice)? {
+        return Ok(None);
+    }
+    let cost = cost_of(problem, &choice);
+    if !is_within(problem, start, cost) {
+        return Ok(None);
+    }
+    if !closes_whole(alloc, problem, budget, Some(cost), &tree, &vectors)? {
+        return Ok(None);
+    }
+    let closed = optimal(problem, start, budget, choice, cost, tree, vectors);
+    Ok(Some(closed))
+}
+
+// The answer that passed the test.
+fn optimal(
+    problem: &Problem,
+    start: &Option<Choice>,
+    _budget: u32,
+    choice: Choice,
+    cost: u64,
+    tree: Tree,
+    vectors: VectorList,
+) -> Closed
+    requires feasible { IsFeasible problem.now choice }
+    requires cost { choice_cost problem.now choice ≡ cost }
+    requires within { IfSome start.now (λ x. cost ≤ choice_cost problem.now x) }
+    requires closes { ClosesWhole problem.now _budget (Some cost) tree vectors }
+    ensures closed { IsClosed problem.now _budget result }
+    ensures start { IfSome start.now (λ x. IsClosedAtMost (choice_cost problem.now x) result) }
+{
+    sound_tree();
+    let _problem = problem;
+    let _start = start;
+    Closed::Optimal {
+        choice,
+        cost,
+        tree,
+        vectors,
+    }
+}
+
+// That there is no choice, if it passes the test.
+fn accepted_none(
+    alloc: Global,
+    problem: &Problem,
+    budget: u32,
+    tree: Tree,
+    vectors: VectorList,
+) -> Result<Option<Closed>, Memory>
+    ensures { IfOk result (λ found. IfSome found (IsClosed problem.now budget)) }
+{
+    if !closes_whole(alloc, problem, budget, None, &tree, &vectors)? {
+        return Ok(None);
+    }
+    let closed = infeasible(problem, budget, tree, vectors);
+    Ok(Some(closed))
+}
+
+// The answer that passed the test, where there is no choice.
+fn infeasible(problem: &Problem, _budget: u32, tree: Tree, vectors: VectorList) -> Closed
+    requires { ClosesWhole problem.now _budget None tree vectors }
+    ensures { IsClosed problem.now _budget result }
+{
+    sound_tree();
+    let _problem = problem;
+    Closed::Infeasible { tree, vectors }
+}
+
+// Whether a cost is at most that of the start, if there is one.
+fn is_within(problem: &Problem, start: &Option<Choice>, cost: u64) -> bool
+    requires { IfSome start.now (IsFeasible problem.now) }
+    ensures { IsTrue result → IfSome start.now (λ x. cost ≤ choice_cost problem.now x) }
+{
+    match start {
+        Some(start) => cost <= cost_of(problem, start),
+        None => true,
+    }
+}
+
+// Whether the tree is whole, keeps the limits on nodes, vectors and prices, and is sound for the cost, or for none.
+fn closes_whole(
+    alloc: Global,
+    problem: &Problem,
+    budget: u32,
+    cost: Option<u64>,
+    tree: &Tree,
+    vectors: &VectorList,
+) -> Result<bool, Memory>
+    ensures { IfOk result (λ yes. IsTrue yes →
+        ClosesWhole problem.now budget cost tree.now vectors.now) }
+{
+    if !has_few_nodes(tree, budget) {
+        return Ok(false);
+    }
+    if !are_listable(vectors) {
+        return Ok(false);
+    }
+    match tables_of(alloc, problem, vectors.items())? {
+        Some(tables) => is_proof(alloc, problem, &tables, cost, tree.items()),
+        None => Ok(false),
+    }
+}
+
+// Whether a tree has at most so many nodes.
+fn has_few_nodes(tree: &Tree, budget: u32) -> bool
+    ensures { IsTrue result → node_count tree.now ≤ budget }
+{
+    tree.items().len() < 1 << 32 && count_nodes(tree) <= budget
+}
+
+// Whether vectors keep the limits on their number and on their prices.
+fn are_listable(vectors: &VectorList) -> bool
+    ensures few { IsTrue result → length vectors.now ≤ 64 }
+    ensures prices { IsTrue result →
+        sum_by (λ (prices : List Price). length prices) (drop 1 vectors.now) ≤ 1000000 }
+{
+    let vectors = vectors.items();
+    vectors.len() <= MOST_LISTED && are_few_prices(after_first(vectors))
+}
+
+// All but the first.
+fn after_first(vectors: &[Vector]) -> &[Vector]
+    ensures { result.now ≡ drop 1 vectors.now }
+{
+    match vectors {
+        [_, rest @ ..] => rest,
+        _ => vectors,
+    }
+}
+
+// Whether some vectors have together at most 1,000,000 prices.
+fn are_few_prices(vectors: &[Vector]) -> bool
+    ensures { IsTrue result →
+        sum_by (λ (prices : List Price). length prices) vectors.now ≤ 1000000 }
+{
+    let mut count = 0;
+    for vector in vectors {
+        let more = vector.items().len();
+        if more > MOST_PRICES - count {
+            return false;
+        }
+        count += more;
+    }
+    true
+}

@@ -1,0 +1,213 @@
+//! The growth of a tree by free splits.
+
+use crate::dives::rounded;
+use crate::entries::Entry;
+use crate::pricings::Pricing;
+use crate::splits::{Split, best_split};
+use crate::states::{NEVER, Open, State, Task};
+use relaxed_problem::{End, Relaxation};
+use slot_text::Memory;
+use std::alloc::Global;
+
+// The most pivots of one node.
+const NODE_PIVOTS: u32 = 20_000;
+
+/// Visits open nodes, the last one first, until none is left, so many were visited, or one stays open. Answers whether none
+/// is left.
+pub(crate) fn grow(
+    alloc: Global,
+    task: &Task<'_>,
+    state: &mut State,
+    most: u32,
+) -> Result<bool, Memory> {
+    for _ in 0..most {
+        let Some(open) = state.open.pop() else {
+            return Ok(true);
+        };
+        if state.steps == 0 || !visit(alloc, task, state, open)? {
+            return Ok(false);
+        }
+    }
+    Ok(state.open.is_empty())
+}
+
+// Closes or splits a node. Answers whether it did.
+fn visit(
+    alloc: Global,
+    task: &Task<'_>,
+    state: &mut State,
+    mut open: Open,
+) -> Result<bool, Memory> {
+    complete_values(task, state, &mut open)?;
+    if state.close_by_known(&open) {
+        return Ok(true);
+    }
+    let enough = state.enough();
+    match solve(alloc, task, state, &mut open.relaxation, enough)? {
+        End::Spent => Ok(false),
+        End::Solved => bound_or_split(alloc, task, state, open),
+        End::Infeasible => close_empty(alloc, task, state, &open),
+        End::Above => {
+            if close_bounded(alloc, task, state, &open)? {
+                return Ok(true);
+            }
+            split_bounded(alloc, task, state, open)
+        }
+    }
+}
+
+// Splits a node whose relaxation is above the cost while no vector closes it.
+fn split_bounded(
+    alloc: Global,
+    task: &Task<'_>,
+    state: &mut State,
+    mut open: Open,
+) -> Result<bool, Memory> {
+    match solve(alloc, task, state, &mut open.relaxation, NEVER)? {
+        End::Solved => bound_or_split(alloc, task, state, open),
+        End::Infeasible => close_empty(alloc, task, state, &open),
+        End::Above | End::Spent => Ok(false),
+    }
+}
+
+// Goes on with a relaxation.
+fn solve(
+    alloc: Global,
+    task: &Task<'_>,
+    state: &mut State,
+    relaxation: &mut Relaxation,
+    enough: f64,
+) -> Result<End, Memory> {
+    let ended = relaxation.solve(alloc, task.program, NODE_PIVOTS, enough)?;
+    state.spend(task.program, ended.pivots);
+    Ok(ended.end)
+}
+
+// Computes the bounds of the vectors that were added since the node was made.
+fn complete_values(task: &Task<'_>, state: &State, open: &mut Open) -> Result<(), Memory> {
+    let known = open.values.len();
+    for pricing in state.pricings.iter().skip(known) {
+        let value = pricing.value(task.problem, task.reduced, &open.spans);
+        open.values.push(value)?;
+    }
+    Ok(())
+}
+
+// Closes a node whose relaxation has no solution.
+fn close_empty(
+    alloc: Global,
+    task: &Task<'_>,
+    state: &mut State,
+    open: &Open,
+) -> Result<bool, Memory> {
+    if task.is_rough {
+        return Ok(true);
+    }
+    for greatest in [1, 1_024, 1_048_576] {
+        let relaxation = &open.relaxation;
+        let vector = relaxation.ray(alloc, task.problem, task.program, greatest)?;
+        let pricing = Pricing::new(alloc, task.reduced, vector, 0)?;
+        if state.close_by(task, open, pricing)? {
+            return Ok(true);
+        }
+    }
+    Ok(false)
+}
+
+// Closes a node whose relaxation is above the cost.
+fn close_bounded(
+    alloc: Global,
+    task: &Task<'_>,
+    state: &mut State,
+    open: &Open,
+) -> Result<bool, Memory> {
+    if task.is_rough {
+        return Ok(true);
+    }
+    let vector = open.relaxation.vector(alloc, task.problem, task.program)?;
+    let pricing = Pricing::new(alloc, task.reduced, vector, 1_024)?;
+    state.close_by(task, open, pricing)
+}
+
+// Closes or splits a node whose relaxation is solved.
+fn bound_or_split(
+    alloc: Global,
+    task: &Task<'_>,
+    state: &mut State,
+    open: Open,
+) -> Result<bool, Memory> {
+    let is_near = open.relaxation.value() > state.enough() - 0.02;
+    if is_near && close_bounded(alloc, task, state, &open)? {
+        return Ok(true);
+    }
+    let shares = open.relaxation.shares(alloc, task.program)?;
+    if let Some(split) = best_split(alloc, task, state, &open, &shares)? {
+        return divide(alloc, task, state, open, split);
+    }
+    let choice = rounded(alloc, task, &open.relaxation, &shares)?;
+    state.take(alloc, task.problem, choice)?;
+    close_bounded(alloc, task, state, &open)
+}
+
+// Splits a node. The part of which the relaxation takes more is searched first.
+fn divide(
+    alloc: Global,
+    task: &Task<'_>,
+    state: &mut State,
+    open: Open,
+    split: Split,
+) -> Result<bool, Memory> {
+    let Split { unit, cut, is_low } = split;
+    let (from, to) = open.spans.of(unit);
+    if cut <= from || to < cut {
+        return Ok(false);
+    }
+    let low = state.add_entry()?;
+    let high = state.add_entry()?;
+    let parts = Entry::Split {
+        unit,
+        cut,
+        low,
+        high,
+    };
+    state.close(open.entry, parts);
+    let below = (from, cut - 1);
+    let above = (cut, to);
+    let (first, last) = if is_low {
+        ((low, below), (high, above))
+    } else {
+        ((high, above), (low, below))
+    };
+    push_part(alloc, task, state, &open, unit, last)?;
+    push_part(alloc, task, state, &open, unit, first)?;
+    Ok(true)
+}
+
+// Adds a part of a node: its entry, and the range of the unit there.
+fn push_part(
+    alloc: Global,
+    task: &Task<'_>,
+    state: &mut State,
+    open: &Open,
+    unit: u32,
+    part: (u32, (u32, u32)),
+) -> Result<(), Memory> {
+    let (entry, span) = part;
+    let old = open.spans.of(unit);
+    let mut values = Vec::with_capacity(alloc, open.values.len())?;
+    for (pricing, value) in state.pricings.iter().zip(&open.values) {
+        let rise = pricing.rise(task.problem, task.reduced, unit, old, span);
+        values.push(value.saturating_add(rise))?;
+    }
+    let mut spans = open.spans.copy(alloc)?;
+    spans.set(unit, span);
+    let mut relaxation = open.relaxation.copy(alloc)?;
+    relaxation.restrict(unit, span.0, span.1);
+    state.open.push(Open {
+        entry,
+        spans,
+        values,
+        relaxation,
+    })?;
+    Ok(())
+}

@@ -1,0 +1,21 @@
+//! Closes problems of choice by trees of free splits: a split may cut the range of any unit anywhere, where the search of
+//! `search_workers` has one rule. What is searched here, and how, is not proved and need not be: an answer is given only
+//! after an exact test of its tree, its vectors and its choice.
+#![tactic(auto)]
+
+mod accepted;
+mod barred;
+mod closed;
+mod dives;
+mod entries;
+mod exact;
+mod growing;
+mod pricings;
+mod rough;
+mod searched;
+mod spans;
+mod splits;
+mod states;
+
+pub use closed::Closed;
+pub use searched::closing_search;

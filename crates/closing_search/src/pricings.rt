@@ -1,0 +1,145 @@
+//! Bounds of ranges at vectors of prices, in whole numbers: what the test of a leaf will find.
+
+use crate::spans::{Spans, within};
+use choice_problem::{Alt, Price, Problem, Vector};
+use reduced_problem::{Class, Reduced};
+use slot_text::Memory;
+use std::alloc::Global;
+
+/// A vector and the scale of its bound, with what the parts of all units and the limits cost at its prices.
+#[derive(Drop)]
+pub(crate) struct Pricing {
+    pub(crate) vector: Vector,
+    pub(crate) scale: u32,
+    parts: Vec<i64>,
+    limits: i64,
+}
+
+impl Pricing {
+    // The costs at a vector's prices. It names resources of classes alone.
+    pub(crate) fn new(
+        alloc: Global,
+        reduced: &Reduced,
+        vector: Vector,
+        scale: u32,
+    ) -> Result<Pricing, Memory> {
+        let mut pricing = Pricing {
+            vector,
+            scale,
+            parts: vec![in alloc; 0; reduced.parts() as usize]?,
+            limits: 0,
+        };
+        let mut next: usize = 0;
+        for (number, class) in (0..).zip(reduced.classes()) {
+            if let Some(price) = pricing.price_at(next, class) {
+                pricing.add(reduced, number, class, price);
+                next = next.saturating_add(1);
+            }
+        }
+        Ok(pricing)
+    }
+
+    // The vector's price at a place, where it is the class's.
+    fn price_at(&self, place: usize, class: &Class) -> Option<i64> {
+        match self.vector.items().get(place) {
+            Some(Price { resource, price }) if *resource == class.resource => Some(*price),
+            _ => None,
+        }
+    }
+
+    // Adds the price of a class.
+    fn add(&mut self, reduced: &Reduced, number: u32, class: &Class, price: i64) {
+        let limits = price.saturating_mul(class.limit);
+        self.limits = self.limits.saturating_add(limits);
+        for run in reduced.users(number) {
+            let more = price.saturating_mul(i64::from(run.uses));
+            add_in(&mut self.parts, run.first as usize, run.end as usize, more);
+        }
+    }
+
+    // The priced cost of an alternative of the unit whose first part has this number.
+    fn cost(&self, alt: &Alt, first: u32) -> i64 {
+        let cost = i64::try_from(alt.cost).unwrap_or(i64::MAX);
+        let scaled = cost.saturating_mul(i64::from(self.scale));
+        scaled
+            .saturating_add(self.part(alt.one, first))
+            .saturating_add(self.part(alt.two, first))
+    }
+
+    // What a part costs.
+    fn part(&self, part: Option<u32>, first: u32) -> i64 {
+        match part {
+            Some(number) => amount_at(&self.parts, first.saturating_add(number)),
+            None => 0,
+        }
+    }
+
+    // The least priced cost of a unit's alternatives from one to another.
+    fn least(&self, alts: &[Alt], first: u32, span: (u32, u32)) -> i64 {
+        let mut least = i64::MAX;
+        for alt in within(alts, span) {
+            least = least.min(self.cost(alt, first));
+        }
+        least
+    }
+
+    /// The bound of ranges.
+    pub(crate) fn value(&self, problem: &Problem, reduced: &Reduced, spans: &Spans) -> i64 {
+        let mut total: i64 = 0;
+        for unit in 0..problem.units() {
+            let first = reduced.first_part(unit);
+            let least = self.least(problem.unit_alts(unit), first, spans.of(unit));
+            total = total.saturating_add(least);
+        }
+        total.saturating_sub(self.limits)
+    }
+
+    /// How much the bound rises where a unit's range becomes another.
+    pub(crate) fn rise(
+        &self,
+        problem: &Problem,
+        reduced: &Reduced,
+        unit: u32,
+        old: (u32, u32),
+        new: (u32, u32),
+    ) -> i64 {
+        if unit >= problem.units() {
+            return 0;
+        }
+        let alts = problem.unit_alts(unit);
+        let first = reduced.first_part(unit);
+        let after = self.least(alts, first, new);
+        after.saturating_sub(self.least(alts, first, old))
+    }
+
+    /// Whether a bound closes ranges for a cost, or for none.
+    pub(crate) fn closes(&self, value: i64, cost: Option<u64>) -> bool {
+        if self.scale == 0 {
+            return value > 0;
+        }
+        match cost {
+            Some(cost) => {
+                let below = i64::try_from(cost).unwrap_or(i64::MAX).saturating_sub(1);
+                value > below.saturating_mul(i64::from(self.scale))
+            }
+            None => false,
+        }
+    }
+}
+
+// Adds to the numbers from one place to another.
+fn add_in(amounts: &mut [i64], first: usize, end: usize, more: i64) {
+    if first <= end && end <= amounts.len() {
+        for amount in amounts[first..end].iter_mut() {
+            *amount = amount.saturating_add(more);
+        }
+    }
+}
+
+// The number at a place.
+fn amount_at(amounts: &[i64], place: u32) -> i64 {
+    match amounts.get(place as usize) {
+        Some(amount) => *amount,
+        None => 0,
+    }
+}

@@ -1,0 +1,212 @@
+//! What a search knows while its tree grows.
+
+use crate::entries::Entry;
+use crate::pricings::Pricing;
+use crate::spans::Spans;
+use choice_problem::{Choice, Problem, Vector, cost_of, fits};
+use reduced_problem::Reduced;
+use relaxed_problem::{Program, Relaxation};
+use slot_text::Memory;
+use std::alloc::Global;
+use std::num::nearest_i64_to_f64;
+
+// How many steps a pivot takes beside one for each alternative, and how many pivots it takes to begin.
+const STEPS_APART: u64 = 5_000;
+
+const STARTING: u64 = 4;
+
+// The most vectors, that without prices among them.
+const MOST_PRICINGS: usize = 65;
+
+/// The problem, its resources that matter, and the alternatives that take part in the relaxations. Where the search is for
+/// choices alone, leaves need no vectors.
+#[derive(Drop)]
+pub(crate) struct Task<'a> {
+    pub(crate) problem: &'a Problem,
+    pub(crate) reduced: &'a Reduced,
+    pub(crate) program: &'a Program<'a>,
+    pub(crate) is_rough: bool,
+}
+
+/// An open node: its entry, its ranges, their bounds at the vectors that there were when it was made, and a relaxation
+/// from which to go on.
+#[derive(Drop)]
+pub(crate) struct Open {
+    pub(crate) entry: u32,
+    pub(crate) spans: Spans,
+    pub(crate) values: Vec<i64>,
+    pub(crate) relaxation: Relaxation,
+}
+
+/// The tree so far, its open nodes, those to be searched first last; the vectors that close leaves, the one without prices
+/// first; the best choice, and by how much a cheaper one costs less at least; and how many steps of relaxations may still be
+/// made.
+#[derive(Drop)]
+pub(crate) struct State {
+    pub(crate) entries: Vec<Entry>,
+    pub(crate) open: Vec<Open>,
+    pub(crate) pricings: Vec<Pricing>,
+    pub(crate) best: Option<Choice>,
+    pub(crate) cost: Option<u64>,
+    pub(crate) least: f64,
+    pub(crate) steps: u64,
+}
+
+impl State {
+    // One open node on all alternatives, which goes on from a relaxation.
+    pub(crate) fn new(
+        alloc: Global,
+        task: &Task<'_>,
+        root: &Relaxation,
+        steps: u64,
+    ) -> Result<State, Memory> {
+        let mut state = State {
+            entries: Vec::new(alloc),
+            open: Vec::new(alloc),
+            pricings: Vec::new(alloc),
+            best: None,
+            cost: None,
+            least: 1.0,
+            steps,
+        };
+        let none = Vector::new(Vec::new(alloc));
+        state
+            .pricings
+            .push(Pricing::new(alloc, task.reduced, none, 1)?)?;
+        state.entries.push(Entry::Open)?;
+        state.open.push(Open {
+            entry: 0,
+            spans: Spans::whole(alloc, task.problem)?,
+            values: Vec::new(alloc),
+            relaxation: root.copy(alloc)?,
+        })?;
+        Ok(state)
+    }
+
+    // One open node again, with the best choice and the steps that are left.
+    pub(crate) fn again(
+        self,
+        alloc: Global,
+        task: &Task<'_>,
+        root: &Relaxation,
+    ) -> Result<State, Memory> {
+        let State {
+            best,
+            cost,
+            steps,
+            ..
+        } = self;
+        let mut state = State::new(alloc, task, root, steps)?;
+        state.best = best;
+        state.cost = cost;
+        Ok(state)
+    }
+
+    // Takes a choice, where it is feasible and cheaper than the best one.
+    pub(crate) fn take(
+        &mut self,
+        alloc: Global,
+        problem: &Problem,
+        choice: Choice,
+    ) -> Result<(), Memory> {
+        if !choice.is_for(problem) {
+            return Ok(());
+        }
+        let cost = cost_of(problem, &choice);
+        if self.is_cheaper(cost) && fits(alloc, problem, &choice)? {
+            self.best = Some(choice);
+            self.cost = Some(cost);
+        }
+        Ok(())
+    }
+
+    // Whether a cost is below that of the best choice, if there is one.
+    fn is_cheaper(&self, cost: u64) -> bool {
+        match self.cost {
+            Some(best) => cost < best,
+            None => true,
+        }
+    }
+
+    // Counts the steps of pivots over a program, and of what is done once for all of them.
+    pub(crate) fn spend(&mut self, program: &Program<'_>, pivots: u32) {
+        let each = (program.columns().len() as u64).saturating_add(STEPS_APART);
+        let times = u64::from(pivots).saturating_add(STARTING);
+        self.steps = self.steps.saturating_sub(each.saturating_mul(times));
+    }
+
+    // Closes an entry.
+    pub(crate) fn close(&mut self, entry: u32, closed: Entry) {
+        if let Some(place) = self.entries.get_mut(entry as usize) {
+            *place = closed;
+        }
+    }
+
+    // Closes a node by a new vector. Where there is no room for it, the entry stays open, and the search goes on for better
+    // choices alone. Answers whether the vector closes the node.
+    pub(crate) fn close_by(
+        &mut self,
+        task: &Task<'_>,
+        open: &Open,
+        pricing: Pricing,
+    ) -> Result<bool, Memory> {
+        let value = pricing.value(task.problem, task.reduced, &open.spans);
+        if !pricing.closes(value, self.cost) {
+            return Ok(false);
+        }
+        if self.pricings.len() >= MOST_PRICINGS {
+            return Ok(true);
+        }
+        let vector = u32::try_from(self.pricings.len()).unwrap_or(u32::MAX);
+        let scale = pricing.scale;
+        self.close(open.entry, Entry::Leaf { vector, scale });
+        self.pricings.push(pricing)?;
+        Ok(true)
+    }
+
+    // Closes a node by a vector that there is. Answers whether one does.
+    pub(crate) fn close_by_known(&mut self, open: &Open) -> bool {
+        let mut found = None;
+        for (number, (pricing, value)) in (0..).zip(self.pricings.iter().zip(&open.values)) {
+            if found.is_none() && pricing.closes(*value, self.cost) {
+                found = Some(Entry::Leaf {
+                    vector: number,
+                    scale: pricing.scale,
+                });
+            }
+        }
+        match found {
+            Some(leaf) => {
+                self.close(open.entry, leaf);
+                true
+            }
+            None => false,
+        }
+    }
+
+    // Adds an open entry, and answers its number.
+    pub(crate) fn add_entry(&mut self) -> Result<u32, Memory> {
+        let number = u32::try_from(self.entries.len()).unwrap_or(u32::MAX);
+        self.entries.push(Entry::Open)?;
+        Ok(number)
+    }
+
+    // The value above which a relaxation shows that no choice in its ranges is cheaper than the best one.
+    pub(crate) fn enough(&self) -> f64 {
+        match self.cost {
+            Some(cost) => number_of(cost) - self.least + 0.02,
+            None => NEVER,
+        }
+    }
+}
+
+/// A value that no relaxation has.
+pub(crate) const NEVER: f64 = 1000000000000000000000000000000.0;
+
+// A cost as a float.
+fn number_of(cost: u64) -> f64 {
+    match i64::try_from(cost) {
+        Ok(cost) => nearest_i64_to_f64(cost),
+        Err(_) => NEVER,
+    }
+}
