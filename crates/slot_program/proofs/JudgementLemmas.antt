@@ -7,8 +7,6 @@ use Rattle.slot_text.specs.Ended.{ended_lines}
 use Rattle.slot_text.specs.Forms.{BeginsInForm, IsFirstBadLine}
 use Rattle.slot_text.specs.Lines.{lines_of}
 use Rattle.slot_text.specs.Reads.{GivesOr}
-use Rattle.slot_text.specs.declared.station.Station.{Station}
-use Rattle.season_days.specs.Term.{Term}
 use Rattle.season_days.specs.declared.declaration.Declaration.{Declaration}
 use Rattle.capacity_file.specs.Declares.{IsCapacityFile}
 use Rattle.capacity_file.specs.Faults.{HasCapacityFault}
@@ -18,7 +16,6 @@ use Rattle.scr_reader.specs.Messages.{ReadsAll, HasScrFault}
 use Rattle.scr_reader.specs.declared.message.Message.{Message}
 use Rattle.scr_reader.specs.declared.fault.ScrFault.{ScrFault}
 use Rattle.scr_reader.specs.declared.fault.ScrFault.TheVariants as message_fault
-use Rattle.historic_reader.specs.Historic.{IsHistoricText}
 use Rattle.series_model.specs.Submissions.{SubmissionView, submission_answer, answer_by, submission_of, refusal}
 use Rattle.series_model.specs.declared.fault.ModelFault.{ModelFault}
 use Rattle.series_model.specs.declared.fault.ModelFault.TheVariants as model_fault
@@ -28,11 +25,9 @@ use Rattle.wasg_stages.specs.Valid.{IsValid}
 use Rattle.cert_checker.specs.Certificates.{FailsAt}
 use Rattle.cert_checker.specs.declared.verdict.Reason.{Reason}
 use Rattle.command_words.specs.Words.{Word}
-use Rattle.slot_program.specs.Capacity.{IsCapacityText, IsCapacityForm}
-use Rattle.slot_program.specs.Reports.{Refusal, out_of_form, not_valid, unbuilt}
-use Rattle.slot_program.specs.Judgements.{NamedBytes, IsSeasonOf, SpellsCert, served_capacity, served_requests, capacity_form, requests_form, certificate_form, valid_certificate, IsCapacityRefusal, IsMessageRefusal, IsSubmissionRefusal, RefusesRequests}
+use Rattle.slot_program.specs.Reports.{Refusal, out_of_form, not_valid}
+use Rattle.slot_program.specs.Judgements.{NamedBytes, IsSeasonOf, SpellsCert, capacity_form, requests_form, certificate_form, valid_certificate, IsCapacityRefusal, IsMessageRefusal, IsSubmissionRefusal, RefusesRequests}
 use Rattle.slot_program.specs.Leads.{AcceptsAlone, RefusesAlone}
-use Rattle.slot_program.proofs.CapacityLemmas.{no_bad_line, same_declaration}
 
 -- ---- one first bad line
 
@@ -56,48 +51,6 @@ same_bad_line IsInForm text a b x y =
 
 in_form_good : (IsInForm : List ℕ → Type 0) (text : List ℕ) (line : ℕ) → IsInForm text → IsFirstBadLine IsInForm text line → ⊥
 in_form_good IsInForm text line is bad = bad.bad (record { whole = text; in_form = is; same = refl })
-
--- ---- the form that is served
-
-pub accepts_served_capacity : (name : Word) (bytes : List ℕ) (rest : List NamedBytes) (d : Declaration) → IsCapacityText bytes d → AcceptsAlone served_capacity name (record { name = name; bytes = bytes } ∷ rest)
-accepts_served_capacity name bytes rest d is =
-    record { accepts = (d, is); alone = λ refusal (line, bad, e). no_bad_line bytes d line is bad }
-
-pub refuses_served_capacity : (name : Word) (bytes : List ℕ) (rest : List NamedBytes) (line : ℕ) → IsFirstBadLine IsCapacityForm bytes line
-    → RefusesAlone served_capacity name (record { name = name; bytes = bytes } ∷ rest) (unbuilt name line)
-refuses_served_capacity name bytes rest line bad =
-    record {
-      refuses = (line, bad, refl);
-      alone = λ other (n, there, e). e ∙ ap (unbuilt name) (same_bad_line IsCapacityForm bytes n line there bad);
-      rejects = λ (d, is). no_bad_line bytes d line is bad;
-    }
-
--- the same season and airport, by whichever declaration of the file
-by_declaration : (capacity : List ℕ) (d other : Declaration) (P : Term → Station → Type 0) → IsCapacityText capacity d → IsCapacityText capacity other → P other.season other.airport → P d.season d.airport
-by_declaration capacity d other P one two h =
-    let same = same_declaration capacity other d two one in
-    subst (λ (a : Station). P d.season a) same.1 (subst (λ (s : Term). P s other.airport) same.0 h)
-
-pub accepts_served_requests : (name : Word) (capacity : NamedBytes) (bytes : List ℕ) (rest : List NamedBytes) (d : Declaration) → IsCapacityText capacity.bytes d → IsHistoricText d.season d.airport bytes
-    → AcceptsAlone served_requests name (capacity ∷ record { name = name; bytes = bytes } ∷ rest)
-accepts_served_requests name capacity bytes rest d declared is =
-    record {
-      accepts = (d, declared, is);
-      alone = λ refusal (other, there, (line, bad, e)). in_form_good (IsHistoricText d.season d.airport) bytes line is
-          (by_declaration capacity.bytes d other (λ s a. IsFirstBadLine (IsHistoricText s a) bytes line) declared there bad);
-    }
-
-pub refuses_served_requests : (name : Word) (capacity : NamedBytes) (bytes : List ℕ) (rest : List NamedBytes) (d : Declaration) (line : ℕ) → IsCapacityText capacity.bytes d
-    → IsFirstBadLine (IsHistoricText d.season d.airport) bytes line → RefusesAlone served_requests name (capacity ∷ record { name = name; bytes = bytes } ∷ rest) (unbuilt name line)
-refuses_served_requests name capacity bytes rest d line declared bad =
-    record {
-      refuses = (d, declared, (line, bad, refl));
-      alone = λ refusal (other, there, (n, bad_there, e)).
-          e ∙ ap (unbuilt name) (same_bad_line (IsHistoricText d.season d.airport) bytes n line
-          (by_declaration capacity.bytes d other (λ s a. IsFirstBadLine (IsHistoricText s a) bytes n) declared there bad_there) bad);
-      rejects = λ (other, there, is). in_form_good (IsHistoricText d.season d.airport) bytes line
-          (by_declaration capacity.bytes d other (λ s a. IsHistoricText s a bytes) declared there is) bad;
-    }
 
 -- ---- the capacity file
 

@@ -10,7 +10,7 @@ use Rattle.desk_outside.specs.Files.{Files, Reads}
 use Rattle.desk_outside.specs.Passages.{Passage, read}
 use Rattle.command_words.specs.Words.{Word}
 use Rattle.slot_program.specs.Reports.{Refusal, refusal_status}
-use Rattle.slot_program.specs.Judgements.{NamedBytes, Judgement, Refuses, served_capacity, served_requests, capacity_form, requests_form, certificate_form, valid_certificate}
+use Rattle.slot_program.specs.Judgements.{NamedBytes, Judgement, Accepts, Refuses, capacity_form, requests_form, certificate_form, valid_certificate}
 use Rattle.slot_program.specs.Steps.{Step, reads, judges, names_read, IsHanded, IsNotHanded, PassFrom, RefuseFrom, form_steps, is_of_form}
 use Rattle.slot_program.specs.Writing.{read_of}
 use Rattle.slot_program.specs.Desk.{World}
@@ -208,8 +208,6 @@ valid_status name (capacity ∷ requests ∷ certificate ∷ rest) refusal (s, c
 
 module _ (name : Word) (before : List NamedBytes) (refusal : Refusal) where
   form_stops : (j : Judgement) (held : Files) (steps : List Step) (done : List NamedBytes) → RefusesAlone j name before refusal → PassFrom (Some held) before (if is_of_form j then judges j name ∷ steps else steps) done → refusal_status refusal ≡ 1
-  form_stops served_capacity held steps done alone h = absurd (alone.rejects h.0)
-  form_stops served_requests held steps done alone h = absurd (alone.rejects h.0)
   form_stops capacity_form held steps done alone h = absurd (alone.rejects h.0)
   form_stops requests_form held steps done alone h = absurd (alone.rejects h.0)
   form_stops certificate_form held steps done alone h = absurd (alone.rejects h.0)
@@ -249,8 +247,18 @@ judged_stops names j name before (stops.Unwritten place) w v all steps why lead 
 judged_stops names j name before (stops.OutOfForm place line) w v all steps why lead = refused_judge name before _ j why w v all steps lead
 judged_stops names j name before (stops.OverLimit limit number) w v all steps why lead = refused_judge name before _ j why w v all steps lead
 judged_stops names j name before (stops.NotValid line reason) w v all steps why lead = refused_judge name before _ j why w v all steps lead
-judged_stops names j name before (stops.Unbuilt place line) w v all steps why lead = refused_judge name before _ j why w v all steps lead
 judged_stops names j name before stops.Memory w v all steps why lead = memory_read w v v all before (judges j name ∷ steps) lead refl
+
+-- files that are accepted stop a judgement for want of memory alone
+pub only_memory : (names : List Word) (j : Judgement) (name : Word) (files : List NamedBytes) (stop : Stop) → Accepts j files → IsJudged names j name files stop → stop ≡ stops.Memory
+only_memory names j name files (stops.Missing place) accepts why = absurd why
+only_memory names j name files (stops.Large place) accepts why = absurd why
+only_memory names j name files (stops.Unread place) accepts why = absurd why
+only_memory names j name files (stops.Unwritten place) accepts why = absurd why
+only_memory names j name files (stops.OutOfForm place line) accepts why = absurd (why.rejects accepts)
+only_memory names j name files (stops.OverLimit limit number) accepts why = absurd (why.rejects accepts)
+only_memory names j name files (stops.NotValid line reason) accepts why = absurd (why.rejects accepts)
+only_memory names j name files stops.Memory accepts why = refl
 
 -- ---- refusals by a property
 
@@ -262,5 +270,4 @@ by_property names One Other (stops.Unwritten place) on why = why
 by_property names One Other (stops.OutOfForm place line) on why = on _ why
 by_property names One Other (stops.OverLimit limit number) on why = on _ why
 by_property names One Other (stops.NotValid line reason) on why = on _ why
-by_property names One Other (stops.Unbuilt place line) on why = on _ why
 by_property names One Other stops.Memory on why = tt

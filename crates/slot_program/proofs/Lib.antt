@@ -1,12 +1,7 @@
-mod CuttingLemmas
-mod HighLemmas
-mod EndedLemmas
-mod CapacityLemmas
-mod LengthLemmas
 mod TextLemmas
-mod WindowLemmas
+mod StageLemmas
 mod LeadLemmas
 mod JudgementLemmas
+mod EndLemmas
 mod AnswerLemmas
-mod AllocationLemmas
 mod DeskLemmas

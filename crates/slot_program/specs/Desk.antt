@@ -105,4 +105,4 @@ names_changed None = []
 names_changed (Some job) = names_written job
 
 abbrev pub IsStatus : ℕ → Type 0
-IsStatus status = Contains (0 ∷ 1 ∷ 2 ∷ 3 ∷ 4 ∷ 5 ∷ 6 ∷ 7 ∷ 12 ∷ []) status
+IsStatus status = Contains (0 ∷ 1 ∷ 2 ∷ 3 ∷ 4 ∷ 5 ∷ 6 ∷ 7 ∷ 8 ∷ 9 ∷ []) status

@@ -1,39 +1,27 @@
 -- What each job does, by cases: its steps, the files that it writes, its work, and its statuses.
-use Rattle.std.specs.Prelude.{◌≡◌, ℕ, List, [], ◌∷◌, Contains, IsSomeAnd}
-use Rattle.std.specs.Prelude.{slice_index_or, codes}
-use Rattle.season_days.specs.Seasons.{dates_of}
-use Rattle.season_days.specs.declared.declaration.Declaration.{Declaration}
-use Rattle.season_days.specs.declared.declaration.Rule.{Rule}
-use Rattle.scr_reader.specs.Printed.{message_text}
-use Rattle.scr_reader.specs.declared.line.Line.{Line}
-use Rattle.scr_reader.specs.declared.message.Message.{Message}
-use Rattle.historic_reader.specs.Historic.{IsHistoricMessage}
+use Rattle.std.specs.Prelude.{◌≡◌, ℕ, ◌+◌, List, [], ◌∷◌, ◌++◌, slice_index_or, codes, Contains}
+use Rattle.std.specs.Fmt.{decimal}
 use Rattle.series_model.specs.Submissions.{SubmissionView}
 use Rattle.cert_format.specs.declared.cert.Certificate.{Certificate}
 use Rattle.wasg_stages.specs.Valid.{IsValid, MarksHold}
+use Rattle.season_run.specs.Runs.{IsRun, IsEnoughFor}
+use Rattle.scr_replies.specs.SeasonReplies.{replies_text}
+use Rattle.season_maker.specs.Texts.{generated_capacity, generated_requests}
 use Rattle.command_words.specs.Words.{Word}
-use Rattle.slot_program.specs.Capacity.{IsCapacityText}
-use Rattle.slot_program.specs.Texts.{certificate_text, settled_stages, confirmation, stage_lines}
-use Rattle.slot_program.specs.Windows.{FitsRule}
-use Rattle.slot_program.specs.Judgements.{NamedBytes, IsSeasonOf, SpellsCert}
-use Rattle.slot_program.specs.Judgements.{served_capacity, served_requests, capacity_form}
+use Rattle.slot_program.specs.StageLines.{mark_lines, marks_status, node_total}
+use Rattle.slot_program.specs.Judgements.{NamedBytes, IsSeasonOf, SpellsCert, capacity_form}
 use Rattle.slot_program.specs.Judgements.{requests_form, certificate_form, valid_certificate}
 use Rattle.slot_program.specs.Steps.{Step, reads, judges}
 use Rattle.slot_program.specs.declared.files.TheConstants.{LONGEST_FILE, LONGEST_CERT_FILE}
+use Rattle.slot_program.specs.declared.trial.TheConstants.{TRIAL_NODES}
 use Rattle.command_words.specs.declared.job.Job.{Job}
-use Rattle.command_words.specs.declared.job.Job.TheVariants.{Allocate, Check}
+use Rattle.command_words.specs.declared.job.Job.TheVariants.{Allocate, Check, Make, Trial}
 
 -- the name of this number, counted from 0, in the order in which the command takes names
 abbrev pub name_at : List Word → ℕ → Word
 name_at names n = slice_index_or names n []
 
 -- ---- steps
-
--- the capacity file is judged before the requests are read
-abbrev pub allocate_steps : List Word → List Step
-allocate_steps names =
-    reads (name_at names 0) LONGEST_FILE ∷ judges served_capacity (name_at names 0)
-    ∷ reads (name_at names 1) LONGEST_FILE ∷ judges served_requests (name_at names 1) ∷ []
 
 -- a season is read: the capacity file, and then the requests, each judged before the next is read
 abbrev pub season_steps : List Word → List Step → List Step
@@ -47,73 +35,139 @@ certificate_steps names steps =
     reads (name_at names 2) LONGEST_CERT_FILE ∷ judges certificate_form (name_at names 2)
     ∷ judges valid_certificate (name_at names 2) ∷ steps
 
+abbrev pub allocate_steps : List Word → List Step
+allocate_steps names = season_steps names []
+
 abbrev pub check_steps : List Word → List Step
 check_steps names = season_steps names (certificate_steps names [])
 
+-- a generated season is not read
 abbrev pub steps_of : Job → List Step
 steps_of (Allocate names nodes workers) = allocate_steps names
 steps_of (Check names) = check_steps names
+steps_of (Make number units names) = []
+steps_of (Trial number units) = []
 
 -- ---- the files that are written
 
 abbrev pub names_written : Job → List Word
 names_written (Allocate names nodes workers) = name_at names 2 ∷ name_at names 3 ∷ []
 names_written (Check names) = []
+names_written (Make number units names) = name_at names 0 ∷ name_at names 1 ∷ []
+names_written (Trial number units) = []
 
 -- ---- the statuses of a job whose work is done
 
+-- where stages were searched, one may be INFEASIBLE, or OPEN
+abbrev pub searched_statuses : List ℕ
+searched_statuses = 0 ∷ 8 ∷ 9 ∷ []
+
 abbrev pub finishing_of : Job → List ℕ
-finishing_of (Allocate names nodes workers) = 0 ∷ []
+finishing_of (Allocate names nodes workers) = searched_statuses
 finishing_of (Check names) = 0 ∷ []
+finishing_of (Make number units names) = 0 ∷ []
+finishing_of (Trial number units) = searched_statuses
 
 -- ---- the work
 
--- The choice that is certified is feasible: the arrivals of the line, at the time that it asks for,
--- fit under every capacity line. It costs nothing, so no other choice costs less.
-abbrev pub FitsEveryWindow : Declaration → Line → Type 0
-FitsEveryWindow declaration asked =
-    IsSomeAnd asked.arrival (λ stop. (rule : Rule) → Contains declaration.rules rule
-    → FitsRule rule stop.minute (dates_of declaration.season asked.period))
+-- two files in the order in which they are written, the first under the name of this number
+abbrev pub two_files : List Word → ℕ → List ℕ → List ℕ → List NamedBytes
+two_files names place one two =
+    record { name = name_at names place; bytes = one }
+    ∷ record { name = name_at names (place + 1); bytes = two } ∷ []
 
--- Of the two files that were read, the certificate is written before the replies, what it says is
--- so, and the stage lines are printed.
-pub record IsAllocation (names : List Word) (capacity requests : List ℕ)
-    (writes : List NamedBytes) (text : List ℕ) : Type 0 where
-  pub declaration : Declaration
-  pub message : Message
-  pub declared : IsCapacityText capacity declaration
-  pub historic : IsHistoricMessage declaration.season declaration.airport message
-  pub spelled : requests ≡ message_text message
-  pub fits : FitsEveryWindow declaration historic.asked
-  pub written : writes ≡
-      record { name = name_at names 2; bytes = certificate_text settled_stages }
-      ∷ record { name = name_at names 3; bytes = confirmation message historic.asked } ∷ []
-  pub printed : text ≡ stage_lines 1 settled_stages
+-- no stage is OPEN
+abbrev pub IsSettledStatus : ℕ → Type 0
+IsSettledStatus status = Contains (0 ∷ 8 ∷ []) status
+
+-- A season was run with a budget of nodes for each stage: one certificate of that run is spelled,
+-- the replies are given by its choices, the lines are those of its stages, and so is the status. It
+-- is 0 or 8 where the budget is enough for each stage.
+pub record IsRunOutput (s : SubmissionView) (nodes : ℕ) (certificate replies : List ℕ) (status : ℕ)
+    (text : List ℕ) : Type 0 where
+  pub proved : Certificate
+  pub run : IsRun s nodes proved
+  pub spelled : SpellsCert certificate proved
+  pub replied : replies ≡ replies_text s proved
+  pub printed : text ≡ mark_lines 1 proved.stages
+  pub status_is : status ≡ marks_status proved.stages
+  pub settled : IsEnoughFor s nodes proved → IsSettledStatus status
+
+-- The season of the two files that were read was run, and the certificate is written before the
+-- replies.
+pub record IsAllocation (names : List Word) (nodes : ℕ) (capacity requests : List ℕ)
+    (writes : List NamedBytes) (status : ℕ) (text : List ℕ) : Type 0 where
+  pub season : SubmissionView
+  pub certificate : List ℕ
+  pub replies : List ℕ
+  pub made : IsSeasonOf capacity requests season
+  pub output : IsRunOutput season nodes certificate replies status text
+  pub written : writes ≡ two_files names 2 certificate replies
+
+-- the capacity file of a generated season is written before its requests, and nothing is printed
+pub record IsMade (number units : ℕ) (names : List Word) (writes : List NamedBytes) (status : ℕ)
+    (text : List ℕ) : Type 0 where
+  pub written : writes
+      ≡ two_files names 0 (generated_capacity units) (generated_requests number units)
+  pub status_is : status ≡ 0
+  pub printed : text ≡ []
+
+-- the lines of the stages, how many nodes their trees have together, and the verdict
+abbrev pub trial_text : Certificate → List ℕ
+trial_text c =
+    mark_lines 1 c.stages
+    ++ (codes "NODES " ++ (decimal (node_total c.stages) ++ codes "\nCHECK YES\n"))
+
+-- a generated season was run in memory with 10,000 nodes for each stage, and its certificate, which
+-- is valid, was checked
+pub record IsTrial (number units : ℕ) (writes : List NamedBytes) (status : ℕ) (text : List ℕ) :
+    Type 0 where
+  pub season : SubmissionView
+  pub proved : Certificate
+  pub made : IsSeasonOf (generated_capacity units) (generated_requests number units) season
+  pub run : IsRun season TRIAL_NODES proved
+  pub valid : IsValid season proved
+  pub written : writes ≡ []
+  pub printed : text ≡ trial_text proved
+  pub status_is : status ≡ marks_status proved.stages
+  pub settled : IsEnoughFor season TRIAL_NODES proved → IsSettledStatus status
 
 -- of the files that were read, these are the writes, and the status and the text at the end
 abbrev pub Works : Job → List NamedBytes → List NamedBytes → ℕ → List ℕ → Type 0
 Works (Allocate names nodes workers) (capacity ∷ requests ∷ []) writes status text =
-    (status ≡ 0) × IsAllocation names capacity.bytes requests.bytes writes text
+    IsAllocation names nodes capacity.bytes requests.bytes writes status text
 Works (Check names) (capacity ∷ requests ∷ certificate ∷ []) writes status text =
     (status ≡ 0) × (writes ≡ []) × (text ≡ codes "YES\n")
+Works (Make number units names) [] writes status text =
+    IsMade number units names writes status text
+Works (Trial number units) [] writes status text = IsTrial number units writes status text
 Works job inputs writes status text = ⊥
 
 -- ---- the headline
 
--- What the marks of a certificate say is so. Of `check`: the certificate that was read is valid for
--- the season that was read, so each stage marked OPTIMAL has an allotment and none displaces less,
--- each marked INFEASIBLE has none, and no allotment of one marked OPEN displaces less than its
--- bound. Of `allocate`: the choice fits under every capacity line, at no displacement.
-abbrev pub MarksAreTrue : Job → List NamedBytes → List NamedBytes → Type 0
+-- The certificate is valid for the season that the two texts make, and what its marks say is so:
+-- each stage marked OPTIMAL has a feasible allotment and none displaces less, each marked
+-- INFEASIBLE has none, and no allotment of one marked OPEN displaces less than its bound; each
+-- given the allotments of the stages before it.
+pub record MarksAreProved (capacity requests : List ℕ) (s : SubmissionView) (c : Certificate) :
+    Type 0 where
+  pub made : IsSeasonOf capacity requests s
+  pub valid : IsValid s c
+  pub marks : MarksHold s c
+
+-- Of `allocate`: of the certificate that is written, whose stage lines are printed, for the season
+-- that was read. Of `check`: of the certificate that was read. Of `trial`: of the one whose lines
+-- are printed, for the generated season. `make` proves nothing.
+abbrev pub MarksAreTrue : Job → List NamedBytes → List NamedBytes → List ℕ → Type 0
 MarksAreTrue (Allocate names nodes workers) (capacity ∷ requests ∷ [])
-    (certificate ∷ replies ∷ []) =
-    (declaration : Declaration) × (message : Message)
-    × IsCapacityText capacity.bytes declaration
-    × (historic : IsHistoricMessage declaration.season declaration.airport message)
-    × (requests.bytes ≡ message_text message)
-    × (certificate.bytes ≡ certificate_text settled_stages)
-    × FitsEveryWindow declaration historic.asked
-MarksAreTrue (Check names) (capacity ∷ requests ∷ certificate ∷ []) [] =
-    (s : SubmissionView) × (c : Certificate) × IsSeasonOf capacity.bytes requests.bytes s
-    × SpellsCert certificate.bytes c × IsValid s c × MarksHold s c
-MarksAreTrue job inputs writes = ⊥
+    (certificate ∷ replies ∷ []) text =
+    (s : SubmissionView) × (c : Certificate) × SpellsCert certificate.bytes c
+    × (text ≡ mark_lines 1 c.stages) × MarksAreProved capacity.bytes requests.bytes s c
+MarksAreTrue (Check names) (capacity ∷ requests ∷ certificate ∷ []) [] text =
+    (s : SubmissionView) × (c : Certificate) × SpellsCert certificate.bytes c
+    × MarksAreProved capacity.bytes requests.bytes s c
+MarksAreTrue (Make number units names) inputs writes text = Unit {0}
+MarksAreTrue (Trial number units) [] [] text =
+    (s : SubmissionView) × (c : Certificate) × (text ≡ trial_text c)
+    × MarksAreProved (generated_capacity units) (generated_requests number units) s c
+MarksAreTrue job inputs writes text = ⊥

@@ -13,7 +13,6 @@ use Rattle.scr_reader.specs.Messages.{ReadsAll, HasScrFault}
 use Rattle.scr_reader.specs.declared.message.Message.{Message}
 use Rattle.scr_reader.specs.declared.fault.ScrFault.{ScrFault}
 use Rattle.scr_reader.specs.declared.fault.ScrFault.TheVariants as message_fault
-use Rattle.historic_reader.specs.Historic.{IsHistoricText}
 use Rattle.series_model.specs.Submissions.{SubmissionView, submission_answer}
 use Rattle.series_model.specs.declared.fault.ModelFault.{ModelFault}
 use Rattle.series_model.specs.declared.fault.ModelFault.TheVariants as model_fault
@@ -24,8 +23,7 @@ use Rattle.wasg_stages.specs.Valid.{IsValid}
 use Rattle.cert_checker.specs.Certificates.{FailsAt}
 use Rattle.cert_checker.specs.declared.verdict.Reason.{Reason}
 use Rattle.command_words.specs.Words.{Word}
-use Rattle.slot_program.specs.Capacity.{IsCapacityText, IsCapacityForm}
-use Rattle.slot_program.specs.Reports.{Refusal, out_of_form, over_limit, not_valid, unbuilt}
+use Rattle.slot_program.specs.Reports.{Refusal, out_of_form, over_limit, not_valid}
 
 -- the name of a file, and bytes that were read from it or are written to it
 pub record NamedBytes : Type 0 where
@@ -50,12 +48,8 @@ pub record SpellsCert (bytes : List ℕ) (c : Certificate) : Type 0 where
 -- ---- judgements, in the order in which commands make them
 
 -- capacity_form: a capacity file. requests_form: messages that make a submission under it.
--- certificate_form: a certificate. valid_certificate: it is valid for the submission. The first two
--- are those of the form that `allocate` serves today: a capacity file of seven lines, and a message
--- with one historic arrival.
+-- certificate_form: a certificate. valid_certificate: it is valid for the submission.
 pub data Judgement : Type 0 where
-  served_capacity : Judgement
-  served_requests : Judgement
   capacity_form : Judgement
   requests_form : Judgement
   certificate_form : Judgement
@@ -64,10 +58,6 @@ pub data Judgement : Type 0 where
 -- the files that were read are so: the capacity file is the first, the requests are the second, and
 -- the certificate is the third
 abbrev pub Accepts : Judgement → List NamedBytes → Type 0
-Accepts served_capacity (capacity ∷ rest) = IsCapacityForm capacity.bytes
-Accepts served_requests (capacity ∷ requests ∷ rest) =
-    (d : Declaration) × IsCapacityText capacity.bytes d
-    × IsHistoricText d.season d.airport requests.bytes
 Accepts capacity_form (capacity ∷ rest) = (d : Declaration) × IsCapacityFile capacity.bytes d
 Accepts requests_form (capacity ∷ requests ∷ rest) =
     (s : SubmissionView) × IsSeasonOf capacity.bytes requests.bytes s
@@ -105,11 +95,6 @@ IsSubmissionRefusal name (model_fault.TooMany units) refusal =
     refusal ≡ over_limit (codes "UNITS") units
 IsSubmissionRefusal name model_fault.Memory refusal = ⊥
 
--- the first line that is not in the form that is served
-abbrev pub IsUnbuilt : Word → (List ℕ → Type 0) → List ℕ → Refusal → Type 0
-IsUnbuilt name IsInForm bytes refusal =
-    (line : ℕ) × IsFirstBadLine IsInForm bytes line × (refusal ≡ unbuilt name line)
-
 -- the capacity file's first fault
 abbrev pub RefusesCapacity : Word → List ℕ → Refusal → Type 0
 RefusesCapacity name bytes refusal =
@@ -133,11 +118,6 @@ RefusesCertificate capacity requests certificate refusal =
 
 -- the files that were read are refused with this
 abbrev pub Refuses : Judgement → Word → List NamedBytes → Refusal → Type 0
-Refuses served_capacity name (capacity ∷ rest) refusal =
-    IsUnbuilt name IsCapacityForm capacity.bytes refusal
-Refuses served_requests name (capacity ∷ requests ∷ rest) refusal =
-    (d : Declaration) × IsCapacityText capacity.bytes d
-    × IsUnbuilt name (IsHistoricText d.season d.airport) requests.bytes refusal
 Refuses capacity_form name (capacity ∷ rest) refusal = RefusesCapacity name capacity.bytes refusal
 Refuses requests_form name (capacity ∷ requests ∷ rest) refusal =
     RefusesRequests name capacity.bytes requests.bytes refusal

@@ -8,8 +8,8 @@ use Rattle.desk_outside.specs.Files.{Files}
 use Rattle.command_words.specs.Words.{Word}
 use Rattle.slot_program.specs.Reports.{Refusal, missing, large}
 use Rattle.slot_program.specs.Judgements.{NamedBytes, Judgement, Accepts, Refuses}
-use Rattle.slot_program.specs.Judgements.{served_capacity, served_requests, capacity_form}
-use Rattle.slot_program.specs.Judgements.{requests_form, certificate_form, valid_certificate}
+use Rattle.slot_program.specs.Judgements.{capacity_form, requests_form, certificate_form}
+use Rattle.slot_program.specs.Judgements.{valid_certificate}
 
 -- a file is read that has at most so many bytes; or what was read so far is judged, and a refusal
 -- names this file
@@ -88,8 +88,6 @@ FirstDue held steps refusal =
 -- the steps without the judgement of whether a certificate is valid: all files are there and in
 -- their forms where these pass
 abbrev pub is_of_form : Judgement → Bool
-is_of_form served_capacity = true
-is_of_form served_requests = true
 is_of_form capacity_form = true
 is_of_form requests_form = true
 is_of_form certificate_form = true

@@ -3,15 +3,16 @@
 #![tactic(auto)]
 
 mod allocate;
-mod capacity;
 mod check;
-mod cutting;
 mod files;
+mod finish;
 pub mod laws;
-mod rule;
+mod make;
 mod season;
+mod stage_lines;
 mod stop;
 mod top_call;
-mod values;
+mod trial;
+mod writes;
 
 pub use top_call::desk;

@@ -154,7 +154,7 @@ fn submission_stop(place: usize, fault: ModelFault) -> Stop
 }
 
 /// The declaration of a capacity file.
-fn judge_capacity(alloc: Global, place: usize, bytes: &[u8]) -> Result<Declaration, Stop>
+pub(crate) fn judge_capacity(alloc: Global, place: usize, bytes: &[u8]) -> Result<Declaration, Stop>
     requires { length bytes.now ≤ LONGEST_FILE }
     ensures found { IfOk result (λ d. IsCapacityFile bytes.now d) }
     ensures keeps { IfOk result (λ d. IsDeclaration d) }
@@ -172,7 +172,7 @@ fn judge_capacity(alloc: Global, place: usize, bytes: &[u8]) -> Result<Declarati
 }
 
 /// The submission that requests make under a declaration.
-fn judge_requests(
+pub(crate) fn judge_requests(
     alloc: Global,
     place: usize,
     declaration: Declaration,

@@ -38,8 +38,6 @@ pub(crate) enum Stop {
     OverLimit(Limit, u64),
     /// The first line of the certificate that fails, and why.
     NotValid(u32, Reason),
-    /// The first line of the file that is not in the form that is served today.
-    Unbuilt(usize, u32),
     /// Memory ran out.
     Memory,
 }
@@ -93,7 +91,6 @@ impl Stop {
             Stop::OutOfForm(_, _) => 3,
             Stop::OverLimit(_, _) => 4,
             Stop::NotValid(_, _) => 1,
-            Stop::Unbuilt(_, _) => 12,
             Stop::Memory => 7,
             _ => 5,
         }
@@ -118,10 +115,6 @@ impl Stop {
                 Ok(numbered_line(alloc, "LIMIT", limit_name(limit), number)?)
             }
             Stop::NotValid(line, reason) => Ok(verdict_line(alloc, line, reason_name(reason))?),
-            Stop::Unbuilt(place, line) => {
-                let name = name_at(names, place);
-                Ok(numbered_line(alloc, "UNBUILT", name, u64::from(line))?)
-            }
             Stop::Memory => Err(Memory),
         }
     }

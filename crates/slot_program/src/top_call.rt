@@ -1,51 +1,58 @@
-ghost use Rattle.std.specs.Prelude.{◌≡◌, ◌≢◌, ◌⊎◌, ◌++◌, ◌∷◌, [], ℕ, List, Option, Some, None};
-ghost use Rattle.std.specs.Prelude.{IfOk, length, Contains, map};
+ghost use Rattle.std.specs.Prelude.{◌≡◌, ◌≢◌, ◌⊎◌, ◌++◌, ◌∷◌, [], ◌≤◌, ℕ, List, Option, Some, None};
+ghost use Rattle.std.specs.Prelude.{IfOk, Contains, map};
 ghost use Rattle.std.specs.String.{string_bytes};
+ghost use Rattle.choice_problem.specs.declared.problems.TheConstants.{MOST_UNITS};
 ghost use Rattle.desk_outside.specs.Cause.{Rose};
 ghost use Rattle.desk_outside.specs.Files.{Files, ChangesOnly};
 ghost use Rattle.desk_outside.specs.Bytes.{Puts, PutsPart};
 ghost use Rattle.desk_outside.specs.Passages.{put, put_failed};
 ghost use Rattle.command_words.specs.Words.{words_of};
 ghost use Rattle.command_words.specs.Jobs.{job_of};
-ghost use Rattle.slot_program.specs.Reports.{Report, Refusal, refused, finished, status_of, text_of};
+ghost use Rattle.slot_program.specs.Reports.{Report, Refusal, refused, status_of, text_of};
 ghost use Rattle.slot_program.specs.Judgements.{NamedBytes};
 ghost use Rattle.slot_program.specs.Steps.{AllPass, FirstDue, form_steps};
 ghost use Rattle.slot_program.specs.Writing.{read_of, written_of};
 ghost use Rattle.slot_program.specs.Jobs.{name_at, steps_of, finishing_of, MarksAreTrue};
-ghost use Rattle.slot_program.specs.Desk.{LogGrew, OnlyOfJob, world_of, Ends, IsFinished};
+ghost use Rattle.slot_program.specs.Jobs.{searched_statuses};
+ghost use Rattle.slot_program.specs.Desk.{World, LogGrew, OnlyOfJob, world_of, Ends, IsFinished};
 ghost use Rattle.slot_program.specs.Desk.{names_changed, IsStatus};
 ghost use Rattle.slot_program.specs.Answers.{IsAnswer};
 ghost use Rattle.command_words.specs.declared.job.Job.{Job as JobValue};
 ghost use Rattle.command_words.specs.declared.job.Job.TheVariants.{Allocate as AllocateJob};
 ghost use Rattle.command_words.specs.declared.job.Job.TheVariants.{Check as CheckJob};
+ghost use Rattle.command_words.specs.declared.job.Job.TheVariants.{Make as MakeJob};
+ghost use Rattle.command_words.specs.declared.job.Job.TheVariants.{Trial as TrialJob};
 
 use crate::allocate::allocate;
 use crate::check::check;
+use crate::finish::finish;
+use crate::make::make;
 use crate::stop::Answer;
+use crate::trial::trial;
 use command_words::{Job, NameList, WordFault, read_words};
-use desk_outside::{Cabinet, Sink};
+use desk_outside::{Cabinet, Gate, Sink};
 use slot_text::Memory;
 use std::alloc::Global;
+use std::thread::Threads;
 use wasg_stages::laws::valid_marks;
 
-const STAGE_LINES: &str =
-    "STAGE 1 OPTIMAL 0\nSTAGE 2 OPTIMAL 0\nSTAGE 3 OPTIMAL 0\nSTAGE 4 OPTIMAL 0\n";
-
 /// Does what the words of a command line ask, on the files of a cabinet, and says the result to a
-/// sink.
+/// sink. Where stages are searched, each worker passes the gate before it visits a node.
 ///
-/// The answer is the status of the program: 0 where the work is done; 1 where the certificate is not
-/// valid; 2 where the words are no command's; 3 where a file is not in its form; 4 where a limit is
-/// passed; 5 where the cabinet failed, or has no such file or one of more bytes than are read; 6
-/// where the sink failed; 7 for want of memory; and 12 where a file is not in the form that is
-/// served today. The clauses say the same of every command; what a command's steps, writes and work
-/// are stands in `specs/Jobs.antt`.
-pub fn desk<R, C: Cabinet, S: Sink>(
-    _rt: &R,
+/// The answer is the status of the program: 0 where the work is done; 1 where the certificate is
+/// not valid; 2 where the words are no command's; 3 where a file is not in its form; 4 where a limit
+/// is passed; 5 where the cabinet failed, or has no such file or one of more bytes than are read; 6
+/// where the sink failed; 7 for want of memory; and where the work is done but not each stage is
+/// settled with an allotment, 8 where a stage is INFEASIBLE, and else 9 where one is OPEN. The
+/// clauses say the same of every command; what a command's steps, writes and work are stands in
+/// `specs/Jobs.antt`.
+pub fn desk<R: Threads + Sync, C: Cabinet, S: Sink, G: Gate>(
+    rt: &R,
     alloc: Global,
     words: &[String],
     cabinet: &mut C,
     out: &mut S,
+    gate: &G,
 ) -> u8
     // The status, what passed between the desk and the cabinet, the files after it, and what was
     // put are those of one report, which is due by the words and by what was handed out.
@@ -56,12 +63,14 @@ pub fn desk<R, C: Cabinet, S: Sink>(
         × (S.log out.new ≡ S.log out.old ++ put (text_of report) ∷ []) }
     ensures statuses { IsStatus result }
 
-    // The headline: what a certificate that was written, or found valid, says of each stage is so.
-    // Exactly the files of the job were read and written, also over a cabinet that tells nothing.
+    // The headline: what the marks of a certificate that was written, found valid, or tried say
+    // of each stage is so. Exactly the files of the job were read and written, and exactly its
+    // text was put, also over a cabinet and a sink that tell nothing.
     ensures headline { (job : JobValue) → job_of (words_of words.now) ≡ Some job →
-        Contains (finishing_of job) result → (inputs writes : List NamedBytes)
+        Contains (finishing_of job) result →
+        (inputs writes : List NamedBytes) × (text : List ℕ)
         × (C.log cabinet.new ≡ C.log cabinet.old ++ (map read_of inputs ++ map written_of writes))
-        × MarksAreTrue job inputs writes }
+        × (S.log out.new ≡ S.log out.old ++ put text ∷ []) × MarksAreTrue job inputs writes text }
 
     // Done: each step passed, the work is that of the files that were read, exactly its files were
     // written, its text was put, and nothing failed.
@@ -71,7 +80,8 @@ pub fn desk<R, C: Cabinet, S: Sink>(
         (world_of C.files C.fault_count C.log cabinet.new)
         × Puts (S.contents out.old) text (S.contents out.new)
         × (S.log out.new ≡ S.log out.old ++ put text ∷ []) }
-    ensures done { result ≡ 0 → (C.fault_count cabinet.new ≡ C.fault_count cabinet.old)
+    ensures done { Contains searched_statuses result →
+        (C.fault_count cabinet.new ≡ C.fault_count cabinet.old)
         × (S.fault_count out.new ≡ S.fault_count out.old) }
 
     // The words are no command's, exactly then, and nothing of the cabinet is changed or asked.
@@ -110,7 +120,8 @@ pub fn desk<R, C: Cabinet, S: Sink>(
         (C.log cabinet.new) }
 
     // With a command's words, where each of its steps passes in the files and no count rises, the
-    // work is done, or memory ran out.
+    // work is done, or memory ran out. With a budget that is enough for each stage, the status of
+    // work that is done is not 9 (`IsRunOutput` and `IsTrial`, of which `handed` speaks).
     ensures complete { (job : JobValue) (held : Files) (inputs : List NamedBytes)
         → job_of (words_of words.now) ≡ Some job → C.files cabinet.old ≡ Some held →
         AllPass (Some held) (steps_of job) inputs →
@@ -128,7 +139,7 @@ pub fn desk<R, C: Cabinet, S: Sink>(
         (result ≡ 1) ⊎ (Contains (finishing_of job) result ⊎ (result ≡ 7)) }
 {
     valid_marks();
-    match carry_out(alloc, words, cabinet) {
+    match carry_out(rt, alloc, words, cabinet, gate) {
         Ok(answer) => match out.put(answer.text.as_bytes()) {
             Ok(()) => answer.status,
             Err(_) => 6,
@@ -138,7 +149,13 @@ pub fn desk<R, C: Cabinet, S: Sink>(
 }
 
 /// Does the work that the words ask for, and gives what is to be said.
-fn carry_out<C: Cabinet>(alloc: Global, words: &[String], cabinet: &mut C) -> Result<Answer, Memory>
+fn carry_out<R: Threads + Sync, C: Cabinet, G: Gate>(
+    rt: &R,
+    alloc: Global,
+    words: &[String],
+    cabinet: &mut C,
+    gate: &G,
+) -> Result<Answer, Memory>
     ensures answer { IfOk result (λ a. IsAnswer (job_of (words_of words.now))
         (world_of C.files C.fault_count C.log cabinet.old) a.status (string_bytes a.text)
         (world_of C.files C.fault_count C.log cabinet.new)) }
@@ -151,8 +168,22 @@ fn carry_out<C: Cabinet>(alloc: Global, words: &[String], cabinet: &mut C) -> Re
         ≡ world_of C.files C.fault_count C.log cabinet.old }
 {
     match read_words(alloc, words) {
-        Ok(Job::Allocate { names, .. }) => Ok(carry_out_allocation(alloc, &names, cabinet)?),
-        Ok(Job::Check { names }) => Ok(carry_out_check(alloc, &names, cabinet)?),
+        Ok(
+            Job::Allocate {
+                names,
+                nodes,
+                workers,
+            },
+        ) => carry_out_allocate(rt, alloc, &names, nodes, workers, cabinet, gate),
+        Ok(Job::Check { names }) => carry_out_check(alloc, &names, cabinet),
+        Ok(
+            Job::Make {
+                number,
+                units,
+                names,
+            },
+        ) => carry_out_make(alloc, number, units, &names, cabinet),
+        Ok(Job::Trial { number, units }) => carry_out_trial(rt, alloc, number, units, gate),
         Err(WordFault::Words) => Ok(Answer {
             status: 2,
             text: String::from_str(alloc, "WORDS\n")?,
@@ -161,28 +192,28 @@ fn carry_out<C: Cabinet>(alloc: Global, words: &[String], cabinet: &mut C) -> Re
     }
 }
 
-/// Allocates, and gives what is to be said.
-fn carry_out_allocation<C: Cabinet>(
+/// Allots a season, and gives what is to be said.
+fn carry_out_allocate<R: Threads + Sync, C: Cabinet, G: Gate>(
+    rt: &R,
     alloc: Global,
     names: &NameList,
+    nodes: u32,
+    workers: u32,
     cabinet: &mut C,
+    gate: &G,
 ) -> Result<Answer, Memory>
-    ensures answer { IfOk result (λ a. (nodes workers : ℕ) →
-        IsAnswer (Some (AllocateJob names.now nodes workers))
+    requires nodes { (1 ≤ nodes) × (nodes ≤ 1000000) }
+    requires workers { (1 ≤ workers) × (workers ≤ 16) }
+    ensures answer { IfOk result (λ a. IsAnswer (Some (AllocateJob names.now nodes workers))
         (world_of C.files C.fault_count C.log cabinet.old) a.status (string_bytes a.text)
         (world_of C.files C.fault_count C.log cabinet.new)) }
     ensures others { ChangesOnly (C.files cabinet.old)
         (name_at names.now 2 ∷ name_at names.now 3 ∷ []) (C.files cabinet.new) }
-    ensures asked { (nodes workers : ℕ) → LogGrew (C.log cabinet.old)
+    ensures asked { LogGrew (C.log cabinet.old)
         (OnlyOfJob (Some (AllocateJob names.now nodes workers))) (C.log cabinet.new) }
 {
-    match allocate(alloc, names, cabinet) {
-        Ok(()) => Ok(Answer {
-            status: 0,
-            text: String::from_str(alloc, STAGE_LINES)?,
-        }),
-        Err(stop) => Ok(stop.answer(alloc, names)?),
-    }
+    let ended = allocate(rt, alloc, names, nodes, workers, cabinet, gate);
+    finish(alloc, names, ended)
 }
 
 /// Checks a certificate, and gives what is to be said.
@@ -198,11 +229,43 @@ fn carry_out_check<C: Cabinet>(
     ensures asked { LogGrew (C.log cabinet.old) (OnlyOfJob (Some (CheckJob names.now)))
         (C.log cabinet.new) }
 {
-    match check(alloc, names, cabinet) {
-        Ok(()) => Ok(Answer {
-            status: 0,
-            text: String::from_str(alloc, "YES\n")?,
-        }),
-        Err(stop) => Ok(stop.answer(alloc, names)?),
-    }
+    let ended = check(alloc, names, cabinet);
+    finish(alloc, names, ended)
+}
+
+/// Writes a generated season, and gives what is to be said.
+fn carry_out_make<C: Cabinet>(
+    alloc: Global,
+    number: u32,
+    units: u32,
+    names: &NameList,
+    cabinet: &mut C,
+) -> Result<Answer, Memory>
+    requires { units ≤ MOST_UNITS }
+    ensures answer { IfOk result (λ a. IsAnswer (Some (MakeJob number units names.now))
+        (world_of C.files C.fault_count C.log cabinet.old) a.status (string_bytes a.text)
+        (world_of C.files C.fault_count C.log cabinet.new)) }
+    ensures others { ChangesOnly (C.files cabinet.old)
+        (name_at names.now 0 ∷ name_at names.now 1 ∷ []) (C.files cabinet.new) }
+    ensures asked { LogGrew (C.log cabinet.old)
+        (OnlyOfJob (Some (MakeJob number units names.now))) (C.log cabinet.new) }
+{
+    let ended = make(alloc, number, units, names, cabinet);
+    finish(alloc, names, ended)
+}
+
+/// Tries a generated season, and gives what is to be said. No file is read or written.
+fn carry_out_trial<R: Threads + Sync, G: Gate>(
+    rt: &R,
+    alloc: Global,
+    number: u32,
+    units: u32,
+    gate: &G,
+) -> Result<Answer, Memory>
+    requires { units ≤ MOST_UNITS }
+    ensures { IfOk result (λ a. (w : World) →
+        IsAnswer (Some (TrialJob number units)) w a.status (string_bytes a.text) w) }
+{
+    let answer = trial(rt, alloc, number, units, gate)?;
+    Ok(answer)
 }

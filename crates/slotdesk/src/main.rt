@@ -1,7 +1,7 @@
 //! The slot coordination desk of one airport and one season, over the real files and the standard output.
 #![tactic(auto)]
 
-use desk_outside::{RealCabinet, RealSink, Sink};
+use desk_outside::{RealCabinet, RealGate, RealSink, Sink};
 use slot_program::desk;
 use std::env;
 use std::io::ErrorKind;
@@ -21,7 +21,7 @@ fn main(rt: HostRuntime) -> ExitCode {
             return ExitCode::from(7);
         }
     }
-    ExitCode::from(desk(&rt, alloc, &words, &mut cabinet, &mut out))
+    ExitCode::from(desk(&rt, alloc, &words, &mut cabinet, &mut out, &RealGate))
 }
 
 /// The status where the words could not be had: one of them is no text, or memory ran out.

@@ -1,24 +1,45 @@
-use Rattle.std.proofs.Common.{[]}
+use Rattle.std.proofs.Common.{[], ◌∷◌, refl}
 use Rattle.std.proofs.lemmas.Result.{err_from_is_err_and}
+use Rattle.command_words.specs.declared.job.Job.TheVariants.{Check}
 use Rattle.slot_program.specs.Jobs.{certificate_steps, check_steps}
 use Rattle.slot_program.specs.Desk.{World, world_of}
+use Rattle.slot_program.proofs.LeadLemmas.{memory_read}
+use Rattle.slot_program.proofs.EndLemmas.{read_done, stop_job}
 use Rattle.slot_program.proofs.check.check.Goals as goal
 
 pub returns-in_err-submission-clause-stop : goal.returns-in_err-submission-clause-stop
 returns-in_err-submission-clause-stop g c =
+    let w : World = world_of g.C.Cabinet.files g.C.Cabinet.fault_count g.C.Cabinet.log c.args.cabinet.now in
+    let v : World = world_of g.C.Cabinet.files g.C.Cabinet.fault_count g.C.Cabinet.log c.read_season.new.cabinet in
+    let names = c.args.names.now in
     let p = err_from_is_err_and c.from_residual.result c.from_residual.ensures.1 in
-    rw (p.1, p.2) (c.in_err-submission.ensures.stop (certificate_steps c.args.names.now []))
+    rw (p.1, p.2) (stop_job names (Check names) w v c.in_err-submission.field-0.0 (c.in_err-submission.ensures.stop (certificate_steps names [])))
 
 pub returns-in_err-read_certificate-clause-stop : goal.returns-in_err-read_certificate-clause-stop
 returns-in_err-read_certificate-clause-stop g c =
     let w : World = world_of g.C.Cabinet.files g.C.Cabinet.fault_count g.C.Cabinet.log c.args.cabinet.now in
+    let u : World = world_of g.C.Cabinet.files g.C.Cabinet.fault_count g.C.Cabinet.log c.read_certificate.new.cabinet in
+    let names = c.args.names.now in
     let p = err_from_is_err_and c.from_residual-in_err-read_certificate.result c.from_residual-in_err-read_certificate.ensures.1 in
     let s = c.in_ok-submission.ensures.found in
-    rw (p.1, p.2) (c.in_err-read_certificate.ensures.stop w (check_steps c.args.names.now) [] s.0 s.1 s.2 (s.3 (certificate_steps c.args.names.now [])))
+    rw (p.1, p.2) (stop_job names (Check names) w u c.in_err-read_certificate.field-0.0
+    (c.in_err-read_certificate.ensures.stop w (check_steps names) [] s.0 s.1 s.2 (s.3 (certificate_steps names []))))
+
+pub returns-in_err-text-clause-stop : goal.returns-in_err-text-clause-stop
+returns-in_err-text-clause-stop g c =
+    let w : World = world_of g.C.Cabinet.files g.C.Cabinet.fault_count g.C.Cabinet.log c.args.cabinet.now in
+    let u : World = world_of g.C.Cabinet.files g.C.Cabinet.fault_count g.C.Cabinet.log c.read_certificate.new.cabinet in
+    let names = c.args.names.now in
+    let s = c.in_ok-submission.ensures.found in
+    let f = c.in_ok-read_certificate.ensures.found w (check_steps names) [] s.0 s.1 s.2 (s.3 (certificate_steps names [])) in
+    let p = err_from_is_err_and c.from_residual-in_err-text.result c.from_residual-in_err-text.ensures.1 in
+    rw (p.1, p.2) (memory_read w u u (check_steps names) (s.0 ∷ s.1 ∷ f.0 ∷ []) [] f.2 refl)
 
 pub returns-clause-done : goal.returns-clause-done
 returns-clause-done g c =
     let w : World = world_of g.C.Cabinet.files g.C.Cabinet.fault_count g.C.Cabinet.log c.args.cabinet.now in
+    let u : World = world_of g.C.Cabinet.files g.C.Cabinet.fault_count g.C.Cabinet.log c.read_certificate.new.cabinet in
+    let names = c.args.names.now in
     let s = c.in_ok-submission.ensures.found in
-    let f = c.in_ok-read_certificate.ensures.found w (check_steps c.args.names.now) [] s.0 s.1 s.2 (s.3 (certificate_steps c.args.names.now [])) in
-    (s.0, s.1, f.0, f.2)
+    let f = c.in_ok-read_certificate.ensures.found w (check_steps names) [] s.0 s.1 s.2 (s.3 (certificate_steps names [])) in
+    read_done (Check names) w u (s.0 ∷ s.1 ∷ f.0 ∷ []) f.2 0 _ (refl, refl, c.in_ok-text.ensures)

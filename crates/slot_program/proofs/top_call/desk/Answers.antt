@@ -5,9 +5,9 @@ use Rattle.desk_outside.specs.Passages.{put}
 use Rattle.command_words.specs.Words.{words_of}
 use Rattle.command_words.specs.Jobs.{job_of}
 use Rattle.slot_program.specs.Reports.{Report, status_of, text_of}
-use Rattle.slot_program.specs.Jobs.{finishing_of}
+use Rattle.slot_program.specs.Jobs.{searched_statuses, finishing_of}
 use Rattle.slot_program.specs.Desk.{World, world_of, IsFinished, IsStatus}
-use Rattle.slot_program.proofs.DeskLemmas.{is_status, not_six, is_finished, marks_true, told_exact, finishing_zero}
+use Rattle.slot_program.proofs.DeskLemmas.{is_status, not_six, is_finished, marks_true, told_exact, finishing_not, searched_is_calm, not_searched, two_is_none}
 use Rattle.slot_program.proofs.top_call.desk.Goals as goal
 
 pub returns-in-Ok-put-clause-statuses : goal.returns-in-Ok-put-clause-statuses
@@ -20,8 +20,10 @@ returns-in-Ok-put-clause-headline g c = λ job e one.
     let w : World = world_of g.C.Cabinet.files g.C.Cabinet.fault_count g.C.Cabinet.log c.args.cabinet.now in
     let v : World = world_of g.C.Cabinet.files g.C.Cabinet.fault_count g.C.Cabinet.log c.carry_out.new.cabinet in
     let a = c.in-Ok.ensures.answer in
-    marks_true c.valid_marks.ensures job w (status_of a.report) (text_of a.report) v
-    (is_finished (job_of (words_of c.args.words.now)) job w a.report v e (subst (λ (n : ℕ). Contains (finishing_of job) n) a.status_is one) a.ends)
+    let marked = marks_true c.valid_marks.ensures job w (status_of a.report) (text_of a.report) v
+    (is_finished (job_of (words_of c.args.words.now)) job w a.report v e (subst (λ (n : ℕ). Contains (finishing_of job) n) a.status_is one) a.ends) in
+    let logs : g.S.Sink.log c.put.new.self ≡ g.S.Sink.log c.args.out.now ++ put (text_of a.report) ∷ [] = search rules in
+    (marked.0, marked.1, text_of a.report, marked.2, logs, marked.3)
 
 pub returns-in-Ok-put-clause-handed : goal.returns-in-Ok-put-clause-handed
 returns-in-Ok-put-clause-handed g c = λ job e one.
@@ -31,6 +33,24 @@ returns-in-Ok-put-clause-handed g c = λ job e one.
     let done : IsFinished job w (status_of a.report) (text_of a.report) v =
     is_finished (job_of (words_of c.args.words.now)) job w a.report v e (subst (λ (n : ℕ). Contains (finishing_of job) n) a.status_is one) a.ends in
     (text_of a.report, subst (λ (n : ℕ). IsFinished job w n (text_of a.report) v) (sym a.status_is) done, search rules, search rules)
+
+pub returns-in-Ok-put-clause-done : goal.returns-in-Ok-put-clause-done
+returns-in-Ok-put-clause-done g c = λ one.
+    let w : World = world_of g.C.Cabinet.files g.C.Cabinet.fault_count g.C.Cabinet.log c.args.cabinet.now in
+    let v : World = world_of g.C.Cabinet.files g.C.Cabinet.fault_count g.C.Cabinet.log c.carry_out.new.cabinet in
+    let a = c.in-Ok.ensures.answer in
+    (searched_is_calm (job_of (words_of c.args.words.now)) w a.report v (subst (λ (n : ℕ). Contains searched_statuses n) a.status_is one) a.ends, search rules)
+
+pub returns-in-Ok-clause-done : goal.returns-in-Ok-clause-done
+returns-in-Ok-clause-done g c = λ one. absurd (not_searched 6 (omega arith) (omega arith) one)
+
+pub returns-clause-done : goal.returns-clause-done
+returns-clause-done g c = λ one. absurd (not_searched 7 (omega arith) (omega arith) one)
+
+pub returns-in-Ok-put-clause-words : goal.returns-in-Ok-put-clause-words
+returns-in-Ok-put-clause-words g c = λ e.
+    let a = c.in-Ok.ensures.answer in
+    two_is_none (job_of (words_of c.args.words.now)) _ a.report _ (sym a.status_is ∙ e) a.ends
 
 pub returns-in-Ok-put-clause-due : goal.returns-in-Ok-put-clause-due
 returns-in-Ok-put-clause-due g c = λ job held refusal e told is.
@@ -76,16 +96,16 @@ pub returns-in-Ok-clause-statuses : goal.returns-in-Ok-clause-statuses
 returns-in-Ok-clause-statuses g c = (6, omega arith, refl)
 
 pub returns-in-Ok-clause-headline : goal.returns-in-Ok-clause-headline
-returns-in-Ok-clause-headline g c = λ job e one. absurd (omega (arith, finishing_zero job 6 one))
+returns-in-Ok-clause-headline g c = λ job e one. absurd (finishing_not job 6 (omega arith) (omega arith) one)
 
 pub returns-in-Ok-clause-handed : goal.returns-in-Ok-clause-handed
-returns-in-Ok-clause-handed g c = λ job e one. absurd (omega (arith, finishing_zero job 6 one))
+returns-in-Ok-clause-handed g c = λ job e one. absurd (finishing_not job 6 (omega arith) (omega arith) one)
 
 pub returns-clause-headline : goal.returns-clause-headline
-returns-clause-headline g c = λ job e one. absurd (omega (arith, finishing_zero job 7 one))
+returns-clause-headline g c = λ job e one. absurd (finishing_not job 7 (omega arith) (omega arith) one)
 
 pub returns-clause-handed : goal.returns-clause-handed
-returns-clause-handed g c = λ job e one. absurd (omega (arith, finishing_zero job 7 one))
+returns-clause-handed g c = λ job e one. absurd (finishing_not job 7 (omega arith) (omega arith) one)
 
 pub returns-clause-statuses : goal.returns-clause-statuses
 returns-clause-statuses g c = (7, omega arith, refl)

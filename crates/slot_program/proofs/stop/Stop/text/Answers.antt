@@ -1,6 +1,6 @@
 use Rattle.std.proofs.Common.{codes, refl, ap, ◌∙◌}
 use Rattle.command_words.specs.Words.{Word}
-use Rattle.slot_program.specs.Reports.{refused, unread, unwritten, missing, large, out_of_form, over_limit, not_valid, unbuilt, cabinet_line, numbered_line}
+use Rattle.slot_program.specs.Reports.{refused, unread, unwritten, missing, large, out_of_form, over_limit, not_valid, cabinet_line, numbered_line}
 use Rattle.slot_program.specs.Jobs.{name_at}
 use Rattle.slot_program.specs.Stops.{limit_text}
 use Rattle.slot_program.proofs.TextLemmas.{verdict_of}
@@ -44,12 +44,3 @@ returns-in_ok-verdict_line-in-NotValid c = (
   rw c.in-NotValid.is refl,
   c.in_ok-verdict_line-in-NotValid.ensures ∙ ap (verdict_of c.in-NotValid.line) c.reason_name.ensures,
 )
-
-pub returns-in_ok-numbered_line-in-Unbuilt : goal.returns-in_ok-numbered_line-in-Unbuilt
-returns-in_ok-numbered_line-in-Unbuilt c =
-    let name = name_at c.args.names.now c.in-Unbuilt.place in (
-      refused (unbuilt name c.in-Unbuilt.line),
-      rw c.in-Unbuilt.is refl,
-      c.in_ok-numbered_line-in-Unbuilt.ensures
-          ∙ (ap (λ (n : Word). numbered_line (codes "UNBUILT") n c.from-in-Unbuilt.result) c.name_at-name-in-Unbuilt.ensures ∙ ap (numbered_line (codes "UNBUILT") name) c.from-in-Unbuilt.ensures),
-    )

@@ -1,2 +1,0 @@
-pub mod Historic
-pub mod Fields

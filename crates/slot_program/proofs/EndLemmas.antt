@@ -1,0 +1,193 @@
+-- The work of a job is done, or its writes are cut short.
+use Rattle.std.proofs.Common.{◌≡◌, ℕ, ◌+◌, List, [], ◌∷◌, ◌++◌, map, Option, Some, None, refl, sym, ap, ◌∙◌, subst, append_assoc, arith, inl, inr}
+use Rattle.std.specs.Prelude.{All, Contains, IfSome}
+use Rattle.std.proofs.lemmas.List.{append-nil}
+use Rattle.std.proofs.lemmas.List.Elements.{All-nil, All-cons, All-append, All-map}
+use Rattle.desk_outside.specs.Cause.{Rose}
+use Rattle.desk_outside.specs.Files.{Files, Writes, WritesPart}
+use Rattle.desk_outside.specs.Passages.{Passage, wrote, write_failed}
+use Rattle.command_words.specs.Words.{Word}
+use Rattle.slot_program.specs.Judgements.{NamedBytes}
+use Rattle.slot_program.specs.Steps.{names_read}
+use Rattle.slot_program.specs.Writing.{read_of, AreWritten}
+use Rattle.slot_program.specs.Jobs.{name_at, two_files, steps_of, names_written, finishing_of, Works}
+use Rattle.slot_program.specs.Desk.{World, LogGrew, OnlyOfJob, IsOfFiles}
+use Rattle.slot_program.specs.Leads.{Leads}
+use Rattle.slot_program.specs.Ends.{IsDone, IsCutShort, JobStops}
+use Rattle.slot_program.specs.Stops.{StopLeads}
+use Rattle.slot_program.proofs.StageLemmas.{marks_among}
+use Rattle.command_words.specs.declared.job.Job.{Job}
+use Rattle.command_words.specs.declared.job.Job.TheVariants.{Allocate, Check, Make, Trial}
+use Rattle.slot_program.specs.declared.stop.Stop.{Stop}
+use Rattle.slot_program.specs.declared.stop.Stop.TheVariants as stops
+
+-- ---- the status of work that is done
+
+only_zero : (n : ℕ) → n ≡ 0 → Contains {X = ℕ} (0 ∷ []) n
+only_zero n e = subst (λ (k : ℕ). Contains {X = ℕ} (0 ∷ []) k) (sym e) (0, omega arith, refl)
+
+pub works_finishing : (job : Job) (inputs writes : List NamedBytes) (status : ℕ) (text : List ℕ) → Works job inputs writes status text → Contains (finishing_of job) status
+works_finishing (Allocate names nodes workers) [] writes status text work = absurd work
+works_finishing (Allocate names nodes workers) (capacity ∷ []) writes status text work = absurd work
+works_finishing (Allocate names nodes workers) (capacity ∷ requests ∷ []) writes status text work =
+    subst (λ (n : ℕ). Contains (finishing_of (Allocate names nodes workers)) n) (sym work.output.status_is) (marks_among work.output.proved.stages)
+works_finishing (Allocate names nodes workers) (capacity ∷ requests ∷ more ∷ rest) writes status text work = absurd work
+works_finishing (Check names) [] writes status text work = absurd work
+works_finishing (Check names) (capacity ∷ []) writes status text work = absurd work
+works_finishing (Check names) (capacity ∷ requests ∷ []) writes status text work = absurd work
+works_finishing (Check names) (capacity ∷ requests ∷ certificate ∷ []) writes status text work = only_zero status work.0
+works_finishing (Check names) (capacity ∷ requests ∷ certificate ∷ more ∷ rest) writes status text work = absurd work
+works_finishing (Make number units names) [] writes status text work = only_zero status work.status_is
+works_finishing (Make number units names) (file ∷ rest) writes status text work = absurd work
+works_finishing (Trial number units) [] writes status text work =
+    subst (λ (n : ℕ). Contains (finishing_of (Trial number units)) n) (sym work.status_is) (marks_among work.proved.stages)
+works_finishing (Trial number units) (file ∷ rest) writes status text work = absurd work
+
+-- ---- a job stops as it does where nothing was written
+
+pub stop_job : (names : List Word) (job : Job) (w v : World) (stop : Stop) → StopLeads names w (steps_of job) stop v → JobStops names job w stop v
+stop_job names job w v (stops.Missing place) lead = lead
+stop_job names job w v (stops.Large place) lead = lead
+stop_job names job w v (stops.Unread place) lead = lead
+stop_job names job w v (stops.Unwritten place) lead = absurd lead
+stop_job names job w v (stops.OutOfForm place line) lead = lead
+stop_job names job w v (stops.OverLimit limit number) lead = lead
+stop_job names job w v (stops.NotValid line reason) lead = lead
+stop_job names job w v stops.Memory lead = lead
+
+-- ---- names of two files
+
+pub first_of_two : (one two : Word) → Contains (one ∷ two ∷ []) one
+first_of_two one two = (0, omega arith, refl)
+
+pub second_of_two : (one two : Word) → Contains (one ∷ two ∷ []) two
+second_of_two one two = (1, omega arith, refl)
+
+-- ---- all steps passed, and the files are these
+
+module _ (job : Job) (w v : World) (inputs : List NamedBytes) (lead : Leads w (steps_of job) inputs [] v) where
+  abbrev P : Passage → Type 0
+  P = IsOfFiles (names_read (steps_of job)) (names_written job)
+
+  reads_asked : All P (map read_of inputs)
+  reads_asked = All-map P read_of inputs lead.named
+
+  none_written : (files after : Option Files) → after ≡ files → AreWritten files [] after
+  none_written None after e = tt
+  none_written (Some held) after e = e
+
+  -- nothing is written
+  pub read_done : (status : ℕ) (text : List ℕ) → Works job inputs [] status text → IsDone job w status text v
+  read_done status text work = record {
+    finished = record {
+      inputs = inputs;
+      writes = [];
+      passed = lead.pass inputs refl;
+      work = work;
+      calm = lead.faults;
+      log = lead.log ∙ ap (λ (l : List Passage). w.log ++ l) (sym (append-nil (map read_of inputs)));
+      files = none_written w.files v.files lead.files;
+    };
+    finishing = works_finishing job inputs [] status text work;
+    asked = (map read_of inputs, lead.log, reads_asked);
+    told = lead.told;
+  }
+
+  -- two files are written
+  module _ (status : ℕ) (text : List ℕ) (names : List Word) (place : ℕ) (one two : List ℕ) (named : names_written job ≡ name_at names place ∷ name_at names (place + 1) ∷ []) (work : Works job inputs (two_files names place one two) status text) where
+    abbrev first : Word
+    first = name_at names place
+
+    abbrev second : Word
+    second = name_at names (place + 1)
+
+    kept : (name : Word) → Contains (first ∷ second ∷ []) name → Contains (names_written job) name
+    kept name is = subst (λ (l : List Word). Contains l name) (sym named) is
+
+    first_wrote : P (wrote first one)
+    first_wrote = kept first (first_of_two first second)
+
+    first_tried : P (write_failed first one)
+    first_tried = kept first (first_of_two first second)
+
+    second_wrote : P (wrote second two)
+    second_wrote = kept second (second_of_two first second)
+
+    second_tried : P (write_failed second two)
+    second_tried = kept second (second_of_two first second)
+
+    one_passed : (passage : Passage) → P passage → All P (passage ∷ [])
+    one_passed passage is = All-cons P passage [] is (All-nil P)
+
+    log_on : (u : World) (passed : List Passage) → u.log ≡ v.log ++ passed → u.log ≡ w.log ++ (map read_of inputs ++ passed)
+    log_on u passed e = e ∙ (ap (λ (l : List Passage). l ++ passed) lead.log ∙ append_assoc w.log (map read_of inputs) passed)
+
+    rose_from : (u : World) → Rose v.faults u.faults → Rose w.faults u.faults
+    rose_from u rose = subst (λ (n : ℕ). Rose n u.faults) lead.faults rose
+
+    grew : (u : World) (passed : List Passage) → u.log ≡ v.log ++ passed → All P passed → LogGrew w.log (OnlyOfJob (Some job)) u.log
+    grew u passed e all = (map read_of inputs ++ passed, log_on u passed e, All-append P (map read_of inputs) passed reads_asked all)
+
+    pub first_failed : (u : World) → WritesPart v.files first one u.files → Rose v.faults u.faults → u.log ≡ v.log ++ write_failed first one ∷ [] → IsCutShort job w first u
+    first_failed u part rose log = record {
+      unwritten = record {
+        inputs = inputs;
+        writes = two_files names place one two;
+        status = status;
+        text = text;
+        tried = write_failed first one ∷ [];
+        passed = lead.pass inputs refl;
+        work = work;
+        rose = rose_from u rose;
+        stops = inl (refl, subst (λ (o : Option Files). WritesPart o first one u.files) lead.files part, refl);
+        log = log_on u (write_failed first one ∷ []) log;
+      };
+      asked = grew u (write_failed first one ∷ []) log (one_passed (write_failed first one) first_tried);
+    }
+
+    -- the first was written
+    module _ (x : World) (written : Writes v.files first one x.files) (calm : x.faults ≡ v.faults) (log : x.log ≡ v.log ++ wrote first one ∷ []) where
+      log_after : (u : World) (passage : Passage) → u.log ≡ x.log ++ passage ∷ [] → u.log ≡ v.log ++ wrote first one ∷ passage ∷ []
+      log_after u passage e = e ∙ (ap (λ (l : List Passage). l ++ passage ∷ []) log ∙ append_assoc v.log (wrote first one ∷ []) (passage ∷ []))
+
+      written_here : Writes w.files first one x.files
+      written_here = subst (λ (o : Option Files). Writes o first one x.files) lead.files written
+
+      pub second_failed : (u : World) → WritesPart x.files second two u.files → Rose x.faults u.faults → u.log ≡ x.log ++ write_failed second two ∷ [] → IsCutShort job w second u
+      second_failed u part rose more = record {
+        unwritten = record {
+          inputs = inputs;
+          writes = two_files names place one two;
+          status = status;
+          text = text;
+          tried = wrote first one ∷ write_failed second two ∷ [];
+          passed = lead.pass inputs refl;
+          work = work;
+          rose = rose_from u (subst (λ (n : ℕ). Rose n u.faults) calm rose);
+          stops = inr (x.files, write_failed second two ∷ [], written_here, inl (refl, part, refl), refl);
+          log = log_on u (wrote first one ∷ write_failed second two ∷ []) (log_after u (write_failed second two) more);
+        };
+        asked = grew u (wrote first one ∷ write_failed second two ∷ []) (log_after u (write_failed second two) more)
+            (All-cons P (wrote first one) (write_failed second two ∷ []) first_wrote (one_passed (write_failed second two) second_tried));
+      }
+
+      are_written : (before between after : Option Files) (a b : NamedBytes) → Writes before a.name a.bytes between → Writes between b.name b.bytes after → AreWritten before (a ∷ b ∷ []) after
+      are_written None between after a b x y = tt
+      are_written (Some held) between after a b x y = subst (λ (o : Option Files). Writes o b.name b.bytes after) x y
+
+      pub both_written : (u : World) → Writes x.files second two u.files → u.faults ≡ x.faults → u.log ≡ x.log ++ wrote second two ∷ [] → IsDone job w status text u
+      both_written u done quiet more = record {
+        finished = record {
+          inputs = inputs;
+          writes = two_files names place one two;
+          passed = lead.pass inputs refl;
+          work = work;
+          calm = quiet ∙ calm ∙ lead.faults;
+          log = log_on u (wrote first one ∷ wrote second two ∷ []) (log_after u (wrote second two) more);
+          files = are_written w.files x.files u.files (record { name = first; bytes = one }) (record { name = second; bytes = two }) written_here done;
+        };
+        finishing = works_finishing job inputs (two_files names place one two) status text work;
+        asked = grew u (wrote first one ∷ wrote second two ∷ []) (log_after u (wrote second two) more)
+            (All-cons P (wrote first one) (wrote second two ∷ []) first_wrote (one_passed (wrote second two) second_wrote));
+        told = lead.told;
+      }

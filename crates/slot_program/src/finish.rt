@@ -1,0 +1,34 @@
+//! What is said at the end of a job.
+
+ghost use Rattle.std.specs.Prelude.{IfOk, IfErr, Some};
+ghost use Rattle.std.specs.String.{string_bytes};
+ghost use Rattle.command_words.specs.declared.job.Job.{Job as JobValue};
+ghost use Rattle.slot_program.specs.Desk.{World, LogGrew, OnlyOfJob};
+ghost use Rattle.slot_program.specs.Ends.{IsDone, JobStops};
+ghost use Rattle.slot_program.specs.Answers.{IsAnswer};
+
+use crate::stop::{Answer, Stop};
+use command_words::NameList;
+use slot_text::Memory;
+use std::alloc::Global;
+
+/// What is said of a job that is done, or that stopped.
+pub(crate) fn finish(
+    alloc: Global,
+    names: &NameList,
+    ended: Result<Answer, Stop>,
+) -> Result<Answer, Memory>
+    ensures answer { (job : JobValue) (w v : World) →
+        IfOk ended (λ done. IsDone job w done.status (string_bytes done.text) v) →
+        IfErr ended (λ stop. JobStops names.now job w stop v) →
+        IfOk result (λ a. IsAnswer (Some job) w a.status (string_bytes a.text) v) }
+    ensures asked { (job : JobValue) (w v : World) →
+        IfOk ended (λ done. IsDone job w done.status (string_bytes done.text) v) →
+        IfErr ended (λ stop. JobStops names.now job w stop v) →
+        LogGrew w.log (OnlyOfJob (Some job)) v.log }
+{
+    match ended {
+        Ok(answer) => Ok(answer),
+        Err(stop) => Ok(stop.answer(alloc, names)?),
+    }
+}
