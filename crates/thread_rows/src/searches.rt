@@ -208,6 +208,8 @@ fn worked_rows(rt: HostRuntime) -> Result<(), Fail> {
         let text = searched(&rt, alloc, problem, *budget, *workers, true)?;
         assert_eq!(rt; text.as_str(), *want);
     }
+    let text = searched(&rt, alloc, &three(alloc)?, 15, 1, false)?;
+    assert_eq!(rt; text.as_str(), "OPTIMAL 40");
     Ok(())
 }
 
@@ -361,11 +363,23 @@ fn a_choice_handed_in(rt: HostRuntime) -> Result<(), Fail> {
     Ok(())
 }
 
-// Holds each of two workers at its first node until the other has come to its own, for a limited number of turns.
+// Holds each of two workers at its first node until the other has come to so many of its own, for a limited number of turns.
 #[derive(Drop)]
 struct Meeting {
+    wanted: [u64; 2],
     came: [AtomicU64; 2],
     met: AtomicU64,
+}
+
+impl Meeting {
+    // Worker 0 waits for so many nodes of worker 1, and worker 1 for so many of worker 0.
+    fn of(of_one: u64, of_zero: u64) -> Meeting {
+        Meeting {
+            wanted: [of_one, of_zero],
+            came: [AtomicU64::new(0), AtomicU64::new(0)],
+            met: AtomicU64::new(0),
+        }
+    }
 }
 
 const TURNS: u64 = 400_000_000;
@@ -377,7 +391,7 @@ impl Gate for Meeting {
             return;
         }
         for _ in 0..TURNS {
-            if self.came[1 - place].load(Ordering::SeqCst) > 0 {
+            if self.came[1 - place].load(Ordering::SeqCst) >= self.wanted[place] {
                 self.met.fetch_add(1, Ordering::SeqCst);
                 return;
             }
@@ -391,14 +405,93 @@ impl Gate for Meeting {
 fn two_workers_meet(rt: HostRuntime) -> Result<(), Fail> {
     let alloc = rt.alloc();
     let problem = ring(alloc, 12)?;
-    let gate = Meeting {
-        came: [AtomicU64::new(0), AtomicU64::new(0)],
-        met: AtomicU64::new(0),
-    };
+    let gate = Meeting::of(1, 1);
     let outcome = search(&rt, alloc, &problem, 100_000, 2, &gate)?;
     let text = outcome_text(alloc, &problem, &outcome, false)?;
     assert_eq!(rt; text.as_str(), "OPTIMAL 172");
     assert_eq!(rt; gate.met.load(Ordering::SeqCst), 2);
+    Ok(())
+}
+
+// Four units, each of which takes one of four places at a cost of its own.
+fn seated(alloc: Global) -> Result<Problem, Fail> {
+    let mut units = Vec::new(alloc);
+    for costs in [[0, 10, 7, 4], [1, 10, 6, 2], [2, 10, 5, 0], [3, 10, 4, 11]] {
+        let mut parts = Vec::new(alloc);
+        let mut alts = Vec::new(alloc);
+        for (place, cost) in (0..4u32).zip(costs) {
+            parts.push(Part::new(vec![in alloc; once(place); 1]?))?;
+            alts.push(alt(cost, Some(place)))?;
+        }
+        if !Chooser::allows(&parts, &alts) {
+            return Err("seats".into());
+        }
+        units.push(Chooser::new(parts, alts))?;
+    }
+    problem(units, vec![in alloc; 1; 4]?)
+}
+
+// The place behind the tree that begins at a place of a list of nodes.
+fn behind(nodes: &[Node], place: usize) -> usize {
+    let mut open: u32 = 1;
+    for at in place..nodes.len() {
+        open = match nodes[at] {
+            Node::Split { .. } => open.saturating_add(1),
+            _ => open.saturating_sub(1),
+        };
+        if open == 0 {
+            return at + 1;
+        }
+    }
+    nodes.len()
+}
+
+// What is recorded at the nodes of a whole tree that stand where a shorter one has undone nodes.
+fn seen_at_pieces(alloc: Global, short: &[Node], whole: &[Node]) -> Result<Vec<i64>, Fail> {
+    let mut costs = Vec::new(alloc);
+    let mut at: usize = 0;
+    for node in short {
+        if *node != Node::Undone {
+            at = at.saturating_add(1);
+        } else if at < whole.len() {
+            costs.push(recorded(&whole[at]))?;
+            at = behind(whole, at);
+        }
+    }
+    Ok(costs)
+}
+
+fn recorded(node: &Node) -> i64 {
+    match *node {
+        Node::Split { seen, .. } => seen_text(seen),
+        Node::Leaf { seen, .. } => seen_text(seen),
+        _ => -1,
+    }
+}
+
+// Worker 0 begins when worker 1 has come to its first node, and worker 1 goes on when worker 0 has come to its sixth: in
+// either of the first two pieces it has then posted a cost below that of the greedy choice, 17. So one of their first nodes
+// records 17, and the other, at which worker 1 stood, less.
+#[test]
+fn a_worker_reads_what_another_posted(rt: HostRuntime) -> Result<(), Fail> {
+    let alloc = rt.alloc();
+    let problem = seated(alloc)?;
+    let opening = search(&rt, alloc, &problem, 13, 2, &RealGate)?;
+    let text = outcome_text(alloc, &problem, &opening, false)?;
+    assert_eq!(rt; text.as_str(), "SPENT 17");
+    let gate = Meeting::of(1, 6);
+    let outcome = search(&rt, alloc, &problem, 1_000, 2, &gate)?;
+    let text = outcome_text(alloc, &problem, &outcome, false)?;
+    assert_eq!(rt; text.as_str(), "OPTIMAL 14");
+    assert_eq!(rt; gate.met.load(Ordering::SeqCst), 2);
+    let costs = seen_at_pieces(alloc, tree_of(&opening).items(), tree_of(&outcome).items())?;
+    assert_eq!(rt; costs.len(), 8);
+    let (Some(one), Some(other)) = (costs.first(), costs.get(1)) else {
+        return Err("pieces".into());
+    };
+    let (least, most) = (*one.min(other), *one.max(other));
+    assert!(rt; (14..17).contains(&least), "{least}");
+    assert_eq!(rt; most, 17);
     Ok(())
 }
 
