@@ -14,6 +14,8 @@ mod leaves;
 #[cfg(test)]
 mod problems;
 #[cfg(test)]
+mod relaxed;
+#[cfg(test)]
 mod texts;
 #[cfg(test)]
 mod visits;

@@ -1,0 +1,119 @@
+//! Linear relaxations: values, the bounds of their vectors, rays.
+
+ghost use Rattle.std.specs.Prelude.{◌<◌};
+ghost use Rattle.choice_problem.specs.declared.closing.TheConstants.{SCALE_BOUND};
+ghost use Rattle.choice_problem.specs.Bounds.{AreRanges};
+
+use crate::problems::{problem, ranges, table_of};
+use crate::texts::{halves, numbers, piece};
+use choice_problem::{PRICED_SCALE, Problem, Ranges, Vector};
+use price_table::bound;
+use reduced_problem::Reduced;
+use relaxed_problem::{End, Program, Relaxation};
+use std::alloc::Global;
+use std::num::saturating_f64_to_i64;
+use std::test::Fail;
+
+// The bound of ranges at a vector.
+fn bound_at(
+    alloc: Global,
+    problem: &Problem,
+    ranges: &Ranges,
+    vector: &Vector,
+    scale: u64,
+) -> Result<i128, Fail>
+    requires ranges { AreRanges problem.now ranges.now }
+    requires scale { scale < SCALE_BOUND }
+{
+    let table = table_of(alloc, problem, vector)?;
+    Ok(bound(problem, ranges, &table, scale))
+}
+
+// How a relaxation of ranges ends: solved, with the value in thousandths and the bound of its vector; or without a
+// solution, and whether a ray shows it.
+fn ending(
+    alloc: Global,
+    problem: &Problem,
+    program: &Program<'_>,
+    relaxation: &mut Relaxation,
+    ranges: &Ranges,
+) -> Result<String, Fail>
+    requires { AreRanges problem.now ranges.now }
+{
+    for unit in 0..problem.units() {
+        relaxation.restrict(unit, ranges.low(unit), ranges.high(unit));
+    }
+    let ended = relaxation.solve(alloc, program, 1_000, 1_000_000_000_000.0)?;
+    if ended.end == End::Solved {
+        let thousandths = saturating_f64_to_i64(relaxation.true_value(program) * 1_000.0 + 0.5);
+        let vector = relaxation.vector(alloc, problem, program)?;
+        let scaled = bound_at(alloc, problem, ranges, &vector, PRICED_SCALE)?;
+        return Ok(format!(in alloc; "{thousandths} {scaled}")?);
+    }
+    if ended.end != End::Infeasible {
+        return Err("pivots".into());
+    }
+    let vector = relaxation.ray(alloc, problem, program, 1_024)?;
+    let shows = bound_at(alloc, problem, ranges, &vector, 0)? > 0;
+    Ok(format!(in alloc; "none {shows}")?)
+}
+
+// The excluded alternatives: a flag for each, unit after unit.
+fn flags(alloc: Global, text: &str) -> Result<Vec<bool>, Fail> {
+    let mut flags = Vec::new(alloc);
+    for number in numbers(alloc, text)? {
+        flags.push(number == 1)?;
+    }
+    Ok(flags)
+}
+
+// How a row's relaxation ends on all alternatives, and how a copy ends on the ranges of the row, if it has some.
+fn described(alloc: Global, row: &str) -> Result<String, Fail> {
+    let problem = problem(alloc, piece(row, 0))?;
+    let reduced = Reduced::of(alloc, &problem)?;
+    let excluded = flags(alloc, piece(row, 1))?;
+    let program = Program::new(alloc, &problem, &reduced, &excluded)?;
+    let mut first = Relaxation::start(alloc, &program)?;
+    let whole = ranges(alloc, &problem, "")?;
+    let ended = ending(alloc, &problem, &program, &mut first, &whole)?;
+    if piece(row, 2).is_empty() {
+        return Ok(ended);
+    }
+    let narrow = ranges(alloc, &problem, piece(row, 2))?;
+    let mut next = first.copy(alloc)?;
+    let narrowed = ending(alloc, &problem, &program, &mut next, &narrow)?;
+    Ok(format!(in alloc; "{ended}, {narrowed}")?)
+}
+
+// In turn: one of two units makes room, the cheaper one; whichever of them is kept from it, the other one does. Four units
+// of equal costs for two places. A unit with one alternative, which fits, and which does not. A limit of 0, with the
+// alternative that uses it, and with it left out. A quota of 2 that a unit of three dates passes alone: a third of it makes
+// room; with it left out, all of it. All alternatives left out. Three units of which each two exclude each other: each
+// makes room by half; and with no way out there is no solution. A problem of nothing.
+const RELAXED: &str =
+    "P 0 1 1 1; A 0 0 -; A 10 - -; U; P 0 1 1 1; A 0 0 -; A 7 - -; U; L 1 | | = 7000 7168
+P 0 1 1 1; A 0 0 -; A 10 - -; U; P 0 1 1 1; A 0 0 -; A 7 - -; U; L 1 | | 0 1 0 0 = 7000 7168, 10000 10240
+P 0 1 1 1; A 0 0 -; A 10 - -; U; P 0 1 1 1; A 0 0 -; A 7 - -; U; L 1 | | 1 1 0 1 = 7000 7168, 10000 10240
+P 0 1 1 1; A 0 0 -; A 5 - -; U; P 0 1 1 1; A 0 0 -; A 5 - -; U; P 0 1 1 1; A 0 0 -; A 5 - -; U; P 0 1 1 1; A 0 0 -; A 5 - -; U; L 2 | | = 10000 10240
+P 0 1 1 1; A 3 0 -; U; L 1 | | = 3000 3072
+P 0 1 1 1; A 3 0 -; U; L 0 | | = none true
+P 0 1 1 1; A 3 0 -; A 8 - -; U; L 0 | | = 8000 8192
+P 0 1 1 1; A 3 0 -; A 8 - -; U; L 0 | 1 0 | = 8000 8192
+P 0 1 0 3; A 0 0 -; A 9 - -; U; L 2 | | = 3000 3072
+P 0 1 0 3; A 0 0 -; A 9 - -; U; L 2 | 1 0 | = 9000 0
+P 0 1 1 1; A 3 0 -; A 8 - -; U; L 1 | 1 1 | = none false
+P 0 2 1 1; A 0 0 -; A 20 - -; U; P 1 2 1 1; A 0 0 -; A 20 - -; U; P 0 1 2 2; A 0 0 -; A 20 - -; U; L 1 1 1 | | = 30000 30720
+P 0 2 1 1; A 0 0 -; U; P 1 2 1 1; A 0 0 -; U; P 0 1 2 2; A 0 0 -; U; L 1 1 1 | | = none true
+L | | = 0 0";
+
+#[test]
+fn relaxations_of_small_problems(rt: HostRuntime) -> Result<(), Fail> {
+    let alloc = rt.alloc();
+    for row in RELAXED.lines() {
+        let (given, want) = halves(row);
+        let answer = described(alloc, given);
+        assert!(rt; answer.is_ok(), "{row}");
+        assert_eq!(rt; answer?.trim(), want, "{row}");
+    }
+    Ok(())
+}
