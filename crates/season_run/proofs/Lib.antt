@@ -1,0 +1,7 @@
+mod TreeLemmas
+mod FloorLemmas
+mod NameLemmas
+mod StageLemmas
+mod TrialLemmas
+mod RunLemmas
+mod SeasonLemmas

@@ -1,0 +1,233 @@
+-- A stage of a run, from the trial of its problem and the stage that this made.
+use Rattle.std.proofs.Common.{◌≡◌, ℕ, zero, suc, ◌+◌, ◌*◌, ◌<◌, ◌≤◌, refl, sym, ◌∙◌, ap, subst, arith, List, [], ◌∷◌, ◌++◌, length, length-append, drop, map, Bool, true, false, Option, Some, None}
+use Rattle.std.specs.Prelude.{All, IfSome, IsSome, IsNone, IsSomeAnd, is_some, sum_by}
+use Rattle.std.specs.List.{AllZip}
+use Rattle.std.specs.Option.{option_map}
+use Rattle.std.proofs.lemmas.List.Sums.{sum_by-append, sum_by-cons}
+use Rattle.std.proofs.lemmas.List.Elements.{All-head}
+use Rattle.std.proofs.lemmas.Slice.Zip.{AllZip-long}
+use Rattle.season_days.specs.declared.declaration.Declaration.{Declaration}
+use Rattle.choice_problem.specs.declared.vectors.Price.{Price}
+use Rattle.choice_problem.specs.declared.nodes.Node.{Node}
+use Rattle.choice_problem.specs.Problems.{ProblemView, ChooserView, resource_count, unit_count}
+use Rattle.choice_problem.specs.Choices.{IsFeasible, choice_cost}
+use Rattle.choice_problem.specs.Bounds.{IsVector, whole_of}
+use Rattle.choice_problem.specs.Trees.{IsWhole, node_count}
+use Rattle.choice_problem.specs.Driven.{IsDriven}
+use Rattle.choice_problem.specs.Renumbered.{NamesUpTo}
+use Rattle.search_workers.specs.declared.outcomes.Outcome.{Outcome}
+use Rattle.search_workers.specs.declared.outcomes.Outcome.TheVariants as ends
+use Rattle.search_workers.specs.Outcomes.{IsSettled, price_count, choice_count, product_of}
+use Rattle.cert_format.specs.declared.cert.Mark.{Mark}
+use Rattle.cert_format.specs.declared.cert.Mark.TheVariants as marks
+use Rattle.cert_format.specs.declared.cert.Floor.{Floor}
+use Rattle.cert_format.specs.declared.cert.StageCert.{StageCert}
+use Rattle.cert_format.specs.Spelling.{is_tried, floor_count, has_bound, undone_count}
+use Rattle.cert_format.specs.Printable.{IsPrintableProof, IsPrintableStage, IsPrintableAs, IsWithinLimits}
+use Rattle.cert_format.specs.Proofs.{IsProof}
+use Rattle.series_model.specs.declared.unit.Unit.{Unit as SlotUnit}
+use Rattle.series_model.specs.declared.state.UnitState.{UnitState}
+use Rattle.series_model.specs.Options.{options_of}
+use Rattle.series_model.specs.Stages.{stage_units}
+use Rattle.wasg_stages.specs.StageProblems.{IsStageProblem, IsChooserOf, IsAltOf}
+use Rattle.season_run.specs.declared.trials.TheConstants.{SMALL_BUDGET}
+use Rattle.season_run.specs.Ends.{AreStageVectors, IsClosedEnd, IsOpenEnd, IsGreatestFloor, IsLeastOf, IsMadeOf, StatesNothing, AreStated, AreKeptOf, MakesStage, undone_ranges, floor_costs}
+use Rattle.season_run.specs.Runs.{IsOpenStage, OpensAs, IsStageRun, IsTriedRun, IsEnough, allotment_count}
+use Rattle.season_run.specs.Steps.{TakesNodes, IsDrivenEnd, IsTrial, FitsSeason}
+use Rattle.season_run.proofs.TreeLemmas.{sound_walks, open_count, whole_count, tree_length}
+use Rattle.season_run.proofs.TrialLemmas.{few-prices}
+
+abbrev pub FewerDriven : Type 0
+FewerDriven = (p : ProblemView) (vectors more : List (List Price)) (result : Option ℕ) (nodes : List Node) →
+    All (NamesUpTo (length vectors)) nodes → IsDriven p (vectors ++ more) result nodes → IsDriven p vectors result nodes
+
+-- ---- vectors
+
+prices-first : (kept behind : List (List Price)) → price_count (drop 1 kept) ≤ price_count (drop 1 (kept ++ behind))
+prices-first [] behind = omega arith
+prices-first (v ∷ kept) behind = omega (arith, sum_by-append (λ (prices : List Price). length prices) kept behind)
+
+kept-few : (searched kept : List (List Price)) (tree : List Node) (floors : List Floor) → AreKeptOf searched tree floors kept → length kept ≤ length searched
+kept-few searched kept tree floors k =
+    let long = ap (λ (l : List (List Price)). length l) k.first in
+    omega (arith, long, length-append kept k.behind)
+
+kept-listed : (p : ProblemView) (searched kept : List (List Price)) (tree : List Node) (floors : List Floor) → AreKeptOf searched tree floors kept → AreStageVectors p searched → All (IsVector p) kept →
+    AreStageVectors p kept
+kept-listed p searched kept tree floors k h all = record {
+  few = omega (arith, kept-few searched kept tree floors k, h.few);
+  each = all;
+  few_prices =
+      let less = prices-first kept k.behind in
+      let same = ap (λ (l : List (List Price)). price_count (drop 1 l)) k.first in
+      omega (arith, less, same, h.few_prices);
+}
+
+kept-driven : FewerDriven → (p : ProblemView) (searched kept : List (List Price)) (tree : List Node) (floors : List Floor) (cost : Option ℕ) → AreKeptOf searched tree floors kept →
+    IsDriven p searched cost tree → IsDriven p kept cost tree
+kept-driven fewer p searched kept tree floors cost k d =
+    fewer p kept k.behind cost tree k.last.leaves (subst (λ (v : List (List Price)). IsDriven p v cost tree) k.first d)
+
+-- ---- one stage
+
+module _ (fewer : FewerDriven) (p : ProblemView) (budget : ℕ) (c : StageCert) (proof : IsProof p c) where
+  -- of these parts
+  module _ (mark : Mark) (choice : Option (List ℕ)) (cost : Option ℕ) (tree : List Node) (vectors : List (List Price)) (made : IsMadeOf mark choice cost tree vectors c) where
+    kept-here : AreKeptOf vectors c.tree c.floors c.vectors
+    kept-here = subst (λ (t : List Node). AreKeptOf vectors t c.floors c.vectors) (sym made.tree_is) made.kept
+
+    nodes-here : node_count c.tree ≡ node_count tree
+    nodes-here = ap (λ (t : List Node). node_count t) made.tree_is
+
+    driven-here : IsDriven p vectors cost tree → IsDriven p c.vectors c.cost c.tree
+    driven-here d = rw (made.cost_is, made.tree_is) (kept-driven fewer p vectors c.vectors tree c.floors cost made.kept d)
+
+    of-parts : AreStageVectors p vectors → node_count tree ≤ budget → (budget ≤ SMALL_BUDGET → IsDriven p vectors cost tree) → OpensAs p budget c mark → IsStageRun p budget c
+    of-parts listed few small opened = record {
+      proof = proof;
+      nodes = omega (arith, few, nodes-here);
+      listed = kept-listed p vectors c.vectors c.tree c.floors kept-here listed proof.vectors;
+      named = kept-here.last;
+      small = λ le. driven-here (small le);
+      opened = subst (OpensAs p budget c) (sym made.mark_is) opened;
+    }
+
+  pub stage-run : (o : Outcome) → IsTrial p budget o → MakesStage p o c → IsStageRun p budget c
+  stage-run (ends.Optimal choice cost tree vectors) t made =
+      let closed : IsClosedEnd p vectors (Some cost) (Some choice) tree = t.end in
+      of-parts marks.Optimal (Some choice) (Some cost) tree vectors made.0 closed.listed t.nodes t.small tt
+  stage-run (ends.Infeasible tree vectors) t made =
+      let closed : IsClosedEnd p vectors None None tree = t.end in
+      of-parts marks.Infeasible None None tree vectors made.0 closed.listed t.nodes t.small tt
+  stage-run (ends.Spent best tree vectors) t made =
+      let cost = option_map (choice_cost p) best in
+      let spent : IsOpenEnd p vectors (option_map (choice_cost p) best) best tree = t.end in
+      let listed : AreStageVectors p vectors = record { few = spent.searched.listed.few; each = spent.searched.listed.each; few_prices = spent.searched.listed.few_prices } in
+      let opened : IsOpenStage p budget c = record {
+        spent = nodes-here marks.Unsettled best cost tree vectors made.0 ∙ t.nodes;
+        undone = λ w. spent.undone (rw made.0.tree_is at w);
+        driven = driven-here marks.Unsettled best cost tree vectors made.0 spent.searched.driven;
+        searched = vectors;
+        listed = spent.searched.listed;
+        root = spent.root;
+        kept = kept-here marks.Unsettled best cost tree vectors made.0;
+        stated = subst (λ (n : List Node). AreStated p vectors c.cost n c.floors c.bound) (sym made.0.tree_is) made.1;
+      } in
+      of-parts marks.Unsettled best cost tree vectors made.0 listed (omega (arith, t.nodes)) t.small opened
+
+-- what is settled is not OPEN
+pub settled-mark : (p : ProblemView) (o : Outcome) (c : StageCert) → IsSettled o → MakesStage p o c → c.mark ≡ marks.Unsettled → ⊥
+settled-mark p (ends.Optimal choice cost tree vectors) c s made e = (let no : marks.Optimal ≡ marks.Unsettled = sym made.0.mark_is ∙ e in cc)
+settled-mark p (ends.Infeasible tree vectors) c s made e = (let no : marks.Infeasible ≡ marks.Unsettled = sym made.0.mark_is ∙ e in cc)
+settled-mark p (ends.Spent best tree vectors) c s made e = absurd s
+
+tried-here : (c : StageCert) (mark : Mark) → c.mark ≡ mark → is_tried mark ≡ true → is_tried c.mark ≡ true
+tried-here c mark e t = ap (λ (m : Mark). is_tried m) e ∙ t
+
+pub made-tried : (p : ProblemView) (o : Outcome) (c : StageCert) → MakesStage p o c → is_tried c.mark ≡ true
+made-tried p (ends.Optimal choice cost tree vectors) c made = tried-here c marks.Optimal made.0.mark_is refl
+made-tried p (ends.Infeasible tree vectors) c made = tried-here c marks.Infeasible made.0.mark_is refl
+made-tried p (ends.Spent best tree vectors) c made = tried-here c marks.Unsettled made.0.mark_is refl
+
+-- ---- it can be printed
+
+same-some : (p : ProblemView) (choice : Option (List ℕ)) (cost : Option ℕ) → cost ≡ option_map (choice_cost p) choice → is_some cost ≡ is_some choice
+same-some p None cost e = ap (λ (k : Option ℕ). is_some k) e
+same-some p (Some x) cost e = ap (λ (k : Option ℕ). is_some k) e
+
+bound-there : (P : ℕ → Type 0) (bound : Option ℕ) → IsSomeAnd bound P → is_some bound ≡ true
+bound-there P None h = absurd h
+bound-there P (Some n) h = refl
+
+none-there : (bound : Option ℕ) → IsNone bound → is_some bound ≡ false
+none-there None h = refl
+none-there (Some n) h = (let wrong : true ≡ false = h in cc)
+
+closed-printable : (p : ProblemView) (c : StageCert) (mark : Mark) → c.mark ≡ mark → has_bound 2 mark ≡ false → StatesNothing c → IsWhole c.tree → length c.vectors ≤ 64 → IsProof p c →
+    IsPrintableProof 2 c
+closed-printable p c mark e unbound n w few proof = record {
+  has_cost = same-some p c.choice c.cost proof.cost;
+  has_bound = none-there c.bound n.no_bound ∙ sym unbound ∙ sym (ap (λ (m : Mark). has_bound 2 m) e);
+  vector_count = few;
+  floor_count = ap (λ (l : List Floor). length l) n.no_floors ∙ sym (whole_count c.tree w);
+}
+
+open-printable : (p : ProblemView) (vectors : List (List Price)) (c : StageCert) → c.mark ≡ marks.Unsettled → AreStated p vectors c.cost c.tree c.floors c.bound → length c.vectors ≤ 64 → IsProof p c →
+    IsPrintableProof 2 c
+open-printable p vectors c e s few proof = record {
+  has_cost = same-some p c.choice c.cost proof.cost;
+  has_bound = bound-there (IsLeastOf c.cost (floor_costs p vectors (undone_ranges p c.tree) c.floors)) c.bound s.least ∙ sym (ap (λ (m : Mark). has_bound 2 m) e);
+  vector_count = few;
+  floor_count = AllZip-long (IsGreatestFloor p vectors) (undone_ranges p c.tree) c.floors s.greatest
+      ∙ open_count (whole_of p ∷ []) c.tree (sound_walks p c.vectors c.cost (whole_of p ∷ []) c.tree proof.sound);
+}
+
+pub made-printable : (p : ProblemView) (budget : ℕ) (o : Outcome) (c : StageCert) → IsTrial p budget o → MakesStage p o c → IsProof p c → length c.vectors ≤ 64 → IsPrintableProof 2 c
+made-printable p budget (ends.Optimal choice cost tree vectors) c t made proof few =
+    closed-printable p c marks.Optimal made.0.mark_is refl made.1 (rw made.0.tree_is (let closed : IsClosedEnd p vectors (Some cost) (Some choice) tree = t.end in closed.whole)) few proof
+made-printable p budget (ends.Infeasible tree vectors) c t made proof few =
+    closed-printable p c marks.Infeasible made.0.mark_is refl made.1 (rw made.0.tree_is (let closed : IsClosedEnd p vectors None None tree = t.end in closed.whole)) few proof
+made-printable p budget (ends.Spent best tree vectors) c t made proof few =
+    open-printable p vectors c made.0.mark_is (subst (λ (n : List Node). AreStated p vectors c.cost n c.floors c.bound) (sym made.0.tree_is) made.1) few proof
+
+choice-few : (p : ProblemView) (choice : Option (List ℕ)) → unit_count p ≤ 4096 → IfSome choice (IsFeasible p) → IfSome choice (λ alts. length alts ≤ 4096)
+choice-few p None few h = tt
+choice-few p (Some x) few h = omega (arith, few, h.choice.length)
+
+prices-few : (p : ProblemView) (vectors : List (List Price)) → resource_count p ≤ 1000000 → All (IsVector p) vectors → price_count (drop 1 vectors) ≤ 1000000 →
+    sum_by (λ (prices : List Price). length prices) vectors ≤ 2000000
+prices-few p [] few all h = omega arith
+prices-few p (v ∷ vectors) few all h =
+    let first = few-prices p v (All-head (IsVector p) v vectors all) in
+    let both = sum_by-cons (λ (prices : List Price). length prices) v vectors in
+    let rest : sum_by (λ (prices : List Price). length prices) vectors ≤ 1000000 = h in
+    omega (arith, first, few, both, rest)
+
+pub stage-limits : (p : ProblemView) (budget : ℕ) (c : StageCert) → unit_count p ≤ 4096 → resource_count p ≤ 1000000 → budget ≤ 1000000 → IsStageRun p budget c → IsWithinLimits c
+stage-limits p budget c units resources most r = record {
+  units = choice-few p c.choice units r.proof.feasible;
+  vectors = r.listed.few;
+  prices = prices-few p c.vectors resources r.listed.each r.listed.few_prices;
+  nodes = omega (arith, r.nodes, most, tree_length (whole_of p ∷ []) c.tree (sound_walks p c.vectors c.cost (whole_of p ∷ []) c.tree r.proof.sound));
+}
+
+pub fits-season : (c : StageCert) → is_tried c.mark ≡ true → IsPrintableProof 2 c → IsWithinLimits c → FitsSeason c
+fits-season c tried printable limits = record {
+  printable = subst (IsPrintableAs 2 c) (sym tried) printable;
+  limits = limits;
+}
+
+-- ---- a budget that is enough
+
+count-same : (d : Declaration) (units : List SlotUnit) (choosers : List ChooserView) → AllZip (IsChooserOf d) units choosers →
+    product_of (map (λ (m : ChooserView). length m.alts) choosers) ≡ allotment_count d units
+count-same d [] [] h = refl
+count-same d [] (m ∷ choosers) h = absurd h
+count-same d (unit ∷ units) [] h = absurd h
+count-same d (unit ∷ units) (m ∷ choosers) h =
+    let here : length m.alts ≡ length (options_of d unit) = AllZip-long (IsAltOf d unit m) (options_of d unit) m.alts h.0 in
+    let rest = count-same d units choosers h.1 in
+    ap (λ (n : ℕ). n * product_of (map (λ (m : ChooserView). length m.alts) choosers)) here ∙ ap (λ (n : ℕ). length (options_of d unit) * n) rest
+
+pub tried-run : (d : Declaration) (stage : ℕ) (states : List UnitState) (budget : ℕ) (c : StageCert) (p : ProblemView) (o : Outcome) → IsStageProblem d stage states p → IsTrial p budget o →
+    MakesStage p o c → IsStageRun p budget c → IsTriedRun d stage states budget c
+tried-run d stage states budget c p o is t made r = record {
+  problem = p;
+  problem_is = is;
+  run = r;
+  settled = λ enough e.
+      let same : choice_count p ≡ allotment_count d (stage_units stage states) = count-same d (stage_units stage states) p.units is.units_are in
+      settled-mark p o c (t.settled (omega (arith, enough, same))) made e;
+}
+
+-- all that is said of a stage that was tried
+pub tried-all : FewerDriven → (d : Declaration) (stage : ℕ) (states : List UnitState) (budget : ℕ) (c : StageCert) (p : ProblemView) (o : Outcome) → IsStageProblem d stage states p → IsTrial p budget o →
+    MakesStage p o c → IsProof p c → unit_count p ≤ 4096 → resource_count p ≤ 1000000 → budget ≤ 1000000 →
+    (is_tried c.mark ≡ true) × IsTriedRun d stage states budget c × FitsSeason c
+tried-all fewer d stage states budget c p o is t made proof units resources most =
+    let r = stage-run fewer p budget c proof o t made in
+    let tried = made-tried p o c made in (
+      tried,
+      tried-run d stage states budget c p o is t made r,
+      fits-season c tried (made-printable p budget o c t made proof r.listed.few) (stage-limits p budget c units resources most r),
+    )

@@ -1,0 +1,164 @@
+-- The stages of a run, one after the other.
+use Rattle.std.proofs.Common.{◌≡◌, ℕ, zero, suc, ◌+◌, ◌<◌, ◌≤◌, refl, sym, ◌∙◌, ap, subst, arith, List, [], ◌∷◌, ◌++◌, length, length-append, append_assoc, Bool, true, false, Option, Some, None}
+use Rattle.std.specs.Prelude.{All, is_some, ◌&&◌}
+use Rattle.std.specs.List.{AllByRecursion}
+use Rattle.std.proofs.lemmas.List.{append-nil}
+use Rattle.std.proofs.lemmas.List.Elements.{All-cons, All-nil}
+use Rattle.season_days.specs.declared.declaration.Declaration.{Declaration}
+use Rattle.cert_format.specs.declared.cert.Mark.{Mark}
+use Rattle.cert_format.specs.declared.cert.Mark.TheVariants as marks
+use Rattle.cert_format.specs.declared.cert.StageCert.{StageCert}
+use Rattle.cert_format.specs.declared.cert.Certificate.{Certificate}
+use Rattle.cert_format.specs.declared.cert.TheConstants.{MOST_LINES}
+use Rattle.cert_format.specs.Spelling.{is_tried, cert_lines, HoldsNothing}
+use Rattle.cert_format.specs.Printable.{IsPrintable, IsPrintableStage, IsPrintableAs, IsWithinLimits}
+use Rattle.series_model.specs.declared.unit.Unit.{Unit as SlotUnit}
+use Rattle.series_model.specs.declared.state.UnitState.{UnitState}
+use Rattle.series_model.specs.Stages.{first_states, after_stage, after_stages, states_after, may_follow}
+use Rattle.series_model.specs.Submissions.{SubmissionView}
+use Rattle.wasg_stages.specs.StageProblems.{AreStates}
+use Rattle.wasg_stages.specs.Valid.{IsStageAs, AreStages, IsValid}
+use Rattle.season_run.specs.Runs.{IsTriedRun, IsRunAs, AreStageRuns, IsRun, AreEnough, IsSettledCert}
+use Rattle.season_run.specs.Steps.{FitsSeason, AreRunSoFar, IsNextStage}
+
+-- ---- one choice more
+
+after-one : (d : Declaration) (stage : ℕ) (states : List UnitState) (choices : List (Option (List ℕ))) (choice : Option (List ℕ)) →
+    after_stages d stage states (choices ++ choice ∷ []) ≡ after_stage d (length choices + stage) (after_stages d stage states choices) choice
+after-one d stage states [] choice =
+    let count : stage ≡ 0 + stage = omega arith in
+    ap (λ (k : ℕ). after_stage d k states choice) count
+after-one d stage states (one ∷ choices) choice =
+    let count : length choices + suc stage ≡ suc (length choices) + stage = omega arith in
+    after-one d (suc stage) (after_stage d stage states one) choices choice
+    ∙ ap (λ (k : ℕ). after_stage d k (after_stages d (suc stage) (after_stage d stage states one) choices) choice) count
+
+follows-one : (earlier : List (Option (List ℕ))) (choice : Option (List ℕ)) (follows next : Bool) → follows ≡ may_follow earlier → (2 < length earlier + 1 → next ≡ follows) →
+    (length earlier + 1 ≤ 2 → next ≡ (follows && is_some choice)) → next ≡ may_follow (earlier ++ choice ∷ [])
+follows-one [] None follows next is late early = early (omega arith) ∙ ap (λ (b : Bool). b && false) is
+follows-one [] (Some x) follows next is late early = early (omega arith) ∙ ap (λ (b : Bool). b && true) is
+follows-one (None ∷ []) None follows next is late early = early (omega arith) ∙ ap (λ (b : Bool). b && false) is
+follows-one (None ∷ []) (Some x) follows next is late early = early (omega arith) ∙ ap (λ (b : Bool). b && true) is
+follows-one (Some y ∷ []) None follows next is late early = early (omega arith) ∙ ap (λ (b : Bool). b && false) is
+follows-one (Some y ∷ []) (Some x) follows next is late early = early (omega arith) ∙ ap (λ (b : Bool). b && true) is
+follows-one (one ∷ other ∷ earlier) choice follows next is late early = late (omega arith) ∙ is
+
+-- ---- the stages so far
+
+pub so_far_start : (s : SubmissionView) (budget : ℕ) (states : List UnitState) → states ≡ first_states s.units → AreStates s states → AreRunSoFar s budget 1 states true []
+so_far_start s budget states is fit = record {
+  earlier = [];
+  stage_is = omega arith;
+  states_are = is;
+  follows_is = refl;
+  fit = fit;
+  count = omega arith;
+  fit_certs = tt;
+  valid = λ rest h. h;
+  runs = λ rest h. h;
+}
+
+fits-push : (certs : List StageCert) (c : StageCert) → AllByRecursion FitsSeason certs → FitsSeason c → AllByRecursion FitsSeason (certs ++ c ∷ [])
+fits-push [] c all f = (f, tt)
+fits-push (one ∷ certs) c all f = (all.0, fits-push certs c all.1 f)
+
+-- what one more stage is after these choices
+next-valid : (d : Declaration) (units : List SlotUnit) (earlier : List (Option (List ℕ))) (budget : ℕ) (c : StageCert) (tried follows : Bool) → is_tried c.mark ≡ tried → follows ≡ may_follow earlier →
+    IsNextStage d (length earlier + 1) (states_after d units earlier) budget c follows → IsStageAs d units earlier c tried
+next-valid d units earlier budget c true true t is h = (sym is, record { problem = h.1.problem; problem_is = h.1.problem_is; proof = h.1.run.proof })
+next-valid d units earlier budget c true false t is h = (let no : true ≡ false = sym t ∙ h in cc)
+next-valid d units earlier budget c false true t is h = (let no : false ≡ true = sym t ∙ h.0 in cc)
+next-valid d units earlier budget c false false t is h = sym is
+
+next-run : (d : Declaration) (stage : ℕ) (states : List UnitState) (budget : ℕ) (c : StageCert) (tried follows : Bool) → is_tried c.mark ≡ tried → IsNextStage d stage states budget c follows →
+    IsRunAs d stage states budget c tried
+next-run d stage states budget c true true t h = h.1
+next-run d stage states budget c true false t h = (let no : true ≡ false = sym t ∙ h in cc)
+next-run d stage states budget c false follows t h = tt
+
+pub so_far_next : (s : SubmissionView) (budget stage : ℕ) (states after : List UnitState) (follows next : Bool) (certs : List StageCert) (c : StageCert) →
+    AreRunSoFar s budget stage states follows certs → IsNextStage s.declaration stage states budget c follows → FitsSeason c →
+    after ≡ after_stage s.declaration stage states c.choice → AreStates s after → (2 < stage → next ≡ follows) → (stage ≤ 2 → next ≡ (follows && is_some c.choice)) →
+    AreRunSoFar s budget (stage + 1) after next (certs ++ c ∷ [])
+so_far_next s budget stage states after follows next certs c on stage_next fits after_is fit late early =
+    let d = s.declaration in
+    let one = subst (λ (k : ℕ). IsNextStage d k states budget c follows) on.stage_is stage_next in
+    let here = subst (λ (st : List UnitState). IsNextStage d (length on.earlier + 1) st budget c follows) on.states_are one in
+    record {
+      earlier = on.earlier ++ c.choice ∷ [];
+      stage_is = omega (arith, on.stage_is, length-append on.earlier (c.choice ∷ []));
+      states_are = after_is ∙ ap (λ (st : List UnitState). after_stage d stage st c.choice) on.states_are
+          ∙ ap (λ (k : ℕ). after_stage d k (states_after d s.units on.earlier) c.choice) on.stage_is
+          ∙ sym (after-one d 1 (first_states s.units) on.earlier c.choice);
+      follows_is = follows-one on.earlier c.choice follows next on.follows_is (λ lt. late (omega (arith, lt, on.stage_is))) (λ le. early (omega (arith, le, on.stage_is)));
+      fit = fit;
+      count = omega (arith, on.count, length-append certs (c ∷ []));
+      fit_certs = fits-push certs c on.fit_certs fits;
+      valid = λ rest h. subst (λ (l : List StageCert). AreStages d s.units [] l) (sym (append_assoc certs (c ∷ []) rest))
+          (on.valid (c ∷ rest) (next-valid d s.units on.earlier budget c (is_tried c.mark) follows refl on.follows_is here, h));
+      runs = λ rest h. subst (λ (l : List StageCert). AreStageRuns d s.units budget [] l) (sym (append_assoc certs (c ∷ []) rest))
+          (on.runs (c ∷ rest) (next-run d (length on.earlier + 1) (states_after d s.units on.earlier) budget c (is_tried c.mark) follows refl here, h));
+    }
+
+printables : (certs : List StageCert) → AllByRecursion FitsSeason certs → AllByRecursion (IsPrintableStage 2) certs
+printables [] h = tt
+printables (c ∷ certs) h = (h.0.printable, printables certs h.1)
+
+limits : (certs : List StageCert) → AllByRecursion FitsSeason certs → AllByRecursion IsWithinLimits certs
+limits [] h = tt
+limits (c ∷ certs) h = (h.0.limits, limits certs h.1)
+
+-- all four
+pub so_far_finish : ((c : Certificate) → length c.stages ≡ 4 → AllByRecursion IsWithinLimits c.stages → length (cert_lines c) ≤ MOST_LINES) →
+    (s : SubmissionView) (budget : ℕ) (states : List UnitState) (follows : Bool) (c : Certificate) → c.version ≡ 2 → AreRunSoFar s budget 5 states follows c.stages → IsRun s budget c
+so_far_finish few s budget states follows c version on =
+    let count : length c.stages ≡ 4 = omega (arith, on.count) in
+    let form : IsPrintable c = record {
+      version = (omega (arith, version), omega (arith, version));
+      count = count;
+      stages = subst (λ (v : ℕ). AllByRecursion (IsPrintableStage v) c.stages) (sym version) (printables c.stages on.fit_certs);
+      few = few c count (limits c.stages on.fit_certs);
+    } in
+    record {
+      version = version;
+      valid = record { form = form; stages = subst (λ (l : List StageCert). AreStages s.declaration s.units [] l) (append-nil c.stages) (on.valid [] tt) };
+      stages = subst (λ (l : List StageCert). AreStageRuns s.declaration s.units budget [] l) (append-nil c.stages) (on.runs [] tt);
+    }
+
+-- ---- a stage that is not tried
+
+untried-limits : (c : StageCert) → HoldsNothing c → IsWithinLimits c
+untried-limits c h = record {
+  units = rw h.choice tt;
+  vectors = rw h.vectors (omega arith);
+  prices = rw h.vectors (omega arith);
+  nodes = rw h.tree (omega arith);
+}
+
+pub untried-fits : (c : StageCert) → c.mark ≡ marks.NotTried → HoldsNothing c → FitsSeason c
+untried-fits c e h = record {
+  printable = subst (λ (m : Mark). IsPrintableAs 2 c (is_tried m)) (sym e) h;
+  limits = untried-limits c h;
+}
+
+pub untried-next : (d : Declaration) (stage : ℕ) (states : List UnitState) (budget : ℕ) (c : StageCert) (follows : Bool) → follows ≡ false → c.mark ≡ marks.NotTried → IsNextStage d stage states budget c follows
+untried-next d stage states budget c follows e m = rw e (ap (λ (k : Mark). is_tried k) m)
+
+pub tried-next : (d : Declaration) (stage : ℕ) (states : List UnitState) (budget : ℕ) (c : StageCert) (follows : Bool) → follows ≡ true → is_tried c.mark ≡ true → IsTriedRun d stage states budget c →
+    IsNextStage d stage states budget c follows
+tried-next d stage states budget c follows e t r = rw e (t, r)
+
+-- ---- a budget that is enough
+
+not-open : (d : Declaration) (stage : ℕ) (states : List UnitState) (budget : ℕ) (c : StageCert) (tried : Bool) → is_tried c.mark ≡ tried → IsRunAs d stage states budget c tried →
+    (IsTriedRun d stage states budget c → c.mark ≡ marks.Unsettled → ⊥) → c.mark ≡ marks.Unsettled → ⊥
+not-open d stage states budget c true t r f e = f r e
+not-open d stage states budget c false t r f e = (let no : false ≡ true = sym t ∙ ap (λ (k : Mark). is_tried k) e in cc)
+
+pub none-open : (d : Declaration) (units : List SlotUnit) (budget : ℕ) (earlier : List (Option (List ℕ))) (certs : List StageCert) → AreStageRuns d units budget earlier certs →
+    AreEnough d units budget earlier certs → All (λ (b : StageCert). b.mark ≡ marks.Unsettled → ⊥) certs
+none-open d units budget earlier [] runs enough = All-nil (λ (b : StageCert). b.mark ≡ marks.Unsettled → ⊥)
+none-open d units budget earlier (c ∷ certs) runs enough =
+    All-cons (λ (b : StageCert). b.mark ≡ marks.Unsettled → ⊥) c certs
+    (not-open d (length earlier + 1) (states_after d units earlier) budget c (is_tried c.mark) refl runs.0 (λ r. r.settled enough.0))
+    (none-open d units budget (earlier ++ c.choice ∷ []) certs runs.1 enough.1)

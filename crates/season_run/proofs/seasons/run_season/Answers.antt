@@ -1,0 +1,31 @@
+use Rattle.std.proofs.Common.{◌≡◌, ◌+◌, ◌++◌, ◌∷◌, [], ℕ, subst, arith, List, sym, refl, true}
+use Rattle.cert_format.specs.declared.cert.StageCert.{StageCert}
+use Rattle.series_model.specs.declared.state.UnitState.{UnitState}
+use Rattle.season_run.specs.Steps.{AreRunSoFar, IsNextStage}
+use Rattle.season_run.proofs.SeasonLemmas.{so_far_start, so_far_next, so_far_finish}
+use Rattle.season_run.proofs.seasons.run_season.Goals as goal
+
+pub loop-stage-init : goal.loop-stage-init
+loop-stage-init g c =
+    subst (λ (l : List StageCert). AreRunSoFar c.args.submission.now c.args.budget 1 c.in_ok-states.states.items true l) (sym c.new-stages.ensures.items)
+    (so_far_start c.args.submission.now c.args.budget c.in_ok-states.states.items c.in_ok-states.ensures.states c.in_ok-states.ensures.fit)
+
+pub loop-stage-preserved : goal.loop-stage-preserved
+loop-stage-preserved g c =
+    let s = c.args.submission.now in
+    let cert = c.in_ok-cert.cert in
+    let l = c.loop-stage in
+    let pushed : c.push.new.self.items ≡ l.stages.items ++ cert ∷ [] = c.in_ok-push.ensures.items in
+    let next = subst (λ (st : List UnitState). IsNextStage s.declaration l.stage st c.args.budget cert l.follows) c.deref.ensures.value c.in_ok-cert.ensures.stage in
+    subst (λ (certs : List StageCert). AreRunSoFar s c.args.budget (l.stage + 1) c.in_ok-states-2.states.items c.may_follow-follows.result certs) (sym pushed)
+    (so_far_next s c.args.budget l.stage l.states.items c.in_ok-states-2.states.items l.follows c.may_follow-follows.result l.stages.items cert l.invariant next c.in_ok-cert.ensures.fits
+    c.in_ok-states-2.ensures.after c.in_ok-states-2.ensures.fit c.may_follow-follows.ensures.late c.may_follow-follows.ensures.early)
+
+pub returns : goal.returns
+returns g c =
+    let s = c.args.submission.now in
+    let l = c.loop-stage in
+    let all : l.stage ≡ 5 = omega (arith, c.loop-stage-test.false, l.auto.stage-end) in
+    let on = subst (λ (k : ℕ). AreRunSoFar s c.args.budget k l.states.items l.follows l.stages.items) all l.invariant in
+    let here = subst (λ (certs : List StageCert). AreRunSoFar s c.args.budget 5 l.states.items l.follows certs) (sym c.new.ensures) on in
+    record { run = so_far_finish c.line_counts.ensures.cert s c.args.budget l.states.items l.follows (record { version = 2; stages = c.new.result }) refl here }

@@ -1,0 +1,134 @@
+//! The floors of a tree's undone nodes, and the bound that they state.
+
+ghost use Rattle.std.specs.Prelude.{◌≡◌, ◌+◌, ◌≤◌, ◌∷◌, ◌++◌, [], ℕ, List, Option, All, IfOk, OnOk, length};
+ghost use Rattle.choice_problem.specs.declared.vectors.TheConstants.{MOST_FURTHER};
+ghost use Rattle.choice_problem.specs.Bounds.{AreRanges, IsVector, whole_of};
+ghost use Rattle.choice_problem.specs.Walks.{AreWalkable};
+ghost use Rattle.price_table.specs.Tables.{IsTableFor, vectors_of};
+ghost use Rattle.dual_bound.specs.Stated.{scale_at};
+ghost use Rattle.season_run.specs.Ends.{undone_ranges};
+ghost use Rattle.season_run.specs.Steps.{AreFound, undone_at, least_with};
+
+use cert_format::Floor;
+use choice_problem::{Node, PRICED_SCALE, Problem, RangeWalk, Ranges, Vector};
+use dual_bound::floor_of;
+use price_table::{PriceTable, price_table};
+use slot_text::Memory;
+use std::alloc::Global;
+
+// The floors of undone nodes, and the least of a cost and of what they give.
+#[derive(Drop)]
+pub(crate) struct Stated {
+    pub(crate) floors: Vec<Floor>,
+    pub(crate) bound: Option<u64>,
+}
+
+// The tables of vectors.
+pub(crate) fn tables_of(
+    alloc: Global,
+    problem: &Problem,
+    vectors: &[Vector],
+) -> Result<Vec<PriceTable>, Memory>
+    requires { All (IsVector problem.now) vectors.now }
+    ensures valid { IfOk result (λ tables. All (IsTableFor problem.now) tables.items) }
+    ensures vectors { IfOk result (λ tables. vectors_of tables.items ≡ vectors.now) }
+{
+    let mut tables = Vec::new(alloc);
+    for vector in vectors {
+        tables.push(price_table(alloc, problem, vector)?)?;
+    }
+    Ok(tables)
+}
+
+// The floors of a tree's undone nodes, in preorder, and the least of a cost and of what they give.
+pub(crate) fn stated_floors(
+    alloc: Global,
+    problem: &Problem,
+    tables: &[PriceTable],
+    tree: &[Node],
+    cost: Option<u64>,
+) -> Result<Stated, Memory>
+    requires tables { All (IsTableFor problem.now) tables.now }
+    requires few { length tables.now ≤ MOST_FURTHER + 1 }
+    requires tree { AreWalkable (whole_of problem.now ∷ []) tree.now }
+    ensures { IfOk result (λ stated. AreFound problem.now (vectors_of tables.now) cost
+        (undone_ranges problem.now tree.now) stated) }
+{
+    let whole = Ranges::whole(alloc, problem)?;
+    let mut walk = RangeWalk::new(alloc, whole);
+    let mut changed = Vec::new(alloc);
+    let mut stated = Stated {
+        floors: Vec::new(alloc),
+        bound: cost,
+    };
+    for node in tree {
+        add_floor(problem, tables, walk.ranges(), *node, &mut stated)?;
+        changed.clear();
+        walk.advance(*node, &mut changed)?;
+    }
+    Ok(stated)
+}
+
+// Adds the floor of a node's ranges, where it is undone.
+fn add_floor(
+    problem: &Problem,
+    tables: &[PriceTable],
+    ranges: &Ranges,
+    node: Node,
+    stated: &mut Stated,
+) -> Result<(), Memory>
+    requires tables { All (IsTableFor problem.now) tables.now }
+    requires few { length tables.now ≤ MOST_FURTHER + 1 }
+    requires ranges { AreRanges problem.now ranges.now }
+    ensures { OnOk result ((cost : Option ℕ) (pieces : List (List (ℕ × ℕ))) →
+        AreFound problem.now (vectors_of tables.now) cost pieces stated.old →
+        AreFound problem.now (vectors_of tables.now) cost
+        (pieces ++ undone_at ranges.now node) stated.new) }
+{
+    match node {
+        Node::Undone => push_floor(problem, tables, ranges, stated),
+        Node::Split { .. } => Ok(()),
+        Node::Leaf { .. } => Ok(()),
+        Node::Over { .. } => Ok(()),
+    }
+}
+
+// Adds the floor of ranges.
+fn push_floor(
+    problem: &Problem,
+    tables: &[PriceTable],
+    ranges: &Ranges,
+    stated: &mut Stated,
+) -> Result<(), Memory>
+    requires tables { All (IsTableFor problem.now) tables.now }
+    requires few { length tables.now ≤ MOST_FURTHER + 1 }
+    requires ranges { AreRanges problem.now ranges.now }
+    ensures { OnOk result ((cost : Option ℕ) (pieces : List (List (ℕ × ℕ))) →
+        AreFound problem.now (vectors_of tables.now) cost pieces stated.old →
+        AreFound problem.now (vectors_of tables.now) cost (pieces ++ ranges.now ∷ []) stated.new) }
+{
+    let found = floor_of(problem, ranges, tables);
+    stated.floors.push(Floor {
+        vector: found.vector,
+        scale: scale_of(found.vector),
+    })?;
+    stated.bound = Some(least_with(stated.bound, found.cost));
+    Ok(())
+}
+
+// The scale at which a vector's bound is a floor.
+fn scale_of(vector: u32) -> u64
+    ensures { result ≡ scale_at vector }
+{
+    if vector == 0 { 1 } else { PRICED_SCALE }
+}
+
+// The lesser of two costs, of which the first may be none.
+fn least_with(bound: Option<u64>, cost: u64) -> u64
+    ensures { result ≡ least_with bound cost }
+{
+    match bound {
+        Some(least) => least.min(cost),
+        None => cost,
+    }
+}

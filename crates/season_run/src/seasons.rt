@@ -1,0 +1,138 @@
+//! The stages of a season, one after the other.
+
+ghost use Rattle.std.specs.Prelude.{◌≡◌, ◌<◌, ◌≤◌, ◌&&◌, Bool, true, false, None, [], IfOk, is_some, length};
+ghost use Rattle.cert_format.specs.Spelling.{is_tried, HoldsNothing};
+ghost use Rattle.cert_format.specs.declared.cert.Mark.TheVariants.{NotTried};
+ghost use Rattle.wasg_stages.specs.StageProblems.{AreStates};
+ghost use Rattle.season_run.specs.Runs.{IsRun, IsTriedRun};
+ghost use Rattle.season_run.specs.Steps.{FitsSeason, IsNextStage};
+
+use crate::stages::stage_cert;
+use crate::trials::settle_stage;
+use cert_format::{Certificate, FloorList, Mark, StageCert, StageList, line_counts};
+use choice_problem::{Choice, Tree, VectorList, fewer_vectors};
+use desk_outside::Gate;
+use series_model::{Submission, UnitState};
+use slot_text::Memory;
+use std::alloc::Global;
+use std::thread::Threads;
+use wasg_stages::{after_stage, problem_after, states_of};
+
+/// The certificate of a season: each stage is allotted after those before it, by a search of at
+/// most `budget` nodes with so many workers, each of which passes the gate before a visit.
+///
+/// The certificate is valid and of version 2. A stage may stay OPEN where its search spends the
+/// budget: it then states a bound, and `settled_run` says with which budget none does. A small
+/// budget (`SMALL_BUDGET`) is spent on the search from the greedy choice alone.
+pub fn run_season<R: Threads + Sync, G: Gate>(
+    rt: &R,
+    alloc: Global,
+    submission: &Submission,
+    budget: u32,
+    workers: u32,
+    gate: &G,
+) -> Result<Certificate, Memory>
+    requires budget { (1 ≤ budget) × (budget ≤ 1000000) }
+    requires workers { (1 ≤ workers) × (workers ≤ 16) }
+    ensures run { IfOk result (IsRun submission.now budget) }
+{
+    line_counts();
+    let mut states = states_of(alloc, submission)?;
+    let mut follows = true;
+    let mut stages = Vec::new(alloc);
+    for stage in 1..5 {
+        let cert = next_stage(
+            rt, alloc, submission, stage, &states, follows, budget, workers, gate,
+        )?;
+        states = after_stage(alloc, submission, stage, states, &cert.choice)?;
+        follows = may_follow(follows, stage, &cert.choice);
+        stages.push(cert)?;
+    }
+    Ok(Certificate {
+        version: 2,
+        stages: StageList::new(stages),
+    })
+}
+
+// A stage, where it may follow the earlier ones.
+fn next_stage<R: Threads + Sync, G: Gate>(
+    rt: &R,
+    alloc: Global,
+    submission: &Submission,
+    stage: u32,
+    states: &[UnitState],
+    follows: bool,
+    budget: u32,
+    workers: u32,
+    gate: &G,
+) -> Result<StageCert, Memory>
+    requires states { AreStates submission.now states.now }
+    requires budget { (1 ≤ budget) × (budget ≤ 1000000) }
+    requires workers { (1 ≤ workers) × (workers ≤ 16) }
+    ensures stage { IfOk result
+        (λ c. IsNextStage submission.now.declaration stage states.now budget c follows) }
+    ensures fits { IfOk result (λ c. FitsSeason c) }
+{
+    if follows {
+        let cert = tried_stage(rt, alloc, submission, stage, states, budget, workers, gate)?;
+        Ok(cert)
+    } else {
+        Ok(untried_stage(alloc))
+    }
+}
+
+// A stage that is tried.
+fn tried_stage<R: Threads + Sync, G: Gate>(
+    rt: &R,
+    alloc: Global,
+    submission: &Submission,
+    stage: u32,
+    states: &[UnitState],
+    budget: u32,
+    workers: u32,
+    gate: &G,
+) -> Result<StageCert, Memory>
+    requires states { AreStates submission.now states.now }
+    requires budget { (1 ≤ budget) × (budget ≤ 1000000) }
+    requires workers { (1 ≤ workers) × (workers ≤ 16) }
+    ensures tried { IfOk result (λ c. is_tried c.mark ≡ true) }
+    ensures run { IfOk result
+        (λ c. IsTriedRun submission.now.declaration stage states.now budget c) }
+    ensures fits { IfOk result (λ c. FitsSeason c) }
+{
+    fewer_vectors();
+    let problem = problem_after(alloc, submission, stage, states)?;
+    let _resources = problem.resources();
+    let _units = problem.units();
+    let outcome = settle_stage(rt, alloc, &problem, budget, workers, gate)?;
+    let cert = stage_cert(alloc, &problem, outcome)?;
+    Ok(cert)
+}
+
+// A stage that is not tried.
+fn untried_stage(alloc: Global) -> StageCert
+    ensures mark { result.mark ≡ NotTried }
+    ensures fits { FitsSeason result }
+{
+    StageCert {
+        mark: Mark::NotTried,
+        choice: None,
+        cost: None,
+        bound: None,
+        vectors: VectorList::new(Vec::new(alloc)),
+        tree: Tree::new(Vec::new(alloc)),
+        floors: FloorList::new(Vec::new(alloc)),
+    }
+}
+
+// Whether the stage after this one may follow, where this one may or may not.
+fn may_follow(follows: bool, stage: u32, choice: &Option<Choice>) -> bool
+    ensures late { 2 < stage → result ≡ follows }
+    ensures early { stage ≤ 2 → result ≡ (follows && is_some choice.now) }
+{
+    if stage > 2 {
+        follows
+    } else {
+        follows && choice.is_some()
+    }
+}

@@ -1,0 +1,138 @@
+//! One stage of a certificate, from what the search of its problem ended with.
+
+ghost use Rattle.std.specs.Prelude.{◌≡◌, ◌^◌, ◌<◌, IfOk, IfSome};
+ghost use Rattle.std.specs.Option.{ForSome, option_map};
+ghost use Rattle.choice_problem.specs.Choices.{IsFeasible, choice_cost};
+ghost use Rattle.cert_format.specs.Proofs.{IsProof};
+ghost use Rattle.cert_format.specs.declared.cert.Mark.TheVariants.{Unsettled};
+ghost use Rattle.season_run.specs.Ends.{IsClosedEnd, IsOpenEnd, IsStageEnd, IsMadeOf, StatesNothing, AreStated, MakesStage};
+ghost use Rattle.season_run.specs.Steps.{MarksClosed};
+
+use crate::floors::{stated_floors, tables_of};
+use crate::names::{first_vectors, greatest_name};
+use cert_format::{Floor, FloorList, Mark, StageCert};
+use choice_problem::{
+    Choice, Problem, Tree, VectorList, closed_ranges, cost_of, fewer_vectors, part_ranges,
+};
+use search_workers::Outcome;
+use slot_text::Memory;
+use std::alloc::Global;
+
+/// The stage that the end of a search on its problem makes: its choice, cost and tree, its vectors
+/// up to the last one that a leaf or a floor names, and where nodes are undone the floor of each and
+/// the stated bound, by all vectors of the search.
+///
+/// One step a node and what its ranges change. Each undone node is priced at each vector: one step
+/// an alternative in its ranges. Beside what the outcome has it takes a price table for each vector
+/// where nodes are undone, one copy of the ranges, and 16 bytes an undone node.
+pub fn stage_cert(alloc: Global, problem: &Problem, outcome: Outcome) -> Result<StageCert, Memory>
+    requires { IsStageEnd problem.now outcome }
+    ensures stage { IfOk result (λ c. MakesStage problem.now outcome c) }
+    ensures proof { IfOk result (λ c. IsProof problem.now c) }
+{
+    match outcome {
+        Outcome::Optimal {
+            choice,
+            cost,
+            tree,
+            vectors,
+        } => {
+            let mark = Mark::Optimal;
+            let cert = closed_cert(
+                alloc,
+                problem,
+                mark,
+                Some(choice),
+                Some(cost),
+                tree,
+                vectors,
+            );
+            Ok(cert)
+        }
+        Outcome::Infeasible { tree, vectors } => {
+            let mark = Mark::Infeasible;
+            let cert = closed_cert(alloc, problem, mark, None, None, tree, vectors);
+            Ok(cert)
+        }
+        Outcome::Spent {
+            best,
+            tree,
+            vectors,
+        } => open_cert(alloc, problem, best, tree, vectors),
+    }
+}
+
+// The stage of a whole tree.
+fn closed_cert(
+    alloc: Global,
+    _problem: &Problem,
+    mark: Mark,
+    choice: Option<Choice>,
+    cost: Option<u64>,
+    tree: Tree,
+    vectors: VectorList,
+) -> StageCert
+    requires end { IsClosedEnd _problem.now vectors cost choice tree }
+    requires mark { MarksClosed mark choice }
+    ensures made { IsMadeOf mark choice cost tree vectors result }
+    ensures nothing { StatesNothing result }
+    ensures proof { IsProof _problem.now result }
+{
+    fewer_vectors();
+    let floors: Vec<Floor> = Vec::new(alloc);
+    let number = greatest_name(tree.items(), &floors);
+    let vectors = first_vectors(vectors, number);
+    StageCert {
+        mark,
+        choice,
+        cost,
+        bound: None,
+        vectors,
+        tree,
+        floors: FloorList::new(floors),
+    }
+}
+
+// The cost of a choice, if there is one.
+fn cost_if_any(problem: &Problem, choice: &Option<Choice>) -> Option<u64>
+    requires { IfSome choice.now (IsFeasible problem.now) }
+    ensures { result ≡ option_map (choice_cost problem.now) choice.now }
+{
+    match choice {
+        Some(choice) => Some(cost_of(problem, choice)),
+        None => None,
+    }
+}
+
+// The stage of a tree with undone nodes.
+fn open_cert(
+    alloc: Global,
+    problem: &Problem,
+    best: Option<Choice>,
+    tree: Tree,
+    vectors: VectorList,
+) -> Result<StageCert, Memory>
+    requires { IsOpenEnd problem.now vectors (option_map (choice_cost problem.now) best) best tree }
+    ensures made { IfOk result (λ c. IsMadeOf Unsettled best
+        (option_map (choice_cost problem.now) best) tree vectors c) }
+    ensures stated { IfOk result
+        (λ c. AreStated problem.now vectors c.cost tree c.floors c.bound) }
+    ensures proof { IfOk result (λ c. IsProof problem.now c) }
+{
+    fewer_vectors();
+    closed_ranges();
+    let cost = cost_if_any(problem, &best);
+    let tables = tables_of(alloc, problem, vectors.items())?;
+    let stated = stated_floors(alloc, problem, &tables, tree.items(), cost)?;
+    let number = greatest_name(tree.items(), &stated.floors);
+    let vectors = first_vectors(vectors, number);
+    Ok(StageCert {
+        mark: Mark::Unsettled,
+        choice: best,
+        cost,
+        bound: stated.bound,
+        vectors,
+        tree,
+        floors: FloorList::new(stated.floors),
+    })
+}
