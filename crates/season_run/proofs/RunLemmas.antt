@@ -1,6 +1,6 @@
 -- A stage of a run, from the trial of its problem and the stage that this made.
-use Rattle.std.proofs.Common.{◌≡◌, ℕ, zero, suc, ◌+◌, ◌*◌, ◌<◌, ◌≤◌, refl, sym, ◌∙◌, ap, subst, arith, List, [], ◌∷◌, ◌++◌, length, length-append, drop, map, Bool, true, false, Option, Some, None}
-use Rattle.std.specs.Prelude.{All, IfSome, IsSome, IsNone, IsSomeAnd, is_some, sum_by}
+use Rattle.std.proofs.Common.{◌≡◌, ℕ, ◌*◌, ◌≤◌, refl, sym, ◌∙◌, ap, subst, arith, List, [], ◌∷◌, ◌++◌, length, length-append, drop, map, true, false, Option, Some, None}
+use Rattle.std.specs.Prelude.{All, IfSome, IsNone, IsSomeAnd, is_some, sum_by}
 use Rattle.std.specs.List.{AllZip}
 use Rattle.std.specs.Option.{option_map}
 use Rattle.std.proofs.lemmas.List.Sums.{sum_by-append, sum_by-cons}
@@ -22,8 +22,8 @@ use Rattle.cert_format.specs.declared.cert.Mark.{Mark}
 use Rattle.cert_format.specs.declared.cert.Mark.TheVariants as marks
 use Rattle.cert_format.specs.declared.cert.Floor.{Floor}
 use Rattle.cert_format.specs.declared.cert.StageCert.{StageCert}
-use Rattle.cert_format.specs.Spelling.{is_tried, floor_count, has_bound, undone_count}
-use Rattle.cert_format.specs.Printable.{IsPrintableProof, IsPrintableStage, IsPrintableAs, IsWithinLimits}
+use Rattle.cert_format.specs.Spelling.{is_tried, has_bound}
+use Rattle.cert_format.specs.Printable.{IsPrintableProof, IsPrintableAs, IsWithinLimits}
 use Rattle.cert_format.specs.Proofs.{IsProof}
 use Rattle.series_model.specs.declared.unit.Unit.{Unit as SlotUnit}
 use Rattle.series_model.specs.declared.state.UnitState.{UnitState}
@@ -32,8 +32,8 @@ use Rattle.series_model.specs.Stages.{stage_units}
 use Rattle.wasg_stages.specs.StageProblems.{IsStageProblem, IsChooserOf, IsAltOf}
 use Rattle.season_run.specs.declared.trials.TheConstants.{SMALL_BUDGET}
 use Rattle.season_run.specs.Ends.{AreStageVectors, IsClosedEnd, IsOpenEnd, IsGreatestFloor, IsLeastOf, IsMadeOf, StatesNothing, AreStated, AreKeptOf, MakesStage, undone_ranges, floor_costs}
-use Rattle.season_run.specs.Runs.{IsOpenStage, OpensAs, IsStageRun, IsTriedRun, IsEnough, allotment_count}
-use Rattle.season_run.specs.Steps.{TakesNodes, IsDrivenEnd, IsTrial, FitsSeason}
+use Rattle.season_run.specs.Runs.{IsOpenStage, OpensAs, IsStageRun, IsTriedRun, allotment_count}
+use Rattle.season_run.specs.Steps.{IsTrial, FitsSeason}
 use Rattle.season_run.proofs.TreeLemmas.{sound_walks, open_count, whole_count, tree_length}
 use Rattle.season_run.proofs.TrialLemmas.{few-prices}
 

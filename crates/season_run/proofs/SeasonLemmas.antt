@@ -1,5 +1,5 @@
 -- The stages of a run, one after the other.
-use Rattle.std.proofs.Common.{◌≡◌, ℕ, zero, suc, ◌+◌, ◌<◌, ◌≤◌, refl, sym, ◌∙◌, ap, subst, arith, List, [], ◌∷◌, ◌++◌, length, length-append, append_assoc, Bool, true, false, Option, Some, None}
+use Rattle.std.proofs.Common.{◌≡◌, ℕ, suc, ◌+◌, ◌<◌, ◌≤◌, refl, sym, ◌∙◌, ap, subst, arith, List, [], ◌∷◌, ◌++◌, length, length-append, append_assoc, Bool, true, false, Option, Some, None}
 use Rattle.std.specs.Prelude.{All, is_some, ◌&&◌}
 use Rattle.std.specs.List.{AllByRecursion}
 use Rattle.std.proofs.lemmas.List.{append-nil}
@@ -17,8 +17,8 @@ use Rattle.series_model.specs.declared.state.UnitState.{UnitState}
 use Rattle.series_model.specs.Stages.{first_states, after_stage, after_stages, states_after, may_follow}
 use Rattle.series_model.specs.Submissions.{SubmissionView}
 use Rattle.wasg_stages.specs.StageProblems.{AreStates}
-use Rattle.wasg_stages.specs.Valid.{IsStageAs, AreStages, IsValid}
-use Rattle.season_run.specs.Runs.{IsTriedRun, IsRunAs, AreStageRuns, IsRun, AreEnough, IsSettledCert}
+use Rattle.wasg_stages.specs.Valid.{IsStageAs, AreStages}
+use Rattle.season_run.specs.Runs.{IsTriedRun, IsRunAs, AreStageRuns, IsRun, AreEnough}
 use Rattle.season_run.specs.Steps.{FitsSeason, AreRunSoFar, IsNextStage}
 
 -- ---- one choice more

@@ -1,6 +1,6 @@
 -- From what a search answers to the end of a stage's trial.
-use Rattle.std.proofs.Common.{◌≡◌, ℕ, zero, suc, ◌+◌, ◌*◌, ◌<◌, ◌≤◌, refl, sym, ◌∙◌, ap, subst, arith, List, [], ◌∷◌, ◌++◌, length, pos, Option, Some, None}
-use Rattle.std.specs.Prelude.{All, IfSome, ◌↔◌}
+use Rattle.std.proofs.Common.{◌≡◌, ℕ, zero, suc, ◌+◌, ◌*◌, ◌<◌, ◌≤◌, refl, subst, arith, List, [], ◌∷◌, length, pos, Option, Some, None}
+use Rattle.std.specs.Prelude.{IfSome}
 use Rattle.std.specs.Option.{option_map}
 use Rattle.std.proofs.lemmas.List.Elements.{All-cons, All-nil}
 use Rattle.choice_problem.specs.declared.vectors.Price.{Price}
@@ -10,9 +10,8 @@ use Rattle.choice_problem.specs.Choices.{IsFeasible, choice_cost}
 use Rattle.choice_problem.specs.Bounds.{IsVector, IsPrice, price_at}
 use Rattle.search_workers.specs.declared.outcomes.Outcome.{Outcome}
 use Rattle.search_workers.specs.declared.outcomes.Outcome.TheVariants as ends
-use Rattle.search_workers.specs.Outcomes.{IsOutcome, IsSettled, IsSearched, AreListed, AreFurther, choice_count, price_count}
-use Rattle.season_run.specs.declared.trials.TheConstants.{SMALL_BUDGET}
-use Rattle.season_run.specs.Ends.{AreStageVectors, IsClosedEnd, IsOpenEnd, IsStageEnd}
+use Rattle.search_workers.specs.Outcomes.{IsOutcome, IsSettled, IsSearched, AreListed, AreFurther, choice_count}
+use Rattle.season_run.specs.Ends.{AreStageVectors, IsOpenEnd, IsStageEnd}
 use Rattle.season_run.specs.Steps.{TakesNodes, IsDrivenEnd, IsTrial}
 use Rattle.season_run.proofs.StageLemmas.{found-cost}
 

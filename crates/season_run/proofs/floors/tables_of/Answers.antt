@@ -1,9 +1,9 @@
 use Rattle.std.proofs.Common.{rules, ◌≡◌, ◌∙◌, ◌++◌, ◌∷◌, ◌+◌, [], List, ap, sym, subst, take}
-use Rattle.std.proofs.lemmas.List.{take_more, take_all, map-append}
+use Rattle.std.proofs.lemmas.List.{take_more, map-append}
 use Rattle.std.proofs.lemmas.List.Elements.{All-push}
 use Rattle.choice_problem.specs.declared.vectors.Price.{Price}
 use Rattle.choice_problem.specs.Bounds.{IsVector}
-use Rattle.price_table.specs.Tables.{TableView, IsTableFor, vectors_of}
+use Rattle.price_table.specs.Tables.{TableView, IsTableFor}
 use Rattle.season_run.proofs.floors.tables_of.Goals as goal
 
 pub price_table-requires : goal.price_table-requires

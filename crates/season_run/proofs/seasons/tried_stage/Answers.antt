@@ -1,7 +1,4 @@
-use Rattle.std.proofs.Common.{◌≡◌, true, arith}
-use Rattle.cert_format.specs.Spelling.{is_tried}
-use Rattle.season_run.specs.Runs.{IsTriedRun}
-use Rattle.season_run.specs.Steps.{FitsSeason}
+use Rattle.std.proofs.Common.{arith}
 use Rattle.season_run.proofs.RunLemmas.{tried-all}
 use Rattle.season_run.proofs.seasons.tried_stage.Goals as goal
 

@@ -1,6 +1,4 @@
-use Rattle.std.proofs.Common.{◌≡◌, [], refl, sym, ◌∙◌}
-use Rattle.choice_problem.specs.declared.nodes.Node.{Node}
-use Rattle.cert_format.specs.declared.cert.StageCert.{StageCert}
+use Rattle.std.proofs.Common.{refl, sym, ◌∙◌}
 use Rattle.season_run.specs.Ends.{AreKeptOf}
 use Rattle.season_run.proofs.StageLemmas.{closed-proof, closed-kept}
 use Rattle.season_run.proofs.stages.closed_cert.Goals as goal

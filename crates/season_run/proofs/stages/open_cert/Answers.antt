@@ -1,4 +1,4 @@
-use Rattle.std.proofs.Common.{◌≡◌, [], refl, sym, ◌∙◌, ap, subst, List, Option, Some, ℕ}
+use Rattle.std.proofs.Common.{refl, sym, ◌∙◌, ap, subst, List, Option, ℕ}
 use Rattle.std.specs.List.{AllZip}
 use Rattle.std.specs.Option.{option_map}
 use Rattle.choice_problem.specs.Choices.{choice_cost}
