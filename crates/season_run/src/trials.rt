@@ -3,11 +3,13 @@
 ghost use Rattle.std.specs.Prelude.{◌≡◌, ◌+◌, ◌*◌, ◌≤◌, ◌<◌, [], IfOk, IfSome, IsTrue, ◌↔◌};
 ghost use Rattle.choice_problem.specs.Bounds.{IsVector};
 ghost use Rattle.choice_problem.specs.Choices.{IsFeasible};
+ghost use Rattle.closing_search.specs.Closed.{IsClosed};
 ghost use Rattle.search_workers.specs.Outcomes.{AreFurther, IsOutcome, IsSettled, choice_count};
 ghost use Rattle.season_run.specs.Ends.{IsStageEnd};
 ghost use Rattle.season_run.specs.Steps.{TakesNodes, IsDrivenEnd, IsTrial};
 
 use choice_problem::{Choice, Problem, Ranges, Vector};
+use closing_search::{Closed, closing_search};
 use desk_outside::Gate;
 use dual_bound::{infeasibility_vector, polished_vector};
 use improved_choice::improved_choice;
@@ -26,8 +28,9 @@ const POLISHING_STEPS: u32 = 200;
 
 const INFEASIBILITY_STEPS: u32 = 100;
 
-// Searches the problem of a stage: first by a few visits of the prescribed search, and where these
-// leave nodes undone and the budget has more, from the best choice that is found.
+// Searches the problem of a stage: first by a few visits of the prescribed search; where these leave
+// nodes undone and the budget has more, by free splits; and where that closes nothing, by the
+// prescribed search again, from the best choice that is found.
 pub(crate) fn settle_stage<R: Threads + Sync, G: Gate>(
     rt: &R,
     alloc: Global,
@@ -49,7 +52,52 @@ pub(crate) fn settle_stage<R: Threads + Sync, G: Gate>(
         return Ok(outcome);
     }
     let best = best_of(problem, outcome);
-    search_improved(rt, alloc, problem, budget, workers, gate, best)
+    let start = copy_of(alloc, problem, &best)?;
+    let Some(closed) = closing_search(alloc, problem, start, budget)? else {
+        return search_improved(rt, alloc, problem, budget, workers, gate, best);
+    };
+    Ok(closed_end(problem, budget, closed))
+}
+
+// A copy of a choice, if there is one.
+fn copy_of(
+    alloc: Global,
+    _problem: &Problem,
+    best: &Option<Choice>,
+) -> Result<Option<Choice>, Memory>
+    requires { IfSome best.now (IsFeasible _problem.now) }
+    ensures { IfOk result (λ copy. IfSome copy (IsFeasible _problem.now)) }
+{
+    match best {
+        Some(choice) => {
+            let mut alts = Vec::new(alloc);
+            alts.extend_from_slice(choice.items())?;
+            Ok(Some(Choice::new(alts)))
+        }
+        None => Ok(None),
+    }
+}
+
+// The end of a trial that closed the problem by free splits.
+fn closed_end(_problem: &Problem, _budget: u32, closed: Closed) -> Outcome
+    requires closed { IsClosed _problem.now _budget closed }
+    requires more { SMALL_BUDGET < _budget }
+    ensures { IsTrial _problem.now _budget result }
+{
+    match closed {
+        Closed::Optimal {
+            choice,
+            cost,
+            tree,
+            vectors,
+        } => Outcome::Optimal {
+            choice,
+            cost,
+            tree,
+            vectors,
+        },
+        Closed::Infeasible { tree, vectors } => Outcome::Infeasible { tree, vectors },
+    }
 }
 
 // How many visits the first search of a stage gets.
