@@ -6,6 +6,8 @@ mod bounds;
 #[cfg(test)]
 mod choices;
 #[cfg(test)]
+mod closed;
+#[cfg(test)]
 mod counts;
 #[cfg(test)]
 mod improved;
