@@ -120,7 +120,8 @@ impl Windows {
     /// one for each start, a step apart. `rule` is the position of the line in the file, from 0.
     pub fn starts(&self, rule: u32) -> u32
         requires { rule < length self.now.rules }
-        ensures starts { IfSome (slice_get self.now.rules rule) (λ of. result ≡ starts_of self.now.step of) }
+        ensures starts { IfSome (slice_get self.now.rules rule)
+            (λ of. result ≡ starts_of self.now.step of) }
         ensures few { result ≤ MINUTES_OF_DAY }
     {
         starts_of(self.step, &self.rules[rule as usize])
@@ -132,7 +133,8 @@ impl Windows {
     pub fn resource_of(&self, rule: u32, day: Day, start: u32) -> u32
         requires rule { rule < length self.now.rules }
         requires day { day.0 < date_count self.now.season }
-        requires start { ForSome (slice_get self.now.rules rule) (λ of. start < starts_of self.now.step of) }
+        requires start { ForSome (slice_get self.now.rules rule)
+            (λ of. start < starts_of self.now.step of) }
         ensures number { IfSome (slice_get self.now.rules rule)
             (λ of. result ≡ first_of self.now rule + day.0 * starts_of self.now.step of + start) }
         ensures window { IfSome (slice_get self.now.rules rule)

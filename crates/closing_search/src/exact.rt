@@ -135,8 +135,10 @@ pub(crate) fn tables_of(
     vectors: &[Vector],
 ) -> Result<Option<Tables>, Memory>
     ensures tables { IfOk result (λ found. IfSome found (AreLeafTables problem.now)) }
-    ensures vectors { IfOk result (λ found. IfSome found (λ tables. listed_in tables ≡ vectors.now)) }
-    ensures each { IfOk result (λ found. IfSome found (λ tables. All (IsVector problem.now) vectors.now)) }
+    ensures vectors { IfOk result (λ found. IfSome found
+        (λ tables. listed_in tables ≡ vectors.now)) }
+    ensures each { IfOk result (λ found. IfSome found
+        (λ tables. All (IsVector problem.now) vectors.now)) }
 {
     let mut listed = Vec::new(alloc);
     for vector in vectors {

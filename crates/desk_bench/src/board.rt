@@ -88,12 +88,14 @@ fn work_together<R: Threads + Sync>(
     let (mut seat, other) = join(
         rt,
         || -> BoardSeat
-            requires { IsSync R.row × IsSeatOf board.now seat × (1 ≤ rest) × (rest ≤ seat.view.share) }
+            requires { IsSync R.row × IsSeatOf board.now seat × (1 ≤ rest)
+                × (rest ≤ seat.view.share) }
             ensures own { IsSeatOf board.entry.now result }
             ensures share { result.view.share ≡ seat.view.share }
         { work_together(rt, board, seat, rest, each) },
         || -> BoardSeat
-            requires { IsSync R.row × IsSeatOf board.now other × (1 ≤ half) × (half ≤ other.view.share) }
+            requires { IsSync R.row × IsSeatOf board.now other × (1 ≤ half)
+                × (half ≤ other.view.share) }
             ensures own { IsSeatOf board.entry.now result }
             ensures share { result.view.share ≡ other.view.share }
         { work_together(rt, board, other, half, each) },

@@ -145,7 +145,8 @@ pub fn chooser(alloc: Global, made: &Submission, unit: &Unit) -> Result<Chooser,
 // A unit's parts and alternatives. That they are one of a problem follows from the laws alone.
 fn pieces(alloc: Global, made: &Submission, unit: &Unit) -> Result<(Vec<Part>, Vec<Alt>), Memory>
     requires { UnitFits made.now.declaration.season unit.now }
-    ensures { IfOk result (λ pieces. IsChooser (record { parts = pieces.0.items; alts = pieces.1.items })) }
+    ensures { IfOk result
+        (λ pieces. IsChooser (record { parts = pieces.0.items; alts = pieces.1.items })) }
 {
     option_bounds();
     few_uses();
@@ -235,7 +236,8 @@ fn add_parts(
     requires last { period.last.0 < date_count windows.now.season }
     requires few { UseAtMost 217 parts.old.items }
     ensures few { OnOk result (UseAtMost 217 parts.new.items) }
-    ensures count { OnOk result (length parts.new.items ≡ length parts.old.items + length minutes.now) }
+    ensures count { OnOk result
+        (length parts.new.items ≡ length parts.old.items + length minutes.now) }
 {
     for minute in minutes {
         let later = minute / MINUTES_OF_DAY;

@@ -36,7 +36,8 @@ pub fn improved_choice(
     requires start { ForSome (option_copied start) (IsFeasible problem.now) }
     requires vector { IsVector problem.now vector.now }
     ensures feasible { IfOk result (λ found. IfSome found (IsFeasible problem.now)) }
-    ensures cost { IfOk result (λ found. CostsAtMost problem.now (option_copied start.entry) found) }
+    ensures cost { IfOk result
+        (λ found. CostsAtMost problem.now (option_copied start.entry) found) }
 {
     let tables = [price_table(alloc, problem, vector)?];
     let priced = priced_choice(alloc, problem, &tables[0])?;

@@ -103,10 +103,12 @@ fn priced_cost(alt: &Alt, prices: &[u128], scale: u64) -> u128
     requires cost { alt.now.cost < 2 ^ 24 }
     requires one { ForSome alt.now.one (λ k. k < length prices.now) }
     requires two { ForSome alt.now.two (λ k. k < length prices.now) }
-    requires uses { named_price prices.now alt.now.one + named_price prices.now alt.now.two < 2 ^ 100 }
+    requires uses { named_price prices.now alt.now.one
+        + named_price prices.now alt.now.two < 2 ^ 100 }
     requires scale { scale < SCALE_BOUND }
     ensures value { result
-        ≡ scale * alt.now.cost + (named_price prices.now alt.now.one + named_price prices.now alt.now.two) }
+        ≡ scale * alt.now.cost
+        + (named_price prices.now alt.now.one + named_price prices.now alt.now.two) }
     ensures small { result < 2 ^ 101 }
 {
     u128::from(scale * alt.cost) + named_prices(alt, prices)
@@ -116,8 +118,10 @@ fn priced_cost(alt: &Alt, prices: &[u128], scale: u64) -> u128
 pub(crate) fn named_prices(alt: &Alt, prices: &[u128]) -> u128
     requires one { ForSome alt.now.one (λ k. k < length prices.now) }
     requires two { ForSome alt.now.two (λ k. k < length prices.now) }
-    requires uses { named_price prices.now alt.now.one + named_price prices.now alt.now.two < 2 ^ 100 }
-    ensures value { result ≡ named_price prices.now alt.now.one + named_price prices.now alt.now.two }
+    requires uses { named_price prices.now alt.now.one
+        + named_price prices.now alt.now.two < 2 ^ 100 }
+    ensures value { result
+        ≡ named_price prices.now alt.now.one + named_price prices.now alt.now.two }
     ensures small { result < 2 ^ 100 }
 {
     named_price(prices, alt.one) + named_price(prices, alt.two)

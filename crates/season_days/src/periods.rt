@@ -27,7 +27,8 @@ impl Season {
 
     /// How many days from one on and before another have a weekday of a set.
     fn count_days(&self, days: u8, first: u32, end: u32) -> u32
-        ensures count { result ≡ length (filter (is_on self.now days) (days_from first (end - first))) }
+        ensures count { result
+            ≡ length (filter (is_on self.now days) (days_from first (end - first))) }
         ensures few { result ≤ end - first }
     {
         let mut count = 0;

@@ -31,9 +31,9 @@ use Rattle.series_model.specs.Options.{options_of}
 use Rattle.series_model.specs.Stages.{stage_units}
 use Rattle.wasg_stages.specs.StageProblems.{IsStageProblem, IsChooserOf, IsAltOf}
 use Rattle.season_run.specs.declared.trials.TheConstants.{SMALL_BUDGET}
-use Rattle.season_run.specs.Ends.{AreStageVectors, IsClosedEnd, IsOpenEnd, IsGreatestFloor, IsLeastOf, IsMadeOf, StatesNothing, AreStated, AreKeptOf, MakesStage, undone_ranges, floor_costs}
+use Rattle.season_run.specs.Ends.{AreStageVectors, IsClosedEnd, IsOpenEnd, IsGreatestFloor, IsLeastOf, IsStageOf, StatesNothing, AreStated, AreKeptOf, MakesStage, undone_ranges, floor_costs}
 use Rattle.season_run.specs.Runs.{IsOpenStage, OpensAs, IsStageRun, IsTriedRun, allotment_count}
-use Rattle.season_run.specs.Steps.{IsTrial, FitsSeason}
+use Rattle.season_run.specs.Steps.{IsTrialEnd, FitsSeason}
 use Rattle.season_run.proofs.TreeLemmas.{sound_walks, open_count, whole_count, tree_length}
 use Rattle.season_run.proofs.TrialLemmas.{few-prices}
 
@@ -72,7 +72,7 @@ kept-driven fewer p searched kept tree floors cost k d =
 
 module _ (fewer : FewerDriven) (p : ProblemView) (budget : ℕ) (c : StageCert) (proof : IsProof p c) where
   -- of these parts
-  module _ (mark : Mark) (choice : Option (List ℕ)) (cost : Option ℕ) (tree : List Node) (vectors : List (List Price)) (made : IsMadeOf mark choice cost tree vectors c) where
+  module _ (mark : Mark) (choice : Option (List ℕ)) (cost : Option ℕ) (tree : List Node) (vectors : List (List Price)) (made : IsStageOf mark choice cost tree vectors c) where
     kept-here : AreKeptOf vectors c.tree c.floors c.vectors
     kept-here = subst (λ (t : List Node). AreKeptOf vectors t c.floors c.vectors) (sym made.tree_is) made.kept
 
@@ -92,7 +92,7 @@ module _ (fewer : FewerDriven) (p : ProblemView) (budget : ℕ) (c : StageCert) 
       opened = subst (OpensAs p budget c) (sym made.mark_is) opened;
     }
 
-  pub stage-run : (o : Outcome) → IsTrial p budget o → MakesStage p o c → IsStageRun p budget c
+  pub stage-run : (o : Outcome) → IsTrialEnd p budget o → MakesStage p o c → IsStageRun p budget c
   stage-run (ends.Optimal choice cost tree vectors) t made =
       let closed : IsClosedEnd p vectors (Some cost) (Some choice) tree = t.end in
       of-parts marks.Optimal (Some choice) (Some cost) tree vectors made.0 closed.listed t.nodes t.small tt
@@ -162,7 +162,7 @@ open-printable p vectors c e s few proof = record {
       ∙ open_count (whole_of p ∷ []) c.tree (sound_walks p c.vectors c.cost (whole_of p ∷ []) c.tree proof.sound);
 }
 
-pub made-printable : (p : ProblemView) (budget : ℕ) (o : Outcome) (c : StageCert) → IsTrial p budget o → MakesStage p o c → IsProof p c → length c.vectors ≤ 64 → IsPrintableProof 2 c
+pub made-printable : (p : ProblemView) (budget : ℕ) (o : Outcome) (c : StageCert) → IsTrialEnd p budget o → MakesStage p o c → IsProof p c → length c.vectors ≤ 64 → IsPrintableProof 2 c
 made-printable p budget (ends.Optimal choice cost tree vectors) c t made proof few =
     closed-printable p c marks.Optimal made.0.mark_is refl made.1 (rw made.0.tree_is (let closed : IsClosedEnd p vectors (Some cost) (Some choice) tree = t.end in closed.whole)) few proof
 made-printable p budget (ends.Infeasible tree vectors) c t made proof few =
@@ -209,7 +209,7 @@ count-same d (unit ∷ units) (m ∷ choosers) h =
     let rest = count-same d units choosers h.1 in
     ap (λ (n : ℕ). n * product_of (map (λ (m : ChooserView). length m.alts) choosers)) here ∙ ap (λ (n : ℕ). length (options_of d unit) * n) rest
 
-pub tried-run : (d : Declaration) (stage : ℕ) (states : List UnitState) (budget : ℕ) (c : StageCert) (p : ProblemView) (o : Outcome) → IsStageProblem d stage states p → IsTrial p budget o →
+pub tried-run : (d : Declaration) (stage : ℕ) (states : List UnitState) (budget : ℕ) (c : StageCert) (p : ProblemView) (o : Outcome) → IsStageProblem d stage states p → IsTrialEnd p budget o →
     MakesStage p o c → IsStageRun p budget c → IsTriedRun d stage states budget c
 tried-run d stage states budget c p o is t made r = record {
   problem = p;
@@ -221,7 +221,7 @@ tried-run d stage states budget c p o is t made r = record {
 }
 
 -- all that is said of a stage that was tried
-pub tried-all : FewerDriven → (d : Declaration) (stage : ℕ) (states : List UnitState) (budget : ℕ) (c : StageCert) (p : ProblemView) (o : Outcome) → IsStageProblem d stage states p → IsTrial p budget o →
+pub tried-all : FewerDriven → (d : Declaration) (stage : ℕ) (states : List UnitState) (budget : ℕ) (c : StageCert) (p : ProblemView) (o : Outcome) → IsStageProblem d stage states p → IsTrialEnd p budget o →
     MakesStage p o c → IsProof p c → unit_count p ≤ 4096 → resource_count p ≤ 1000000 → budget ≤ 1000000 →
     (is_tried c.mark ≡ true) × IsTriedRun d stage states budget c × FitsSeason c
 tried-all fewer d stage states budget c p o is t made proof units resources most =

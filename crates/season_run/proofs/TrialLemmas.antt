@@ -12,7 +12,7 @@ use Rattle.search_workers.specs.declared.outcomes.Outcome.{Outcome}
 use Rattle.search_workers.specs.declared.outcomes.Outcome.TheVariants as ends
 use Rattle.search_workers.specs.Outcomes.{IsOutcome, IsSettled, IsSearched, AreListed, AreFurther, choice_count}
 use Rattle.season_run.specs.Ends.{AreStageVectors, IsOpenEnd, IsStageEnd}
-use Rattle.season_run.specs.Steps.{TakesNodes, IsDrivenEnd, IsTrial}
+use Rattle.season_run.specs.Steps.{TakesNodes, IsDrivenEnd, IsTrialEnd}
 use Rattle.season_run.proofs.StageLemmas.{found-cost}
 
 listed-any : (p : ProblemView) (given vectors : List (List Price)) → AreListed p given vectors → AreListed p [] vectors
@@ -54,7 +54,7 @@ outcome-driven p given budget (ends.Spent best tree vectors) h = (searched-any p
 
 -- a search with the whole budget
 pub whole-trial : (p : ProblemView) (given : List (List Price)) (budget : ℕ) (o : Outcome) → 1 ≤ budget → IsOutcome p given budget o →
-    (2 * choice_count p ≤ budget + 1 → IsSettled o) → IsTrial p budget o
+    (2 * choice_count p ≤ budget + 1 → IsSettled o) → IsTrialEnd p budget o
 whole-trial p given budget o some h settled = record {
   end = outcome-end p given budget o some h;
   nodes = outcome-nodes p given budget o h;
@@ -68,7 +68,7 @@ fewer-nodes less budget (ends.Infeasible tree vectors) le s h = omega (arith, le
 fewer-nodes less budget (ends.Spent best tree vectors) le s h = absurd s
 
 -- a search that ended before the budget
-pub settled-trial : (p : ProblemView) (given : List (List Price)) (less budget : ℕ) (o : Outcome) → 1 ≤ less → less ≤ budget → IsOutcome p given less o → IsSettled o → IsTrial p budget o
+pub settled-trial : (p : ProblemView) (given : List (List Price)) (less budget : ℕ) (o : Outcome) → 1 ≤ less → less ≤ budget → IsOutcome p given less o → IsSettled o → IsTrialEnd p budget o
 settled-trial p given less budget o some le h s = record {
   end = outcome-end p given less o some h;
   nodes = fewer-nodes less budget o le s (outcome-nodes p given less o h);

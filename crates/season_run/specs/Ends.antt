@@ -110,7 +110,7 @@ pub record AreKeptOf (searched : List (List Price)) (tree : List Node) (floors :
 -- ---- the stage that an end makes
 
 -- a stage of these parts, with its vectors up to the last one that is named
-pub record IsMadeOf (mark : Mark) (choice : Option (List ℕ)) (cost : Option ℕ) (tree : List Node)
+pub record IsStageOf (mark : Mark) (choice : Option (List ℕ)) (cost : Option ℕ) (tree : List Node)
     (vectors : List (List Price)) (c : StageCert) : Type 0 where
   pub mark_is : c.mark ≡ mark
   pub choice_is : c.choice ≡ choice
@@ -125,9 +125,9 @@ pub record StatesNothing (c : StageCert) : Type 0 where
 
 abbrev pub MakesStage : ProblemView → Outcome → StageCert → Type 0
 MakesStage p (ends.Optimal choice cost tree vectors) c =
-    IsMadeOf marks.Optimal (Some choice) (Some cost) tree vectors c × StatesNothing c
+    IsStageOf marks.Optimal (Some choice) (Some cost) tree vectors c × StatesNothing c
 MakesStage p (ends.Infeasible tree vectors) c =
-    IsMadeOf marks.Infeasible None None tree vectors c × StatesNothing c
+    IsStageOf marks.Infeasible None None tree vectors c × StatesNothing c
 MakesStage p (ends.Spent best tree vectors) c =
-    IsMadeOf marks.Unsettled best (option_map (choice_cost p) best) tree vectors c
+    IsStageOf marks.Unsettled best (option_map (choice_cost p) best) tree vectors c
     × AreStated p vectors c.cost tree c.floors c.bound

@@ -96,7 +96,7 @@ IsDrivenEnd p (ends.Spent best tree vectors) =
 
 -- what the trial of a stage gives: an end of a search within the budget, that of a driven tree where
 -- the budget is small, and a whole tree where the budget is enough for the problem's choices
-pub record IsTrial (p : ProblemView) (budget : ℕ) (outcome : Outcome) : Type 0 where
+pub record IsTrialEnd (p : ProblemView) (budget : ℕ) (outcome : Outcome) : Type 0 where
   pub end : IsStageEnd p outcome
   pub nodes : TakesNodes budget outcome
   pub small : budget ≤ SMALL_BUDGET → IsDrivenEnd p outcome

@@ -5,7 +5,7 @@ ghost use Rattle.std.specs.Option.{ForSome, option_map};
 ghost use Rattle.choice_problem.specs.Choices.{IsFeasible, choice_cost};
 ghost use Rattle.cert_format.specs.Proofs.{IsProof};
 ghost use Rattle.cert_format.specs.declared.cert.Mark.TheVariants.{Unsettled};
-ghost use Rattle.season_run.specs.Ends.{IsClosedEnd, IsOpenEnd, IsStageEnd, IsMadeOf, StatesNothing, AreStated, MakesStage};
+ghost use Rattle.season_run.specs.Ends.{IsClosedEnd, IsOpenEnd, IsStageEnd, IsStageOf, StatesNothing, AreStated, MakesStage};
 ghost use Rattle.season_run.specs.Steps.{MarksClosed};
 
 use crate::floors::{stated_floors, tables_of};
@@ -74,7 +74,7 @@ fn closed_cert(
 ) -> StageCert
     requires end { IsClosedEnd _problem.now vectors cost choice tree }
     requires mark { MarksClosed mark choice }
-    ensures made { IsMadeOf mark choice cost tree vectors result }
+    ensures made { IsStageOf mark choice cost tree vectors result }
     ensures nothing { StatesNothing result }
     ensures proof { IsProof _problem.now result }
 {
@@ -113,7 +113,7 @@ fn open_cert(
     vectors: VectorList,
 ) -> Result<StageCert, Memory>
     requires { IsOpenEnd problem.now vectors (option_map (choice_cost problem.now) best) best tree }
-    ensures made { IfOk result (λ c. IsMadeOf Unsettled best
+    ensures made { IfOk result (λ c. IsStageOf Unsettled best
         (option_map (choice_cost problem.now) best) tree vectors c) }
     ensures stated { IfOk result
         (λ c. AreStated problem.now vectors c.cost tree c.floors c.bound) }

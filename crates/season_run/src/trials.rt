@@ -6,7 +6,7 @@ ghost use Rattle.choice_problem.specs.Choices.{IsFeasible};
 ghost use Rattle.closing_search.specs.Closed.{IsClosed};
 ghost use Rattle.search_workers.specs.Outcomes.{AreFurther, IsOutcome, IsSettled, choice_count};
 ghost use Rattle.season_run.specs.Ends.{IsStageEnd};
-ghost use Rattle.season_run.specs.Steps.{TakesNodes, IsDrivenEnd, IsTrial};
+ghost use Rattle.season_run.specs.Steps.{TakesNodes, IsDrivenEnd, IsTrialEnd};
 
 use choice_problem::{Choice, Problem, Ranges, Vector};
 use closing_search::{Closed, closing_search};
@@ -41,7 +41,7 @@ pub(crate) fn settle_stage<R: Threads + Sync, G: Gate>(
 ) -> Result<Outcome, Memory>
     requires budget { 1 ≤ budget }
     requires workers { (1 ≤ workers) × (workers ≤ 16) }
-    ensures { IfOk result (IsTrial problem.now budget) }
+    ensures { IfOk result (IsTrialEnd problem.now budget) }
 {
     let visits = first_visits(problem, budget);
     let outcome = search(rt, alloc, problem, visits, workers, gate)?;
@@ -82,7 +82,7 @@ fn copy_of(
 fn closed_end(_problem: &Problem, _budget: u32, closed: Closed) -> Outcome
     requires closed { IsClosed _problem.now _budget closed }
     requires more { SMALL_BUDGET < _budget }
-    ensures { IsTrial _problem.now _budget result }
+    ensures { IsTrialEnd _problem.now _budget result }
 {
     match closed {
         Closed::Optimal {
@@ -154,7 +154,7 @@ fn search_improved<R: Threads + Sync, G: Gate>(
     requires budget { 1 ≤ budget }
     requires workers { (1 ≤ workers) × (workers ≤ 16) }
     requires best { IfSome best (IsFeasible problem.now) }
-    ensures { IfOk result (IsTrial problem.now budget) }
+    ensures { IfOk result (IsTrialEnd problem.now budget) }
 {
     let ranges = Ranges::whole(alloc, problem)?;
     let polished = polished_vector(alloc, problem, &ranges, POLISHING_STEPS)?;

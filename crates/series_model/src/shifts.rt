@@ -25,7 +25,7 @@ pub(crate) struct Span {
 }
 
 impl Span {
-    // The minutes of the date some nights later.
+    /// The minutes of the date some nights later.
     pub fn of_date(nights: u8) -> Span
         ensures low { result.low ≡ MINUTES_OF_DAY * nights }
         ensures high { result.high ≡ MINUTES_OF_DAY * nights + (MINUTES_OF_DAY - 1) }
@@ -37,7 +37,7 @@ impl Span {
         }
     }
 
-    // Those of them from the earlier to the later of two minutes.
+    /// Those of them from the earlier to the later of two minutes.
     pub fn between(self, one: u32, other: u32) -> Span
         ensures low { result.low ≡ max self.low (min one other) }
         ensures high { result.high ≡ min self.high (max one other) }
@@ -61,7 +61,7 @@ pub(crate) struct Shifts {
 }
 
 impl Shifts {
-    // The shifts of a declaration within a span.
+    /// The shifts of a declaration within a span.
     pub fn of(declaration: &Declaration, requested: u32, span: Span) -> Shifts
         ensures { result ≡ shifts_in declaration.now requested span }
     {
@@ -74,7 +74,7 @@ impl Shifts {
         }
     }
 
-    // The last minute that may be a shift.
+    /// The last minute that may be a shift.
     pub fn last(&self) -> u32
         ensures high { result ≤ self.now.high }
         ensures late { result ≤ self.now.requested + self.now.flex }
@@ -84,7 +84,7 @@ impl Shifts {
         self.high.min(self.requested.saturating_add(self.flex))
     }
 
-    // The first shift from a minute on.
+    /// The first shift from a minute on.
     pub fn first_from(&self, from: u32) -> Option<u32>
         requires { AreShifts self.now }
         ensures found { IfSome result
@@ -196,7 +196,7 @@ pub(crate) enum LineShifts {
 }
 
 impl LineShifts {
-    // Those of a declaration, each movement within its span.
+    /// Those of a declaration, each movement within its span.
     pub fn of(declaration: &Declaration, line: &Line, coming_in: Span, going_in: Span) -> LineShifts
         requires step { 0 < declaration.now.step }
         requires stops { StopsFit line.now line.now.arrival line.now.departure }

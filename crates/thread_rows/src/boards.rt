@@ -116,12 +116,14 @@ fn draw_together<R: Threads + Sync>(
     let (one, two) = join(
         rt,
         || -> Result<(BoardSeat, Drawn), AllocError>
-            requires { IsSync R.row × IsSeatOf board.now seat × (1 ≤ rest) × (rest ≤ seat.view.share) }
+            requires { IsSync R.row × IsSeatOf board.now seat × (1 ≤ rest)
+                × (rest ≤ seat.view.share) }
             ensures own { IfOk result (λ r. IsSeatOf board.entry.now r.0) }
             ensures share { IfOk result (λ r. r.0.view.share ≡ seat.view.share) }
         { draw_together(rt, alloc, board, seat, rest) },
         || -> Result<(BoardSeat, Drawn), AllocError>
-            requires { IsSync R.row × IsSeatOf board.now other × (1 ≤ half) × (half ≤ other.view.share) }
+            requires { IsSync R.row × IsSeatOf board.now other × (1 ≤ half)
+                × (half ≤ other.view.share) }
             ensures own { IfOk result (λ r. IsSeatOf board.entry.now r.0) }
             ensures share { IfOk result (λ r. r.0.view.share ≡ other.view.share) }
         { draw_together(rt, alloc, board, other, half) },

@@ -20,7 +20,7 @@ pub(crate) struct Minutes {
 }
 
 impl Minutes {
-    // None yet, at the minutes of the date some nights after the line's.
+    /// None yet, at the minutes of the date some nights after the line's.
     pub fn of_date(alloc: Global, nights: u8) -> Result<Minutes, Memory>
         ensures { IfOk result (λ minutes. (i : ℕ) →
             slice_index_or minutes.parts.items i None ≡ None) }
