@@ -2,14 +2,16 @@
 //! relaxation for integer programming"; Held, Wolfe and Crowder 1974, "Validation of subgradient optimization").
 //!
 //! The root vector and the vector of ranges are the results of a subgradient run that the problem determines. The floor of
-//! ranges is the best that the bounds of some vectors say.
+//! ranges is the best that the bounds of some vectors say. Both runs and searches go over the resources that can be passed.
 #![tactic(auto)]
 
 mod counts;
 mod floors;
 mod kept;
+mod passable;
 mod points;
 mod roots;
 
 pub use floors::{StatedFloor, floor_of};
+pub use passable::passable_resources;
 pub use roots::{node_vector, root_vector};
