@@ -18,5 +18,6 @@ mod SteadyLemmas
 mod FirstBadLemmas
 mod OneBadLineLemmas
 mod CountLemmas
+mod LengthLemmas
 mod ProvenLemmas
 mod PrintableLemmas

@@ -3,9 +3,12 @@ use Rattle.std.specs.Prelude.{◌≡◌, ℕ, ◌+◌, ◌*◌, ◌≤◌, Bool,
 use Rattle.std.specs.Option.{option_map_or}
 use Rattle.std.specs.List.{AllByRecursion}
 use Rattle.choice_problem.specs.declared.problems.TheConstants.{MOST_UNITS}
+use Rattle.choice_problem.specs.declared.closing.TheConstants.{PRICED_SCALE}
+use Rattle.choice_problem.specs.Trees.{node_count}
+use Rattle.cert_format.specs.declared.cert.Floor.{Floor}
 use Rattle.cert_format.specs.declared.cert.StageCert.{StageCert}
 use Rattle.cert_format.specs.declared.cert.Certificate.{Certificate}
-use Rattle.cert_format.specs.declared.cert.TheConstants.{MOST_VECTORS, MOST_PRICES, MOST_NODES, MOST_LINES}
+use Rattle.cert_format.specs.declared.cert.TheConstants.{MOST_VECTORS, MOST_PRICES, MOST_NODES, MOST_BUDGET, MOST_LINES}
 use Rattle.cert_format.specs.Spelling.{is_tried, has_bound, floor_count, HoldsNothing, IsVersion, cert_lines, extra_lines}
 
 -- the parts of a stage that was tried belong together
@@ -47,10 +50,17 @@ proof_line_count s =
     + (option_map_or (λ n. 1) s.cost 0 + (option_map_or (λ n. 1) s.bound 0
     + (1 + sum_by (λ prices. 1 + length prices) s.vectors + (1 + length s.tree))))
 
+-- a floor by a vector that may be listed, at a scale of at most 1024
+pub record IsShortFloor (f : Floor) : Type 0 where
+  pub vector : f.vector ≤ MOST_VECTORS
+  pub scale : f.scale ≤ PRICED_SCALE
+
 -- the limits of a stage of a season: those of its problem's units, of the vectors and their prices,
--- and of the nodes
+-- of the nodes, of the splits and closed leaves among them, and of the floors
 pub record IsWithinLimits (s : StageCert) : Type 0 where
   pub units : IfSome s.choice (λ alts. length alts ≤ MOST_UNITS)
   pub vectors : length s.vectors ≤ MOST_VECTORS
   pub prices : sum_by (λ prices. length prices) s.vectors ≤ 2 * MOST_PRICES
   pub nodes : length s.tree ≤ MOST_NODES
+  pub budget : node_count s.tree ≤ MOST_BUDGET
+  pub floors : AllByRecursion IsShortFloor s.floors

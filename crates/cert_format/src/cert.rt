@@ -16,6 +16,12 @@ pub const MOST_PRICES: usize = 1_000_000;
 /// they leave undone.
 pub const MOST_NODES: usize = 2_000_001;
 
+/// The most splits and closed leaves of the tree of a stage of a season: the greatest budget.
+pub const MOST_BUDGET: usize = 1_000_000;
+
+/// The most bytes of a certificate whose stages are within the limits of a season: 512 MiB.
+pub const MOST_SEASON_BYTES: usize = 536_870_912;
+
 /// The most lines of a certificate.
 pub const MOST_LINES: u64 = (1 << 32) - 1;
 

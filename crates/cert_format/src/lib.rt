@@ -15,12 +15,12 @@ mod rows;
 mod tokens;
 
 pub use cert::{
-    Certificate, Floor, FloorList, LONGEST_CERT, MOST_LINES, MOST_NODES, MOST_PRICES, MOST_VECTORS,
-    Mark, StageCert, StageList,
+    Certificate, Floor, FloorList, LONGEST_CERT, MOST_BUDGET, MOST_LINES, MOST_NODES, MOST_PRICES,
+    MOST_SEASON_BYTES, MOST_VECTORS, Mark, StageCert, StageList,
 };
 pub use extra::{print_extra, read_extra};
 pub use fault::CertFault;
-pub use laws::{line_counts, proven_stage};
+pub use laws::{line_counts, proven_stage, season_bytes};
 pub use printable::{is_printable, is_printable_extra};
 pub use printing::print_cert;
 pub use reading::read_cert;

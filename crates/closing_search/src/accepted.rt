@@ -4,7 +4,7 @@ ghost use Rattle.std.specs.Prelude.{◌≡◌, ◌<◌, ◌≤◌, ◌^◌, ℕ,
 ghost use Rattle.choice_problem.specs.declared.vectors.Price.{Price};
 ghost use Rattle.choice_problem.specs.Choices.{IsFeasible, choice_cost};
 ghost use Rattle.choice_problem.specs.Trees.{node_count};
-ghost use Rattle.closing_search.specs.Closed.{ClosesWhole, IsClosed, IsClosedAtMost};
+ghost use Rattle.closing_search.specs.Closed.{ClosesWhole, IsClosed, IsClosedAtMost, IsKnownAtMost};
 
 use crate::closed::Closed;
 use crate::exact::{is_proof, tables_of};
@@ -53,6 +53,33 @@ pub(crate) fn accepted(
         None if start.is_some() => Ok(None),
         None => accepted_none(alloc, problem, budget, tree, vectors),
     }
+}
+
+/// The cheaper one of a start and of a choice that was found, if this is feasible.
+pub(crate) fn known_best(
+    alloc: Global,
+    problem: &Problem,
+    start: Option<Choice>,
+    found: Option<Choice>,
+) -> Result<Option<Choice>, Memory>
+    requires { IfSome start (IsFeasible problem.now) }
+    ensures feasible { IfOk result (λ best. IfSome best (IsFeasible problem.now)) }
+    ensures start { IfOk result (λ best. IfSome start
+        (λ x. IsKnownAtMost problem.now (choice_cost problem.now x) best)) }
+{
+    let Some(found) = found else {
+        return Ok(start);
+    };
+    if !found.is_for(problem) || !fits(alloc, problem, &found)? {
+        return Ok(start);
+    }
+    let Some(start) = start else {
+        return Ok(Some(found));
+    };
+    if cost_of(problem, &start) <= cost_of(problem, &found) {
+        return Ok(Some(start));
+    }
+    Ok(Some(found))
 }
 
 // A best choice, if it passes the test.

@@ -55,7 +55,8 @@ pub(crate) fn dive(
         };
         relaxation.restrict(most.unit, most.alt, most.alt);
         let enough = state.enough();
-        let ended = relaxation.solve(alloc, task.program, FIXED_PIVOTS, enough)?;
+        let work = &mut state.work;
+        let ended = relaxation.solve_by(alloc, task.program, work, FIXED_PIVOTS, enough)?;
         state.spend(task.program, ended.pivots);
         if ended.end != End::Solved {
             return Ok(());

@@ -78,7 +78,8 @@ fn solve(
     relaxation: &mut Relaxation,
     enough: f64,
 ) -> Result<End, Memory> {
-    let ended = relaxation.solve(alloc, task.program, NODE_PIVOTS, enough)?;
+    let work = &mut state.work;
+    let ended = relaxation.solve_by(alloc, task.program, work, NODE_PIVOTS, enough)?;
     state.spend(task.program, ended.pivots);
     Ok(ended.end)
 }

@@ -15,7 +15,10 @@ mod rough;
 mod searched;
 mod spans;
 mod splits;
+mod starts;
 mod states;
+mod trees;
+mod unpriced;
 
-pub use closed::Closed;
+pub use closed::{Closed, Ending};
 pub use searched::closing_search;

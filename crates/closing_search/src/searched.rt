@@ -1,37 +1,25 @@
 //! The search by free splits.
 
-ghost use Rattle.std.specs.Prelude.{◌≤◌, IfOk, IfSome};
+ghost use Rattle.std.specs.Prelude.{IfOk, IfSome};
+ghost use Rattle.choice_problem.specs.Bounds.{IsVector};
 ghost use Rattle.choice_problem.specs.Choices.{IsFeasible, choice_cost};
-ghost use Rattle.closing_search.specs.Closed.{IsClosed, IsClosedAtMost};
+ghost use Rattle.closing_search.specs.Closed.{IsEnding, EndsAtMost};
 
-use crate::accepted::{Found, accepted};
+use crate::accepted::{Found, accepted, known_best};
 use crate::barred::barred_alts;
-use crate::closed::Closed;
-use crate::dives::dive;
-use crate::entries::nodes_of;
-use crate::growing::grow;
-use crate::rough::search_choices;
-use crate::states::{NEVER, State, Task};
-use choice_problem::{Choice, Node, Problem, Vector};
+use crate::closed::Ending;
+use crate::states::{NEVER, ROOT_PIVOTS, Task};
+use crate::trees::{MOST_NODES, search_tree};
+use crate::unpriced::unpriced;
+use choice_problem::{Choice, Problem, Vector};
 use reduced_problem::Reduced;
-use relaxed_problem::{End, Program, Relaxation};
+use relaxed_problem::{Program, Relaxation};
 use slot_text::Memory;
 use std::alloc::Global;
 
-// The most pivots of the first relaxation; the most nodes of a tree, and the most steps of its relaxations where a best
-// choice seems to be known and where not; and how many trees are tried.
-const ROOT_PIVOTS: u32 = 50_000;
-
-const MOST_NODES: u32 = 4_000;
-
-const TREE_STEPS: u64 = 1_500_000_000;
-
-const SHORT_STEPS: u64 = 100_000_000;
-
-const MOST_TREES: u32 = 4;
-
-/// A best choice of the problem, or that it has none, with a tree of at most `budget` nodes that proves it; or None, of
-/// which nothing is promised: neither that a problem of some kind is closed, nor how much is tried.
+/// A best choice of the problem, or that it has none, with a tree of at most `budget` nodes that proves it; or what is known
+/// where this was not found, of which nothing is promised: neither that a problem of some kind is closed, nor how much is
+/// tried, nor how good the choice and the vector are.
 ///
 /// A start is a feasible choice: what is answered costs no more.
 ///
@@ -45,25 +33,47 @@ pub fn closing_search(
     problem: &Problem,
     start: Option<Choice>,
     budget: u32,
-) -> Result<Option<Closed>, Memory>
+) -> Result<Ending, Memory>
     requires { IfSome start (IsFeasible problem.now) }
-    ensures closed { IfOk result (λ found. IfSome found (IsClosed problem.now budget)) }
-    ensures start { IfOk result (λ found. IfSome found (λ closed. IfSome start
-        (λ x. IsClosedAtMost (choice_cost problem.now x) closed))) }
+    ensures ending { IfOk result (IsEnding problem.now budget) }
+    ensures start { IfOk result (λ ending. IfSome start
+        (λ x. EndsAtMost problem.now (choice_cost problem.now x) ending)) }
 {
-    let Some(found) = searched(alloc, problem, &start, budget)? else {
-        return Ok(None);
-    };
-    accepted(alloc, problem, &start, budget, found)
+    let found = unpriced(alloc, problem)?;
+    if let Some(closed) = accepted(alloc, problem, &start, budget, found)? {
+        return Ok(Ending::Closed(closed));
+    }
+    let Findings {
+        found,
+        best,
+        vector,
+    } = searched(alloc, problem, &start, budget)?;
+    if let Some(found) = found {
+        if let Some(closed) = accepted(alloc, problem, &start, budget, found)? {
+            return Ok(Ending::Closed(closed));
+        }
+    }
+    let best = known_best(alloc, problem, start, best)?;
+    Ok(Ending::Open { best, vector })
 }
 
-// A tree that may close the problem, with what belongs to it.
+// What a search found: a tree that may close the problem, a choice that may be good, and a vector.
+#[derive(Drop)]
+struct Findings {
+    found: Option<Found>,
+    best: Option<Choice>,
+    vector: Vector,
+}
+
+// Searches a problem.
 fn searched(
     alloc: Global,
     problem: &Problem,
     start: &Option<Choice>,
     budget: u32,
-) -> Result<Option<Found>, Memory> {
+) -> Result<Findings, Memory>
+    ensures { IfOk result (λ s. IsVector problem.now s.vector) }
+{
     let reduced = Reduced::of(alloc, problem)?;
     let barred = barred_alts(alloc, problem, &reduced)?;
     let program = Program::new(alloc, problem, &reduced, &barred)?;
@@ -75,57 +85,18 @@ fn searched(
         program: &program,
         is_rough: false,
     };
-    let mut first = State::new(alloc, &task, &root, TREE_STEPS)?;
-    match ended.end {
-        End::Solved => {
-            if let Some(start) = start {
-                let alts = Vec::from_slice(alloc, start.items())?;
-                first.take(alloc, problem, Choice::new(alts))?;
-            }
-            dive(alloc, &task, &mut first, &root)?;
-            let is_certain = search_choices(alloc, &task, &mut first, &root)?;
-            first.steps = if is_certain { TREE_STEPS } else { SHORT_STEPS };
-        }
-        End::Infeasible => {}
-        End::Above | End::Spent => return Ok(None),
-    }
-    grow_trees(alloc, &task, first, &root, budget.min(MOST_NODES))
-}
-
-// A tree, or where it does not close while a better choice is found, the next one.
-fn grow_trees(
-    alloc: Global,
-    task: &Task<'_>,
-    first: State,
-    root: &Relaxation,
-    most: u32,
-) -> Result<Option<Found>, Memory> {
-    let mut state = first;
-    for _ in 0..MOST_TREES {
-        let known = state.cost;
-        let _is_whole = grow(alloc, task, &mut state, most)?;
-        if let Some(nodes) = nodes_of(alloc, &state.entries, state.cost)? {
-            return Ok(Some(found_in(alloc, state, nodes)?));
-        }
-        if state.cost == known {
-            break;
-        }
-        state = state.again(alloc, task, root)?;
-    }
-    Ok(None)
-}
-
-// The tree that was grown, with its vectors and the best choice.
-fn found_in(alloc: Global, state: State, nodes: Vec<Node>) -> Result<Found, Memory> {
-    let State { pricings, best, .. } = state;
-    let mut vectors = Vec::with_capacity(alloc, pricings.len())?;
-    for pricing in pricings.iter().skip(1) {
-        let prices = Vec::from_slice(alloc, pricing.vector.items())?;
-        vectors.push(Vector::new(prices))?;
-    }
-    Ok(Found {
-        choice: best,
-        nodes,
-        vectors,
+    let (found, best) = search_tree(
+        alloc,
+        &task,
+        &root,
+        ended.end,
+        start,
+        budget.min(MOST_NODES),
+    )?;
+    let vector = root.vector(alloc, problem, &program)?;
+    Ok(Findings {
+        found,
+        best,
+        vector,
     })
 }

@@ -12,7 +12,7 @@ const LOOKED_AT: usize = 32;
 
 const LOOKED_ON: u32 = 12;
 
-const LOOK_PIVOTS: u32 = 15;
+const LOOK_PIVOTS: u32 = 8;
 
 // A share that counts as the whole.
 const WHOLE: f64 = 0.999999;
@@ -34,6 +34,7 @@ pub(crate) fn best_split(
     shares: &[Share],
 ) -> Result<Option<Split>, Memory> {
     let candidates = candidates(alloc, task, &open.relaxation, shares)?;
+    let mut part = open.relaxation.copy(alloc)?;
     let mut best = None;
     let mut most = -1.0;
     let mut idle: u32 = 0;
@@ -41,7 +42,7 @@ pub(crate) fn best_split(
         if idle >= LOOKED_ON {
             break;
         }
-        let gain = gain_of(alloc, task, state, open, split)?;
+        let gain = gain_of(alloc, task, state, open, split, &mut part)?;
         idle = idle.saturating_add(1);
         if gain > most {
             most = gain;
@@ -168,29 +169,32 @@ fn gain_of(
     state: &mut State,
     open: &Open,
     split: &Split,
+    part: &mut Relaxation,
 ) -> Result<f64, Memory> {
     let (low, high) = open.spans.of(split.unit);
     let below = (low, split.cut.saturating_sub(1));
     let above = (split.cut, high);
-    let one = part_gain(alloc, task, state, open, split.unit, below)?;
-    let other = part_gain(alloc, task, state, open, split.unit, above)?;
+    part.copy_from(alloc, &open.relaxation)?;
+    part.restrict(split.unit, below.0, below.1);
+    let one = part_gain(alloc, task, state, open, part)?;
+    part.copy_from(alloc, &open.relaxation)?;
+    part.restrict(split.unit, above.0, above.1);
+    let other = part_gain(alloc, task, state, open, part)?;
     Ok(at_least(one) * at_least(other))
 }
 
-// What the value gains where a unit has this range.
+// What the value gains in a part of a node.
 fn part_gain(
     alloc: Global,
     task: &Task<'_>,
     state: &mut State,
     open: &Open,
-    unit: u32,
-    span: (u32, u32),
+    part: &mut Relaxation,
 ) -> Result<f64, Memory> {
     let enough = state.enough();
     let value = open.relaxation.value();
-    let mut part = open.relaxation.copy(alloc)?;
-    part.restrict(unit, span.0, span.1);
-    let ended = part.solve(alloc, task.program, LOOK_PIVOTS, enough)?;
+    let work = &mut state.work;
+    let ended = part.solve_by(alloc, task.program, work, LOOK_PIVOTS, enough)?;
     state.spend(task.program, ended.pivots);
     let most = if enough < value + MOST_GAIN {
         enough - value

@@ -5,7 +5,7 @@ use crate::pricings::Pricing;
 use crate::spans::Spans;
 use choice_problem::{Choice, Problem, Vector, cost_of, fits};
 use reduced_problem::Reduced;
-use relaxed_problem::{Program, Relaxation};
+use relaxed_problem::{Program, Relaxation, Work};
 use slot_text::Memory;
 use std::alloc::Global;
 use std::num::nearest_i64_to_f64;
@@ -39,8 +39,8 @@ pub(crate) struct Open {
 }
 
 /// The tree so far, its open nodes, those to be searched first last; the vectors that close leaves, the one without prices
-/// first; the best choice, and by how much a cheaper one costs less at least; and how many steps of relaxations may still be
-/// made.
+/// first; the best choice, and by how much a cheaper one costs less at least; how many steps of relaxations may still be made; and
+/// the numbers of these steps.
 #[derive(Drop)]
 pub(crate) struct State {
     pub(crate) entries: Vec<Entry>,
@@ -50,6 +50,7 @@ pub(crate) struct State {
     pub(crate) cost: Option<u64>,
     pub(crate) least: f64,
     pub(crate) steps: u64,
+    pub(crate) work: Work,
 }
 
 impl State {
@@ -68,6 +69,7 @@ impl State {
             cost: None,
             least: 1.0,
             steps,
+            work: Work::new(alloc, task.program)?,
         };
         let none = Vector::new(Vec::new(alloc));
         state
@@ -84,21 +86,15 @@ impl State {
     }
 
     // One open node again, with the best choice and the steps that are left.
-    pub(crate) fn again(
-        self,
+    pub(crate) fn with_best(
+        &self,
         alloc: Global,
         task: &Task<'_>,
         root: &Relaxation,
     ) -> Result<State, Memory> {
-        let State {
-            best,
-            cost,
-            steps,
-            ..
-        } = self;
-        let mut state = State::new(alloc, task, root, steps)?;
-        state.best = best;
-        state.cost = cost;
+        let mut state = State::new(alloc, task, root, self.steps)?;
+        state.best = copy_if_any(alloc, &self.best)?;
+        state.cost = self.cost;
         Ok(state)
     }
 
@@ -202,6 +198,25 @@ impl State {
 
 /// A value that no relaxation has.
 pub(crate) const NEVER: f64 = 1000000000000000000000000000000.0;
+
+/// The most pivots of a first relaxation.
+pub(crate) const ROOT_PIVOTS: u32 = 50_000;
+
+/// A copy of a choice.
+pub(crate) fn copy_of(alloc: Global, choice: &Choice) -> Result<Choice, Memory> {
+    Ok(Choice::new(Vec::from_slice(alloc, choice.items())?))
+}
+
+/// A copy of a choice, if there is one.
+pub(crate) fn copy_if_any(
+    alloc: Global,
+    choice: &Option<Choice>,
+) -> Result<Option<Choice>, Memory> {
+    match choice {
+        Some(choice) => Ok(Some(copy_of(alloc, choice)?)),
+        None => Ok(None),
+    }
+}
 
 // A cost as a float.
 fn number_of(cost: u64) -> f64 {

@@ -27,7 +27,7 @@ pub(crate) fn strip_sums(
 // How many runs of a strip differ, and how often each uses its resources.
 pub(crate) fn differing_runs(strip: &Strip) -> (u32, u32) {
     if strip.gap == 0 {
-        (1, strip.times)
+        (strip.times.min(1), strip.times)
     } else {
         (strip.times, 1)
     }

@@ -37,11 +37,11 @@ impl Entering {
         }
     }
 
-    // Whether something that comes to its bound at this length may enter.
-    fn wants(&self, length: f64) -> bool {
+    // Whether an alternative of this reduced cost, which falls by so much, may enter.
+    fn wants(&self, cost: f64, fall: f64) -> bool {
         match self.entry {
             Entry::Nothing => true,
-            _ => length <= self.length + NOTHING,
+            _ => cost <= (self.length + NOTHING) * fall,
         }
     }
 
@@ -113,9 +113,8 @@ impl Relaxation {
         entering: &mut Entering,
     ) {
         let cost = above_zero(value_at(&self.reduced, at as usize));
-        let length = cost / -step;
-        if entering.wants(length) && !self.is_out(&program.column(at), at) {
-            entering.offer(Entry::Alternative(at), length, step);
+        if entering.wants(cost, -step) && !self.is_out(&program.column(at), at) {
+            entering.offer(Entry::Alternative(at), cost / -step, step);
         }
     }
 

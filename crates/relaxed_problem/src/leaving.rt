@@ -57,9 +57,9 @@ impl Leaving {
     }
 }
 
-// Numbers that one step computes and the next one overwrites.
+/// Numbers that one step of a relaxation of a program computes and the next one overwrites.
 #[derive(Drop)]
-pub(crate) struct Work {
+pub struct Work {
     // A number for each part: uses of a class, or a price. All are 0 between two uses.
     pub(crate) parts: Vec<f64>,
     // Whether a unit has a part with such a number.
@@ -75,8 +75,8 @@ pub(crate) struct Work {
 }
 
 impl Work {
-    // Zeros for a program.
-    pub(crate) fn new(alloc: Global, program: &Program<'_>) -> Result<Work, Memory> {
+    /// Numbers for a program.
+    pub fn new(alloc: Global, program: &Program<'_>) -> Result<Work, Memory> {
         let units = program.units() as usize;
         Ok(Work {
             parts: vec![in alloc; 0.0; program.parts()]?,

@@ -16,6 +16,7 @@ mod slots;
 mod steps;
 mod vectors;
 
+pub use leaving::Work;
 pub use programs::{Column, NO_PART, Program};
 pub use relaxations::{Relaxation, Share};
 pub use steps::{End, Ended};

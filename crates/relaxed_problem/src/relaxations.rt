@@ -113,6 +113,24 @@ impl Relaxation {
         })
     }
 
+    /// Becomes a copy of another one.
+    pub fn copy_from(&mut self, alloc: Global, other: &Relaxation) -> Result<(), Memory> {
+        refill(&mut self.spans, &other.spans)?;
+        refill(&mut self.keys, &other.keys)?;
+        refill(&mut self.basics, &other.basics)?;
+        refill(&mut self.priced, &other.priced)?;
+        refill(&mut self.places, &other.places)?;
+        self.inverse = other.inverse.copy(alloc)?;
+        refill(&mut self.reduced, &other.reduced)?;
+        refill(&mut self.is_basic, &other.is_basic)?;
+        refill(&mut self.prices, &other.prices)?;
+        refill(&mut self.loads, &other.loads)?;
+        refill(&mut self.values, &other.values)?;
+        refill(&mut self.ray, &other.ray)?;
+        self.value = other.value;
+        Ok(())
+    }
+
     /// Lets a unit take only alternatives from a lowest to a highest one, by their numbers in the unit.
     pub fn restrict(&mut self, unit: u32, low: u32, high: u32) {
         if let Some(span) = self.spans.get_mut(unit as usize) {
@@ -283,6 +301,13 @@ impl Relaxation {
             || self.key_place(column.unit) == place
             || !self.is_allowed(column)
     }
+}
+
+// Puts other entries in the place of those of a list.
+fn refill<T: Copy + Drop>(list: &mut Vec<T>, entries: &[T]) -> Result<(), Memory> {
+    list.clear();
+    list.extend_from_slice(entries)?;
+    Ok(())
 }
 
 // The place of the first cheapest alternative with changed costs, and that cost.

@@ -48,8 +48,23 @@ impl Relaxation {
         ensures { IfOk result (λ ended. ended.pivots ≤ most_pivots) }
     {
         let mut work = Work::new(alloc, program)?;
+        let ended = self.solve_by(alloc, program, &mut work, most_pivots, stop_above)?;
+        Ok(ended)
+    }
+
+    /// The same by numbers of the program that are already there.
+    pub fn solve_by(
+        &mut self,
+        alloc: Global,
+        program: &Program<'_>,
+        work: &mut Work,
+        most_pivots: u32,
+        stop_above: f64,
+    ) -> Result<Ended, Memory>
+        ensures { IfOk result (λ ended. ended.pivots ≤ most_pivots) }
+    {
         for pivots in 0..most_pivots {
-            if let Some(end) = self.advance(alloc, program, &mut work, stop_above)? {
+            if let Some(end) = self.advance(alloc, program, work, stop_above)? {
                 return Ok(Ended { end, pivots });
             }
         }

@@ -1,6 +1,6 @@
 -- Uses of parts on counts, and what fits on them.
 use Rattle.std.proofs.Common.{◌≡◌, ◌↔◌, ℕ, ◌+◌, ◌<◌, ◌≤◌, refl, arith, inl, inr, List, [], ◌∷◌, length, pos, map, false}
-use Rattle.std.specs.Prelude.{slice_index, nat_le, nat_lt, ◌&&◌, ℤ, ◌≤ℤ◌}
+use Rattle.std.specs.Prelude.{slice_index, nat_le, nat_lt, ◌&&◌, ℤ, ◌≤ℤ◌, Some, None}
 use Rattle.std.proofs.lemmas.Bool.{cases_lt}
 use Rattle.std.proofs.lemmas.Grind.{common_steps, same_number_lists}
 use Rattle.std.proofs.lemmas.Int.{ints}
@@ -13,9 +13,9 @@ use Rattle.choice_problem.specs.Problems.{ProblemView, resource_count, chooser_a
 use Rattle.choice_problem.specs.Counts.{GrowsBy}
 use Rattle.choice_problem.specs.Greedy.{FitsOn}
 use Rattle.finite_sums.proofs.SumLemmas.{count_below-none}
-use Rattle.window_counts.specs.Counts.{FitsWith}
+use Rattle.window_counts.specs.Counts.{both_uses, FitsWith, KeepsLimit}
 use Rattle.choice_problem.specs.Counts.{limit_at}
-use Rattle.window_counts.specs.Placed.{KeepsLimits, FitsBeside}
+use Rattle.window_counts.specs.Placed.{KeepsLimits, FitsBeside, FitsOnce}
 
 -- strips use nothing beyond the resources that they stay within
 strip_uses-outside : (n : ℕ) (s : Strip) (r : ℕ) → IsStripInRange n s → n ≤ r → strip_uses s r ≡ 0
@@ -44,16 +44,26 @@ number_le a b z e h = omega (arith, ints)
 int_le : (a b : ℕ) (z : ℤ) → z ≡ pos b → a ≤ b → pos a ≤ℤ z
 int_le a b z e h = omega (arith, ints)
 
--- the part fits where its uses do
-pub FitsWith-FitsBeside : (p : ProblemView) (counts : List ℕ) (strips : List Strip) → IsPartInRange (resource_count p) strips →
-    FitsWith counts (λ r. part_uses strips r) (map pos p.limits) ↔ FitsBeside p counts (λ r. part_uses strips r)
-FitsWith-FitsBeside p counts strips i = (
-  λ h r l u. number_le (slice_index counts r + part_uses strips r) (limit_of p r) (limit_at (map pos p.limits) r) (limit_at-map p.limits r l) (h r u),
+-- what keeps the limits as whole numbers keeps them as numbers, at the resources that the part uses
+pub kept_at : (p : ProblemView) (counts : List ℕ) (strips : List Strip) (more : ℕ → ℕ) → IsPartInRange (resource_count p) strips →
+    ((r : ℕ) → 0 < part_uses strips r → KeepsLimit counts more (map pos p.limits) r) ↔
+    ((r : ℕ) → r < resource_count p → 0 < part_uses strips r → slice_index counts r + more r ≤ limit_of p r)
+kept_at p counts strips more i = (
+  λ h r l u. number_le (slice_index counts r + more r) (limit_of p r) (limit_at (map pos p.limits) r) (limit_at-map p.limits r l) (h r u),
   λ h r u. elim (cases_lt r (resource_count p)) [
-    | inl l ↦ int_le (slice_index counts r + part_uses strips r) (limit_of p r) (limit_at (map pos p.limits) r) (limit_at-map p.limits r l) (h r l u)
+    | inl l ↦ int_le (slice_index counts r + more r) (limit_of p r) (limit_at (map pos p.limits) r) (limit_at-map p.limits r l) (h r l u)
     | inr m ↦ absurd (omega (arith, u, part_uses-outside (resource_count p) strips r i m))
   ],
 )
+
+-- the part fits alone where its uses do
+pub fits_alone : (p : ProblemView) (counts : List ℕ) (strips : List Strip) → IsPartInRange (resource_count p) strips →
+    FitsWith counts (λ r. both_uses (Some strips) None r) (map pos p.limits) ↔ FitsBeside p counts (λ r. part_uses strips r)
+fits_alone p counts strips i =
+    let both = kept_at p counts strips (λ r. both_uses (Some strips) None r) i in (
+      λ h r l u. omega (arith, both.0 (λ q v. h q (omega (arith, v))) r l u),
+      λ h r u. both.1 (λ q l v. omega (arith, h q l v)) r (omega (arith, u)),
+    )
 
 -- the uses of an alternative are those of the parts that it may name
 module _ (p : ProblemView) (u a : ℕ) where
@@ -63,7 +73,10 @@ module _ (p : ProblemView) (u a : ℕ) where
   abbrev pub two_uses : ℕ → ℕ
   two_uses r = named_uses (chooser_at p u) (alt_at (chooser_at p u) a).two r
 
-  -- an alternative that fits on the counts fits part by part
+  -- an alternative that fits on the counts fits part by part, and has room for its second part alone
+  pub FitsOn-room : (counts : List ℕ) → FitsOn p (λ r. slice_index counts r) u a → FitsOnce p counts two_uses
+  FitsOn-room counts h = λ r l u'. omega (arith, h r l, u')
+
   pub FitsOn-one : (counts : List ℕ) → FitsOn p (λ r. slice_index counts r) u a → FitsBeside p counts one_uses
   FitsOn-one counts h = λ r l u'. omega (arith, h r l)
 

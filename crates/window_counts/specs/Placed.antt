@@ -12,6 +12,10 @@ pub record KeepsLimits (p : ProblemView) (counts : List ℕ) : Type 0 where
 abbrev pub FitsBeside : ProblemView → List ℕ → (ℕ → ℕ) → Type 0
 FitsBeside p counts uses = (r : ℕ) → r < resource_count p → 0 < uses r → slice_index counts r + uses r ≤ limit_of p r
 
+-- each resource that is used further has room for one more use
+abbrev pub FitsOnce : ProblemView → List ℕ → (ℕ → ℕ) → Type 0
+FitsOnce p counts uses = (r : ℕ) → r < resource_count p → 0 < uses r → slice_index counts r + 1 ≤ limit_of p r
+
 -- all counts are 0
 abbrev pub AreZero : List ℕ → Type 0
 AreZero counts = (r : ℕ) → r < length counts → slice_index counts r ≡ 0

@@ -35,7 +35,7 @@ impl Counts {
     ghost use Rattle.choice_problem.specs.declared.strips.Strip.{Strip};
     ghost use Rattle.choice_problem.specs.Strips.{part_uses, IsPartInRange};
     ghost use Rattle.choice_problem.specs.Counts.{GrowsBy, HasRoom, HasUses, IsFirstAbove, limit_at};
-    ghost use Rattle.window_counts.specs.Counts.{listed_uses, both_uses, AreCountsOf, AreWithin, FitsWith};
+    ghost use Rattle.window_counts.specs.Counts.{listed_uses, both_uses, AreCountsOf, AreWithin, FitsWith, KeepsLimit};
     ghost use Rattle.std.specs.Option.{ForSome};
 
     /// The counts of these parts: one step a resource and a use. The resources are numbered from 0; the parts stay within
@@ -107,17 +107,16 @@ impl Counts {
         add_both(&mut self.counts, one, two, limits)
     }
 
-    /// Whether the part fits beside what is counted: whether at each resource that it uses, the count and the part's uses
-    /// are together at most the limit. Resources that it does not use are not asked. The part uses each fewer than 2^32
-    /// times: who made the part knows it, and a part that an alternative of a unit names uses each at most 434 times. One
-    /// step for each use and each of the part's strips, and none after the first resource at which it does not fit.
-    pub fn fits(&self, part: &Part, limits: &[i64]) -> bool
+    /// Whether there is room for one more use of each resource that the part uses: whether its count is below its limit.
+    /// One step for each use and each of the part's strips, and none after the first resource that has no room.
+    pub fn has_room(&self, part: &Part, limits: &[i64]) -> bool
         requires there { IsPartInRange (length self.now) part.now }
-        requires few { (r : ℕ) → r < length self.now → part_uses part.now r < 2 ^ 32 }
         requires limits { length limits.now ≡ length self.now }
-        ensures { IsTrue result ↔ FitsWith self.now (λ r. part_uses part.now r) limits.now }
+        ensures { IsTrue result
+            ↔ ((r : ℕ) → 0 < part_uses part.now r →
+            KeepsLimit self.now (λ _. 1) limits.now r) }
     {
-        part_fits(&self.counts, part, Some(part), limits)
+        part_fits(&self.counts, part, 1, limits)
     }
 
     /// How often a resource is used.

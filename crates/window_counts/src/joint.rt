@@ -85,7 +85,7 @@ fn is_some_within(counts: &[u32], part: Option<&Part>, limits: &[i64]) -> bool
         pos (slice_index counts.now r) ≤ℤ limit_at limits.now r) }
 {
     match part {
-        Some(part) => part_fits(counts, part, None, limits),
+        Some(part) => part_fits(counts, part, 0, limits),
         None => true,
     }
 }

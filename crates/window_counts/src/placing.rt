@@ -16,13 +16,14 @@ ghost use Rattle.choice_problem.specs.Problems.{
 ghost use Rattle.choice_problem.specs.Choices.{IsChoice, choice_cost};
 ghost use Rattle.choice_problem.specs.Counts.{GrowsBy, HasRoom, HasUses};
 ghost use Rattle.choice_problem.specs.Greedy.{FitsOn};
-ghost use Rattle.window_counts.specs.Placed.{KeepsLimits, FitsBeside, AreZero, AreLoads};
+ghost use Rattle.window_counts.specs.Placed.{KeepsLimits, FitsBeside, FitsOnce, AreZero, AreLoads};
 
 use crate::counts::Counts;
 use choice_problem::Problem;
 
 /// Counts the uses of a unit's alternative where it fits on the counts, and says whether it does. Else the counts stay. No
-/// count is above its limit before. One step a use and strip of its two parts, and twice that where one part fits alone.
+/// count is above its limit before. At most eight steps a use of its two parts; where one of them uses a resource that has
+/// no room, one step a use up to the first such resource.
 pub fn place_alt(problem: &Problem, unit: u32, alt: u32, counts: &mut Counts) -> bool
     requires unit { unit < unit_count problem.now }
     requires alt { alt < alt_count problem.now unit }
@@ -36,6 +37,9 @@ pub fn place_alt(problem: &Problem, unit: u32, alt: u32, counts: &mut Counts) ->
     ensures left { result ≡ false → counts.new ≡ counts.old }
 {
     let chosen = problem.unit_alts(unit)[alt as usize];
+    if !has_room(problem, unit, chosen.two, counts) {
+        return false;
+    }
     if !place_part(problem, unit, chosen.one, counts) {
         return false;
     }
@@ -44,6 +48,20 @@ pub fn place_alt(problem: &Problem, unit: u32, alt: u32, counts: &mut Counts) ->
     }
     take_named(problem, unit, chosen.one, counts);
     false
+}
+
+// Whether each resource that the part uses, if there is one, has room for one more use.
+fn has_room(problem: &Problem, unit: u32, part: Option<u32>, counts: &Counts) -> bool
+    requires unit { unit < unit_count problem.now }
+    requires part { ForSome part (λ k. k < part_count problem.now unit) }
+    requires counts { length counts.now ≡ resource_count problem.now }
+    ensures { IsTrue result ↔ FitsOnce problem.now counts.now
+        (λ r. named_uses (chooser_at problem.now unit) part r) }
+{
+    match part {
+        Some(n) => counts.has_room(problem.part(unit, n), problem.limits()),
+        None => true,
+    }
 }
 
 // Counts the uses of the part that an alternative may name, where it fits. Else the counts stay.
@@ -59,15 +77,13 @@ fn place_part(problem: &Problem, unit: u32, part: Option<u32>, counts: &mut Coun
         → GrowsBy counts.old counts.new (λ r. named_uses (chooser_at problem.now unit) part r) }
     ensures left { result ≡ false → counts.new ≡ counts.old }
 {
-    let Some(n) = part else {
-        return true;
-    };
-    let part = problem.part(unit, n);
-    let fits = counts.fits(part, problem.limits());
-    if fits {
-        counts.add(part);
+    if !has_room(problem, unit, part, counts) {
+        return false;
     }
-    fits
+    match part {
+        Some(n) => counts.add_if_fits(Some(problem.part(unit, n)), None, problem.limits()),
+        None => true,
+    }
 }
 
 // Counts the uses of the part that an alternative may name.

@@ -1,6 +1,11 @@
 use Rattle.std.proofs.Common.{◌≡◌, ◌∙◌, refl}
-use Rattle.window_counts.proofs.PlaceLemmas.{FitsOn-one, FitsOn-two, FitsOn-both, counts-back, one_uses}
+use Rattle.window_counts.proofs.PlaceLemmas.{FitsOn-room, FitsOn-one, FitsOn-two, FitsOn-both, counts-back, one_uses}
 use Rattle.window_counts.proofs.placing.place_alt.Goals as goal
+
+pub returns-then-not-has_room-clause-fits : goal.returns-then-not-has_room-clause-fits
+returns-then-not-has_room-clause-fits c =
+    let room = rw c.unit_alts.ensures.value at c.if-not-has_room.ensures in
+    (λ t. absurd (cc t), λ h. room.1 (FitsOn-room c.args.problem.now c.args.unit c.args.alt c.args.counts.now h))
 
 pub returns-then-not-place_part-clause-fits : goal.returns-then-not-place_part-clause-fits
 returns-then-not-place_part-clause-fits c =

@@ -1,2 +1,0 @@
-mod AllotmentLemmas
-mod RankingLemmas

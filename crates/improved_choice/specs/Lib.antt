@@ -1,4 +1,0 @@
-pub mod Improved
-pub mod Allotments
-pub mod Rankings
-pub mod Held
