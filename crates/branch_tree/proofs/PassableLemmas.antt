@@ -1,11 +1,11 @@
 -- The first of all resources above its limit is the first of those that can be passed.
-use Rattle.std.proofs.Common.{◌≡◌, ℕ, zero, suc, ◌+◌, ◌<◌, ◌≤◌, sym, ◌∙◌, ap, arith, inl, inr, ◌⊎◌, List, length}
+use Rattle.std.proofs.Common.{◌≡◌, ℕ, zero, suc, ◌<◌, ◌≤◌, sym, ◌∙◌, ap, arith, inl, inr, ◌⊎◌, List, length}
 use Rattle.std.specs.Prelude.{slice_index}
 use Rattle.std.proofs.lemmas.Bool.{cases_lt, cases_eq}
 use Rattle.finite_sums.proofs.SumLemmas.{sum_below-le, least_within-le}
 use Rattle.choice_problem.specs.Problems.{ProblemView, unit_count, resource_count, alt_uses, limit_of}
-use Rattle.choice_problem.specs.Choices.{IsChoice, load_of, Fits, IsFirstPassed}
-use Rattle.choice_problem.specs.Bounds.{AreRanges, IsOver, low_of, high_of, least_load}
+use Rattle.choice_problem.specs.Choices.{IsChoice, Fits, IsFirstPassed}
+use Rattle.choice_problem.specs.Bounds.{AreRanges, IsOver, low_of, high_of}
 use Rattle.choice_problem.specs.Splits.{IsFirstOver, least_uses}
 use Rattle.dual_bound.specs.Kept.{ListPassable}
 use Rattle.branch_tree.specs.Walks.{AreLeast, IsFirstListed, AreWithinListed}

@@ -1,21 +1,19 @@
 -- What a walk keeps, and how it changes with one unit's range.
-use Rattle.std.proofs.Common.{◌≡◌, ℕ, ◌+◌, ◌*◌, ◌<◌, ◌≤◌, sym, ◌∙◌, ap, subst, arith, inl, inr, ◌⊎◌, List, [], ◌++◌, length, take, drop, Option, Some, None, map, pos, set}
+use Rattle.std.proofs.Common.{◌≡◌, ℕ, ◌+◌, ◌*◌, ◌<◌, ◌≤◌, sym, ◌∙◌, ap, subst, arith, inl, inr, ◌⊎◌, List, [], ◌++◌, length, take, drop, Some, None, set}
 use Rattle.std.proofs.Math.Seq.{take-append_seam}
-use Rattle.std.specs.Prelude.{slice_index, slice_index_or, slice_set, ℤ, ◌≤ℤ◌, ◌<ℤ◌, IfSome, IfNone}
+use Rattle.std.specs.Prelude.{slice_index, slice_index_or, slice_set}
 use Rattle.std.proofs.lemmas.Bool.{cases_lt}
 use Rattle.std.proofs.lemmas.Int.{ints}
-use Rattle.std.proofs.lemmas.List.{get_or-map, get_or-set_same, get_or-set_other, length-set}
+use Rattle.std.proofs.lemmas.List.{get_or-set_same, get_or-set_other, length-set}
 use Rattle.finite_sums.specs.Sums.{least_within, IsFirstLeast}
-use Rattle.choice_problem.specs.Problems.{ProblemView, IsChooser, unit_count, alt_count, resource_count, chooser_at, alt_cost, alt_uses, limit_of}
-use Rattle.choice_problem.specs.Choices.{IsChoice, choice_cost, load_of, Fits, IsFirstPassed}
+use Rattle.choice_problem.specs.Problems.{ProblemView, IsChooser, unit_count, alt_count, resource_count, chooser_at, alt_cost, alt_uses}
+use Rattle.choice_problem.specs.Choices.{IsChoice, choice_cost, load_of}
 use Rattle.choice_problem.specs.Bounds.{AreRanges, Closes, low_of, high_of, least_load, least_total, priced_cost}
 use Rattle.choice_problem.specs.Splits.{IsCheapest, IsFirstCheapest, least_uses}
 use Rattle.finite_sums.proofs.SumLemmas.{sum_below-same, least_within-le, least_within-ge}
 use Rattle.finite_sums.proofs.ChangeLemmas.{sum_below-change, sum_below-const, term-le}
-use Rattle.choice_problem.specs.Counts.{IsFirstAbove, limit_at}
 use Rattle.branch_tree.specs.Lists.{times_in}
 use Rattle.branch_tree.specs.Walks.{IsKept}
-use Rattle.window_counts.specs.Placed.{AreLoads}
 
 -- the first cheapest alternatives cost what is least in range
 least-cheapest : (p : ProblemView) (ranges : List (ℕ × ℕ)) (u a : ℕ) → low_of ranges u ≤ high_of ranges u → IsFirstCheapest p ranges u a →
