@@ -1,2 +1,5 @@
 mod StepLemmas
 mod FloorLemmas
+mod RankLemmas
+mod KeptLemmas
+mod CountLemmas

@@ -6,8 +6,10 @@
 //! bounds of some vectors say.
 #![tactic(auto)]
 
+mod counts;
 mod floors;
 mod further;
+mod kept;
 mod momentum;
 mod points;
 mod roots;

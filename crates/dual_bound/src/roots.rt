@@ -4,8 +4,11 @@ ghost use Rattle.std.specs.Prelude.{◌≡◌, ◌/◌, ◌^◌, ◌<◌, IfOk};
 ghost use Rattle.choice_problem.specs.declared.vectors.TheConstants.{ROOT_STEPS};
 ghost use Rattle.choice_problem.specs.Bounds.{AreRanges, IsVector};
 ghost use Rattle.choice_problem.specs.Roots.{IsNodeVector, IsRootVector, step_length};
+ghost use Rattle.dual_bound.specs.Loops.{IsGreatestUpTo};
+ghost use Rattle.dual_bound.specs.Kept.{KeepPassed};
 
-use crate::points::{better, evaluate, first_best, move_prices, start, vector_in};
+use crate::kept::{kept_problem, kept_ranks, spread_prices};
+use crate::points::{Best, better, evaluate, first_best, move_prices, start, vector_in};
 use choice_problem::{PRICED_SCALE, Problem, ROOT_STEPS, Ranges, Vector, price_vectors};
 use slot_text::Memory;
 use std::alloc::Global;
@@ -21,12 +24,64 @@ pub fn root_vector(alloc: Global, problem: &Problem) -> Result<Vector, Memory>
 
 /// Of the vectors after 0 to 64 subgradient steps on the ranges, the first with the greatest bound there at scale 1024. A
 /// step raises or lowers each resource's price by its length for each use above or below the limit, never under 0; the
-/// lengths halve from 16384 with every eight steps. All prices stay below 2^40. Its time is that of 65 price tables and
-/// bounds, and its memory some 60 bytes a resource.
+/// lengths halve from 16384 with every eight steps. All prices stay below 2^40.
+///
+/// Where at most a quarter of the resources can be passed, the steps run on these alone: a step then costs some steps a run
+/// of the strips that uses one of them. Else it costs a price table and a bound of the problem, and the memory is some 60
+/// bytes a resource.
 pub fn node_vector(alloc: Global, problem: &Problem, ranges: &Ranges) -> Result<Vector, Memory>
     requires { AreRanges problem.now ranges.now }
     ensures node { IfOk result (λ vector. IsNodeVector problem.now ranges.now vector) }
     ensures prices { IfOk result (λ vector. IsVector problem.now vector) }
+{
+    let ranks = kept_ranks(alloc, problem)?;
+    let best = best_by_ranks(alloc, problem, ranges, &ranks)?;
+    vector_in(alloc, problem, &best.prices)
+}
+
+// The best prices of the run: by the kept resources alone, where they are at most a quarter of all.
+fn best_by_ranks(
+    alloc: Global,
+    problem: &Problem,
+    ranges: &Ranges,
+    ranks: &[u32],
+) -> Result<Best, Memory>
+    requires ranges { AreRanges problem.now ranges.now }
+    requires kept { KeepPassed problem.now ranks.now }
+    ensures { IfOk result (λ best. IsGreatestUpTo problem.now ranges.now ROOT_STEPS
+        best.prices.items best.bound) }
+{
+    let resources = problem.resources();
+    if ranks[resources as usize] > resources / 4 {
+        best_prices(alloc, problem, ranges)
+    } else {
+        best_on_kept(alloc, problem, ranges, ranks)
+    }
+}
+
+// The best prices of the run on all resources, by the run on the kept ones.
+fn best_on_kept(
+    alloc: Global,
+    problem: &Problem,
+    ranges: &Ranges,
+    ranks: &[u32],
+) -> Result<Best, Memory>
+    requires ranges { AreRanges problem.now ranges.now }
+    requires kept { KeepPassed problem.now ranks.now }
+    ensures { IfOk result (λ best. IsGreatestUpTo problem.now ranges.now ROOT_STEPS
+        best.prices.items best.bound) }
+{
+    let kept = kept_problem(alloc, problem, ranks)?;
+    let mut best = best_prices(alloc, &kept, ranges)?;
+    best.prices = spread_prices(alloc, problem, ranks, &best.prices)?;
+    Ok(best)
+}
+
+// Of the prices after 0 to 64 steps, the first with the greatest bound.
+fn best_prices(alloc: Global, problem: &Problem, ranges: &Ranges) -> Result<Best, Memory>
+    requires { AreRanges problem.now ranges.now }
+    ensures { IfOk result (λ best. IsGreatestUpTo problem.now ranges.now ROOT_STEPS
+        best.prices.items best.bound) }
 {
     price_vectors();
     let mut here = start(alloc, problem, ranges, PRICED_SCALE)?;
@@ -37,7 +92,7 @@ pub fn node_vector(alloc: Global, problem: &Problem, ranges: &Ranges) -> Result<
         here = evaluate(alloc, problem, ranges, prices, PRICED_SCALE)?;
         best = better(alloc, best, &here)?;
     }
-    vector_in(alloc, problem, &best.prices)
+    Ok(best)
 }
 
 // How far a step moves a price for each use above or below the limit.

@@ -1,51 +1,18 @@
-use Rattle.std.proofs.Common.{◌≡◌, ◌+◌, ◌∙◌, sym, ap, subst, arith, List}
+use Rattle.std.proofs.Common.{◌≡◌, ◌∙◌, sym, ap, subst, List}
 use Rattle.std.proofs.lemmas.Result.{IfOk-weaker}
 use Rattle.choice_problem.specs.declared.vectors.Price.{Price}
-use Rattle.choice_problem.specs.Roots.{step_length, IsNodeVector}
-use Rattle.dual_bound.specs.Loops.{IsAfter, IsGreatestUpTo, AreMoved, vector_in}
-use Rattle.dual_bound.proofs.StepLemmas.{moved_is, IsGreatestUpTo-start, IsGreatestUpTo-node}
+use Rattle.choice_problem.specs.Roots.{IsNodeVector}
+use Rattle.dual_bound.specs.Loops.{vector_in}
+use Rattle.dual_bound.proofs.StepLemmas.{IsGreatestUpTo-node}
 use Rattle.dual_bound.proofs.roots.node_vector.Goals as goal
-
-pub loop-step-init : goal.loop-step-init
-loop-step-init c =
-    let p = c.args.problem.now in
-    let ranges = c.args.ranges.now in
-    let here = c.in_ok-here.here in
-    let after : IsAfter p ranges 0 here.prices.items = record {
-      prices_are = λ r l. c.in_ok-here.ensures.free r l;
-      top = λ r l. omega (arith, c.in_ok-here.ensures.free r l);
-    } in
-    record {
-      here = c.in_ok-here.ensures.point;
-      after = after;
-      best = rw (c.in_ok-best.ensures.0, c.in_ok-best.ensures.1) (IsGreatestUpTo-start p ranges here.prices.items here.loads.items here.bound c.in_ok-here.ensures.point after);
-    }
-
-pub loop-step-preserved : goal.loop-step-preserved
-loop-step-preserved c =
-    let p = c.args.problem.now in
-    let ranges = c.args.ranges.now in
-    let step = c.loop-step.step in
-    let before = c.loop-step.here in
-    let moved : AreMoved p before.prices.items before.loads.items (step_length step) c.in_ok-prices.prices.items =
-    rw (c.deref.ensures.value, c.deref-in-loop-step.ensures.value, c.step_length-length.ensures) at c.in_ok-prices.ensures.moved in
-    let after : IsAfter p ranges (step + 1) c.in_ok-here-2.here.prices.items =
-    rw c.in_ok-here-2.ensures.same (moved_is p ranges step before.prices.items before.loads.items c.in_ok-prices.prices.items before.bound c.loop-step-test.true (c.price_vectors.ensures.steps (step + 1) (omega (arith, c.loop-step-test.true))) c.loop-step.invariant.here moved c.loop-step.invariant.after) in
-    record {
-      here = c.in_ok-here-2.ensures.point;
-      after = after;
-      best = c.in_ok-best-2.ensures.greatest p ranges step c.in_ok-here-2.ensures.point after c.loop-step.invariant.best;
-    }
 
 pub returns-clause-node : goal.returns-clause-node
 returns-clause-node c =
     let p = c.args.problem.now in
     let ranges = c.args.ranges.now in
-    let best = c.loop-step.best in
-    let all : c.loop-step.step ≡ 64 = omega (arith, c.loop-step-test.false, c.loop-step.auto.step-end) in
-    let greatest : IsGreatestUpTo p ranges 64 best.prices.items best.bound = rw all at c.loop-step.invariant.best in
+    let best = c.in_ok-best.best in
     let Node : List Price → Type 0 = λ v. IsNodeVector p ranges v in
-    let node : IsNodeVector p ranges (vector_in p best.prices.items) = IsGreatestUpTo-node p ranges best.prices.items best.bound greatest in
+    let node : IsNodeVector p ranges (vector_in p best.prices.items) = IsGreatestUpTo-node p ranges best.prices.items best.bound c.in_ok-best.ensures in
     IfOk-weaker c.vector_in.result (λ v. v ≡ vector_in p c.deref-2.result.now) Node
     (λ v e. subst Node (sym (e ∙ ap (λ items. vector_in p items) c.deref-2.ensures.value)) node)
     c.vector_in.ensures.value
