@@ -4,3 +4,4 @@ mod ListLemmas
 mod WalkLemmas
 mod RowLemmas
 mod VisitLemmas
+mod PassableLemmas

@@ -43,43 +43,6 @@ closes-zero p ranges x seen r h c = omega (arith, ints, least_total-cheapest p r
 pub closes-none : (p : ProblemView) (ranges : List (ℕ × ℕ)) → Closes p ranges [] 1 None → ⊥
 closes-none p ranges c = let h : 1 ≡ 0 = c.0 in omega (arith, h)
 
--- counts above limits, as numbers
-limit_at-map : (limits : List ℕ) (r : ℕ) → r < length limits → limit_at (map pos limits) r ≡ pos (slice_index limits r)
-limit_at-map limits r l = get_or-map pos limits r 0 (pos 0) l
-
-number_less : (a b : ℕ) (z : ℤ) → z ≡ pos b → z <ℤ pos a → b < a
-number_less a b z e h = omega (arith, ints)
-
-number_le : (a b : ℕ) (z : ℤ) → z ≡ pos b → pos a ≤ℤ z → a ≤ b
-number_le a b z e h = omega (arith, ints)
-
-pub passed-first : (p : ProblemView) (x loads : List ℕ) (r : ℕ) → length loads ≡ resource_count p → AreLoads p x loads →
-    IsFirstAbove loads (map pos p.limits) r → IsFirstPassed p x r
-passed-first p x loads r e h f =
-    let there : r < resource_count p = omega (arith, f.there) in
-    record {
-      there = there;
-      passed = omega (arith, h r there, number_less (slice_index loads r) (limit_of p r) (limit_at (map pos p.limits) r) (limit_at-map p.limits r there) f.above);
-      first = λ q l.
-          let within : q < resource_count p = omega arith in
-          omega (arith, h q within, number_le (slice_index loads q) (limit_of p q) (limit_at (map pos p.limits) q) (limit_at-map p.limits q within) (f.first q l));
-    }
-
-pub passed-none : (p : ProblemView) (x loads : List ℕ) → length loads ≡ resource_count p → AreLoads p x loads →
-    ((r : ℕ) → r < length loads → pos (slice_index loads r) ≤ℤ limit_at (map pos p.limits) r) → Fits p x
-passed-none p x loads e h f = λ r l.
-    omega (arith, h r l, number_le (slice_index loads r) (limit_of p r) (limit_at (map pos p.limits) r) (limit_at-map p.limits r l) (f r (omega arith)))
-
-pub passed-some : (p : ProblemView) (x loads : List ℕ) (found : Option ℕ) → length loads ≡ resource_count p → AreLoads p x loads →
-    IfSome found (IsFirstAbove loads (map pos p.limits)) → IfSome found (IsFirstPassed p x)
-passed-some p x loads None e h f = tt
-passed-some p x loads (Some r) e h f = passed-first p x loads r e h f
-
-pub passed-nothing : (p : ProblemView) (x loads : List ℕ) (found : Option ℕ) → length loads ≡ resource_count p → AreLoads p x loads →
-    IfNone found ((r : ℕ) → r < length loads → pos (slice_index loads r) ≤ℤ limit_at (map pos p.limits) r) → IfNone found (Fits p x)
-passed-nothing p x loads None e h f = passed-none p x loads e h f
-passed-nothing p x loads (Some r) e h f = tt
-
 -- loads stay small
 pub load-small : (p : ProblemView) (x : List ℕ) (r : ℕ) → ((u : ℕ) → u < unit_count p → IsChooser (chooser_at p u)) → IsChoice p x → load_of p x r ≤ unit_count p * 434
 load-small p x r units c = sum_below-const (unit_count p) 434 (λ u. alt_uses p u (slice_index x u) r) (λ u l. (units u l).uses (slice_index x u) r (c.there u l))

@@ -2,10 +2,11 @@
 
 ghost use Rattle.std.specs.Prelude.{◌≡◌, ◌↔◌, ℕ, ◌<◌, ◌≤◌, [], length, slice_index, IsTrue, IfOk, IfSome, IfNone};
 ghost use Rattle.choice_problem.specs.Problems.{unit_count, resource_count};
-ghost use Rattle.choice_problem.specs.Choices.{IsFirstPassed, Fits, choice_cost};
+ghost use Rattle.choice_problem.specs.Choices.{IsChoice, IsFirstPassed, Fits, choice_cost};
 ghost use Rattle.choice_problem.specs.Bounds.{AreRanges, Closes, IsOver};
 ghost use Rattle.choice_problem.specs.Splits.{IsCheapest, IsFirstOver};
 ghost use Rattle.branch_tree.specs.Walks.{AreLeast};
+ghost use Rattle.dual_bound.specs.Kept.{ListPassable};
 ghost use Rattle.window_counts.specs.Placed.{AreLoads};
 
 use crate::answers::Visit;
@@ -13,7 +14,8 @@ use crate::branching::found_or_split;
 use crate::closings::{kept_leaf, leaf, priced_leaf};
 use crate::kept::{cheapest, count_least, first_cheapest, move_least};
 use crate::least_uses::least_list;
-use choice_problem::{Node, Problem, Ranges, first_above};
+use choice_problem::{Node, Problem, Ranges};
+use dual_bound::passable_resources;
 use price_table::{PriceTable, Totals};
 use slot_text::Memory;
 use std::alloc::Global;
@@ -21,10 +23,10 @@ use std::marker::Model;
 use window_counts::{Counts, add_choice, change_alt};
 
 /// Ranges of a problem, with what a visit asks of them: the least load of each resource, each unit's first cheapest
-/// alternative, and what these together use and cost. Where a range changes, what changes with it is counted anew, and
-/// nothing else. Contracts see the problem and the ranges.
+/// alternative, what these together use and cost, and the resources that can be passed. Where a range changes, what changes
+/// with it is counted anew, and nothing else. Contracts see the problem and the ranges.
 ///
-/// Memory: 12 bytes a resource and 12 bytes a unit.
+/// Memory: 12 bytes a resource, 12 bytes a unit, and 4 bytes a resource that can be passed.
 #[derive(Drop)]
 pub struct Walk<'a> {
     problem: &'a Problem,
@@ -34,16 +36,17 @@ pub struct Walk<'a> {
     loads: Counts,
     least: Vec<u32>,
     zeros: Vec<u32>,
+    passable: Vec<u32>,
 }
 
 impl<'a> Model for Walk<'a> {
-    ghost use Rattle.branch_tree.specs.Walks.{WalkView, IsKept};
+    ghost use Rattle.branch_tree.specs.Walks.{WalkView, IsKeptWith};
 
     ghost Value = { WalkView };
 
     ghost view = { λ w. record { problem = w.problem.now; ranges = w.ranges } };
 
-    ghost invariant = { λ w. IsKept w.problem.now w.ranges w.cheapest.items w.cost w.loads w.least.items w.zeros.items };
+    ghost invariant = { λ w. IsKeptWith w.problem.now w.ranges w.cheapest.items w.cost w.loads w.least.items w.zeros.items w.passable.items };
 }
 
 impl<'a> Walk<'a> {
@@ -60,13 +63,14 @@ impl<'a> Walk<'a> {
     /// The walk at these ranges. A unit takes some steps a use of each part that its alternatives in range name, and ends
     /// early where nothing is left that all of them use. This counts on alternatives that name the same first part
     /// standing together, and on their second parts being those of the next such row, or these and others in front: else
-    /// the second parts of a row are listed anew.
+    /// the second parts of a row are listed anew. Beside this it takes some steps a use of each part.
     pub fn of(alloc: Global, problem: &'a Problem, ranges: Ranges) -> Result<Walk<'a>, Memory>
         requires { AreRanges problem.now ranges }
         ensures problem { IfOk result (λ walk. walk.problem ≡ problem.now) }
         ensures ranges { IfOk result (λ walk. walk.ranges ≡ ranges) }
     {
         let resources = problem.resources();
+        let passable = passable_resources(alloc, problem)?;
         let mut loads = Counts::of(alloc, &[], resources)?;
         let mut least = vec![in alloc; 0; resources as usize]?;
         let mut zeros = vec![in alloc; 0; resources as usize]?;
@@ -81,6 +85,7 @@ impl<'a> Walk<'a> {
             loads,
             least,
             zeros,
+            passable,
         })
     }
 
@@ -108,7 +113,7 @@ impl<'a> Walk<'a> {
     }
 
     /// Visits the walk's ranges with further vectors, whose tables these are, from number 2 on: at most 63. `problem` is
-    /// the one of `of`. One step a resource, and one an alternative in range for each vector with prices.
+    /// the one of `of`. One step a resource that can be passed, and one an alternative in range for each vector with prices.
     pub fn visit_with(
         &self,
         alloc: Global,
@@ -132,7 +137,7 @@ impl<'a> Walk<'a> {
 
     /// The leaf that closes the walk's ranges without prices, and so at each visit, whatever the vectors are: of the lowest
     /// resource whose least load is above its limit, or of vector 0. Where there is none, `visit_priced` gives the visit's
-    /// answer: the root vector is wanted only there. `problem` is the one of `of`. One step a resource.
+    /// answer: the root vector is wanted only there. `problem` is the one of `of`. One step a resource that can be passed.
     pub fn unpriced_leaf(&self, problem: &Problem, seen: Option<u64>) -> Option<Node>
         requires problem { problem.now ≡ self.now.problem }
         ensures some { IfSome result (λ leaf. (root : List Price) (further : List (List Price)) →
@@ -140,7 +145,7 @@ impl<'a> Walk<'a> {
         ensures zero { IfSome result (NamesUpTo 0) }
         ensures none { IfNone result (NeedsPrices problem.now self.now.ranges seen) }
     {
-        if let Some(resource) = first_over(problem, &self.ranges, &self.least) {
+        if let Some(resource) = first_over(problem, &self.ranges, &self.least, &self.passable) {
             return Some(Node::Over { resource });
         }
         if zero_closes(problem, &self.ranges, &self.cheapest, self.cost, seen) {
@@ -150,7 +155,7 @@ impl<'a> Walk<'a> {
     }
 
     /// The answer of `visit_with` where `unpriced_leaf` has none: one step an alternative in range for each vector with
-    /// prices, and one a resource where none of them closes.
+    /// prices, and one a resource that can be passed where none of them closes.
     pub fn visit_priced(
         &self,
         alloc: Global,
@@ -170,13 +175,13 @@ impl<'a> Walk<'a> {
         if let Some(leaf) = priced_leaf(problem, &self.ranges, root, further, seen) {
             return Ok(Visit::Close(leaf));
         }
-        let passed = first_passed(problem, &self.cheapest, &self.loads);
+        let passed = first_passed(problem, &self.cheapest, &self.loads, &self.passable);
         found_or_split(alloc, problem, &self.ranges, &self.cheapest, passed)
     }
 
     /// The answer of `visit_with` by totals that are kept for the vectors at scale 1024, those of the root vector first,
-    /// while the walk's ranges change: one step a resource and a vector, and none an alternative. Both tables are those
-    /// for which the totals are.
+    /// while the walk's ranges change: one step a resource that can be passed and a vector, and none an alternative. Both
+    /// tables are those for which the totals are.
     pub fn visit_kept(
         &self,
         alloc: Global,
@@ -199,7 +204,7 @@ impl<'a> Walk<'a> {
         if let Some(leaf) = kept_leaf(problem, &self.ranges, root, further, totals, seen) {
             return Ok(Visit::Close(leaf));
         }
-        let passed = first_passed(problem, &self.cheapest, &self.loads);
+        let passed = first_passed(problem, &self.cheapest, &self.loads, &self.passable);
         found_or_split(alloc, problem, &self.ranges, &self.cheapest, passed)
     }
 
@@ -237,15 +242,23 @@ impl<'a> Walk<'a> {
 }
 
 // The lowest resource whose least load is above its limit.
-fn first_over(problem: &Problem, ranges: &Ranges, least: &[u32]) -> Option<u32>
+fn first_over(problem: &Problem, ranges: &Ranges, least: &[u32], passable: &[u32]) -> Option<u32>
+    requires ranges { AreRanges problem.now ranges.now }
     requires count { length least.now ≡ resource_count problem.now }
     requires least { AreLeast problem.now ranges.now least.now }
+    requires passable { ListPassable problem.now passable.now }
     ensures some { IfSome result (IsFirstOver problem.now ranges.now) }
     ensures none { IfNone result ((r : ℕ) → r < resource_count problem.now →
         IsOver problem.now ranges.now r → ⊥) }
 {
     let _ranges = ranges;
-    first_above(problem, least)
+    for place in 0..passable.len() {
+        let resource = passable[place];
+        if i64::from(least[resource as usize]) > problem.limit(resource) {
+            return Some(resource);
+        }
+    }
+    None
 }
 
 // Whether vector 0 closes ranges at scale 1: whether their first cheapest alternatives together cost at least what was seen.
@@ -271,12 +284,20 @@ fn zero_closes(
 }
 
 // The lowest resource that the choice uses above its limit.
-fn first_passed(problem: &Problem, alts: &[u32], loads: &Counts) -> Option<u32>
+fn first_passed(problem: &Problem, alts: &[u32], loads: &Counts, passable: &[u32]) -> Option<u32>
+    requires alts { IsChoice problem.now alts.now }
     requires count { length loads.now ≡ resource_count problem.now }
     requires loads { AreLoads problem.now alts.now loads.now }
+    requires passable { ListPassable problem.now passable.now }
     ensures some { IfSome result (IsFirstPassed problem.now alts.now) }
     ensures none { IfNone result (Fits problem.now alts.now) }
 {
     let _alts = alts;
-    loads.first_over(problem.limits())
+    for place in 0..passable.len() {
+        let resource = passable[place];
+        if i64::from(loads.count(resource)) > problem.limit(resource) {
+            return Some(resource);
+        }
+    }
+    None
 }

@@ -1,5 +1,5 @@
 -- Counts of uses that are at least those of each part of a unit.
-use Rattle.std.proofs.Common.{◌≡◌, ℕ, ◌+◌, ◌-◌, ◌<◌, ◌≤◌, ◌^◌, min, refl, sym, ◌∙◌, ap, subst, arith, List, [], length, set, inl, inr, Bool, true, false, Option, Some, None}
+use Rattle.std.proofs.Common.{◌≡◌, ℕ, ◌+◌, ◌-◌, ◌<◌, ◌≤◌, ◌^◌, min, refl, sym, ◌∙◌, subst, arith, List, [], length, set, inl, inr, Bool, true, false, Option, Some, None}
 use Rattle.std.specs.Prelude.{slice_index, slice_index_or}
 use Rattle.std.proofs.lemmas.Bool.{false≢true}
 use Rattle.std.proofs.Math.Path.{fun_ext}
@@ -10,7 +10,7 @@ use Rattle.choice_problem.specs.declared.strips.Strip.{Strip}
 use Rattle.choice_problem.specs.Strips.{part_uses}
 use Rattle.choice_problem.specs.Loops.{run_uses}
 use Rattle.choice_problem.specs.Problems.{ChooserView, IsChooser, alt_at, named_uses, chooser_uses}
-use Rattle.dual_bound.specs.Kept.{AreAtLeast, AreRaised, AreCounted, AreBelow, AreMarked, named_part}
+use Rattle.dual_bound.specs.Kept.{AreAtLeast, AreRaised, AreCounted, AreBelow, AreMarked}
 
 -- the same uses
 pub AreCounted-same : (from number : ℕ) (base uses others : ℕ → ℕ) (counts last : List ℕ) → ((r : ℕ) → uses r ≡ others r) → AreCounted from number base uses counts last →

@@ -1,5 +1,5 @@
 -- Subgradient runs on the resources that can be passed are those on all.
-use Rattle.std.proofs.Common.{◌≡◌, ℕ, zero, suc, ◌+◌, ◌-◌, ◌*◌, ◌<◌, ◌≤◌, ◌^◌, refl, sym, ◌∙◌, ap, arith, add-one, List, [], ◌∷◌, length, pos, inl, inr, Option, Some, None}
+use Rattle.std.proofs.Common.{◌≡◌, ℕ, zero, suc, ◌+◌, ◌-◌, ◌*◌, ◌<◌, ◌≤◌, refl, sym, ◌∙◌, ap, arith, List, [], length, pos, inl, inr, Option, Some, None}
 use Rattle.std.specs.Prelude.{slice_index, ℤ, ◌-ℤ◌, nat_lt, if◌then◌else◌}
 use Rattle.std.proofs.lemmas.Grind.{common_steps}
 use Rattle.std.proofs.Math.Path.{fun_ext}
@@ -11,10 +11,10 @@ use Rattle.choice_problem.specs.declared.strips.Strip.{Strip}
 use Rattle.finite_sums.specs.Sums.{sum_below, first_least, least_within, IsFirstLeast}
 use Rattle.finite_sums.proofs.SumLemmas.{sum_below-more, sum_below-same, first_least-IsFirstLeast}
 use Rattle.choice_problem.specs.Strips.{part_uses}
-use Rattle.choice_problem.specs.Problems.{ProblemView, ChooserView, chooser_at, alt_at, part_at, named_uses, chooser_uses, unit_count, alt_count, resource_count, limit_of, alt_cost, alt_uses}
+use Rattle.choice_problem.specs.Problems.{ProblemView, ChooserView, chooser_at, alt_at, named_uses, chooser_uses, unit_count, alt_count, resource_count, limit_of, alt_cost, alt_uses}
 use Rattle.choice_problem.specs.Bounds.{AreRanges, bound_of, least_total, priced, priced_cost, low_of, high_of}
 use Rattle.choice_problem.specs.Roots.{vector_of, priced_alt, priced_load, price_after, step_length, step_vector}
-use Rattle.price_table.specs.Strips.{worth, ArePrices}
+use Rattle.price_table.specs.Strips.{ArePrices}
 use Rattle.dual_bound.specs.Loops.{IsGreatestUpTo}
 use Rattle.dual_bound.specs.Kept.{AreRanks, IsKept, KeepPassed, IsOnKept, AreSpread, price_in}
 use Rattle.dual_bound.proofs.StepLemmas.{priced-vector_of}

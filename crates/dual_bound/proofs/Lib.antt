@@ -3,3 +3,4 @@ mod FloorLemmas
 mod RankLemmas
 mod KeptLemmas
 mod CountLemmas
+mod PassableLemmas

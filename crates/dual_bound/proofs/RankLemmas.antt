@@ -1,5 +1,5 @@
 -- Ranks of resources, and what is made by them.
-use Rattle.std.proofs.Common.{◌≡◌, ℕ, zero, suc, ◌+◌, ◌<◌, ◌≤◌, ◌^◌, refl, sym, ◌∙◌, ap, arith, List, [], ◌∷◌, ◌++◌, length, pos, inl, inr, Option, Some, None}
+use Rattle.std.proofs.Common.{◌≡◌, ℕ, zero, suc, ◌+◌, ◌<◌, ◌≤◌, ◌^◌, refl, sym, ◌∙◌, arith, List, [], ◌∷◌, ◌++◌, length, pos, inl, inr, Option, Some, None}
 use Rattle.std.specs.Prelude.{slice_index, slice_index_or, ℤ, ◌≤ℤ◌, All}
 use Rattle.std.specs.Option.{ForSome}
 use Rattle.std.proofs.lemmas.Grind.{common_steps}
@@ -10,7 +10,7 @@ use Rattle.std.proofs.lemmas.List.Elements.{All-push}
 use Rattle.choice_problem.specs.declared.strips.Strip.{Strip}
 use Rattle.choice_problem.specs.Strips.{part_uses, IsPartInRange}
 use Rattle.choice_problem.specs.Loops.{run_uses}
-use Rattle.choice_problem.specs.Problems.{ProblemView, ChooserView, IsChooser, ArePartsInRange, alt_at, part_at, named_uses, chooser_uses, resource_count, limit_of}
+use Rattle.choice_problem.specs.Problems.{ProblemView, ChooserView, IsChooser, ArePartsInRange, alt_at, part_at, named_uses, resource_count, limit_of}
 use Rattle.dual_bound.specs.Kept.{AreRanks, IsKept, kept_count, IsUnitOnKept}
 
 -- ranks never fall

@@ -33,6 +33,22 @@ pub record KeepPassed (p : ProblemView) (ranks : List ℕ) : Type 0 where
   pub rest : (r : ℕ) → r < resource_count p → slice_index ranks (r + 1) ≤ slice_index ranks r →
       IsNeverPassed p r
 
+-- resources of the problem by rising number, beside which no resource can be passed
+pub record ListPassable (p : ProblemView) (list : List ℕ) : Type 0 where
+  pub rising : (i j : ℕ) → i < j → j < length list → slice_index list i < slice_index list j
+  pub there : (i : ℕ) → i < length list → slice_index list i < resource_count p
+  pub rest : (r : ℕ) → r < resource_count p →
+      ((i : ℕ) → i < length list → slice_index list i ≡ r → ⊥) → IsNeverPassed p r
+
+-- of the first n resources those whose counts are above their limits
+pub record AreAbove (p : ProblemView) (counts : List ℕ) (n : ℕ) (list : List ℕ) : Type 0 where
+  pub rising : (i j : ℕ) → i < j → j < length list → slice_index list i < slice_index list j
+  pub there : (i : ℕ) → i < length list → slice_index list i < n
+  pub rest : (r : ℕ) → r < n →
+      ((i : ℕ) → i < length list → slice_index list i ≡ r → ⊥) →
+      slice_index counts r ≤ limit_of p r
+  pub small : (r : ℕ) → r < n → limit_of p r < 2 ^ 20
+
 -- the strips use the kept resources, by their ranks, as often as others use them
 abbrev pub UseKept : ProblemView → List ℕ → List Strip → List Strip → Type 0
 UseKept p ranks strips others = (r : ℕ) → r < resource_count p → IsKept ranks r →

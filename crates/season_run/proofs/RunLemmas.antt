@@ -1,10 +1,10 @@
 -- A stage of a run, from the trial of its problem and the stage that this made.
-use Rattle.std.proofs.Common.{◌≡◌, ℕ, ◌*◌, ◌≤◌, refl, sym, ◌∙◌, ap, subst, arith, List, [], ◌∷◌, ◌++◌, length, length-append, drop, map, true, false, Option, Some, None}
+use Rattle.std.proofs.Common.{◌≡◌, ℕ, zero, suc, ◌*◌, ◌≤◌, refl, sym, ◌∙◌, ap, subst, arith, List, [], ◌∷◌, ◌++◌, length, length-append, drop, map, true, false, Option, Some, None}
 use Rattle.std.specs.Prelude.{All, IfSome, IsNone, IsSomeAnd, is_some, sum_by}
-use Rattle.std.specs.List.{AllZip}
+use Rattle.std.specs.List.{AllZip, AllByRecursion}
 use Rattle.std.specs.Option.{option_map}
 use Rattle.std.proofs.lemmas.List.Sums.{sum_by-append, sum_by-cons}
-use Rattle.std.proofs.lemmas.List.Elements.{All-head}
+use Rattle.std.proofs.lemmas.List.Elements.{All-head, All-tail}
 use Rattle.std.proofs.lemmas.Slice.Zip.{AllZip-long}
 use Rattle.season_days.specs.declared.declaration.Declaration.{Declaration}
 use Rattle.choice_problem.specs.declared.vectors.Price.{Price}
@@ -15,6 +15,7 @@ use Rattle.choice_problem.specs.Bounds.{IsVector, whole_of}
 use Rattle.choice_problem.specs.Trees.{IsWhole, node_count}
 use Rattle.choice_problem.specs.Driven.{IsDriven}
 use Rattle.choice_problem.specs.Renumbered.{NamesUpTo}
+use Rattle.dual_bound.specs.Stated.{scale_at}
 use Rattle.search_workers.specs.declared.outcomes.Outcome.{Outcome}
 use Rattle.search_workers.specs.declared.outcomes.Outcome.TheVariants as ends
 use Rattle.search_workers.specs.Outcomes.{IsSettled, price_count, choice_count, product_of}
@@ -23,7 +24,7 @@ use Rattle.cert_format.specs.declared.cert.Mark.TheVariants as marks
 use Rattle.cert_format.specs.declared.cert.Floor.{Floor}
 use Rattle.cert_format.specs.declared.cert.StageCert.{StageCert}
 use Rattle.cert_format.specs.Spelling.{is_tried, has_bound}
-use Rattle.cert_format.specs.Printable.{IsPrintableProof, IsPrintableAs, IsWithinLimits}
+use Rattle.cert_format.specs.Printable.{IsPrintableProof, IsPrintableAs, IsShortFloor, IsWithinLimits}
 use Rattle.cert_format.specs.Proofs.{IsProof}
 use Rattle.series_model.specs.declared.unit.Unit.{Unit as SlotUnit}
 use Rattle.series_model.specs.declared.state.UnitState.{UnitState}
@@ -183,12 +184,38 @@ prices-few p (v ∷ vectors) few all h =
     let rest : sum_by (λ (prices : List Price). length prices) vectors ≤ 1000000 = h in
     omega (arith, first, few, both, rest)
 
-pub stage-limits : (p : ProblemView) (budget : ℕ) (c : StageCert) → unit_count p ≤ 4096 → resource_count p ≤ 1000000 → budget ≤ 1000000 → IsStageRun p budget c → IsWithinLimits c
-stage-limits p budget c units resources most r = record {
+-- ---- its floors
+
+scale-most : (number : ℕ) → scale_at number ≤ 1024
+scale-most zero = omega arith
+scale-most (suc number) = omega arith
+
+greatest-short : (p : ProblemView) (vectors : List (List Price)) (pieces : List (List (ℕ × ℕ))) (floors : List Floor) (number : ℕ) → number ≤ 64 → AllZip (IsGreatestFloor p vectors) pieces floors →
+    All (λ (f : Floor). f.vector ≤ number) floors → AllByRecursion IsShortFloor floors
+greatest-short p vectors [] [] number few h named = tt
+greatest-short p vectors [] (f ∷ floors) number few h named = absurd h
+greatest-short p vectors (ranges ∷ pieces) [] number few h named = absurd h
+greatest-short p vectors (ranges ∷ pieces) (f ∷ floors) number few h named = (
+  record {
+    vector = omega (arith, few, All-head (λ (g : Floor). g.vector ≤ number) f floors named);
+    scale = omega (arith, h.0.scale, scale-most f.vector);
+  },
+  greatest-short p vectors pieces floors number few h.1 (All-tail (λ (g : Floor). g.vector ≤ number) f floors named),
+)
+
+made-floors : (p : ProblemView) (o : Outcome) (c : StageCert) → MakesStage p o c → length c.vectors ≤ 64 → All (λ (f : Floor). f.vector ≤ length c.vectors) c.floors → AllByRecursion IsShortFloor c.floors
+made-floors p (ends.Optimal choice cost tree vectors) c made few named = rw made.1.no_floors tt
+made-floors p (ends.Infeasible tree vectors) c made few named = rw made.1.no_floors tt
+made-floors p (ends.Spent best tree vectors) c made few named = greatest-short p vectors (undone_ranges p tree) c.floors (length c.vectors) few made.1.greatest named
+
+pub stage-limits : (p : ProblemView) (budget : ℕ) (o : Outcome) (c : StageCert) → unit_count p ≤ 4096 → resource_count p ≤ 1000000 → budget ≤ 1000000 → MakesStage p o c → IsStageRun p budget c → IsWithinLimits c
+stage-limits p budget o c units resources most made r = record {
   units = choice-few p c.choice units r.proof.feasible;
   vectors = r.listed.few;
   prices = prices-few p c.vectors resources r.listed.each r.listed.few_prices;
   nodes = omega (arith, r.nodes, most, tree_length (whole_of p ∷ []) c.tree (sound_walks p c.vectors c.cost (whole_of p ∷ []) c.tree r.proof.sound));
+  budget = omega (arith, r.nodes, most);
+  floors = made-floors p o c made r.listed.few r.named.at_floors;
 }
 
 pub fits-season : (c : StageCert) → is_tried c.mark ≡ true → IsPrintableProof 2 c → IsWithinLimits c → FitsSeason c
@@ -229,5 +256,5 @@ tried-all fewer d stage states budget c p o is t made proof units resources most
     let tried = made-tried p o c made in (
       tried,
       tried-run d stage states budget c p o is t made r,
-      fits-season c tried (made-printable p budget o c t made proof r.listed.few) (stage-limits p budget c units resources most r),
+      fits-season c tried (made-printable p budget o c t made proof r.listed.few) (stage-limits p budget o c units resources most made r),
     )

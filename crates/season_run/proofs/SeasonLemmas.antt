@@ -123,6 +123,7 @@ so_far_finish few s budget states follows c version on =
       version = version;
       valid = record { form = form; stages = subst (λ (l : List StageCert). AreStages s.declaration s.units [] l) (append-nil c.stages) (on.valid [] tt) };
       stages = subst (λ (l : List StageCert). AreStageRuns s.declaration s.units budget [] l) (append-nil c.stages) (on.runs [] tt);
+      limits = limits c.stages on.fit_certs;
     }
 
 -- ---- a stage that is not tried
@@ -133,6 +134,8 @@ untried-limits c h = record {
   vectors = rw h.vectors (omega arith);
   prices = rw h.vectors (omega arith);
   nodes = rw h.tree (omega arith);
+  budget = rw h.tree (omega arith);
+  floors = rw h.floors tt;
 }
 
 pub untried-fits : (c : StageCert) → c.mark ≡ marks.NotTried → HoldsNothing c → FitsSeason c

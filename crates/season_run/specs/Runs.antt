@@ -1,6 +1,7 @@
 -- The certificate of a run of a season: what is promised of each stage beside that the certificate
 -- is valid.
 use Rattle.std.specs.Prelude.{◌≡◌, ℕ, ◌+◌, ◌*◌, ◌≤◌, Bool, true, false, List, [], ◌∷◌, ◌++◌, length, map, All, Option}
+use Rattle.std.specs.List.{AllByRecursion}
 use Rattle.season_days.specs.declared.declaration.Declaration.{Declaration}
 use Rattle.choice_problem.specs.declared.vectors.Price.{Price}
 use Rattle.choice_problem.specs.Problems.{ProblemView}
@@ -11,6 +12,7 @@ use Rattle.cert_format.specs.declared.cert.Mark.{Mark}
 use Rattle.cert_format.specs.declared.cert.Mark.TheVariants.{Optimal, Infeasible, Unsettled, NotTried}
 use Rattle.cert_format.specs.declared.cert.StageCert.{StageCert}
 use Rattle.cert_format.specs.declared.cert.Certificate.{Certificate}
+use Rattle.cert_format.specs.Printable.{IsWithinLimits}
 use Rattle.cert_format.specs.Proofs.{IsProof}
 use Rattle.cert_format.specs.Spelling.{is_tried}
 use Rattle.series_model.specs.declared.unit.Unit.{Unit as SlotUnit}
@@ -88,12 +90,13 @@ AreStageRuns d units budget earlier (c ∷ certs) =
     × AreStageRuns d units budget (earlier ++ c.choice ∷ []) certs
 
 -- The certificate of a run: of version 2 and valid, so that a stage is NOT TRIED exactly where
--- stage 1 or stage 2 before it has no allotment and each other stage has a proof; and each stage
--- that was tried ended within the budget.
+-- stage 1 or stage 2 before it has no allotment and each other stage has a proof; each stage that
+-- was tried ended within the budget; and each stage is within the limits of a season's stages.
 pub record IsRun (s : SubmissionView) (budget : ℕ) (c : Certificate) : Type 0 where
   pub version : c.version ≡ 2
   pub valid : IsValid s c
   pub stages : AreStageRuns s.declaration s.units budget [] c.stages
+  pub limits : AllByRecursion IsWithinLimits c.stages
 
 -- ---- a budget that is enough for all stages
 

@@ -8,11 +8,9 @@ ghost use Rattle.search_workers.specs.Outcomes.{AreFurther, IsOutcome, IsSettled
 ghost use Rattle.season_run.specs.Ends.{IsStageEnd};
 ghost use Rattle.season_run.specs.Steps.{TakesNodes, IsDrivenEnd, IsTrialEnd};
 
-use choice_problem::{Choice, Problem, Ranges, Vector};
-use closing_search::{Closed, closing_search};
+use choice_problem::{Choice, Problem, Vector};
+use closing_search::{Closed, Ending, closing_search};
 use desk_outside::Gate;
-use dual_bound::{infeasibility_vector, polished_vector};
-use improved_choice::improved_choice;
 use search_workers::{Outcome, search, search_from};
 use slot_text::Memory;
 use std::alloc::Global;
@@ -23,14 +21,9 @@ use std::thread::Threads;
 /// this search with so many visits.
 pub const SMALL_BUDGET: u32 = 64;
 
-// How many subgradient steps a vector of prices gets, and one that is to show that no choice fits.
-const POLISHING_STEPS: u32 = 200;
-
-const INFEASIBILITY_STEPS: u32 = 100;
-
-// Searches the problem of a stage: first by a few visits of the prescribed search; where these leave
-// nodes undone and the budget has more, by free splits; and where that closes nothing, by the
-// prescribed search again, from the best choice that is found.
+// Searches the problem of a stage: a small one first by a few visits of the prescribed search; then,
+// where the budget has more, by free splits; and where that closes nothing, by the prescribed search
+// with the whole budget, from what is known by then.
 pub(crate) fn settle_stage<R: Threads + Sync, G: Gate>(
     rt: &R,
     alloc: Global,
@@ -43,7 +36,11 @@ pub(crate) fn settle_stage<R: Threads + Sync, G: Gate>(
     requires workers { (1 ≤ workers) × (workers ≤ 16) }
     ensures { IfOk result (IsTrialEnd problem.now budget) }
 {
-    let visits = first_visits(problem, budget);
+    if budget > SMALL_BUDGET && problem.units() > SMALL_BUDGET {
+        let outcome = settle_busy(rt, alloc, problem, budget, workers, gate, None)?;
+        return Ok(outcome);
+    }
+    let visits = budget.min(SMALL_BUDGET);
     let outcome = search(rt, alloc, problem, visits, workers, gate)?;
     if visits == budget {
         return Ok(outcome);
@@ -51,30 +48,32 @@ pub(crate) fn settle_stage<R: Threads + Sync, G: Gate>(
     if is_settled(&outcome) {
         return Ok(outcome);
     }
-    let best = best_of(problem, outcome);
-    let start = copy_of(alloc, problem, &best)?;
-    let Some(closed) = closing_search(alloc, problem, start, budget)? else {
-        return search_improved(rt, alloc, problem, budget, workers, gate, best);
-    };
-    Ok(closed_end(problem, budget, closed))
+    let start = best_of(problem, outcome);
+    let outcome = settle_busy(rt, alloc, problem, budget, workers, gate, start)?;
+    Ok(outcome)
 }
 
-// A copy of a choice, if there is one.
-fn copy_of(
+// Searches by free splits, and where that closes nothing, by the prescribed search.
+fn settle_busy<R: Threads + Sync, G: Gate>(
+    rt: &R,
     alloc: Global,
-    _problem: &Problem,
-    best: &Option<Choice>,
-) -> Result<Option<Choice>, Memory>
-    requires { IfSome best.now (IsFeasible _problem.now) }
-    ensures { IfOk result (λ copy. IfSome copy (IsFeasible _problem.now)) }
+    problem: &Problem,
+    budget: u32,
+    workers: u32,
+    gate: &G,
+    start: Option<Choice>,
+) -> Result<Outcome, Memory>
+    requires budget { SMALL_BUDGET < budget }
+    requires workers { (1 ≤ workers) × (workers ≤ 16) }
+    requires start { IfSome start (IsFeasible problem.now) }
+    ensures { IfOk result (IsTrialEnd problem.now budget) }
 {
-    match best {
-        Some(choice) => {
-            let mut alts = Vec::new(alloc);
-            alts.extend_from_slice(choice.items())?;
-            Ok(Some(Choice::new(alts)))
+    match closing_search(alloc, problem, start, budget)? {
+        Ending::Closed(closed) => Ok(closed_end(problem, budget, closed)),
+        Ending::Open { best, vector } => {
+            let outcome = search_known(rt, alloc, problem, budget, workers, gate, best, vector)?;
+            Ok(outcome)
         }
-        None => Ok(None),
     }
 }
 
@@ -97,22 +96,6 @@ fn closed_end(_problem: &Problem, _budget: u32, closed: Closed) -> Outcome
             vectors,
         },
         Closed::Infeasible { tree, vectors } => Outcome::Infeasible { tree, vectors },
-    }
-}
-
-// How many visits the first search of a stage gets.
-fn first_visits(problem: &Problem, budget: u32) -> u32
-    requires { 1 ≤ budget }
-    ensures some { 1 ≤ result }
-    ensures within { result ≤ budget }
-    ensures small { budget ≤ SMALL_BUDGET → result ≡ budget }
-{
-    if budget <= SMALL_BUDGET {
-        budget
-    } else if problem.units() <= SMALL_BUDGET {
-        SMALL_BUDGET
-    } else {
-        1
     }
 }
 
@@ -139,10 +122,9 @@ fn best_of(_problem: &Problem, outcome: Outcome) -> Option<Choice>
     }
 }
 
-// The search with the whole budget, from the better of a choice and one that a heuristic finds, and
-// with the vector of prices that guided it, or where no choice is known one that may show that none
-// fits.
-fn search_improved<R: Threads + Sync, G: Gate>(
+// The prescribed search with the whole budget, from the cheaper of the greedy choice and one that is
+// known, if there is one, and with a vector of prices.
+fn search_known<R: Threads + Sync, G: Gate>(
     rt: &R,
     alloc: Global,
     problem: &Problem,
@@ -150,22 +132,16 @@ fn search_improved<R: Threads + Sync, G: Gate>(
     workers: u32,
     gate: &G,
     best: Option<Choice>,
+    vector: Vector,
 ) -> Result<Outcome, Memory>
     requires budget { 1 ≤ budget }
     requires workers { (1 ≤ workers) × (workers ≤ 16) }
     requires best { IfSome best (IsFeasible problem.now) }
+    requires vector { IsVector problem.now vector }
     ensures { IfOk result (IsTrialEnd problem.now budget) }
 {
-    let ranges = Ranges::whole(alloc, problem)?;
-    let polished = polished_vector(alloc, problem, &ranges, POLISHING_STEPS)?;
-    let start = improved_choice(alloc, problem, best.as_ref(), &polished)?;
-    let vector = if start.is_some() {
-        polished
-    } else {
-        infeasibility_vector(alloc, problem, &ranges, INFEASIBILITY_STEPS)?
-    };
     let further = one_vector(alloc, problem, vector)?;
-    let outcome = search_from(rt, alloc, problem, budget, workers, gate, start, further)?;
+    let outcome = search_from(rt, alloc, problem, budget, workers, gate, best, further)?;
     Ok(outcome)
 }
 

@@ -5,3 +5,4 @@ mod JudgementLemmas
 mod EndLemmas
 mod AnswerLemmas
 mod DeskLemmas
+mod CheckLemmas

@@ -1,5 +1,6 @@
 -- What each job does, by cases: its steps, the files that it writes, its work, and its statuses.
-use Rattle.std.specs.Prelude.{◌≡◌, ℕ, ◌+◌, List, [], ◌∷◌, ◌++◌, slice_index_or, codes, Contains}
+use Rattle.std.specs.Prelude.{◌≡◌, ℕ, ◌+◌, ◌≤◌, List, [], ◌∷◌, ◌++◌, length, slice_index_or, codes, Contains}
+use Rattle.std.specs.Prelude.{Option}
 use Rattle.std.specs.Fmt.{decimal}
 use Rattle.series_model.specs.Submissions.{SubmissionView}
 use Rattle.cert_format.specs.declared.cert.Certificate.{Certificate}
@@ -7,11 +8,12 @@ use Rattle.wasg_stages.specs.Valid.{IsValid, MarksHold}
 use Rattle.season_run.specs.Runs.{IsRun, IsEnoughFor}
 use Rattle.scr_replies.specs.SeasonReplies.{replies_text}
 use Rattle.season_maker.specs.Texts.{generated_capacity, generated_requests}
+use Rattle.desk_outside.specs.Files.{Files}
 use Rattle.command_words.specs.Words.{Word}
 use Rattle.slot_program.specs.StageLines.{mark_lines, marks_status, node_total}
 use Rattle.slot_program.specs.Judgements.{NamedBytes, IsSeasonOf, SpellsCert, capacity_form}
 use Rattle.slot_program.specs.Judgements.{requests_form, certificate_form, valid_certificate}
-use Rattle.slot_program.specs.Steps.{Step, reads, judges}
+use Rattle.slot_program.specs.Steps.{Step, reads, judges, Holds}
 use Rattle.slot_program.specs.declared.files.TheConstants.{LONGEST_FILE, LONGEST_CERT_FILE}
 use Rattle.slot_program.specs.declared.trial.TheConstants.{TRIAL_NODES}
 use Rattle.command_words.specs.declared.job.Job.{Job}
@@ -80,14 +82,15 @@ two_files names place one two =
 abbrev pub IsSettledStatus : ℕ → Type 0
 IsSettledStatus status = Contains (0 ∷ 8 ∷ []) status
 
--- A season was run with a budget of nodes for each stage: one certificate of that run is spelled,
--- the replies are given by its choices, the lines are those of its stages, and so is the status. It
--- is 0 or 8 where the budget is enough for each stage.
+-- A season was run with a budget of nodes for each stage: one certificate of that run is spelled, in
+-- at most as many bytes as are read of one; the replies are given by its choices, the lines are
+-- those of its stages, and so is the status. It is 0 or 8 where the budget is enough for each stage.
 pub record IsRunOutput (s : SubmissionView) (nodes : ℕ) (certificate replies : List ℕ) (status : ℕ)
     (text : List ℕ) : Type 0 where
   pub proved : Certificate
   pub run : IsRun s nodes proved
   pub spelled : SpellsCert certificate proved
+  pub short : length certificate ≤ LONGEST_CERT_FILE
   pub replied : replies ≡ replies_text s proved
   pub printed : text ≡ mark_lines 1 proved.stages
   pub status_is : status ≡ marks_status proved.stages
@@ -142,6 +145,22 @@ Works (Make number units names) [] writes status text =
     IsMade number units names writes status text
 Works (Trial number units) [] writes status text = IsTrial number units writes status text
 Works job inputs writes status text = ⊥
+
+-- ---- a check of what was written
+
+-- the season of an allocation and the certificate that it wrote, under the names of a check
+abbrev pub checked_files : List Word → List ℕ → List ℕ → List ℕ → List NamedBytes
+checked_files names capacity requests certificate =
+    record { name = name_at names 0; bytes = capacity }
+    ∷ record { name = name_at names 1; bytes = requests }
+    ∷ record { name = name_at names 2; bytes = certificate } ∷ []
+
+-- where files are told, these are held under the names of a check
+pub record HoldsChecked (files : Option Files) (names : List Word)
+    (capacity requests certificate : List ℕ) : Type 0 where
+  pub first : Holds files (name_at names 0) capacity
+  pub second : Holds files (name_at names 1) requests
+  pub third : Holds files (name_at names 2) certificate
 
 -- ---- the headline
 

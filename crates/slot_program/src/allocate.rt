@@ -12,7 +12,7 @@ use crate::season::read_season;
 use crate::stage_lines::{mark_lines, marks_status};
 use crate::stop::{Answer, Stop};
 use crate::writes::write_two;
-use cert_format::print_cert;
+use cert_format::{print_cert, season_bytes};
 use command_words::NameList;
 use desk_outside::laws::file_changes;
 use desk_outside::{Cabinet, Gate};
@@ -75,6 +75,7 @@ fn run_output<R: Threads + Sync, G: Gate>(
         output.replies.items output.answer.status (string_bytes output.answer.text)) }
 {
     settled_run();
+    season_bytes();
     let proved = run_season(rt, alloc, submission, nodes, workers, gate)?;
     let text = mark_lines(alloc, proved.stages.items())?;
     let replies = season_replies(alloc, submission, &proved)?;

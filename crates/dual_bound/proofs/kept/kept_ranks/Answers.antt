@@ -1,6 +1,4 @@
-use Rattle.std.proofs.Common.{◌≡◌, ◌≤◌, ◌<◌, ◌^◌, ℕ, arith}
-use Rattle.std.specs.Prelude.{slice_index}
-use Rattle.choice_problem.specs.Problems.{resource_count}
+use Rattle.std.proofs.Common.{arith}
 use Rattle.dual_bound.proofs.kept.kept_ranks.Goals as goal
 
 pub returns : goal.returns

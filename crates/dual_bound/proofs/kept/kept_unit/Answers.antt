@@ -1,4 +1,4 @@
-use Rattle.std.proofs.Common.{◌≡◌, ◌∙◌, arith, sym}
+use Rattle.std.proofs.Common.{◌∙◌}
 use Rattle.choice_problem.specs.Problems.{ChooserView, chooser_at}
 use Rattle.dual_bound.specs.Kept.{IsUnitOnKept}
 use Rattle.dual_bound.proofs.RankLemmas.{IsChooser-kept}

@@ -1,4 +1,4 @@
-use Rattle.std.proofs.Common.{arith, pos}
+use Rattle.std.proofs.Common.{arith}
 use Rattle.std.proofs.lemmas.Int.{ints}
 use Rattle.dual_bound.proofs.RankLemmas.{AreRanksTo-none, AreRanksTo-more}
 use Rattle.dual_bound.proofs.kept.ranks_above.Goals as goal

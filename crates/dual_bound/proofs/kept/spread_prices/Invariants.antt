@@ -1,4 +1,4 @@
-use Rattle.std.proofs.Common.{◌≡◌, ℕ, ◌+◌, ◌<◌, ◌≤◌, ◌^◌, length}
+use Rattle.std.proofs.Common.{◌≡◌, ℕ, ◌<◌, ◌^◌, length}
 use Rattle.std.specs.Prelude.{slice_index}
 use Rattle.dual_bound.specs.Kept.{price_in}
 use Rattle.dual_bound.proofs.kept.spread_prices.Given as goal

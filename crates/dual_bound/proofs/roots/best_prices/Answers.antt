@@ -1,9 +1,7 @@
-use Rattle.std.proofs.Common.{◌≡◌, ◌+◌, ◌∙◌, sym, ap, subst, arith, List}
-use Rattle.std.proofs.lemmas.Result.{IfOk-weaker}
-use Rattle.choice_problem.specs.declared.vectors.Price.{Price}
-use Rattle.choice_problem.specs.Roots.{step_length, IsNodeVector}
-use Rattle.dual_bound.specs.Loops.{IsAfter, IsGreatestUpTo, AreMoved, vector_in}
-use Rattle.dual_bound.proofs.StepLemmas.{moved_is, IsGreatestUpTo-start, IsGreatestUpTo-node}
+use Rattle.std.proofs.Common.{◌≡◌, ◌+◌, arith}
+use Rattle.choice_problem.specs.Roots.{step_length}
+use Rattle.dual_bound.specs.Loops.{IsAfter, AreMoved}
+use Rattle.dual_bound.proofs.StepLemmas.{moved_is, IsGreatestUpTo-start}
 use Rattle.dual_bound.proofs.roots.best_prices.Goals as goal
 
 pub loop-step-init : goal.loop-step-init

@@ -1,4 +1,4 @@
-use Rattle.std.proofs.Common.{◌≡◌, ℕ, sym, ap, ◌∙◌, subst}
+use Rattle.std.proofs.Common.{◌≡◌, ℕ, List, length, arith, sym, ap, ◌∙◌, subst}
 use Rattle.season_run.specs.Runs.{IsRun}
 use Rattle.slot_program.specs.StageLines.{mark_lines, marks_status}
 use Rattle.slot_program.specs.Jobs.{IsSettledStatus}
@@ -14,6 +14,7 @@ returns g c =
       proved = cert;
       run = run;
       spelled = record { has_spelling = c.in_ok-certificate.ensures.again; spelled = c.in_ok-certificate.ensures.text };
+      short = omega (arith, ap (λ (l : List ℕ). length l) c.in_ok-certificate.ensures.text, c.season_bytes.ensures cert c.in_ok-certificate.ensures.again run.limits);
       replied = c.in_ok-replies.ensures;
       printed = c.in_ok-text.ensures ∙ ap (mark_lines 1) c.items.ensures;
       status_is = status;

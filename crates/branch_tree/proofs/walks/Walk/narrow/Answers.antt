@@ -10,13 +10,13 @@ pub move_least-requires-clause-was_within : goal.move_least-requires-clause-was_
 move_least-requires-clause-was_within c =
     let e : c.args.problem.now ≡ c.self.inside.problem.now = c.requires.problem ∙ sym (ap (λ (w : WalkView). w.problem) c.self.view_is) in
     rw (c.deref.ensures.value, c.deref_mut-3.ensures.value)
-    (λ r h. omega (arith, c.in_ok-was.ensures.within r h, c.self.invariant.least_count, ap (λ (q : ProblemView). resource_count q) e))
+    (λ r h. omega (arith, c.in_ok-was.ensures.within r h, c.self.invariant.kept.least_count, ap (λ (q : ProblemView). resource_count q) e))
 
 pub move_least-requires-clause-now_within : goal.move_least-requires-clause-now_within
 move_least-requires-clause-now_within c =
     let e : c.args.problem.now ≡ c.self.inside.problem.now = c.requires.problem ∙ sym (ap (λ (w : WalkView). w.problem) c.self.view_is) in
     rw (c.deref-2.ensures.value, c.deref_mut-3.ensures.value)
-    (λ r h. omega (arith, c.in_ok-now.ensures.within r h, c.self.invariant.least_count, ap (λ (q : ProblemView). resource_count q) e))
+    (λ r h. omega (arith, c.in_ok-now.ensures.within r h, c.self.invariant.kept.least_count, ap (λ (q : ProblemView). resource_count q) e))
 
 pub move_least-requires-clause-held : goal.move_least-requires-clause-held
 move_least-requires-clause-held c =
@@ -25,12 +25,12 @@ move_least-requires-clause-held c =
     let there : c.args.unit < unit_count s.problem.now = rw e at c.requires.unit in
     let listed = rw (e, c.low-old_low.ensures, c.high-old_high.ensures) at c.in_ok-was.ensures.least in
     rw (c.deref.ensures.value, c.deref_mut-3.ensures.value)
-    (λ r l. omega (arith, listed r, least-has s.problem.now s.ranges s.cheapest.items s.cost s.loads s.least.items s.zeros.items c.self.invariant c.args.unit there r l))
+    (λ r l. omega (arith, listed r, least-has s.problem.now s.ranges s.cheapest.items s.cost s.loads s.least.items s.zeros.items c.self.invariant.kept c.args.unit there r l))
 
 pub move_least-requires-clause-few : goal.move_least-requires-clause-few
 move_least-requires-clause-few c =
     let s = c.self.inside in
-    rw c.deref_mut-3.ensures.value (least-few s.problem.now s.ranges s.cheapest.items s.cost s.loads s.least.items s.zeros.items c.self.invariant)
+    rw c.deref_mut-3.ensures.value (least-few s.problem.now s.ranges s.cheapest.items s.cost s.loads s.least.items s.zeros.items c.self.invariant.kept)
 
 pub move_least-requires-clause-more : goal.move_least-requires-clause-more
 move_least-requires-clause-more c =
@@ -39,39 +39,39 @@ move_least-requires-clause-more c =
 pub change_alt-requires-clause-room : goal.change_alt-requires-clause-room
 change_alt-requires-clause-room c =
     let s = c.self.inside in
-    loads-room s.problem.now s.ranges s.cheapest.items s.cost s.loads s.least.items s.zeros.items c.self.invariant
+    loads-room s.problem.now s.ranges s.cheapest.items s.cost s.loads s.least.items s.zeros.items c.self.invariant.kept
 
 pub change_alt-requires-clause-added : goal.change_alt-requires-clause-added
 change_alt-requires-clause-added c =
     let s = c.self.inside in
     let e : c.args.problem.now ≡ s.problem.now = c.requires.problem ∙ sym (ap (λ (w : WalkView). w.problem) c.self.view_is) in
     let there : c.args.unit < unit_count s.problem.now = rw e at c.requires.unit in
-    let within : c.args.unit < length s.cheapest.items = omega (arith, there, c.self.invariant.cheapest.length) in
+    let within : c.args.unit < length s.cheapest.items = omega (arith, there, c.self.invariant.kept.cheapest.length) in
     let old : c.index-old_alt.result.now ≡ slice_index s.cheapest.items c.args.unit = get_or_read s.cheapest.items c.args.unit c.index-old_alt.result.now within c.index-old_alt.ensures 0 in
-    rw (e, old) (loads-have s.problem.now s.ranges s.cheapest.items s.cost s.loads s.least.items s.zeros.items c.self.invariant c.args.unit there)
+    rw (e, old) (loads-have s.problem.now s.ranges s.cheapest.items s.cost s.loads s.least.items s.zeros.items c.self.invariant.kept c.args.unit there)
 
 pub overflow_sub-self : goal.overflow_sub-self
 overflow_sub-self c =
     let s = c.self.inside in
     let e : c.args.problem.now ≡ s.problem.now = c.requires.problem ∙ sym (ap (λ (w : WalkView). w.problem) c.self.view_is) in
     let there : c.args.unit < unit_count s.problem.now = rw e at c.requires.unit in
-    let within : c.args.unit < length s.cheapest.items = omega (arith, there, c.self.invariant.cheapest.length) in
+    let within : c.args.unit < length s.cheapest.items = omega (arith, there, c.self.invariant.kept.cheapest.length) in
     let old : c.index-old_alt.result.now ≡ slice_index s.cheapest.items c.args.unit = get_or_read s.cheapest.items c.args.unit c.index-old_alt.result.now within c.index-old_alt.ensures 0 in
     let paid = rw (e, old) at c.alt_cost.ensures.value in
-    omega (arith, paid, cost-has s.problem.now s.ranges s.cheapest.items s.cost s.loads s.least.items s.zeros.items c.self.invariant c.args.unit there)
+    omega (arith, paid, cost-has s.problem.now s.ranges s.cheapest.items s.cost s.loads s.least.items s.zeros.items c.self.invariant.kept c.args.unit there)
 
 pub overflow_add-self : goal.overflow_add-self
 overflow_add-self c =
     let s = c.self.inside in
     let e : c.args.problem.now ≡ s.problem.now = c.requires.problem ∙ sym (ap (λ (w : WalkView). w.problem) c.self.view_is) in
     let there : c.args.unit < unit_count s.problem.now = rw e at c.requires.unit in
-    let few = cost-few s.problem.now s.ranges s.cheapest.items s.cost s.loads s.least.items s.zeros.items c.self.invariant c.args.unit there in
+    let few = cost-few s.problem.now s.ranges s.cheapest.items s.cost s.loads s.least.items s.zeros.items c.self.invariant.kept c.args.unit there in
     omega (arith, few, c.alt_cost-2.ensures.small)
 
 pub invariant_of-self-2 : goal.invariant_of-self-2
 invariant_of-self-2 c =
     let s = c.self.inside in
-    let k = c.self.invariant in
+    let k = c.self.invariant.kept in
     let u = c.args.unit in
     let a = c.first_cheapest-alt.result in
     let e : c.args.problem.now ≡ s.problem.now = c.requires.problem ∙ sym (ap (λ (w : WalkView). w.problem) c.self.view_is) in
@@ -92,10 +92,13 @@ invariant_of-self-2 c =
     let has = cost-has s.problem.now s.ranges s.cheapest.items s.cost s.loads s.least.items s.zeros.items k u there in
     let changed = rw (e, old) at c.change_alt.ensures.changed in
     let moved = rw (c.deref.ensures.value, c.deref-2.ensures.value, least_now) at c.move_least.ensures in
-    rw (c.set.ensures.value, least_back, two_back, zeros_two)
-    (IsKept-moved s.problem.now s.ranges s.cheapest.items s.cost s.loads s.least.items s.zeros.items k u there c.args.low c.args.high a c.requires.ordered
-    (rw e at c.requires.there) (rw e at c.first_cheapest-alt.ensures.cheapest)
-    (rw c.set.ensures.value at (c.set.ensures.valid s.problem.now k.valid c.requires.ordered (rw e at c.requires.there)))
-    (s.cost - c.alt_cost.result + c.alt_cost-2.result) c.change_alt.new.counts c.move_least.new.least c.in_ok-was.was'.items c.in_ok-now.now.items
-    (omega (arith, old_cost, new_cost, has)) c.change_alt.ensures.length (omega (arith, least_long))
-    changed moved (rw (e, c.low-old_low.ensures, c.high-old_high.ensures) at c.in_ok-was.ensures.least) (rw e at c.in_ok-now.ensures.least))
+    rw (c.set.ensures.value, least_back, two_back, zeros_two) (record {
+      listed = c.self.invariant.listed;
+      kept =
+          IsKept-moved s.problem.now s.ranges s.cheapest.items s.cost s.loads s.least.items s.zeros.items k u there c.args.low c.args.high a c.requires.ordered
+          (rw e at c.requires.there) (rw e at c.first_cheapest-alt.ensures.cheapest)
+          (rw c.set.ensures.value at (c.set.ensures.valid s.problem.now k.valid c.requires.ordered (rw e at c.requires.there)))
+          (s.cost - c.alt_cost.result + c.alt_cost-2.result) c.change_alt.new.counts c.move_least.new.least c.in_ok-was.was'.items c.in_ok-now.now.items
+          (omega (arith, old_cost, new_cost, has)) c.change_alt.ensures.length (omega (arith, least_long))
+          changed moved (rw (e, c.low-old_low.ensures, c.high-old_high.ensures) at c.in_ok-was.ensures.least) (rw e at c.in_ok-now.ensures.least);
+    })

@@ -13,16 +13,19 @@ invariant_of-result c =
     let counted : length c.count_least.new.least ≡ resource_count c.args.problem.now =
     omega (arith, ap (λ (xs : List ℕ). length xs) c.deref_mut.ensures.value, c.in_ok-least.ensures.len, c.resources-resources.ensures.count) in
     rw (least_back, zeros_back) (record {
-      valid = c.requires;
-      few_units = c.add_choice-cost.ensures.few;
-      units = c.add_choice-cost.ensures.units;
-      cheapest = c.in_ok-cheapest.ensures.cheapest;
-      choice = c.in_ok-cheapest.ensures.choice;
-      cost_is = rw chosen at c.add_choice-cost.ensures.cost;
-      loads_count = c.add_choice-cost.ensures.count;
-      loads_are = rw chosen at c.add_choice-cost.ensures.loads;
-      least_count = counted;
-      least_are = c.in_ok-count_least.ensures.least;
-      zeros_count = c.in_ok-count_least.ensures.zeros_count;
-      zeros_are = c.in_ok-count_least.ensures.zeros;
+      listed = c.in_ok-passable.ensures;
+      kept = record {
+        valid = c.requires;
+        few_units = c.add_choice-cost.ensures.few;
+        units = c.add_choice-cost.ensures.units;
+        cheapest = c.in_ok-cheapest.ensures.cheapest;
+        choice = c.in_ok-cheapest.ensures.choice;
+        cost_is = rw chosen at c.add_choice-cost.ensures.cost;
+        loads_count = c.add_choice-cost.ensures.count;
+        loads_are = rw chosen at c.add_choice-cost.ensures.loads;
+        least_count = counted;
+        least_are = c.in_ok-count_least.ensures.least;
+        zeros_count = c.in_ok-count_least.ensures.zeros_count;
+        zeros_are = c.in_ok-count_least.ensures.zeros;
+      };
     })
