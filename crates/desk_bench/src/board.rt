@@ -3,7 +3,7 @@ ghost use Rattle.std.specs.Prelude.{◌≡◌, ◌≤◌, ◌^◌, IfOk};
 ghost use Rattle.std.specs.Thread.{IsSync};
 ghost use Rattle.incumbent_word.specs.Seats.{IsSeatOf};
 
-use crate::report::Size;
+use crate::report::{Size, print_row, rate};
 use incumbent_word::{Board, BoardEnd, BoardSeat};
 use slot_text::Memory;
 use std::alloc::Global;
@@ -22,7 +22,8 @@ fn rounds_of(size: Size) -> u32 {
     }
 }
 
-/// Prints what each number of threads drew from one board, and at full size how many operations that is in a second.
+/// Prints what each number of threads drew from one board, and at full size how many operations
+/// that is in a second.
 pub fn run<R: Threads + Sync + Print + Clock>(
     rt: &R,
     alloc: Global,
@@ -32,22 +33,14 @@ pub fn run<R: Threads + Sync + Print + Clock>(
     for threads in THREADS {
         let start = Instant::now(rt)?;
         let end = draw(rt, alloc, threads, rounds)?;
-        let nanos = start.elapsed(rt)?.as_nanos();
-        let BoardEnd {
-            claimed,
-            taken,
-            least,
-        } = end;
-        let least = least.unwrap_or(0);
-        println!(rt;
-            "board: {threads} threads, {claimed} pieces, {taken} numbers, least cost {least}"
-        )?;
-        if size == Size::Full {
-            let rate = (u128::from(rounds) * 4_000_000_000)
-                .checked_div(nanos)
-                .unwrap_or(0);
-            println!(rt; "board: {threads} threads, {rate} operations a second")?;
-        }
+        rate(rt, size, "operations", u64::from(rounds) * 4, start)?;
+        let numbers = [
+            ("threads", u64::from(threads)),
+            ("pieces", u64::from(end.claimed)),
+            ("numbers", u64::from(end.taken)),
+            ("least cost", end.least.unwrap_or(0)),
+        ];
+        print_row(rt, "board", &numbers)?;
     }
     Ok(())
 }

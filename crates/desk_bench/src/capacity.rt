@@ -1,6 +1,7 @@
-//! Reading capacity files of many lines: one that is accepted, and one that is refused once all its lines are read.
+//! Reading capacity files of many lines: one that is accepted, and one that is refused once all its
+//! lines are read.
 
-use crate::report::{Size, rate};
+use crate::report::{Size, print_row, rate};
 use capacity_file::{CapFault, CapLimit, read_capacity};
 use slot_text::Memory;
 use std::alloc::Global;
@@ -20,17 +21,18 @@ const BLANKS: usize = 200;
 // The most bytes of a file that is read.
 const MOST_BYTES: usize = 4_194_304;
 
-/// Prints what is read of a file of 64 capacity lines among many empty ones, and of a file with many capacity lines, each
-/// of about 4 MiB at full size; at full size also how many lines are read in a second.
+/// Prints what is read of a file of 64 capacity lines among many empty ones, and of a file with
+/// many capacity lines, each of about 4 MiB at full size; at full size also how many lines are read
+/// in a second.
 pub fn run(rt: &HostRuntime, alloc: Global, size: Size) -> anyhow::Result<()> {
     let (empty, capacity) = match size {
         Size::Short => (10, 100),
         Size::Full => (20_800, 135_000),
     };
     let text = build(alloc, MOST_ACCEPTED, empty)?;
-    read(rt, alloc, size, "accepted", &text)?;
+    read(rt, alloc, size, "capacity: accepted", &text)?;
     let text = build(alloc, capacity, 0)?;
-    read(rt, alloc, size, "refused", &text)
+    read(rt, alloc, size, "capacity: refused", &text)
 }
 
 // Reads a file, and prints how many lines it has and what is read.
@@ -41,13 +43,17 @@ fn read(
     name: &str,
     text: &[u8],
 ) -> anyhow::Result<()> {
-    let bytes = text.len();
     let lines = count_lines(text);
     let start = Instant::now(rt)?;
     let found = answer(alloc, text)?;
-    rate(rt, size, name, lines, start)?;
-    println!(rt; "capacity: {lines} lines in {bytes} bytes, {name} with {found} capacity lines")?;
-    Ok(())
+    rate(rt, size, "lines read", lines, start)?;
+    let bytes = text.len() as u64;
+    let numbers = [
+        ("lines", lines),
+        ("bytes", bytes),
+        ("capacity lines", found),
+    ];
+    print_row(rt, name, &numbers)
 }
 
 // How many capacity lines a declaration has, or a file that is refused for their number.
@@ -67,8 +73,8 @@ fn answer(alloc: Global, text: &[u8]) -> anyhow::Result<u64> {
     }
 }
 
-fn count_lines(text: &[u8]) -> usize {
-    let mut lines = 0_usize;
+fn count_lines(text: &[u8]) -> u64 {
+    let mut lines = 0_u64;
     for b in text {
         if *b == b'\n' {
             lines = lines.saturating_add(1);

@@ -1,14 +1,13 @@
-//! How fast certificates are checked.
+//! How fast certificates are read, checked and printed.
 
 ghost use Rattle.std.specs.Prelude.{IfOk};
 ghost use Rattle.cert_format.specs.Printable.{IsPrintable};
 
-use crate::report::{Size, step};
-use crate::units::read as read_season;
+use crate::report::{Size, print_row, step};
+use crate::turnarounds::submission;
 use cert_checker::{Verdict, check};
-use cert_format::{CertFault, Certificate, LONGEST_CERT, read_cert};
-use series_model::Submission;
-use slot_text::{Memory, put_number, put_padded};
+use cert_format::{CertFault, Certificate, LONGEST_CERT, print_cert, read_cert};
+use slot_text::{Memory, put_number};
 use std::alloc::Global;
 use std::time::Instant;
 
@@ -67,40 +66,39 @@ fn case_of(leaves: Leaves, units: u32, count: u64) -> Case {
 }
 
 fn one_case(rt: &HostRuntime, alloc: Global, size: Size, case: Case) -> anyhow::Result<()> {
-    let capacity = capacity_text(alloc, case)?;
-    let requests = request_text(alloc, case.units)?;
-    let submission = read_season(alloc, &capacity, &requests)?.ok_or(Memory)?;
+    let (lines, line) = lines_of(case.leaves);
+    let made = submission(alloc, case.units, *b"NNNN", lines, line)?.ok_or(Memory)?;
     let text = text_of(alloc, case)?;
     let start = Instant::now(rt)?;
     let Ok(cert) = read(alloc, &text) else {
-        println!(rt; "checks: not read")?;
-        return Ok(());
+        return print_row(rt, "checks: not read", &[]);
     };
     step(rt, size, "reading", start)?;
     let start = Instant::now(rt)?;
-    let verdict = check(alloc, &submission, &cert)?;
+    let verdict = check(alloc, &made, &cert)?;
     step(rt, size, "checking", start)?;
-    print_verdict(rt, case, text.len(), verdict)
+    print_verdict(rt, case, text.len(), verdict)?;
+    print_again(rt, alloc, size, &text, &cert)
 }
 
+// Prints how large a case is, and which line of its certificate fails, or 0.
 fn print_verdict(
     rt: &HostRuntime,
     case: Case,
     bytes: usize,
     verdict: Verdict,
 ) -> anyhow::Result<()> {
-    let (units, count) = (case.units, case.count);
-    match verdict {
-        Verdict::Yes => {
-            println!(rt; "checks: {units} units, {count} leaves, {bytes} bytes, valid")?;
-        }
-        Verdict::No { line, .. } => {
-            println!(rt;
-                "checks: {units} units, {count} leaves, {bytes} bytes, line {line} fails"
-            )?;
-        }
-    }
-    Ok(())
+    let failing = match verdict {
+        Verdict::Yes => 0,
+        Verdict::No { line, .. } => u64::from(line),
+    };
+    let numbers = [
+        ("units", u64::from(case.units)),
+        ("leaves", case.count),
+        ("bytes", bytes as u64),
+        ("failing line", failing),
+    ];
+    print_row(rt, "checks", &numbers)
 }
 
 // What was read can be checked.
@@ -113,45 +111,30 @@ fn read(alloc: Global, text: &[u8]) -> Result<Certificate, CertFault>
     read_cert(alloc, text)
 }
 
-// Windows of an hour each five minutes that hold all turnarounds, or one window a day that does
-// not hold two movements of each.
-fn capacity_text(alloc: Global, case: Case) -> Result<Vec<u8>, Memory> {
-    let mut text = Vec::new(alloc);
-    text.extend_from_slice(b"AIRPORT ABC\nSEASON S25\nSTEP 5\nFLEX 60\nGROUND 0\nREFUSE NONE\n")?;
-    match case.leaves {
-        Leaves::Served => {
-            for _ in 0..16 {
-                text.extend_from_slice(b"CAP TOT 60 0000 2355 1234567 999\n")?;
-            }
-        }
-        Leaves::Over => text.extend_from_slice(b"CAP TOT 1440 0000 0000 1234567 2\n")?,
-    }
-    Ok(text)
+// Prints a certificate, and whether that is the text that was read.
+fn print_again(
+    rt: &HostRuntime,
+    alloc: Global,
+    size: Size,
+    text: &[u8],
+    cert: &Certificate,
+) -> anyhow::Result<()>
+    requires { IsPrintable cert.now }
+{
+    let start = Instant::now(rt)?;
+    let printed = print_cert(alloc, cert)?;
+    step(rt, size, "printing", start)?;
+    let same = printed.as_slice() == text;
+    print_row(rt, "checks: printed", &[("the same", u64::from(same))])
 }
 
-// A message of new daily turnarounds of two hours, spread over the day.
-fn request_text(alloc: Global, units: u32) -> Result<Vec<u8>, Memory> {
-    let mut text = Vec::new(alloc);
-    text.extend_from_slice(b"SCR\nS25\n20NOV\nABC\n")?;
-    for number in 0..units {
-        put_request(alloc, &mut text, u64::from(number))?;
+// How many capacity lines: windows of an hour each five minutes that hold all turnarounds, or one
+// window a day that does not hold two movements of each.
+fn lines_of(leaves: Leaves) -> (u32, &'static [u8]) {
+    match leaves {
+        Leaves::Served => (16, b"CAP TOT 60 0000 2355 1234567 999\n"),
+        Leaves::Over => (1, b"CAP TOT 1440 0000 0000 1234567 2\n"),
     }
-    Ok(text)
-}
-
-fn put_request(alloc: Global, text: &mut Vec<u8>, number: u64) -> Result<(), Memory> {
-    let hour = 4 + number % 15;
-    let minute = 5 * (number % 12);
-    text.extend_from_slice(b"NBA")?;
-    put_padded(alloc, text, number % 10_000, 4)?;
-    text.extend_from_slice(b" BA")?;
-    put_padded(alloc, text, number % 10_000, 4)?;
-    text.extend_from_slice(b" 30MAR25OCT 1234567 180320 JFK")?;
-    put_padded(alloc, text, hour * 100 + minute, 4)?;
-    text.extend_from_slice(b" ")?;
-    put_padded(alloc, text, (hour + 2) * 100 + minute, 4)?;
-    text.extend_from_slice(b"JFK JJ\n")?;
-    Ok(())
 }
 
 // The certificate of a case: nobody stands in the first three stages.

@@ -1,59 +1,103 @@
-//! Benchmarks of the desk's slow steps. `desk_bench WORD` runs the one that the word names at full size, and prints counts,
-//! times and memory; `desk_bench short` runs all of them at a small size and prints counts alone.
+//! Benchmarks of the desk's slow steps. `desk_bench WORD` runs the one that the word names at full
+//! size, and prints counts, times and memory; `desk_bench short` runs all of them at a small size
+//! and prints counts alone.
 #![tactic(auto)]
 
 mod board;
 mod bounds;
 mod capacity;
-mod certificates;
 mod checks;
-mod generated;
 mod messages;
-mod prices;
+mod reductions;
 mod report;
+mod searches;
 mod seasons;
 mod stages;
+mod texts;
 mod turn;
-mod units;
+mod turnarounds;
 mod walks;
 
-use report::Size;
+use report::{Size, memory};
+use std::alloc::Global;
 use std::env;
+use std::io::Print;
+use std::rt::Files;
+use std::sync::Wait;
+use std::thread::Threads;
+use std::time::Clock;
+
+// The words of benchmarks without threads, in the order in which `short` runs them.
+const WORDS: [&str; 7] = [
+    "messages",
+    "capacity",
+    "stages",
+    "reductions",
+    "bounds",
+    "walks",
+    "checks",
+];
+
+// The words of those with threads, in this order after the others.
+const THREAD_WORDS: [&str; 5] = ["board", "turn", "searches", "seasons", "mixed"];
 
 fn main(rt: HostRuntime) -> anyhow::Result<()> {
-    let word = env::args(&rt)?.nth(1);
-    match word.as_deref() {
-        Some("bounds") => bounds::run(&rt, Size::Full),
-        Some("certificates") => certificates::run(&rt, Size::Full),
-        Some("checks") => checks::run(&rt, rt.alloc(), Size::Full),
-        Some("board") => board::run(&rt, rt.alloc(), Size::Full),
-        Some("turn") => turn::run(&rt, rt.alloc(), Size::Full),
-        Some("messages") => messages::run(&rt, rt.alloc(), Size::Full),
-        Some("capacity") => capacity::run(&rt, rt.alloc(), Size::Full),
-        Some("units") => units::run(&rt, rt.alloc(), Size::Full),
-        Some("stages") => stages::run(&rt, rt.alloc(), Size::Full),
-        Some("prices") => prices::run(&rt, rt.alloc(), Size::Full),
-        Some("seasons") => seasons::run(&rt, rt.alloc(), Size::Full),
-        Some("walks") => walks::run(&rt, rt.alloc(), Size::Full),
-        Some("short") => {
-            bounds::run(&rt, Size::Short)?;
-            certificates::run(&rt, Size::Short)?;
-            checks::run(&rt, rt.alloc(), Size::Short)?;
-            board::run(&rt, rt.alloc(), Size::Short)?;
-            turn::run(&rt, rt.alloc(), Size::Short)?;
-            messages::run(&rt, rt.alloc(), Size::Short)?;
-            capacity::run(&rt, rt.alloc(), Size::Short)?;
-            units::run(&rt, rt.alloc(), Size::Short)?;
-            stages::run(&rt, rt.alloc(), Size::Short)?;
-            prices::run(&rt, rt.alloc(), Size::Short)?;
-            seasons::run(&rt, rt.alloc(), Size::Short)?;
-            walks::run(&rt, rt.alloc(), Size::Short)
+    let alloc = rt.alloc();
+    let mut names = Vec::new(alloc);
+    for word in env::args(&rt)?.skip(1) {
+        names.push(word)?;
+    }
+    let word = names.first().map_or("", |word| word.as_str());
+    if word == "short" {
+        run_all(&rt)?;
+        for word in THREAD_WORDS {
+            run_threads(&rt, alloc, word, &names, Size::Short)?;
         }
-        _ => {
-            println!(rt;
-                "desk_bench WORD: bounds, certificates, checks, board, turn, messages, capacity, units, stages, prices, seasons, walks, short"
-            )?;
-            Ok(())
-        }
+        return Ok(());
+    }
+    run_one(&rt, word, Size::Full)?;
+    run_threads(&rt, alloc, word, &names, Size::Full)?;
+    memory(&rt)
+}
+
+// Runs each benchmark without threads at a small size.
+fn run_all(rt: &HostRuntime) -> anyhow::Result<()> {
+    for word in WORDS {
+        run_one(rt, word, Size::Short)?;
+    }
+    Ok(())
+}
+
+// Runs the benchmark without threads that a word names, if it names one.
+fn run_one(rt: &HostRuntime, word: &str, size: Size) -> anyhow::Result<()> {
+    let alloc = rt.alloc();
+    match word {
+        "messages" => messages::run(rt, alloc, size),
+        "capacity" => capacity::run(rt, alloc, size),
+        "stages" => stages::run(rt, alloc, size),
+        "reductions" => reductions::run(rt, alloc, size),
+        "bounds" => bounds::run(rt, alloc, size),
+        "walks" => walks::run(rt, alloc, size),
+        "checks" => checks::run(rt, alloc, size),
+        _ => Ok(()),
+    }
+}
+
+// Runs the benchmark with threads that a word names, if it names one. The first of the words of the
+// command line is its own; those after it are numbers or files.
+fn run_threads<R: Threads + Wait + Sync + Print + Clock + Files>(
+    rt: &R,
+    alloc: Global,
+    word: &str,
+    words: &[String],
+    size: Size,
+) -> anyhow::Result<()> {
+    match word {
+        "board" => board::run(rt, alloc, size),
+        "turn" => turn::run(rt, alloc, size),
+        "searches" => searches::run(rt, alloc, size),
+        "seasons" => seasons::generated(rt, alloc, size, words),
+        "mixed" => seasons::mixed(rt, alloc, size, words),
+        _ => Ok(()),
     }
 }

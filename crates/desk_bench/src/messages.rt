@@ -1,6 +1,6 @@
 //! Reading and printing the lines of slot clearance messages.
 
-use crate::report::{Size, rate};
+use crate::report::{Size, print_row, rate};
 use scr_reader::{Item, Line, MessageList, print_line, read_all};
 use season_days::Season;
 use slot_text::Memory;
@@ -28,21 +28,25 @@ fn threes_of(size: Size) -> usize {
     }
 }
 
-/// Prints how many lines are read from a text, which at full size has about 4 MiB, and how many bytes their printed
-/// spellings have; at full size also how many lines are read and how many are printed in a second.
+/// Prints how many lines are read from a text, which at full size has about 4 MiB, and how many
+/// bytes their printed spellings have; at full size also how many lines are read and how many are
+/// printed in a second.
 pub fn run(rt: &HostRuntime, alloc: Global, size: Size) -> anyhow::Result<()> {
     let text = build(alloc, threes_of(size))?;
     let start = Instant::now(rt)?;
     let messages = read(alloc, &text).ok_or(Memory)?;
     let lines = count(&messages);
-    rate(rt, size, "reading", lines, start)?;
-    let bytes = text.len();
-    println!(rt; "messages: {lines} lines in {bytes} bytes")?;
+    rate(rt, size, "lines read", lines, start)?;
     let start = Instant::now(rt)?;
-    let printed = print_all(alloc, &messages)?.len();
-    rate(rt, size, "printing", lines, start)?;
-    println!(rt; "messages: {printed} bytes printed")?;
-    Ok(())
+    let printed = print_all(alloc, &messages)?.len() as u64;
+    rate(rt, size, "lines printed", lines, start)?;
+    let bytes = text.len() as u64;
+    let numbers = [
+        ("lines", lines),
+        ("bytes", bytes),
+        ("printed bytes", printed),
+    ];
+    print_row(rt, "messages", &numbers)
 }
 
 // A message with so many times three lines.
@@ -76,10 +80,10 @@ fn read(alloc: Global, text: &[u8]) -> Option<MessageList> {
 }
 
 // How many items all messages have.
-fn count(messages: &MessageList) -> usize {
-    let mut items = 0_usize;
+fn count(messages: &MessageList) -> u64 {
+    let mut items = 0_u64;
     for message in messages.items() {
-        items = items.saturating_add(message.items.items().len());
+        items = items.saturating_add(message.items.items().len() as u64);
     }
     items
 }

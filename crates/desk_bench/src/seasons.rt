@@ -1,308 +1,148 @@
-//! Stages of generated seasons as plain problems: how near their bounds come to the choices that are found.
+//! Whole runs of seasons: of files, and of generated seasons.
 
-ghost use Rattle.std.specs.Prelude.{IfOk, IfSome, option_copied};
-ghost use Rattle.std.specs.Option.{ForSome};
-ghost use Rattle.choice_problem.specs.Choices.{IsChoice, IsFeasible};
-ghost use Rattle.choice_problem.specs.Bounds.{AreRanges, IsVector};
-
-use crate::generated::{capacity_text, request_text};
-use crate::report::{Size, step};
-use crate::units::{chooser, read};
-use branch_tree::greedy;
-use choice_problem::{Choice, Problem, Ranges, Vector, cost_of};
-use dual_bound::{floor_of, infeasibility_vector, polished_vector, root_vector};
-use improved_choice::improved_choice;
-use price_table::{bound, price_table};
-use series_model::{Group, Submission};
+use crate::report::{Size, print_row, step};
+use crate::texts::{MOST_BYTES, submission_of};
+use cert_checker::{Verdict, check};
+use cert_format::StageCert;
+use choice_problem::Node;
+use desk_outside::{Cabinet, RealCabinet, RealGate};
+use season_maker::make_season;
+use season_run::run_season;
+use series_model::Submission;
 use slot_text::Memory;
 use std::alloc::Global;
-use std::time::Instant;
+use std::io::Print;
+use std::rt::Files;
+use std::thread::Threads;
+use std::time::{Clock, Instant};
 
-// How many steps the second of two polished vectors takes; the first takes half of them.
-fn steps_of(size: Size) -> u32 {
-    match size {
-        Size::Short => 300,
-        Size::Full => 2_000,
-    }
-}
-
-/// Prints for the stages of new entrants and of all other new requests of generated seasons, once with a price of refusals
-/// and once without any, how many units there are, the greedy cost and that of an improved choice, the floors that the root
-/// vector and two polished ones give, and whether a floor reaches the cost; or that no choice fits.
-pub fn run(rt: &HostRuntime, alloc: Global, size: Size) -> anyhow::Result<()> {
-    match size {
-        Size::Short => season(rt, alloc, size, 28),
-        Size::Full => {
-            season(rt, alloc, size, 200)?;
-            season(rt, alloc, size, 400)
-        }
-    }
-}
-
-// Both stages of the season of so many units, with refusals and without.
-fn season(rt: &HostRuntime, alloc: Global, size: Size, units: u32) -> anyhow::Result<()> {
-    let requests = request_text(alloc, units)?;
-    for refuse in ["60", "NONE"] {
-        println!(rt; "seasons: {units} units, REFUSE {refuse}")?;
-        let capacity = capacity_text(alloc, units, refuse.as_bytes())?;
-        let made = read(alloc, &capacity, &requests)?.ok_or(Memory)?;
-        stages(rt, alloc, size, &made)?;
-    }
-    Ok(())
-}
-
-// Both stages, after the historic series have their slots.
-fn stages(rt: &HostRuntime, alloc: Global, size: Size, made: &Submission) -> anyhow::Result<()> {
-    let declared = declared_limits(alloc, made)?;
-    let historic = stage(alloc, made, &members_of(alloc, made, Group::F)?, &declared)?;
-    let historic = historic.ok_or(Memory)?;
-    let held = greedy(alloc, &historic)?.ok_or(Memory)?;
-    let rest = less_loads(alloc, &declared, &historic, &held)?;
-    let pool = pool_of(alloc, &rest, made.declaration().share)?;
-    let entrants = stage(alloc, made, &members_of(alloc, made, Group::B)?, &pool)?;
-    let entrants = entrants.ok_or(Memory)?;
-    let chosen = study(rt, alloc, size, "new entrants", &entrants)?;
-    let open = open_members(alloc, made, &entrants, chosen.as_ref())?;
-    let rest = match &chosen {
-        Some(choice) => less_loads(alloc, &rest, &entrants, choice)?,
-        None => rest,
-    };
-    let others = stage(alloc, made, &open, &rest)?.ok_or(Memory)?;
-    study(rt, alloc, size, "all others", &others)?;
-    Ok(())
-}
-
-// The declared limits.
-fn declared_limits(alloc: Global, made: &Submission) -> Result<Vec<i64>, Memory> {
-    let windows = made.windows();
-    let mut limits = Vec::new(alloc);
-    for resource in 0..windows.resources() {
-        limits.push(i64::from(windows.limit(resource)))?;
-    }
-    Ok(limits)
-}
-
-// The limits less what a choice uses.
-fn less_loads(
-    alloc: Global,
-    limits: &[i64],
-    problem: &Problem,
-    choice: &Choice,
-) -> Result<Vec<i64>, Memory>
-    requires { IsChoice problem.now choice.now }
-{
-    let mut rest = Vec::new(alloc);
-    for (resource, limit) in (0..problem.resources()).zip(limits) {
-        rest.push(limit.saturating_sub(load(problem, choice, resource)))?;
-    }
-    Ok(rest)
-}
-
-// How often a choice uses a resource.
-fn load(problem: &Problem, choice: &Choice, resource: u32) -> i64
-    requires { IsChoice problem.now choice.now }
-{
-    let mut load = 0_i64;
-    for unit in 0..problem.units() {
-        load = load.saturating_add(i64::from(problem.uses(unit, choice.alt(unit), resource)));
-    }
-    load
-}
-
-// So many per cent of what is left, rounded up: what new entrants may have first.
-fn pool_of(alloc: Global, rest: &[i64], share: u32) -> Result<Vec<i64>, Memory> {
-    let mut pool = Vec::new(alloc);
-    for limit in rest {
-        let hundredfold = limit.saturating_mul(i64::from(share));
-        pool.push(hundredfold.saturating_add(99) / 100)?;
-    }
-    Ok(pool)
-}
-
-// Which units are of a group.
-fn members_of(alloc: Global, made: &Submission, group: Group) -> Result<Vec<bool>, Memory> {
-    let mut members = Vec::new(alloc);
-    for unit in made.units() {
-        members.push(unit.group == group)?;
-    }
-    Ok(members)
-}
-
-// Which units are new requests that new entrants do not have, or that a choice for new entrants refuses; all of these
-// where there is no choice.
-fn open_members(
-    alloc: Global,
-    made: &Submission,
-    entrants: &Problem,
-    choice: Option<&Choice>,
-) -> Result<Vec<bool>, Memory> {
-    let mut members = Vec::new(alloc);
-    let mut entrant = 0_u32;
-    for unit in made.units() {
-        match unit.group {
-            Group::N => members.push(true)?,
-            Group::B => {
-                members.push(is_refused(entrants, choice, entrant))?;
-                entrant = entrant.saturating_add(1);
-            }
-            _ => members.push(false)?,
-        }
-    }
-    Ok(members)
-}
-
-// Whether a choice gives a unit no slots, or there is no choice.
-fn is_refused(problem: &Problem, choice: Option<&Choice>, unit: u32) -> bool {
-    let Some(choice) = choice else {
-        return true;
-    };
-    let Some(chosen) = choice.items().get(unit as usize) else {
-        return false;
-    };
-    if unit >= problem.units() {
-        return false;
-    }
-    match problem.unit_alts(unit).get(*chosen as usize) {
-        Some(alt) => alt.one.is_none() && alt.two.is_none(),
-        None => false,
-    }
-}
-
-// The problem of the members of a stage, unless it passes a limit.
-fn stage(
-    alloc: Global,
-    made: &Submission,
-    members: &[bool],
-    limits: &[i64],
-) -> Result<Option<Problem>, Memory> {
-    let mut members = members.iter();
-    let mut units = Vec::new(alloc);
-    for unit in made.units() {
-        if let Some(true) = members.next() {
-            units.push(chooser(alloc, made, unit)?)?;
-        }
-    }
-    let limits = Vec::from_slice(alloc, limits)?;
-    if Problem::allows(&units, &limits) {
-        Ok(Some(Problem::new(units, limits)))
-    } else {
-        Ok(None)
-    }
-}
-
-// Bounds and choices of a stage; answers the best choice that was found.
-fn study(
-    rt: &HostRuntime,
+/// Runs the seasons of files, which the words after the first one name: a capacity file and a file
+/// of requests each.
+pub fn mixed<R: Threads + Sync + Print + Clock + Files>(
+    rt: &R,
     alloc: Global,
     size: Size,
-    name: &str,
-    problem: &Problem,
-) -> anyhow::Result<Option<Choice>>
-    ensures { IfOk result (λ found. IfSome found (IsFeasible problem.now)) }
-{
-    let ranges = Ranges::whole(alloc, problem)?;
-    let units = problem.units();
-    println!(rt; "seasons: {name}, {units} units")?;
-    let start = Instant::now(rt)?;
-    let first = greedy(alloc, problem)?;
-    step(rt, size, "greedy", start)?;
-    if first.is_none() && is_empty(rt, alloc, size, problem, &ranges)? {
+    words: &[String],
+) -> anyhow::Result<()> {
+    for place in 1..words.len() {
+        if place % 2 == 1 && place + 1 < words.len() {
+            let season = season_of_files(rt, alloc, &words[place], &words[place + 1])?;
+            try_season(rt, alloc, size, &words[place], &season)?;
+        }
+    }
+    Ok(())
+}
+
+// The season of two files, unless one of them cannot be read or has a fault.
+fn season_of_files<R: Files>(
+    rt: &R,
+    alloc: Global,
+    capacity: &str,
+    requests: &str,
+) -> Result<Option<Submission>, Memory> {
+    let mut cabinet = RealCabinet::new(rt);
+    let Ok(capacity) = cabinet.read(alloc, capacity, MOST_BYTES) else {
         return Ok(None);
+    };
+    let Ok(requests) = cabinet.read(alloc, requests, MOST_BYTES) else {
+        return Ok(None);
+    };
+    submission_of(alloc, &capacity, &requests)
+}
+
+// The number and the units of a generated season, where the words do not say them.
+const USUAL: (u32, u32) = (7, 200);
+
+// The most units of a season.
+const MOST_UNITS: u32 = 4_096;
+
+/// Runs a generated season. The two words after the first one are its number and its units.
+pub fn generated<R: Threads + Sync + Print + Clock>(
+    rt: &R,
+    alloc: Global,
+    size: Size,
+    words: &[String],
+) -> anyhow::Result<()> {
+    let (number, units) = match size {
+        Size::Short => (7, 12),
+        Size::Full => (number_at(words, 1, USUAL.0), number_at(words, 2, USUAL.1)),
+    };
+    let (capacity, requests) = make_season(alloc, number, units.min(MOST_UNITS))?;
+    let season = submission_of(alloc, &capacity, &requests)?;
+    try_season(rt, alloc, size, "generated", &season)
+}
+
+// The number that a word is, or the usual one.
+fn number_at(words: &[String], place: usize, usual: u32) -> u32 {
+    if place < words.len() {
+        words[place].parse::<u32>().unwrap_or(usual)
+    } else {
+        usual
     }
-    let start = Instant::now(rt)?;
-    let root = root_vector(alloc, problem)?;
-    step(rt, size, "root_vector", start)?;
-    judge(
-        rt,
-        alloc,
-        "greedy, root vector",
-        problem,
-        &ranges,
-        first.as_ref(),
-        &root,
-    )?;
-    let steps = steps_of(size);
-    let better = improve(rt, alloc, size, problem, &ranges, first.as_ref(), steps / 2)?;
-    improve(rt, alloc, size, problem, &ranges, better.as_ref(), steps)
 }
 
-// Polishes a vector by so many steps, and improves a choice by it; answers the choice that was found.
-fn improve(
-    rt: &HostRuntime,
+// Runs a season, if there is one, and checks its certificate.
+fn try_season<R: Threads + Sync + Print + Clock>(
+    rt: &R,
     alloc: Global,
     size: Size,
-    problem: &Problem,
-    ranges: &Ranges,
-    first: Option<&Choice>,
-    steps: u32,
-) -> anyhow::Result<Option<Choice>>
-    requires ranges { AreRanges problem.now ranges.now }
-    requires first { ForSome (option_copied first) (IsFeasible problem.now) }
-    ensures { IfOk result (λ found. IfSome found (IsFeasible problem.now)) }
-{
-    let start = Instant::now(rt)?;
-    let polished = polished_vector(alloc, problem, ranges, steps)?;
-    step(rt, size, "polished_vector", start)?;
-    let start = Instant::now(rt)?;
-    let better = improved_choice(alloc, problem, first, &polished)?;
-    step(rt, size, "improved_choice", start)?;
-    judge(
-        rt,
-        alloc,
-        "improved, polished vector",
-        problem,
-        ranges,
-        better.as_ref(),
-        &polished,
-    )?;
-    Ok(better)
-}
-
-// Whether an infeasibility vector shows that no choice fits.
-fn is_empty(
-    rt: &HostRuntime,
-    alloc: Global,
-    size: Size,
-    problem: &Problem,
-    ranges: &Ranges,
-) -> anyhow::Result<bool>
-    requires { AreRanges problem.now ranges.now }
-{
-    let start = Instant::now(rt)?;
-    let prices = infeasibility_vector(alloc, problem, ranges, 100)?;
-    step(rt, size, "infeasibility_vector", start)?;
-    let table = price_table(alloc, problem, &prices)?;
-    let empty = bound(problem, ranges, &table, 0) > 0;
-    println!(rt; "seasons: no greedy choice; nothing fits by prices alone: {empty}")?;
-    Ok(empty)
-}
-
-// Prints the cost of a choice, the floor that a vector gives, and whether it reaches the cost.
-fn judge(
-    rt: &HostRuntime,
-    alloc: Global,
     name: &str,
-    problem: &Problem,
-    ranges: &Ranges,
-    choice: Option<&Choice>,
-    vector: &Vector,
-) -> anyhow::Result<()>
-    requires ranges { AreRanges problem.now ranges.now }
-    requires choice { ForSome (option_copied choice) (IsFeasible problem.now) }
-    requires vector { IsVector problem.now vector.now }
-{
-    let tables = [price_table(alloc, problem, vector)?];
-    let floor = floor_of(problem, ranges, &tables).cost;
-    let prices = vector.items().len();
-    match choice {
-        Some(choice) => {
-            let cost = cost_of(problem, choice);
-            let closed = floor >= cost;
-            println!(rt;
-                "seasons: {name}: cost {cost}, {prices} prices, floor {floor}, closed: {closed}"
-            )?;
-        }
-        None => println!(rt; "seasons: {name}: no choice, {prices} prices, floor {floor}")?,
+    season: &Option<Submission>,
+) -> anyhow::Result<()> {
+    match season {
+        Some(season) => run_and_check(rt, alloc, size, name, season),
+        None => print_row(rt, "no season", &[]),
+    }
+}
+
+// Runs a season with the budget and the workers that the desk takes where its words name none; at
+// the small size with fewer. Prints its stages and the verdict on its certificate.
+fn run_and_check<R: Threads + Sync + Print + Clock>(
+    rt: &R,
+    alloc: Global,
+    size: Size,
+    name: &str,
+    season: &Submission,
+) -> anyhow::Result<()> {
+    let (budget, workers) = match size {
+        Size::Short => (10_000, 1),
+        Size::Full => (100_000, 4),
+    };
+    println!(rt; "{name}: {} units", season.units().len())?;
+    let start = Instant::now(rt)?;
+    let cert = run_season(rt, alloc, season, budget, workers, &RealGate)?;
+    step(rt, size, "run", start)?;
+    print_stages(rt, cert.stages.items())?;
+    let start = Instant::now(rt)?;
+    let valid = check(alloc, season, &cert)? == Verdict::Yes;
+    step(rt, size, "check", start)?;
+    println!(rt; "{name}: valid {valid}")?;
+    Ok(())
+}
+
+// Prints the mark of each stage, its cost, how many nodes its tree has, and how many vectors there
+// are.
+fn print_stages<R: Print>(rt: &R, stages: &[StageCert]) -> anyhow::Result<()> {
+    for (place, stage) in stages.iter().enumerate() {
+        let mark = stage.mark;
+        let cost = stage.cost.unwrap_or(0);
+        let nodes = count_visited(stage.tree.items());
+        let vectors = stage.vectors.items().len();
+        println!(rt;
+            "  stage {}: {mark:?}, cost {cost}, nodes {nodes}, vectors {vectors}",
+            place + 1
+        )?;
     }
     Ok(())
+}
+
+/// How many nodes are not undone.
+pub fn count_visited(nodes: &[Node]) -> u64 {
+    let mut count = 0_u64;
+    for node in nodes {
+        if *node != Node::Undone {
+            count = count.saturating_add(1);
+        }
+    }
+    count
 }

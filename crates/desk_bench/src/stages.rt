@@ -3,8 +3,8 @@
 ghost use Rattle.std.specs.Prelude.{IfOk};
 ghost use Rattle.wasg_stages.specs.StageProblems.{AreStates};
 
-use crate::report::{Size, step};
-use crate::units::{scale_of, submission};
+use crate::report::{Size, print_row, step};
+use crate::turnarounds::{busy_line, submission};
 use choice_problem::{Choice, Problem};
 use series_model::{Submission, UnitState};
 use slot_text::Memory;
@@ -12,33 +12,58 @@ use std::alloc::Global;
 use std::time::Instant;
 use wasg_stages::{after_stage, problem_after, states_of};
 
-/// Makes the problems of the four stages of a season of daily turnarounds, one after the other, where each unit gets its first
-/// alternative: once of new requests alone, and once of historic ones, new entrants and other new requests. Prints how many
-/// units, alternatives and parts each problem has.
+// How many daily turnarounds, and how many capacity lines.
+fn scale_of(size: Size) -> (u32, u32) {
+    match size {
+        Size::Short => (10, 2),
+        Size::Full => (500, 16),
+    }
+}
+
+/// The problem of stage 4 of so many turnarounds under so many of these capacity lines, where no
+/// unit got anything before.
+pub fn last_problem(
+    alloc: Global,
+    units: u32,
+    codes: [u8; 4],
+    lines: u32,
+    line: &[u8],
+) -> Result<Problem, Memory> {
+    let made = submission(alloc, units, codes, lines, line)?.ok_or(Memory)?;
+    let states = states_of(alloc, &made)?;
+    problem_after(alloc, &made, 4, &states)
+}
+
+/// The problem of a season of new requests: 625 alternatives a unit, which name 50 parts.
+pub fn new_requests(alloc: Global, size: Size) -> Result<Problem, Memory> {
+    let (units, lines) = scale_of(size);
+    last_problem(alloc, units, *b"NNNN", lines, busy_line(size))
+}
+
+/// Makes the problems of the four stages of a season of daily turnarounds, one after the other,
+/// where each unit gets its first alternative: once of new requests alone, and once of historic
+/// ones, new entrants and other new requests. Prints how many units, alternatives and parts each
+/// problem has.
 pub fn run(rt: &HostRuntime, alloc: Global, size: Size) -> anyhow::Result<()> {
     season(rt, alloc, size, *b"NNNN")?;
     season(rt, alloc, size, *b"FBNN")
 }
 
-// The stages of a season whose turnarounds have these action codes in turn.
 fn season(rt: &HostRuntime, alloc: Global, size: Size, codes: [u8; 4]) -> anyhow::Result<()> {
-    let (units, rules) = scale_of(size);
-    let made = submission(alloc, units, rules, codes)?.ok_or(Memory)?;
+    let (units, lines) = scale_of(size);
     let start = Instant::now(rt)?;
-    four_stages(rt, alloc, size, &made)?;
+    let made = submission(alloc, units, codes, lines, busy_line(size))?.ok_or(Memory)?;
+    step(rt, size, "reading", start)?;
+    let start = Instant::now(rt)?;
+    four_stages(rt, alloc, &made)?;
     step(rt, size, "four stages", start)
 }
 
 // The stages of a submission, one after the other.
-fn four_stages(
-    rt: &HostRuntime,
-    alloc: Global,
-    size: Size,
-    made: &Submission,
-) -> anyhow::Result<()> {
+fn four_stages(rt: &HostRuntime, alloc: Global, made: &Submission) -> anyhow::Result<()> {
     let mut states = states_of(alloc, made)?;
     for stage in 1..5 {
-        states = one_stage(rt, alloc, size, made, stage, states)?;
+        states = one_stage(rt, alloc, made, stage, states)?;
     }
     Ok(())
 }
@@ -47,7 +72,6 @@ fn four_stages(
 fn one_stage(
     rt: &HostRuntime,
     alloc: Global,
-    size: Size,
     made: &Submission,
     stage: u32,
     states: Vec<UnitState>,
@@ -55,30 +79,31 @@ fn one_stage(
     requires { AreStates made.now states.items }
     ensures { IfOk result (λ after. AreStates made.now after.items) }
 {
-    let start = Instant::now(rt)?;
     let problem = problem_after(alloc, made, stage, &states)?;
-    step(rt, size, "problem", start)?;
-    let (units, resources) = (problem.units(), problem.resources());
-    let (alts, parts) = counts(&problem);
-    println!(rt;
-        "stages: stage {stage}, {units} units, {alts} alternatives, {parts} parts, {resources} resources"
-    )?;
+    print_counts(rt, stage, &problem)?;
     let choice = Some(first_alternatives(alloc, &problem)?);
     Ok(after_stage(alloc, made, stage, states, &choice)?)
 }
 
-// How many alternatives and parts the units of a problem have together.
-fn counts(problem: &Problem) -> (usize, usize) {
-    let mut alts = 0_usize;
-    let mut parts = 0_usize;
+// Prints how many units, alternatives and parts a problem has.
+fn print_counts(rt: &HostRuntime, stage: u32, problem: &Problem) -> anyhow::Result<()> {
+    let mut alts = 0_u64;
+    let mut parts = 0_u64;
     for unit in 0..problem.units() {
-        alts = alts.saturating_add(problem.unit_alts(unit).len());
-        parts = parts.saturating_add(problem.unit_parts(unit).len());
+        alts = alts.saturating_add(u64::from(problem.alts(unit)));
+        parts = parts.saturating_add(u64::from(problem.parts(unit)));
     }
-    (alts, parts)
+    let numbers = [
+        ("stage", u64::from(stage)),
+        ("units", u64::from(problem.units())),
+        ("alternatives", alts),
+        ("parts", parts),
+        ("resources", u64::from(problem.resources())),
+    ];
+    print_row(rt, "stages", &numbers)
 }
 
-// The first alternative of each unit.
-fn first_alternatives(alloc: Global, problem: &Problem) -> Result<Choice, Memory> {
+/// The first alternative of each unit.
+pub fn first_alternatives(alloc: Global, problem: &Problem) -> Result<Choice, Memory> {
     Ok(Choice::new(vec![in alloc; 0; problem.units() as usize]?))
 }

@@ -2,7 +2,7 @@
 ghost use Rattle.std.specs.Prelude.{◌≡◌, ◌<◌, All};
 ghost use Rattle.turn_lock.specs.Seats.{IsAtRest};
 
-use crate::report::Size;
+use crate::report::{Size, print_row, rate};
 use slot_text::Memory;
 use std::alloc::Global;
 use std::io::Print;
@@ -39,8 +39,8 @@ impl Story for Visits {
     }
 }
 
-/// Adds entries by 1, 2, 4 and 8 threads over one turn, and prints how many there are; at full size also how many takes and gives
-/// that is in a second.
+/// Adds entries by 1, 2, 4 and 8 threads over one turn, and prints how many there are; at full size
+/// also how many takes and gives that is in a second.
 pub fn run<R: Threads + Wait + Sync + Print + Clock>(
     rt: &R,
     alloc: Global,
@@ -53,13 +53,10 @@ pub fn run<R: Threads + Wait + Sync + Print + Clock>(
     for threads in THREADS {
         let start = Instant::now(rt)?;
         let visits = visits_by(rt, alloc, threads, entries)?;
-        let nanos = start.elapsed(rt)?.as_nanos();
         let made = visits.length();
-        println!(rt; "turn: {threads} threads, {made} entries")?;
-        if size == Size::Full {
-            let rate = (u128::from(made) * 1_000_000_000).checked_div(nanos);
-            println!(rt; "  {} a second", rate.unwrap_or(0))?;
-        }
+        rate(rt, size, "entries", made, start)?;
+        let numbers = [("threads", u64::from(threads)), ("entries", made)];
+        print_row(rt, "turn", &numbers)?;
     }
     Ok(())
 }

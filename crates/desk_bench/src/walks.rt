@@ -3,23 +3,23 @@
 ghost use Rattle.std.specs.Prelude.{◌≡◌};
 ghost use Rattle.price_table.specs.Tables.{IsTableFor};
 
-use crate::bounds;
-use crate::report::{Size, step};
+use crate::bounds::spread_prices;
+use crate::report::{Size, print_row, step};
+use crate::stages::new_requests;
 use branch_tree::{Visit, Walk};
-use choice_problem::{Price, Problem, Ranges, Vector};
+use choice_problem::{Problem, Ranges};
 use price_table::{PriceTable, price_table};
 use slot_text::Memory;
 use std::alloc::Global;
 use std::time::Instant;
 
-/// Makes a walk at the whole ranges of the problem of `bounds`, visits them, narrows each unit's range step by step, and
-/// prints the answers of the visits.
+/// Makes a walk at the whole ranges of the problem of a season of new requests, visits them,
+/// narrows each unit's range step by step, and prints the answers of the visits.
 pub fn run(rt: &HostRuntime, alloc: Global, size: Size) -> anyhow::Result<()> {
-    let problem = bounds::problem(alloc, size)?.ok_or(Memory)?;
-    let vector = prices(alloc, &problem)?;
+    let problem = new_requests(alloc, size)?;
+    let vector = spread_prices(alloc, &problem, problem.resources() / 100)?;
     if !vector.is_for(&problem) {
-        println!(rt; "walks: no vector")?;
-        return Ok(());
+        return print_row(rt, "walks: no vector", &[]);
     }
     let table = price_table(alloc, &problem, &vector)?;
     let ranges = Ranges::whole(alloc, &problem)?;
@@ -83,7 +83,8 @@ fn narrow(
     Ok(())
 }
 
-// Visits the walk's ranges where a high cost was seen, so that each vector is asked, and prints the answer.
+// Visits the walk's ranges where a high cost was seen, so that each vector is asked, and prints the
+// answer.
 fn visit(
     rt: &HostRuntime,
     alloc: Global,
@@ -104,16 +105,4 @@ fn visit(
         Visit::Split { unit, cut } => println!(rt; "walks: split of unit {unit} at {cut}")?,
     }
     Ok(())
-}
-
-// A price of 100 on each hundredth resource.
-fn prices(alloc: Global, problem: &Problem) -> Result<Vector, Memory> {
-    let mut prices = Vec::new(alloc);
-    for number in 0..problem.resources() / 100 {
-        prices.push(Price {
-            resource: number.wrapping_mul(100),
-            price: 100,
-        })?;
-    }
-    Ok(Vector::new(prices))
 }

@@ -3,9 +3,9 @@
 ghost use Rattle.choice_problem.specs.Bounds.{AreRanges};
 
 use crate::problems::{problem, ranges, table, table_of, vector};
-use crate::texts::{halves, piece, seen};
+use crate::texts::{Case, piece, seen, walk};
 use choice_problem::{PRICED_SCALE, Problem, Ranges, SCALE_BOUND, Vector, leaf_closes};
-use dual_bound::{floor_of, infeasibility_vector, node_vector, polished_vector, root_vector};
+use dual_bound::{floor_of, node_vector, root_vector};
 use price_table::{Totals, bound, closes};
 use std::alloc::Global;
 use std::test::Fail;
@@ -55,33 +55,31 @@ fn add_bound(
     Ok(())
 }
 
-// The vector that a row asks for: the one of its ranges, or of the problem, or one of so many steps, or its own.
+// The vector that a row asks for: the one of its ranges, or of the problem, or its own.
 fn asked(alloc: Global, problem: &Problem, ranges: &Ranges, text: &str) -> Result<Vector, Fail>
     requires { AreRanges problem.now ranges.now }
 {
     match text {
         "node" => Ok(node_vector(alloc, problem, ranges)?),
         "root" => Ok(root_vector(alloc, problem)?),
-        "polished" => Ok(polished_vector(alloc, problem, ranges, 300)?),
-        "unpolished" => Ok(polished_vector(alloc, problem, ranges, 0)?),
         _ => vector(alloc, text),
     }
 }
 
-// The vector of a row and its prices, bound and floor; of one that is polished, the floor alone is told.
-fn judged(alloc: Global, row: &str) -> Result<String, Fail> {
-    let problem = problem(alloc, piece(row, 0))?;
-    let ranges = ranges(alloc, &problem, piece(row, 1))?;
-    let vector = asked(alloc, &problem, &ranges, piece(row, 2))?;
-    let mut out = String::new(alloc);
-    if piece(row, 2) == "polished" {
-        let tables = [table_of(alloc, &problem, &vector)?];
-        let floor = floor_of(&problem, &ranges, &tables);
-        return Ok(format!(in alloc; "{} by {}", floor.cost, floor.vector)?);
+// The prices of a row's vector, its bound and its floor.
+#[derive(Drop)]
+struct JudgedCase;
+
+impl Case for JudgedCase {
+    fn find(&mut self, alloc: Global, row: &str) -> Result<String, Fail> {
+        let problem = problem(alloc, piece(row, 0))?;
+        let ranges = ranges(alloc, &problem, piece(row, 1))?;
+        let vector = asked(alloc, &problem, &ranges, piece(row, 2))?;
+        let mut out = String::new(alloc);
+        add_prices(alloc, &mut out, &vector)?;
+        add_bound(alloc, &mut out, &problem, &ranges, &vector)?;
+        Ok(out)
     }
-    add_prices(alloc, &mut out, &vector)?;
-    add_bound(alloc, &mut out, &problem, &ranges, &vector)?;
-    Ok(out)
 }
 
 // A window at half past six; three units that exclude each other, at the root and on both sides of a split; two units by
@@ -100,14 +98,7 @@ L | | node = | 0 0 by 0";
 
 #[test]
 fn vectors_of_small_problems(rt: HostRuntime) -> Result<(), Fail> {
-    let alloc = rt.alloc();
-    for row in VECTORS.lines() {
-        let (given, want) = halves(row);
-        let answer = judged(alloc, given);
-        assert!(rt; answer.is_ok(), "{row}");
-        assert_eq!(rt; answer?.trim(), want, "{row}");
-    }
-    Ok(())
+    walk(rt.alloc(), &mut JudgedCase, VECTORS)
 }
 
 // Floors at one price for all resources: a bound of 15,000 is rounded up to 15, and one of 3 to 1; at the root vector both
@@ -124,34 +115,7 @@ three | 0 1 | 3 of 30000 = 3 of 30000 | -28560 0 by 0";
 
 #[test]
 fn floors_are_rounded_up(rt: HostRuntime) -> Result<(), Fail> {
-    let alloc = rt.alloc();
-    for row in FLOORS.lines() {
-        let (given, want) = halves(row);
-        let answer = judged(alloc, given);
-        assert!(rt; answer.is_ok(), "{row}");
-        assert_eq!(rt; answer?.trim(), want, "{row}");
-    }
-    Ok(())
-}
-
-// Polished vectors reach the best bound.
-const POLISHED: &str = "window 2 | | polished = 60 by 1
-three | | polished = 30 by 1
-four | | polished = 35 by 1
-window 2 | | unpolished = | 0 0 by 0
-three | | unpolished = | 0 0 by 0
-four | | unpolished = | 0 0 by 0";
-
-#[test]
-fn polished_vectors_reach_the_best_bound(rt: HostRuntime) -> Result<(), Fail> {
-    let alloc = rt.alloc();
-    for row in POLISHED.lines() {
-        let (given, want) = halves(row);
-        let answer = judged(alloc, given);
-        assert!(rt; answer.is_ok(), "{row}");
-        assert_eq!(rt; answer?.trim(), want, "{row}");
-    }
-    Ok(())
+    walk(rt.alloc(), &mut JudgedCase, FLOORS)
 }
 
 // Whether the bound of a table, the totals that are kept and the leaf that prices each alternative anew close for the same
@@ -204,35 +168,6 @@ fn bounds_close_as_leaves_do(rt: HostRuntime) -> Result<(), Fail> {
             assert!(rt; same.is_ok(), "{row} {prices}");
             assert!(rt; same?, "{row} {prices}");
         }
-    }
-    Ok(())
-}
-
-// Problems, and whether 40 steps find that there is no feasible choice: three units of which each two exclude each other,
-// with no way out, or with one for the first.
-const STUCK: &str =
-    "P 0 1 1 1; P 1 1 1 1; P 2 1 1 1; A 0 0 1; U; P 0 1 1 1; P 1 1 1 1; P 2 1 1 1; A 0 1 2; A 5 2 1; U; P 0 1 1 1; P 1 1 1 1; P 2 1 1 1; A 0 0 2; U; L 1 1 1 = yes
-P 0 1 1 1; P 1 1 1 1; P 2 1 1 1; A 0 0 1; A 20 - -; U; P 0 1 1 1; P 1 1 1 1; P 2 1 1 1; A 0 1 2; A 5 2 1; U; P 0 1 1 1; P 1 1 1 1; P 2 1 1 1; A 0 0 2; U; L 1 1 1 = yes
-three = no
-two; L 0 0 = no";
-
-// Whether the bound at scale 0 of the vector of 40 steps is above 0.
-fn is_stuck(alloc: Global, text: &str) -> Result<bool, Fail> {
-    let problem = problem(alloc, text)?;
-    let ranges = ranges(alloc, &problem, "")?;
-    let prices = infeasibility_vector(alloc, &problem, &ranges, 40)?;
-    let table = table_of(alloc, &problem, &prices)?;
-    Ok(bound(&problem, &ranges, &table, 0) > 0)
-}
-
-#[test]
-fn infeasibility_is_found(rt: HostRuntime) -> Result<(), Fail> {
-    let alloc = rt.alloc();
-    for row in STUCK.lines() {
-        let (given, want) = halves(row);
-        let answer = is_stuck(alloc, given);
-        assert!(rt; answer.is_ok(), "{row}");
-        assert_eq!(rt; answer?, want == "yes", "{row}");
     }
     Ok(())
 }

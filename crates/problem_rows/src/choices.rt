@@ -1,7 +1,7 @@
 //! Problems, choices and trees.
 
 use crate::problems::{problem, read_problem, strips};
-use crate::texts::{halves, numbers, piece, small_at};
+use crate::texts::{Case, numbers, piece, small_at, walk, yes_no};
 use choice_problem::{
     Choice, Node, Problem, Ranges, Tree, cost_of, count_nodes, first_passed, fits, open_pieces,
 };
@@ -16,21 +16,26 @@ const STRIPS: &str = "2 3 0 4 = 0 0 4 4 4 0 0
 1 3 1 0 = 0 0 0 0 0 0 0";
 
 // The uses of a strip, where the alternative of a unit has the same.
-fn uses(alloc: Global, text: &str) -> Result<String, Fail> {
-    let clauses = format!(in alloc; "P {text}; A 0 0 -; A 5 - -; U; L 9 9 9 9 9 9 9")?;
-    let problem = problem(alloc, &clauses)?;
-    let strips = strips(alloc, &numbers(alloc, text)?)?;
-    let mut out = String::new(alloc);
-    for resource in 0..7 {
-        for strip in &strips {
-            let uses = strip.uses(resource);
-            if uses_at(&problem, resource) != Some(uses) {
-                return Err("uses".into());
+#[derive(Drop)]
+struct UseCase;
+
+impl Case for UseCase {
+    fn find(&mut self, alloc: Global, text: &str) -> Result<String, Fail> {
+        let clauses = format!(in alloc; "P {text}; A 0 0 -; A 5 - -; U; L 9 9 9 9 9 9 9")?;
+        let problem = problem(alloc, &clauses)?;
+        let strips = strips(alloc, &numbers(alloc, text)?)?;
+        let mut out = String::new(alloc);
+        for resource in 0..7 {
+            for strip in &strips {
+                let uses = strip.uses(resource);
+                if uses_at(&problem, resource) != Some(uses) {
+                    return Err("uses".into());
+                }
+                out.push_str(&format!(in alloc; " {uses}")?)?;
             }
-            out.push_str(&format!(in alloc; " {uses}")?)?;
         }
+        Ok(out)
     }
-    Ok(out)
 }
 
 // How often the first alternative of the first unit uses a resource.
@@ -44,14 +49,7 @@ fn uses_at(problem: &Problem, resource: u32) -> Option<u32> {
 
 #[test]
 fn strips_count_each_use(rt: HostRuntime) -> Result<(), Fail> {
-    let alloc = rt.alloc();
-    for row in STRIPS.lines() {
-        let (given, want) = halves(row);
-        let answer = uses(alloc, given);
-        assert!(rt; answer.is_ok(), "{row}");
-        assert_eq!(rt; answer?.trim(), want, "{row}");
-    }
-    Ok(())
+    walk(rt.alloc(), &mut UseCase, STRIPS)
 }
 
 // Clauses, and whether they make a problem.
@@ -69,17 +67,18 @@ L 1000000 = no
 P 0 2 2 3; A 0 0 -; A 0 - -; U; L 1 1 1 1 1 1 = yes
 P 0 2 2 3; A 0 0 -; A 0 - -; U; L 1 1 1 1 1 = no";
 
+#[derive(Drop)]
+struct ConditionCase;
+
+impl Case for ConditionCase {
+    fn find(&mut self, alloc: Global, text: &str) -> Result<String, Fail> {
+        yes_no(alloc, read_problem(alloc, text)?.is_some())
+    }
+}
+
 #[test]
 fn conditions_can_be_tested(rt: HostRuntime) -> Result<(), Fail> {
-    let alloc = rt.alloc();
-    for row in CONDITIONS.lines() {
-        let (given, want) = halves(row);
-        let read = read_problem(alloc, given);
-        assert!(rt; read.is_ok(), "{row}");
-        let answer = if read?.is_some() { "yes" } else { "no" };
-        assert_eq!(rt; answer, want, "{row}");
-    }
-    Ok(())
+    walk(rt.alloc(), &mut ConditionCase, CONDITIONS)
 }
 
 // What the accessors give of a unit: the numbers of units, alternatives, parts and resources; the cost of its second
@@ -113,17 +112,19 @@ const ACCESSORS: &str = "0 = 3 2 1 3, 20 1 0, 2 1 2 3
 1 = 3 2 1 3, 20 1 1, 2 1 2 3
 2 = 3 2 1 3, 20 1 1, 2 1 2 3";
 
+#[derive(Drop)]
+struct AccessorCase;
+
+impl Case for AccessorCase {
+    fn find(&mut self, alloc: Global, unit: &str) -> Result<String, Fail> {
+        let three = problem(alloc, "three")?;
+        accessors(alloc, &three, small_at(&numbers(alloc, unit)?, 0))
+    }
+}
+
 #[test]
 fn accessors_give_what_was_put_in(rt: HostRuntime) -> Result<(), Fail> {
-    let alloc = rt.alloc();
-    let three = problem(alloc, "three")?;
-    for row in ACCESSORS.lines() {
-        let (given, want) = halves(row);
-        let answer = accessors(alloc, &three, small_at(&numbers(alloc, given)?, 0));
-        assert!(rt; answer.is_ok(), "{row}");
-        assert_eq!(rt; answer?.as_str(), want, "{row}");
-    }
-    Ok(())
+    walk(rt.alloc(), &mut AccessorCase, ACCESSORS)
 }
 
 /// The choice of the alternatives of a text.
@@ -137,16 +138,21 @@ pub(crate) fn choice(alloc: Global, text: &str) -> Result<Choice, Fail> {
 }
 
 // The cost of a choice, the lowest resource above its limit, and whether it fits; or that it is none for the problem.
-fn judged(alloc: Global, row: &str) -> Result<String, Fail> {
-    let problem = problem(alloc, piece(row, 0))?;
-    let choice = choice(alloc, piece(row, 1))?;
-    if !choice.is_for(&problem) {
-        return Ok(format!(in alloc; "none")?);
+#[derive(Drop)]
+struct JudgedCase;
+
+impl Case for JudgedCase {
+    fn find(&mut self, alloc: Global, row: &str) -> Result<String, Fail> {
+        let problem = problem(alloc, piece(row, 0))?;
+        let choice = choice(alloc, piece(row, 1))?;
+        if !choice.is_for(&problem) {
+            return Ok(format!(in alloc; "none")?);
+        }
+        let cost = cost_of(&problem, &choice);
+        let passed = first_passed(alloc, &problem, &choice)?;
+        let fits = fits(alloc, &problem, &choice)?;
+        Ok(format!(in alloc; "{cost} {passed:?} {fits}")?)
     }
-    let cost = cost_of(&problem, &choice);
-    let passed = first_passed(alloc, &problem, &choice)?;
-    let fits = fits(alloc, &problem, &choice)?;
-    Ok(format!(in alloc; "{cost} {passed:?} {fits}")?)
 }
 
 const CHOICES: &str = "three | 1 1 1 = 60 None true
@@ -163,14 +169,7 @@ L | = 0 None true";
 
 #[test]
 fn choices_of_small_problems(rt: HostRuntime) -> Result<(), Fail> {
-    let alloc = rt.alloc();
-    for row in CHOICES.lines() {
-        let (given, want) = halves(row);
-        let answer = judged(alloc, given);
-        assert!(rt; answer.is_ok(), "{row}");
-        assert_eq!(rt; answer?.as_str(), want, "{row}");
-    }
-    Ok(())
+    walk(rt.alloc(), &mut JudgedCase, CHOICES)
 }
 
 // The node of a word: `U` is undone, `O` an over leaf of resource 0, `L` a leaf, and a number the unit of a split.
@@ -213,20 +212,25 @@ fn add_ranges(alloc: Global, out: &mut String, ranges: &Ranges) -> Result<(), Fa
 }
 
 // The ranges of the undone nodes of a tree on three units of two alternatives, at most so many, if the nodes are one tree.
-fn undone(alloc: Global, row: &str) -> Result<String, Fail> {
-    let problem = problem(alloc, "three")?;
-    let nodes = nodes(alloc, piece(row, 0))?;
-    let most = small_at(&numbers(alloc, piece(row, 1))?, 0) as usize;
-    let mut out = String::new(alloc);
-    match open_pieces(alloc, Ranges::whole(alloc, &problem)?, &nodes, most)? {
-        Some(pieces) => {
-            for ranges in &pieces {
-                add_ranges(alloc, &mut out, ranges)?;
+#[derive(Drop)]
+struct UndoneCase;
+
+impl Case for UndoneCase {
+    fn find(&mut self, alloc: Global, row: &str) -> Result<String, Fail> {
+        let problem = problem(alloc, "three")?;
+        let nodes = nodes(alloc, piece(row, 0))?;
+        let most = small_at(&numbers(alloc, piece(row, 1))?, 0) as usize;
+        let mut out = String::new(alloc);
+        match open_pieces(alloc, Ranges::whole(alloc, &problem)?, &nodes, most)? {
+            Some(pieces) => {
+                for ranges in &pieces {
+                    add_ranges(alloc, &mut out, ranges)?;
+                }
             }
+            None => out.push_str("none")?,
         }
-        None => out.push_str("none")?,
+        Ok(out)
     }
-    Ok(out)
 }
 
 // A tree: the low part of unit 1, then the high parts of units 1 and 0. A whole one. A split of one alternative, a node too
@@ -240,14 +244,7 @@ O O | 9 = none";
 
 #[test]
 fn undone_ranges_of_trees(rt: HostRuntime) -> Result<(), Fail> {
-    let alloc = rt.alloc();
-    for row in TREES.lines() {
-        let (given, want) = halves(row);
-        let answer = undone(alloc, given);
-        assert!(rt; answer.is_ok(), "{row}");
-        assert_eq!(rt; answer?.trim(), want, "{row}");
-    }
-    Ok(())
+    walk(rt.alloc(), &mut UndoneCase, TREES)
 }
 
 #[test]

@@ -1,143 +1,102 @@
 //! Problems closed by free splits.
 
+ghost use Rattle.std.specs.Prelude.{IfOk, IfSome};
+ghost use Rattle.choice_problem.specs.Choices.{IsFeasible};
+
+use crate::choices::choice;
+use crate::draws::{CHOICES, Draws, drawn, numbered};
 use crate::problems::problem;
-use crate::texts::{halves, numbers, piece, small_at};
-use choice_problem::{Alt, Choice, Chooser, Part, Problem, Strip, cost_of, fits};
-use closing_search::{Closed, closing_search};
+use crate::texts::{Case, numbers, piece, small_at, walk};
+use choice_problem::{Choice, Problem, cost_of, fits};
+use closing_search::{Closed, Ending, closing_search};
 use std::alloc::Global;
 use std::test::Fail;
 
-// What closes the problem of a row: the problem, and the budget.
-fn closed(alloc: Global, row: &str) -> Result<String, Fail> {
-    let problem = problem(alloc, piece(row, 0))?;
-    let budget = small_at(&numbers(alloc, piece(row, 1))?, 0);
-    let found = closing_search(alloc, &problem, None, budget)?;
-    shown(alloc, found)
-}
-
-// The cost of a best choice, or that there is none, and how many nodes prove it.
-fn shown(alloc: Global, found: Option<Closed>) -> Result<String, Fail> {
-    match found {
-        None => Ok(format!(in alloc; "open")?),
-        Some(Closed::Optimal { cost, tree, .. }) => {
-            Ok(format!(in alloc; "{cost} by {}", tree.items().len())?)
-        }
-        Some(Closed::Infeasible { tree, .. }) => {
-            Ok(format!(in alloc; "none by {}", tree.items().len())?)
-        }
+// The choice that a text says, if it says one and that is feasible.
+fn start(alloc: Global, problem: &Problem, text: &str) -> Result<Option<Choice>, Fail>
+    ensures { IfOk result (λ start. IfSome start (IsFeasible problem.now)) }
+{
+    let start = choice(alloc, text)?;
+    if start.is_for(problem) && fits(alloc, problem, &start)? {
+        Ok(Some(start))
+    } else {
+        Ok(None)
     }
 }
 
-// Two units at one place, of which one pays; no unit; a unit with one alternative; two such units at one place, which are
-// too many; three units of which each two exclude each other; a budget of no node.
+// What closes a row's problem within its budget, from its start: the cost of a best choice, or that there is none, and how
+// many nodes prove it.
+#[derive(Drop)]
+struct ClosedCase;
+
+impl Case for ClosedCase {
+    fn find(&mut self, alloc: Global, row: &str) -> Result<String, Fail> {
+        let problem = problem(alloc, piece(row, 0))?;
+        let budget = small_at(&numbers(alloc, piece(row, 1))?, 0);
+        let start = start(alloc, &problem, piece(row, 2))?;
+        let ending = closing_search(alloc, &problem, start, budget)?;
+        shown(alloc, &ending)
+    }
+}
+
+fn shown(alloc: Global, ending: &Ending) -> Result<String, Fail> {
+    let text = match ending {
+        Ending::Open { .. } => format!(in alloc; "open")?,
+        Ending::Closed(Closed::Optimal { cost, tree, .. }) => {
+            format!(in alloc; "{cost} by {}", tree.items().len())?
+        }
+        Ending::Closed(Closed::Infeasible { tree, .. }) => {
+            format!(in alloc; "none by {}", tree.items().len())?
+        }
+    };
+    Ok(text)
+}
+
+// In turn: two units at one place, of which one pays, also from the choice that both pay; no unit; a unit with one
+// alternative, which fits, and which does not; two such units at one place, which are too many. A limit of 0. A quota of 2
+// that a unit of three dates passes alone: at no price is its bound more than 3, so that it takes a split; the same beside
+// a unit that keeps within it. Four units of equal costs for two places. Four units after three places. Two
+// units of which the second needs more what both want. Three units of which each finds its own place. Two units of which
+// one finds a place, for 3, and the other pays 9. A window that is full on three dates. Three units of which each two
+// exclude each other: no vector shows more than 30, so that a leaf is not enough, and a tree has no two nodes; with one
+// more place; with no way out, where one leaf shows that there is none.
 const CLOSED: &str = "pair | 9 = 3 by 1
+pair | 9 | 1 1 = 3 by 1
+pair | 1 = 3 by 1
+pair | 0 = open
 L 1 | 9 = 0 by 1
 P 0 1 0 1; A 7 0 -; U; L 1 | 9 = 7 by 1
+P 0 1 0 1; A 7 0 -; U; L 0 | 9 = none by 1
 P 0 1 0 1; A 7 0 -; U; P 0 1 0 1; A 2 0 -; U; L 1 | 9 = none by 1
+P 0 1 1 1; A 3 0 -; A 8 - -; U; L 0 | 9 = 8 by 1
+P 0 1 0 3; A 0 0 -; A 9 - -; U; L 2 | 9 = 9 by 3
+P 0 1 0 3; A 0 0 -; A 9 - -; U; L 2 | 1 = open
+P 0 1 0 3; A 0 0 -; A 9 - -; U; P 0 1 0 1; A 0 0 -; A 4 - -; U; L 2 | 9 = 9 by 3
+P 0 1 1 1; A 0 0 -; A 5 - -; U; P 0 1 1 1; A 0 0 -; A 5 - -; U; P 0 1 1 1; A 0 0 -; A 5 - -; U; P 0 1 1 1; A 0 0 -; A 5 - -; U; L 2 | 9 = 10 by 1
+four | 9 = 35 by 1
+needed | 9 = 1 by 1
+ring | 9 = 0 by 1
+doubled | 9 = 12 by 1
+window 3 | 9 = 90 by 1
 three | 99 = 40 by 3
-pair | 0 = open";
+three | 99 | 1 1 1 = 40 by 3
+three | 3 = 40 by 3
+three | 2 = open
+three | 1 = open
+three | 0 | 1 1 1 = open
+three; L 2 1 1 | 9 = 20 by 1
+P 0 2 1 1; A 0 0 -; U; P 1 2 1 1; A 0 0 -; U; P 0 1 2 2; A 0 0 -; U; L 1 1 1 | 9 = none by 1";
 
 #[test]
 fn problems_are_closed(rt: HostRuntime) -> Result<(), Fail> {
-    let alloc = rt.alloc();
-    for row in CLOSED.lines() {
-        let (given, want) = halves(row);
-        let answer = closed(alloc, given);
-        assert!(rt; answer.is_ok(), "{row}");
-        assert_eq!(rt; answer?.as_str(), want, "{row}");
-    }
-    Ok(())
-}
-
-// Numbers that follow from a first one.
-#[derive(Drop)]
-struct Draws {
-    last: u64,
-}
-
-impl Draws {
-    ghost use Rattle.std.specs.Prelude.{◌<◌};
-
-    // A number below another one.
-    fn below(&mut self, end: u64) -> u64
-        ensures { 0 < end → result < end }
-    {
-        self.last = self
-            .last
-            .wrapping_mul(6_364_136_223_846_793_005)
-            .wrapping_add(1_442_695_040_888_963_407);
-        if end == 0 { 0 } else { (self.last >> 33) % end }
-    }
-}
-
-// A problem of four units with up to four alternatives over five resources.
-fn drawn(alloc: Global, draws: &mut Draws) -> Result<Problem, Fail> {
-    let mut units = Vec::new(alloc);
-    for _ in 0..4 {
-        let parts = drawn_parts(alloc, draws)?;
-        let alts = drawn_alts(alloc, draws)?;
-        if !Chooser::allows(&parts, &alts) {
-            return Err("unit".into());
-        }
-        units.push(Chooser::new(parts, alts))?;
-    }
-    let mut limits = Vec::new(alloc);
-    for _ in 0..5 {
-        limits.push(draws.below(4) as i64)?;
-    }
-    if !Problem::allows(&units, &limits) {
-        return Err("problem".into());
-    }
-    Ok(Problem::new(units, limits))
-}
-
-// Three parts of a strip each.
-fn drawn_parts(alloc: Global, draws: &mut Draws) -> Result<Vec<Part>, Fail> {
-    let mut parts = Vec::new(alloc);
-    for _ in 0..3 {
-        let strip = Strip {
-            first: draws.below(3) as u32,
-            width: draws.below(3) as u32,
-            gap: draws.below(2) as u32,
-            times: draws.below(2) as u32 + 1,
-        };
-        parts.push(Part::new(vec![in alloc; strip]?))?;
-    }
-    Ok(parts)
-}
-
-// Up to four alternatives of two parts.
-fn drawn_alts(alloc: Global, draws: &mut Draws) -> Result<Vec<Alt>, Fail> {
-    let mut alts = Vec::new(alloc);
-    for _ in 0..draws.below(4) + 1 {
-        alts.push(Alt {
-            cost: draws.below(10),
-            one: drawn_part(draws),
-            two: drawn_part(draws),
-        })?;
-    }
-    Ok(alts)
-}
-
-// A part, or none.
-fn drawn_part(draws: &mut Draws) -> Option<u32> {
-    match draws.below(4) {
-        3 => None,
-        part => Some(part as u32),
-    }
+    walk(rt.alloc(), &mut ClosedCase, CLOSED)
 }
 
 // The least cost of a feasible choice, of all that there are.
 fn least_cost(alloc: Global, problem: &Problem) -> Result<Option<u64>, Fail> {
     let mut least: Option<u64> = None;
-    for number in 0..256 {
-        let mut alts = Vec::new(alloc);
-        let mut rest: u32 = number;
-        for _ in 0..4 {
-            alts.push(rest % 4)?;
-            rest = rest / 4;
-        }
-        let choice = Choice::new(alts);
+    for number in 0..CHOICES {
+        let choice = numbered(alloc, number)?;
         if choice.is_for(problem) && fits(alloc, problem, &choice)? {
             let cost = cost_of(problem, &choice);
             least = Some(least.map_or(cost, |other| other.min(cost)));
@@ -147,11 +106,11 @@ fn least_cost(alloc: Global, problem: &Problem) -> Result<Option<u64>, Fail> {
 }
 
 // The cost that closes a problem, or that it has no choice; none where it stays open.
-fn closed_cost(found: Option<Closed>) -> Option<Option<u64>> {
-    match found {
-        None => None,
-        Some(Closed::Optimal { cost, .. }) => Some(Some(cost)),
-        Some(Closed::Infeasible { .. }) => Some(None),
+fn closed_cost(ending: &Ending) -> Option<Option<u64>> {
+    match ending {
+        Ending::Open { .. } => None,
+        Ending::Closed(Closed::Optimal { cost, .. }) => Some(Some(*cost)),
+        Ending::Closed(Closed::Infeasible { .. }) => Some(None),
     }
 }
 
@@ -159,11 +118,11 @@ fn closed_cost(found: Option<Closed>) -> Option<Option<u64>> {
 fn drawn_problems_are_closed(rt: HostRuntime) -> Result<(), Fail> {
     let alloc = rt.alloc();
     let mut draws = Draws { last: 5 };
-    for number in 0..300 {
+    for number in 0..2_000 {
         let problem = drawn(alloc, &mut draws)?;
         let want = least_cost(alloc, &problem)?;
         let found = closing_search(alloc, &problem, None, 1_000)?;
-        assert!(rt; closed_cost(found) == Some(want), "{number}");
+        assert!(rt; closed_cost(&found) == Some(want), "{number}");
     }
     Ok(())
 }

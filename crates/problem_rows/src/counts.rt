@@ -4,7 +4,7 @@ ghost use Rattle.std.specs.Prelude.{◌≡◌, ℕ, ◌≤◌, length, IfOk, IsT
 ghost use Rattle.choice_problem.specs.Strips.{part_uses, IsPartInRange};
 
 use crate::problems::{limits, strips};
-use crate::texts::{halves, numbers, piece};
+use crate::texts::{Case, numbers, piece, walk};
 use choice_problem::{Part, Strip, strip_list};
 use std::alloc::Global;
 use std::test::Fail;
@@ -50,20 +50,25 @@ fn add_counts(alloc: Global, out: &mut String, counts: &Counts) -> Result<(), Fa
 }
 
 // The counts of nothing, then with each of two parts added, of which a copy is kept, then with the first one taken away.
-fn steps(alloc: Global, row: &str) -> Result<String, Fail> {
-    let first = part(alloc, piece(row, 0))?;
-    let second = part(alloc, piece(row, 1))?;
-    let mut out = String::new(alloc);
-    let mut counts = Counts::of(alloc, &[], 6)?;
-    add_counts(alloc, &mut out, &counts)?;
-    counts.add(&first);
-    add_counts(alloc, &mut out, &counts)?;
-    counts.add(&second);
-    let both = counts.copy(alloc)?;
-    counts.take(&first);
-    add_counts(alloc, &mut out, &both)?;
-    add_counts(alloc, &mut out, &counts)?;
-    Ok(out)
+#[derive(Drop)]
+struct StepCase;
+
+impl Case for StepCase {
+    fn find(&mut self, alloc: Global, row: &str) -> Result<String, Fail> {
+        let first = part(alloc, piece(row, 0))?;
+        let second = part(alloc, piece(row, 1))?;
+        let mut out = String::new(alloc);
+        let mut counts = Counts::of(alloc, &[], 6)?;
+        add_counts(alloc, &mut out, &counts)?;
+        counts.add(&first);
+        add_counts(alloc, &mut out, &counts)?;
+        counts.add(&second);
+        let both = counts.copy(alloc)?;
+        counts.take(&first);
+        add_counts(alloc, &mut out, &both)?;
+        add_counts(alloc, &mut out, &counts)?;
+        Ok(out)
+    }
 }
 
 // Runs that overlap, and one resource four times beside another once. Runs apart, strips of no width, and two strips on the
@@ -74,28 +79,27 @@ const STEPS: &str =
 
 #[test]
 fn counts_follow_what_is_added_and_taken(rt: HostRuntime) -> Result<(), Fail> {
-    let alloc = rt.alloc();
-    for row in STEPS.lines() {
-        let (given, want) = halves(row);
-        let answer = steps(alloc, given);
-        assert!(rt; answer.is_ok(), "{row}");
-        assert_eq!(rt; answer?.trim(), want, "{row}");
-    }
-    Ok(())
+    walk(rt.alloc(), &mut StepCase, STEPS)
 }
 
 // Whether the second of two parts fits beside the first one, and the lowest resource that the first one alone takes above
 // its limit.
-fn judged(alloc: Global, row: &str) -> Result<String, Fail> {
-    let parts = vec![in alloc; part(alloc, "0 2 1 3")?]?;
-    let second = part(alloc, "2 1 0 4 5 1 0 1")?;
-    let limits = limits(alloc, &numbers(alloc, row)?)?;
-    if limits.len() != 6 {
-        return Err("limits".into());
+#[derive(Drop)]
+struct FittingCase;
+
+impl Case for FittingCase {
+    fn find(&mut self, alloc: Global, row: &str) -> Result<String, Fail> {
+        let parts = vec![in alloc; part(alloc, "0 2 1 3")?]?;
+        let second = part(alloc, "2 1 0 4 5 1 0 1")?;
+        let limits = limits(alloc, &numbers(alloc, row)?)?;
+        if limits.len() != 6 {
+            return Err("limits".into());
+        }
+        let mut counts = Counts::of(alloc, &parts, 6)?;
+        let over = counts.first_over(&limits);
+        let fits = counts.add_if_fits(Some(&second), None, &limits);
+        Ok(format!(in alloc; "{fits} {over:?}")?)
     }
-    let counts = Counts::of(alloc, &parts, 6)?;
-    let (fits, over) = (counts.fits(&second, &limits), counts.first_over(&limits));
-    Ok(format!(in alloc; "{fits} {over:?}")?)
 }
 
 // Counts 1, 2, 2, 1, 0, 0; further uses 0, 0, 4, 0, 0, 1. What the part does not use is not asked.
@@ -110,12 +114,5 @@ const LIMITS: &str = "1 2 6 1 0 1 = true None
 
 #[test]
 fn parts_fit_up_to_the_limit(rt: HostRuntime) -> Result<(), Fail> {
-    let alloc = rt.alloc();
-    for row in LIMITS.lines() {
-        let (given, want) = halves(row);
-        let answer = judged(alloc, given);
-        assert!(rt; answer.is_ok(), "{row}");
-        assert_eq!(rt; answer?.as_str(), want, "{row}");
-    }
-    Ok(())
+    walk(rt.alloc(), &mut FittingCase, LIMITS)
 }

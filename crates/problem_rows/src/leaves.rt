@@ -4,7 +4,7 @@ ghost use Rattle.choice_problem.specs.Bounds.{AreRanges};
 
 use crate::choices::choice;
 use crate::problems::{problem, ranges, vector};
-use crate::texts::{halves, piece, seen};
+use crate::texts::{Case, piece, seen, walk, yes_no};
 use choice_problem::{
     Problem, Ranges, SCALE_BOUND, Vector, VectorList, fits, leaf_closes, over_closes,
 };
@@ -12,31 +12,33 @@ use std::alloc::Global;
 use std::test::Fail;
 
 // Prices of resources, and whether they are a vector of three resources.
-const VECTORS: &str = "= true
-0 1 1 1 2 1099511627775 = true
-0 1 1 0 = false
-0 -1 1 1 = false
-0 1 2 1099511627776 = false
-0 1 0 1 = false
-1 1 0 1 = false
-2 1 3 1 = false";
+const VECTORS: &str = "= yes
+0 1 1 1 2 1099511627775 = yes
+0 1 1 0 = no
+0 -1 1 1 = no
+0 1 2 1099511627776 = no
+0 1 0 1 = no
+1 1 0 1 = no
+2 1 3 1 = no";
 
 // Whether the text is a vector of the problem.
-fn is_vector(alloc: Global, problem: &Problem, text: &str) -> Result<bool, Fail> {
-    let list = VectorList::new(vec![in alloc; vector(alloc, text)?]?);
-    Ok(list.items().iter().all(|vector| vector.is_for(problem)))
+#[derive(Drop)]
+struct VectorCase;
+
+impl Case for VectorCase {
+    fn find(&mut self, alloc: Global, text: &str) -> Result<String, Fail> {
+        let three = problem(alloc, "three")?;
+        let list = VectorList::new(vec![in alloc; vector(alloc, text)?]?);
+        yes_no(
+            alloc,
+            list.items().iter().all(|vector| vector.is_for(&three)),
+        )
+    }
 }
 
 #[test]
 fn vectors_of_three_resources(rt: HostRuntime) -> Result<(), Fail> {
-    let alloc = rt.alloc();
-    let three = problem(alloc, "three")?;
-    for row in VECTORS.lines() {
-        let (given, want) = halves(row);
-        let answer = is_vector(alloc, &three, given)?;
-        assert_eq!(rt; answer, want == "true", "{row}");
-    }
-    Ok(())
+    walk(rt.alloc(), &mut VectorCase, VECTORS)
 }
 
 // Whether a leaf closes, of a vector for the problem and a scale in its limit.
@@ -81,57 +83,67 @@ fn closed(alloc: Global, row: &str) -> Result<Option<bool>, Fail> {
 
 // No prices: the bound is the least costs, 0. Ten for each use: 20 a unit, less 30 for the limits. Scale 0: two uses of a
 // resource with limit 1, or one, or none. A problem of nothing closes for 0 alone.
-const LEAVES: &str = "three | | | 1 | 0 = true
-three | | | 1 | 1 = false
-three | | | 0 | - = false
-three | | 3 of 10 | 1 | 30 = true
-three | | 3 of 10 | 1 | 31 = false
-three | | 3 of 10240 | 1024 | 30 = true
-three | | 3 of 10240 | 1024 | 31 = false
-three | | 3 of 10 | 1 | - = false
-three | 0 0 0 0 0 0 | 0 1 | 0 | - = true
-three | 0 0 0 0 0 0 | 0 1 | 0 | 18446744073709551615 = true
-three | 0 0 1 1 1 1 | 0 1 | 0 | - = false
-three | | 0 1 | 0 | - = false
-three | | 0 1 | 0 | 0 = false
-three | | | over = false
-three | 0 0 0 0 0 0 | | over = true
-three | 0 0 1 1 1 1 | | over = false
-L | | | 1 | 0 = true
-L | | | 1 | 1 = false";
+const LEAVES: &str = "three | | | 1 | 0 = yes
+three | | | 1 | 1 = no
+three | | | 0 | - = no
+three | | 3 of 10 | 1 | 30 = yes
+three | | 3 of 10 | 1 | 31 = no
+three | | 3 of 10240 | 1024 | 30 = yes
+three | | 3 of 10240 | 1024 | 31 = no
+three | | 3 of 10 | 1 | - = no
+three | 0 0 0 0 0 0 | 0 1 | 0 | - = yes
+three | 0 0 0 0 0 0 | 0 1 | 0 | 18446744073709551615 = yes
+three | 0 0 1 1 1 1 | 0 1 | 0 | - = no
+three | | 0 1 | 0 | - = no
+three | | 0 1 | 0 | 0 = no
+three | | | over = no
+three | 0 0 0 0 0 0 | | over = yes
+three | 0 0 1 1 1 1 | | over = no
+L | | | 1 | 0 = yes
+L | | | 1 | 1 = no";
+
+#[derive(Drop)]
+struct LeafCase;
+
+impl Case for LeafCase {
+    fn find(&mut self, alloc: Global, row: &str) -> Result<String, Fail> {
+        yes_no(
+            alloc,
+            closed(alloc, row)?.ok_or("a vector, a scale or a resource")?,
+        )
+    }
+}
 
 #[test]
 fn leaves_of_small_problems(rt: HostRuntime) -> Result<(), Fail> {
-    let alloc = rt.alloc();
-    for row in LEAVES.lines() {
-        let (given, want) = halves(row);
-        let answer = closed(alloc, given);
-        assert!(rt; answer.is_ok(), "{row}");
-        assert_eq!(rt; answer?, Some(want == "true"), "{row}");
-    }
-    Ok(())
+    walk(rt.alloc(), &mut LeafCase, LEAVES)
 }
 
 // Of a unit that uses a strip, with resource 1 at a limit: whether its use fits, whether resource 1 is over, and the first
 // cost for which a price of 3 on it does not close.
-fn edge(alloc: Global, row: &str) -> Result<String, Fail> {
-    let (strip, limit) = (piece(row, 0), piece(row, 1));
-    let clauses = format!(in alloc; "P {strip}; A 0 0 -; A 7 - -; U; L 9 {limit} 9")?;
-    let problem = problem(alloc, &clauses)?;
-    let choice = choice(alloc, "0")?;
-    if !choice.is_for(&problem) {
-        return Err("choice".into());
-    }
-    let fits = fits(alloc, &problem, &choice)?;
-    let ranges = ranges(alloc, &problem, "0 0")?;
-    let vector = vector(alloc, "1 3")?;
-    let mut first = 0;
-    for seen in 0..9 {
-        if closes(&problem, &ranges, &vector, 1, Some(seen)) == Some(true) {
-            first = seen + 1;
+#[derive(Drop)]
+struct EdgeCase;
+
+impl Case for EdgeCase {
+    fn find(&mut self, alloc: Global, row: &str) -> Result<String, Fail> {
+        let (strip, limit) = (piece(row, 0), piece(row, 1));
+        let clauses = format!(in alloc; "P {strip}; A 0 0 -; A 7 - -; U; L 9 {limit} 9")?;
+        let problem = problem(alloc, &clauses)?;
+        let choice = choice(alloc, "0")?;
+        if !choice.is_for(&problem) {
+            return Err("choice".into());
         }
+        let fits = fits(alloc, &problem, &choice)?;
+        let ranges = ranges(alloc, &problem, "0 0")?;
+        let vector = vector(alloc, "1 3")?;
+        let mut first = 0;
+        for seen in 0..9 {
+            if closes(&problem, &ranges, &vector, 1, Some(seen)) == Some(true) {
+                first = seen + 1;
+            }
+        }
+        Ok(format!(in alloc; "{fits} {:?} {first}", over(&problem, &ranges, 1))?)
     }
-    Ok(format!(in alloc; "{fits} {:?} {first}", over(&problem, &ranges, 1))?)
 }
 
 // A limit of 0; a window that holds one movement twice; four runs in one place.
@@ -145,14 +157,7 @@ const EDGES: &str = "1 1 0 1 | 0 = false Some(true) 4
 
 #[test]
 fn leaves_of_one_unit(rt: HostRuntime) -> Result<(), Fail> {
-    let alloc = rt.alloc();
-    for row in EDGES.lines() {
-        let (given, want) = halves(row);
-        let answer = edge(alloc, given);
-        assert!(rt; answer.is_ok(), "{row}");
-        assert_eq!(rt; answer?.as_str(), want, "{row}");
-    }
-    Ok(())
+    walk(rt.alloc(), &mut EdgeCase, EDGES)
 }
 
 // The range of the first unit in the whole ranges and in the two parts, and again in a copy that is set.

@@ -10,11 +10,13 @@ mod closed;
 #[cfg(test)]
 mod counts;
 #[cfg(test)]
-mod improved;
+mod draws;
 #[cfg(test)]
 mod leaves;
 #[cfg(test)]
 mod problems;
+#[cfg(test)]
+mod reduced;
 #[cfg(test)]
 mod relaxed;
 #[cfg(test)]

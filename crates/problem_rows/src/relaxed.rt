@@ -5,7 +5,7 @@ ghost use Rattle.choice_problem.specs.declared.closing.TheConstants.{SCALE_BOUND
 ghost use Rattle.choice_problem.specs.Bounds.{AreRanges};
 
 use crate::problems::{problem, ranges, table_of};
-use crate::texts::{halves, numbers, piece};
+use crate::texts::{Case, numbers, piece, walk};
 use choice_problem::{PRICED_SCALE, Problem, Ranges, Vector};
 use price_table::bound;
 use reduced_problem::Reduced;
@@ -68,21 +68,26 @@ fn flags(alloc: Global, text: &str) -> Result<Vec<bool>, Fail> {
 }
 
 // How a row's relaxation ends on all alternatives, and how a copy ends on the ranges of the row, if it has some.
-fn described(alloc: Global, row: &str) -> Result<String, Fail> {
-    let problem = problem(alloc, piece(row, 0))?;
-    let reduced = Reduced::of(alloc, &problem)?;
-    let excluded = flags(alloc, piece(row, 1))?;
-    let program = Program::new(alloc, &problem, &reduced, &excluded)?;
-    let mut first = Relaxation::start(alloc, &program)?;
-    let whole = ranges(alloc, &problem, "")?;
-    let ended = ending(alloc, &problem, &program, &mut first, &whole)?;
-    if piece(row, 2).is_empty() {
-        return Ok(ended);
+#[derive(Drop)]
+struct RelaxedCase;
+
+impl Case for RelaxedCase {
+    fn find(&mut self, alloc: Global, row: &str) -> Result<String, Fail> {
+        let problem = problem(alloc, piece(row, 0))?;
+        let reduced = Reduced::of(alloc, &problem)?;
+        let excluded = flags(alloc, piece(row, 1))?;
+        let program = Program::new(alloc, &problem, &reduced, &excluded)?;
+        let mut first = Relaxation::start(alloc, &program)?;
+        let whole = ranges(alloc, &problem, "")?;
+        let ended = ending(alloc, &problem, &program, &mut first, &whole)?;
+        if piece(row, 2).is_empty() {
+            return Ok(ended);
+        }
+        let narrow = ranges(alloc, &problem, piece(row, 2))?;
+        let mut next = first.copy(alloc)?;
+        let narrowed = ending(alloc, &problem, &program, &mut next, &narrow)?;
+        Ok(format!(in alloc; "{ended}, {narrowed}")?)
     }
-    let narrow = ranges(alloc, &problem, piece(row, 2))?;
-    let mut next = first.copy(alloc)?;
-    let narrowed = ending(alloc, &problem, &program, &mut next, &narrow)?;
-    Ok(format!(in alloc; "{ended}, {narrowed}")?)
 }
 
 // In turn: one of two units makes room, the cheaper one; whichever of them is kept from it, the other one does. Four units
@@ -108,12 +113,5 @@ L | | = 0 0";
 
 #[test]
 fn relaxations_of_small_problems(rt: HostRuntime) -> Result<(), Fail> {
-    let alloc = rt.alloc();
-    for row in RELAXED.lines() {
-        let (given, want) = halves(row);
-        let answer = described(alloc, given);
-        assert!(rt; answer.is_ok(), "{row}");
-        assert_eq!(rt; answer?.trim(), want, "{row}");
-    }
-    Ok(())
+    walk(rt.alloc(), &mut RelaxedCase, RELAXED)
 }

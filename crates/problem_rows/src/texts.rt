@@ -21,6 +21,29 @@ pub(crate) fn piece(row: &str, number: usize) -> &str {
     ""
 }
 
+/// What the rows of a table are about.
+pub(crate) trait Case {
+    /// What is found for what a row gives.
+    fn find(&mut self, alloc: Global, given: &str) -> Result<String, Fail>;
+}
+
+/// Walks the rows, and fails with the first whose finding is not what it wants.
+pub(crate) fn walk<C: Case>(alloc: Global, case: &mut C, rows: &str) -> Result<(), Fail> {
+    for row in rows.lines() {
+        let (given, want) = halves(row);
+        let found = case.find(alloc, given)?;
+        if found.trim() != want {
+            return Err(Fail::new(format!(in alloc; "{row} has {found}")?));
+        }
+    }
+    Ok(())
+}
+
+/// The word for a truth.
+pub(crate) fn yes_no(alloc: Global, truth: bool) -> Result<String, Fail> {
+    Ok(String::from_str(alloc, if truth { "yes" } else { "no" })?)
+}
+
 /// What stands for a number that is left out.
 pub(crate) const NONE: i128 = -1 << 100;
 

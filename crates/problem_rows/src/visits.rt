@@ -4,7 +4,7 @@ ghost use Rattle.std.specs.Prelude.{◌≡◌};
 ghost use Rattle.price_table.specs.Tables.{IsTableFor};
 
 use crate::problems::{problem, span, table};
-use crate::texts::{halves, numbers, piece, seen};
+use crate::texts::{Case, numbers, piece, seen, walk};
 use branch_tree::{Visit, Walk, greedy, plain_visit, visit};
 use choice_problem::{Problem, Ranges, cost_of};
 use price_table::PriceTable;
@@ -106,16 +106,18 @@ doubled | 0 0 1 3 | 3 3 0 2 | 1 of 4096 | 9 = Leaf { vector: 0, scale: 1, seen: 
 doubled | 0 0 1 3 | 3 3 0 2 | 1 of 4096 | 12 = Leaf { vector: 1, scale: 1024, seen: Some(12) }
 doubled | 0 0 1 3 | 3 3 0 2 | 1 of 4096 | 13 = 1 at 1";
 
+#[derive(Drop)]
+struct VisitCase;
+
+impl Case for VisitCase {
+    fn find(&mut self, alloc: Global, row: &str) -> Result<String, Fail> {
+        visited(alloc, row)
+    }
+}
+
 #[test]
 fn visits_answer_alike(rt: HostRuntime) -> Result<(), Fail> {
-    let alloc = rt.alloc();
-    for row in VISITS.lines() {
-        let (given, want) = halves(row);
-        let answer = visited(alloc, given);
-        assert!(rt; answer.is_ok(), "{row}");
-        assert_eq!(rt; answer?.as_str(), want, "{row}");
-    }
-    Ok(())
+    walk(rt.alloc(), &mut VisitCase, VISITS)
 }
 
 // Ranges of a window on three dates and of turnarounds, and what was seen: at each the visits have to answer the same.
@@ -169,18 +171,23 @@ fn visits_answer_alike_at_many_ranges(rt: HostRuntime) -> Result<(), Fail> {
 }
 
 // The answer of a walk at the whole ranges of the three units, with an empty root vector and two further ones.
-fn further(alloc: Global, row: &str) -> Result<String, Fail> {
-    let problem = problem(alloc, "three")?;
-    let root = table(alloc, &problem, "")?;
-    let tables = vec![in alloc;
-        table(alloc, &problem, piece(row, 0))?,
-        table(alloc, &problem, piece(row, 1))?,
-    ]?;
-    let walk = Walk::of(alloc, &problem, Ranges::whole(alloc, &problem)?)?;
-    shown(
-        alloc,
-        &walk.visit_with(alloc, &problem, &root, &tables, seen(piece(row, 2)))?,
-    )
+#[derive(Drop)]
+struct FurtherCase;
+
+impl Case for FurtherCase {
+    fn find(&mut self, alloc: Global, row: &str) -> Result<String, Fail> {
+        let problem = problem(alloc, "three")?;
+        let root = table(alloc, &problem, "")?;
+        let tables = vec![in alloc;
+            table(alloc, &problem, piece(row, 0))?,
+            table(alloc, &problem, piece(row, 1))?,
+        ]?;
+        let walk = Walk::of(alloc, &problem, Ranges::whole(alloc, &problem)?)?;
+        shown(
+            alloc,
+            &walk.visit_with(alloc, &problem, &root, &tables, seen(piece(row, 2)))?,
+        )
+    }
 }
 
 // The first further vector that closes.
@@ -191,27 +198,25 @@ const FURTHER: &str = "3 of 10240 | 3 of 1 | 30 = Leaf { vector: 2, scale: 1024,
 
 #[test]
 fn the_first_further_vector_that_closes(rt: HostRuntime) -> Result<(), Fail> {
-    let alloc = rt.alloc();
-    for row in FURTHER.lines() {
-        let (given, want) = halves(row);
-        let answer = further(alloc, given);
-        assert!(rt; answer.is_ok(), "{row}");
-        assert_eq!(rt; answer?.as_str(), want, "{row}");
-    }
-    Ok(())
+    walk(rt.alloc(), &mut FurtherCase, FURTHER)
 }
 
 // The alternatives of the greedy choice of a problem, and its cost.
-fn started(alloc: Global, text: &str) -> Result<String, Fail> {
-    let problem = problem(alloc, text)?;
-    let text = match greedy(alloc, &problem)? {
-        Some(choice) => {
-            let cost = cost_of(&problem, &choice);
-            format!(in alloc; "{:?} {cost}", choice.items())?
-        }
-        None => format!(in alloc; "none")?,
-    };
-    Ok(text)
+#[derive(Drop)]
+struct StartCase;
+
+impl Case for StartCase {
+    fn find(&mut self, alloc: Global, text: &str) -> Result<String, Fail> {
+        let problem = problem(alloc, text)?;
+        let text = match greedy(alloc, &problem)? {
+            Some(choice) => {
+                let cost = cost_of(&problem, &choice);
+                format!(in alloc; "{:?} {cost}", choice.items())?
+            }
+            None => format!(in alloc; "none")?,
+        };
+        Ok(text)
+    }
 }
 
 // Half an hour later costs less than 35 minutes earlier. The second and the third unit find no room beside the first. Of two
@@ -225,12 +230,5 @@ P 0 1 0 1; P 1 1 0 1; A 0 0 1; A 5 0 -; U; P 0 1 0 1; A 0 0 -; A 1 - -; U; L 1 0
 
 #[test]
 fn greedy_takes_the_cheapest_that_fits(rt: HostRuntime) -> Result<(), Fail> {
-    let alloc = rt.alloc();
-    for row in GREEDY.lines() {
-        let (given, want) = halves(row);
-        let answer = started(alloc, given);
-        assert!(rt; answer.is_ok(), "{row}");
-        assert_eq!(rt; answer?.as_str(), want, "{row}");
-    }
-    Ok(())
+    walk(rt.alloc(), &mut StartCase, GREEDY)
 }

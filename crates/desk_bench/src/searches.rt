@@ -1,0 +1,151 @@
+//! Searches by workers: of a ring of units that exclude each other, by one and by four workers, and
+//! of a season, for the time of a visit.
+
+ghost use Rattle.std.specs.Prelude.{◌≤◌};
+
+use crate::report::{Size, millis_since, print_row, step};
+use crate::seasons::count_visited;
+use crate::stages::last_problem;
+use choice_problem::{Alt, Chooser, Node, Part, Problem, Strip};
+use desk_outside::RealGate;
+use dual_bound::root_vector;
+use search_workers::{Outcome, search};
+use slot_text::Memory;
+use std::alloc::Global;
+use std::io::Print;
+use std::thread::Threads;
+use std::time::{Clock, Instant};
+
+/// Searches a ring of 100 units with a budget of 120,000 visits by one and by four workers, and a
+/// season of 138 daily turnarounds with a budget of 20,000 by one. Prints how many nodes were
+/// visited, and at full size the times, and that of the root vector, which each search makes.
+pub fn run<R: Threads + Sync + Print + Clock>(
+    rt: &R,
+    alloc: Global,
+    size: Size,
+) -> anyhow::Result<()> {
+    let (places, ring_budget) = match size {
+        Size::Short => (12, 50),
+        Size::Full => (100, 120_000),
+    };
+    let ring = ring(alloc, places)?.ok_or(Memory)?;
+    let alone = search_by(rt, alloc, size, &ring, ring_budget, 1)?;
+    let together = search_by(rt, alloc, size, &ring, ring_budget, 4)?;
+    if size == Size::Full {
+        let share = together.saturating_mul(100) / alone.max(1);
+        print_row(rt, "searches: four workers", &[("per cent of one", share)])?;
+    }
+    search_season(rt, alloc, size)
+}
+
+// Makes the root vector of a season, and searches the season by one worker.
+fn search_season<R: Threads + Sync + Print + Clock>(
+    rt: &R,
+    alloc: Global,
+    size: Size,
+) -> anyhow::Result<()> {
+    let problem = match size {
+        Size::Short => last_problem(alloc, 8, *b"NNNN", 5, b"CAP TOT 60 0000 2355 1234567 1\n")?,
+        Size::Full => last_problem(
+            alloc,
+            138,
+            *b"NNNN",
+            5,
+            b"CAP TOT 60 0000 2355 1234567 17\n",
+        )?,
+    };
+    let start = Instant::now(rt)?;
+    let vector = root_vector(alloc, &problem)?;
+    step(rt, size, "root_vector", start)?;
+    print_row(rt, "searches", &[("prices", vector.items().len() as u64)])?;
+    let budget = match size {
+        Size::Short => 20,
+        Size::Full => 20_000,
+    };
+    search_by(rt, alloc, size, &problem, budget, 1)?;
+    Ok(())
+}
+
+// Searches a problem, and answers how many milliseconds that took.
+fn search_by<R: Threads + Sync + Print + Clock>(
+    rt: &R,
+    alloc: Global,
+    size: Size,
+    problem: &Problem,
+    budget: u32,
+    workers: u32,
+) -> anyhow::Result<u64>
+    requires { (1 ≤ workers) × (workers ≤ 16) }
+{
+    let start = Instant::now(rt)?;
+    let outcome = search(rt, alloc, problem, budget, workers, &RealGate)?;
+    let millis = millis_since(rt, start)?;
+    step(rt, size, "search", start)?;
+    let visited = count_visited(nodes_of(&outcome));
+    let numbers = [
+        ("units", u64::from(problem.units())),
+        ("workers", u64::from(workers)),
+        ("visits", visited),
+    ];
+    print_row(rt, "searches", &numbers)?;
+    Ok(millis)
+}
+
+// The nodes of the tree of a search.
+fn nodes_of(outcome: &Outcome) -> &[Node] {
+    match outcome {
+        Outcome::Optimal { tree, .. } => tree.items(),
+        Outcome::Infeasible { tree, .. } => tree.items(),
+        Outcome::Spent { tree, .. } => tree.items(),
+    }
+}
+
+// So many units in a ring, each of which excludes the next one and the one after it, or pays a
+// price of its own.
+fn ring(alloc: Global, count: u32) -> Result<Option<Problem>, Memory> {
+    let mut units = Vec::new(alloc);
+    for place in 0..count {
+        let Some(unit) = ring_unit(alloc, place, count)? else {
+            return Ok(None);
+        };
+        units.push(unit)?;
+    }
+    let limits = vec![in alloc; 1; count as usize]?;
+    if Problem::allows(&units, &limits) {
+        Ok(Some(Problem::new(units, limits)))
+    } else {
+        Ok(None)
+    }
+}
+
+// The unit of a place.
+fn ring_unit(alloc: Global, place: u32, count: u32) -> Result<Option<Chooser>, Memory> {
+    let mut strips = Vec::new(alloc);
+    for next in 0..3 {
+        strips.push(Strip {
+            first: place.wrapping_add(next) % count.max(1),
+            width: 1,
+            gap: 1,
+            times: 1,
+        })?;
+    }
+    let parts = vec![in alloc; Part::new(strips)]?;
+    let price = u64::from(place % 7).wrapping_mul(u64::from(place % 7)) % 7;
+    let alts = vec![in alloc;
+        Alt {
+            cost: 0,
+            one: Some(0),
+            two: None,
+        },
+        Alt {
+            cost: price.saturating_add(20),
+            one: None,
+            two: None,
+        },
+    ]?;
+    if Chooser::allows(&parts, &alts) {
+        Ok(Some(Chooser::new(parts, alts)))
+    } else {
+        Ok(None)
+    }
+}
