@@ -55,8 +55,12 @@ fn main(rt: HostRuntime) -> anyhow::Result<()> {
         }
         return Ok(());
     }
-    run_one(&rt, word, Size::Full)?;
-    run_threads(&rt, alloc, word, &names, Size::Full)?;
+    match word {
+        "board" | "turn" | "searches" | "seasons" | "mixed" => {
+            run_threads(&rt, alloc, word, &names, Size::Full)?;
+        }
+        _ => run_one(&rt, word, Size::Full)?,
+    }
     memory(&rt)
 }
 
@@ -68,7 +72,7 @@ fn run_all(rt: &HostRuntime) -> anyhow::Result<()> {
     Ok(())
 }
 
-// Runs the benchmark without threads that a word names, if it names one.
+// Runs the benchmark without threads that a word names. Where it names none, prints the words that do.
 fn run_one(rt: &HostRuntime, word: &str, size: Size) -> anyhow::Result<()> {
     let alloc = rt.alloc();
     match word {
@@ -79,8 +83,17 @@ fn run_one(rt: &HostRuntime, word: &str, size: Size) -> anyhow::Result<()> {
         "bounds" => bounds::run(rt, alloc, size),
         "walks" => walks::run(rt, alloc, size),
         "checks" => checks::run(rt, alloc, size),
-        _ => Ok(()),
+        _ => usage(rt),
     }
+}
+
+// Prints the words that name benchmarks.
+fn usage(rt: &HostRuntime) -> anyhow::Result<()> {
+    println!(rt;
+        "desk_bench WORD: messages, capacity, stages, reductions, bounds, walks, checks, board, turn, searches,\n  \
+        seasons [NUMBER UNITS], mixed CAP SCR [CAP SCR ..]; short runs all at a small size"
+    )?;
+    Ok(())
 }
 
 // Runs the benchmark with threads that a word names, if it names one. The first of the words of the
