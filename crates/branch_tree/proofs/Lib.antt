@@ -5,3 +5,4 @@ mod WalkLemmas
 mod RowLemmas
 mod VisitLemmas
 mod PassableLemmas
+mod PlaceLemmas

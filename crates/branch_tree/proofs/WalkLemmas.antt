@@ -62,11 +62,11 @@ pub written-back : {X : Type 0} (new items : List X) (n : ℕ) → length new �
 written-back new items n e = rw (← e) (take-append_seam new (drop (length new) items))
 
 -- what a walk keeps has room, and holds what one unit adds to it
-module _ (p : ProblemView) (ranges : List (ℕ × ℕ)) (alts : List ℕ) (cost : ℕ) (loads least zeros : List ℕ) (k : IsKept p ranges alts cost loads least zeros) where
+module _ (p : ProblemView) (ranges : List (ℕ × ℕ)) (alts : List ℕ) (cost : ℕ) (loads least zeros listed : List ℕ) (k : IsKept p ranges alts cost loads least zeros listed) where
   pub least-few : (r : ℕ) → r < length least → slice_index least r < 2147483648
   least-few r l =
-      let there : r < resource_count p = omega (arith, l, k.least_count) in
-      omega (arith, k.least_are r there, least-small p ranges r k.units k.valid, k.few_units)
+      let there : r < length listed = omega (arith, l, k.least_count) in
+      omega (arith, k.least_are r there, least-small p ranges (slice_index listed r) k.units k.valid, k.few_units)
 
   pub loads-room : (r : ℕ) → r < length loads → slice_index loads r + 434 < 4294967296
   loads-room r l =
@@ -74,10 +74,8 @@ module _ (p : ProblemView) (ranges : List (ℕ × ℕ)) (alts : List ℕ) (cost 
       omega (arith, k.loads_are r there, load-small p alts r k.units k.choice, k.few_units)
 
   module _ (u : ℕ) (l : u < unit_count p) where
-    pub least-has : (r : ℕ) → r < length least → least_uses p ranges u r ≤ slice_index least r
-    least-has r m =
-        let there : r < resource_count p = omega (arith, m, k.least_count) in
-        omega (arith, k.least_are r there, term-le (unit_count p) u (λ v. least_uses p ranges v r) l)
+    pub least-has : (i : ℕ) → i < length listed → least_uses p ranges u (slice_index listed i) ≤ slice_index least i
+    least-has i m = omega (arith, k.least_are i m, term-le (unit_count p) u (λ v. least_uses p ranges v (slice_index listed i)) l)
 
     pub loads-have : (r : ℕ) → r < length loads → alt_uses p u (slice_index alts u) r ≤ slice_index loads r
     loads-have r m =
@@ -175,8 +173,9 @@ module _ (p : ProblemView) (ranges : List (ℕ × ℕ)) (alts : List ℕ) (cost 
           length uses ≡ length loads → length fewest ≡ length least →
           ((r : ℕ) → r < length loads → slice_index uses r + alt_uses p u (slice_index alts u) r ≡ slice_index loads r + alt_uses p u a r) →
           ((r : ℕ) → r < length least → slice_index fewest r + times_in was r ≡ slice_index least r + times_in now r) →
-          ((r : ℕ) → times_in was r ≡ least_uses p ranges u r) → ((r : ℕ) → times_in now r ≡ least_within low high (λ b. alt_uses p u b r)) →
-          IsKept p (slice_set ranges u (low, high)) (slice_set alts u a) more uses fewest zeros
+          ((i : ℕ) → i < length listed → times_in was i ≡ least_uses p ranges u (slice_index listed i)) →
+          ((i : ℕ) → i < length listed → times_in now i ≡ least_within low high (λ b. alt_uses p u b (slice_index listed i))) →
+          IsKept p (slice_set ranges u (low, high)) (slice_set alts u a) more uses fewest zeros listed
       IsKept-moved valid more uses fewest was now paid e f g h i j = record {
         valid = valid;
         few_units = k.few_units;
@@ -187,7 +186,7 @@ module _ (p : ProblemView) (ranges : List (ℕ × ℕ)) (alts : List ℕ) (cost 
         loads_count = e ∙ k.loads_count;
         loads_are = λ r m. omega (arith, g r (omega (arith, m, k.loads_count)), load-moved r, k.loads_are r m);
         least_count = f ∙ k.least_count;
-        least_are = λ r m. omega (arith, h r (omega (arith, m, k.least_count)), least-moved r, k.least_are r m, i r, j r);
+        least_are = λ q m. omega (arith, h q (omega (arith, m, k.least_count)), least-moved (slice_index listed q), k.least_are q m, i q m, j q m);
         zeros_count = k.zeros_count;
         zeros_are = k.zeros_are;
       }

@@ -1,17 +1,29 @@
--- Lists of resources, each as often as it comes. Contracts of private functions alone cite them.
+-- Lists of places of resources that are looked at, each as often as it comes. Contracts of private functions alone cite them.
 use Rattle.std.specs.Prelude.{◌≡◌, ℕ, ◌+◌, ◌<◌, ◌≤◌, ◌==◌, List, length, slice_index, count_by}
 
--- how often the resource comes in the list
+-- how often the number comes in the list
 abbrev pub times_in : List ℕ → ℕ → ℕ
 times_in list r = count_by (λ c. c == r) list
 
--- the list grew by these uses
-abbrev pub Appends : List ℕ → List ℕ → (ℕ → ℕ) → Type 0
-Appends old new uses = (r : ℕ) → times_in new r ≡ times_in old r + uses r
+-- the list grew by the places of the listed resources, each as often as the uses of its resource
+abbrev pub Appends : List ℕ → List ℕ → List ℕ → (ℕ → ℕ) → Type 0
+Appends listed old new uses = (i : ℕ) → i < length listed →
+    times_in new i ≡ times_in old i + uses (slice_index listed i)
 
--- no other resources come in it than these
+-- no other numbers come in it than those below the count
 abbrev pub AreWithin : ℕ → List ℕ → Type 0
-AreWithin resources list = (r : ℕ) → 0 < times_in list r → r < resources
+AreWithin count list = (r : ℕ) → 0 < times_in list r → r < count
+
+-- so many of the listed resources, the first ones, come before the resource
+pub record IsRankAt (listed : List ℕ) (r k : ℕ) : Type 0 where
+  pub most : k ≤ length listed
+  pub below : (i : ℕ) → i < k → slice_index listed i < r
+  pub above : (i : ℕ) → k ≤ i → i < length listed → r ≤ slice_index listed i
+
+-- at each resource, and behind the last, how many of the listed ones come before it
+pub record AreRanksOf (resources : ℕ) (listed ranks : List ℕ) : Type 0 where
+  pub count : length ranks ≡ resources + 1
+  pub each : (r : ℕ) → r ≤ resources → IsRankAt listed r (slice_index ranks r)
 
 -- each count is at least what is listed
 abbrev pub HasListed : List ℕ → List ℕ → Type 0

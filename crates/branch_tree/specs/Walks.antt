@@ -6,6 +6,7 @@ use Rattle.choice_problem.specs.Choices.{IsChoice, choice_cost}
 use Rattle.choice_problem.specs.Bounds.{AreRanges, least_load}
 use Rattle.choice_problem.specs.Splits.{IsCheapest}
 use Rattle.dual_bound.specs.Kept.{ListPassable}
+use Rattle.branch_tree.specs.Lists.{AreRanksOf}
 use Rattle.window_counts.specs.Placed.{AreZero, AreLoads}
 
 -- a problem, and ranges of it
@@ -13,15 +14,15 @@ pub record WalkView : Type 0 where
   pub problem : ProblemView
   pub ranges : List (ℕ × ℕ)
 
--- the counts are the least loads
-abbrev pub AreLeast : ProblemView → List (ℕ × ℕ) → List ℕ → Type 0
-AreLeast p ranges counts = (r : ℕ) → r < resource_count p → slice_index counts r
-    ≡ least_load p ranges r
+-- the counts are the least loads of the listed resources
+abbrev pub AreLeast : ProblemView → List (ℕ × ℕ) → List ℕ → List ℕ → Type 0
+AreLeast p ranges listed counts = (i : ℕ) → i < length listed → slice_index counts i
+    ≡ least_load p ranges (slice_index listed i)
 
--- what a walk keeps of its ranges: each unit's first cheapest alternative, what these cost and use, the least loads, and
--- room to count in
+-- what a walk keeps of its ranges: each unit's first cheapest alternative, what these cost and use, the least loads of the
+-- listed resources, and room to count in
 pub record IsKept (p : ProblemView) (ranges : List (ℕ × ℕ)) (alts : List ℕ) (cost : ℕ)
-    (loads least zeros : List ℕ) : Type 0 where
+    (loads least zeros listed : List ℕ) : Type 0 where
   pub valid : AreRanges p ranges
   pub few_units : unit_count p ≤ MOST_UNITS
   pub units : (u : ℕ) → u < unit_count p → IsChooser (chooser_at p u)
@@ -30,26 +31,33 @@ pub record IsKept (p : ProblemView) (ranges : List (ℕ × ℕ)) (alts : List �
   pub cost_is : cost ≡ choice_cost p alts
   pub loads_count : length loads ≡ resource_count p
   pub loads_are : AreLoads p alts loads
-  pub least_count : length least ≡ resource_count p
-  pub least_are : AreLeast p ranges least
-  pub zeros_count : length zeros ≡ resource_count p
+  pub least_count : length least ≡ length listed
+  pub least_are : AreLeast p ranges listed least
+  pub zeros_count : length zeros ≡ length listed
   pub zeros_are : AreZero zeros
 
--- the same, with a list of resources beside which none can be passed
+-- the same, where beside the listed resources none can be passed, and with their ranks
 pub record IsKeptWith (p : ProblemView) (ranges : List (ℕ × ℕ)) (alts : List ℕ) (cost : ℕ)
-    (loads least zeros passable : List ℕ) : Type 0 where
-  pub kept : IsKept p ranges alts cost loads least zeros
+    (loads least zeros passable ranks : List ℕ) : Type 0 where
+  pub kept : IsKept p ranges alts cost loads least zeros passable
   pub listed : ListPassable p passable
+  pub ranked : AreRanksOf (resource_count p) passable ranks
+
+-- no least load of the first n listed resources is above its limit
+abbrev pub AreWithinPlaces : ProblemView → List ℕ → List ℕ → ℕ → Type 0
+AreWithinPlaces p least list n = (i : ℕ) → i < n →
+    slice_index least i ≤ limit_of p (slice_index list i)
 
 -- no count of the first n listed resources is above its limit
-abbrev pub AreWithinListed : ProblemView → List ℕ → List ℕ → ℕ → Type 0
+abbrev pub AreWithinListed : ProblemView → (ℕ → ℕ) → List ℕ → ℕ → Type 0
 AreWithinListed p counts list n = (i : ℕ) → i < n →
-    slice_index counts (slice_index list i) ≤ limit_of p (slice_index list i)
+    counts (slice_index list i) ≤ limit_of p (slice_index list i)
 
 -- the first of the listed resources whose count is above its limit
-pub record IsFirstListed (p : ProblemView) (counts list : List ℕ) (r : ℕ) : Type 0 where
+pub record IsFirstListed (p : ProblemView) (counts : ℕ → ℕ) (list : List ℕ)
+    (r : ℕ) : Type 0 where
   pub place : ℕ
   pub there : place < length list
   pub is : slice_index list place ≡ r
-  pub above : limit_of p r < slice_index counts r
+  pub above : limit_of p r < counts r
   pub first : AreWithinListed p counts list place

@@ -9,7 +9,7 @@ ghost use Rattle.choice_problem.specs.Counts.{GrowsBy, HasRoom};
 ghost use Rattle.choice_problem.specs.Bounds.{AreRanges, Closes, least_load, low_of, high_of};
 ghost use Rattle.choice_problem.specs.Splits.{IsCheapest, least_uses};
 ghost use Rattle.choice_problem.specs.Counts.{HasUses};
-ghost use Rattle.branch_tree.specs.Lists.{times_in, AreWithin};
+ghost use Rattle.branch_tree.specs.Lists.{times_in, AreWithin, AreRanksOf};
 ghost use Rattle.window_counts.specs.Placed.{AreZero};
 ghost use Rattle.branch_tree.specs.Walks.{AreLeast};
 ghost use Rattle.window_counts.specs.Placed.{AreLoads};
@@ -20,22 +20,25 @@ use choice_problem::{Problem, Ranges};
 use slot_text::Memory;
 use std::alloc::Global;
 
-// Counts the least loads of ranges on counts of 0.
+// Counts the least loads of the listed resources on counts of 0.
 pub(crate) fn count_least(
     alloc: Global,
     problem: &Problem,
     ranges: &Ranges,
+    listed: &[u32],
+    ranks: &[u32],
     least: &mut [u32],
     zeros: &mut [u32],
 ) -> Result<(), Memory>
     requires ranges { AreRanges problem.now ranges.now }
-    requires count { length least.old ≡ resource_count problem.now }
+    requires ranks { AreRanksOf (resource_count problem.now) listed.now ranks.now }
+    requires count { length least.old ≡ length listed.now }
     requires empty { AreZero least.old }
-    requires zeros_count { length zeros.old ≡ resource_count problem.now }
+    requires zeros_count { length zeros.old ≡ length listed.now }
     requires zeros { AreZero zeros.old }
-    ensures least { OnOk result (AreLeast problem.now ranges.now least.new) }
+    ensures least { OnOk result (AreLeast problem.now ranges.now listed.now least.new) }
     ensures zeros { AreZero zeros.new }
-    ensures zeros_count { length zeros.new ≡ resource_count problem.now }
+    ensures zeros_count { length zeros.new ≡ length listed.now }
 {
     for unit in 0..problem.units() {
         let list = least_list(
@@ -44,6 +47,8 @@ pub(crate) fn count_least(
             unit,
             ranges.low(unit),
             ranges.high(unit),
+            listed,
+            ranks,
             zeros,
         )?;
         add_list(least, &list);

@@ -1,10 +1,10 @@
-//! The resources that a unit uses whatever it takes of a range.
+//! The listed resources that a unit uses whatever it takes of a range.
 
-ghost use Rattle.std.specs.Prelude.{◌≡◌, ℕ, ◌<◌, ◌≤◌, min, length, IfOk};
+ghost use Rattle.std.specs.Prelude.{◌≡◌, ℕ, ◌<◌, ◌≤◌, min, length, slice_index, IfOk};
 ghost use Rattle.choice_problem.specs.declared.problems.TheConstants.{MOST_USES};
 ghost use Rattle.finite_sums.specs.Sums.{least_within};
 ghost use Rattle.choice_problem.specs.Problems.{unit_count, alt_count, alt_uses, resource_count};
-ghost use Rattle.branch_tree.specs.Lists.{times_in, AreWithin};
+ghost use Rattle.branch_tree.specs.Lists.{times_in, AreWithin, AreRanksOf};
 ghost use Rattle.window_counts.specs.Placed.{AreZero};
 
 use crate::listing::{second_list, uses_list};
@@ -14,7 +14,8 @@ use choice_problem::Problem;
 use slot_text::Memory;
 use std::alloc::Global;
 
-// The resources that each alternative of a unit from one to another uses, each as often as each of them does. In a row of
+// The places of the listed resources that each alternative of a unit from one to another uses, each as often as each of
+// them does; `ranks` are the ranks of all resources among the listed ones, so that no other is looked at. In a row of
 // alternatives with the same first part this is what that part uses, and what their second parts have in common; from row
 // to row mostly the same second parts come again, so that each part is listed once. The last row is tried first, since it
 // has least in common with the first alternative. `zeros` is room to count in.
@@ -24,24 +25,27 @@ pub(crate) fn least_list(
     unit: u32,
     low: u32,
     high: u32,
+    listed: &[u32],
+    ranks: &[u32],
     zeros: &mut [u32],
 ) -> Result<Vec<u32>, Memory>
     requires unit { unit < unit_count problem.now }
     requires ordered { low ≤ high }
     requires there { high < alt_count problem.now unit }
-    requires count { length zeros.old ≡ resource_count problem.now }
+    requires ranks { AreRanksOf (resource_count problem.now) listed.now ranks.now }
+    requires count { length zeros.old ≡ length listed.now }
     requires zeros { AreZero zeros.old }
-    ensures least { IfOk result (λ list. (r : ℕ) → times_in list.items r
-        ≡ least_within low high (λ a. alt_uses problem.now unit a r)) }
-    ensures within { IfOk result (λ list. AreWithin (resource_count problem.now) list.items) }
+    ensures least { IfOk result (λ list. (i : ℕ) → i < length listed.now → times_in list.items i
+        ≡ least_within low high (λ a. alt_uses problem.now unit a (slice_index listed.now i))) }
+    ensures within { IfOk result (λ list. AreWithin (length listed.now) list.items) }
     ensures same { zeros.new ≡ zeros.old }
     ensures few { (r : ℕ) → least_within low high (λ a. alt_uses problem.now unit a r) ≤ MOST_USES }
 {
-    let mut list = uses_list(alloc, problem, unit, low)?;
+    let mut list = uses_list(alloc, problem, unit, low, listed, ranks)?;
     if low == high {
         return Ok(list);
     }
-    let mut twos = second_list(alloc, problem, unit, high)?;
+    let mut twos = second_list(alloc, problem, unit, high, listed, ranks)?;
     let mut row = Row {
         first: high,
         last: high,
@@ -52,8 +56,10 @@ pub(crate) fn least_list(
             return Ok(list);
         }
         let next = row_before(problem, unit, low, done);
-        move_twos(alloc, problem, unit, row, next, &mut twos, zeros)?;
-        let uses = row_list(alloc, problem, unit, next, &twos)?;
+        move_twos(
+            alloc, problem, unit, row, next, listed, ranks, &mut twos, zeros,
+        )?;
+        let uses = row_list(alloc, problem, unit, next, listed, ranks, &twos)?;
         lower(&mut list, &uses, zeros);
         done = next.first;
         row = next;

@@ -12,6 +12,7 @@ mod laws;
 mod least_uses;
 mod listing;
 mod plain;
+mod ranks;
 mod rows;
 mod tallies;
 mod visits;

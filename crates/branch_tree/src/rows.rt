@@ -1,10 +1,10 @@
 //! Rows of alternatives: those one after the other that name the same first part.
 
-ghost use Rattle.std.specs.Prelude.{◌≡◌, ℕ, ◌-◌, ◌<◌, ◌≤◌, length, IfOk, OnOk, IsTrue};
+ghost use Rattle.std.specs.Prelude.{◌≡◌, ℕ, ◌-◌, ◌<◌, ◌≤◌, length, slice_index, IfOk, OnOk, IsTrue};
 ghost use Rattle.choice_problem.specs.declared.problems.TheConstants.{MOST_USES};
 ghost use Rattle.finite_sums.specs.Sums.{least_within};
 ghost use Rattle.choice_problem.specs.Problems.{unit_count, alt_count, alt_uses, resource_count};
-ghost use Rattle.branch_tree.specs.Lists.{times_in, AreWithin};
+ghost use Rattle.branch_tree.specs.Lists.{times_in, AreWithin, AreRanksOf};
 ghost use Rattle.window_counts.specs.Placed.{AreZero};
 ghost use Rattle.branch_tree.specs.Rows.{IsRow, EndAlike, AreLeastTwos};
 
@@ -60,6 +60,8 @@ pub(crate) fn move_twos(
     unit: u32,
     was: Row,
     row: Row,
+    listed: &[u32],
+    ranks: &[u32],
     twos: &mut Vec<u32>,
     zeros: &mut [u32],
 ) -> Result<(), Memory>
@@ -68,16 +70,17 @@ pub(crate) fn move_twos(
     requires was_there { was.last < alt_count problem.now unit }
     requires row { row.first ≤ row.last }
     requires row_there { row.last < alt_count problem.now unit }
-    requires twos { AreLeastTwos problem.now unit was.first was.last twos.old.items }
-    requires within { AreWithin (resource_count problem.now) twos.old.items }
-    requires count { length zeros.old ≡ resource_count problem.now }
+    requires ranks { AreRanksOf (resource_count problem.now) listed.now ranks.now }
+    requires twos { AreLeastTwos problem.now listed.now unit was.first was.last twos.old.items }
+    requires within { AreWithin (length listed.now) twos.old.items }
+    requires count { length zeros.old ≡ length listed.now }
     requires zeros { AreZero zeros.old }
-    ensures twos { OnOk result (AreLeastTwos problem.now unit row.first row.last twos.new.items) }
-    ensures within { OnOk result (AreWithin (resource_count problem.now) twos.new.items) }
+    ensures twos { OnOk result (AreLeastTwos problem.now listed.now unit row.first row.last twos.new.items) }
+    ensures within { OnOk result (AreWithin (length listed.now) twos.new.items) }
     ensures same { zeros.new ≡ zeros.old }
 {
-    let from = begin_twos(alloc, problem, unit, was, row, twos)?;
-    lower_twos(alloc, problem, unit, row, from, twos, zeros)
+    let from = begin_twos(alloc, problem, unit, was, row, listed, ranks, twos)?;
+    lower_twos(alloc, problem, unit, row, from, listed, ranks, twos, zeros)
 }
 
 // Moves the least uses of second parts from a row to the last alternatives of another one, and tells the first of these:
@@ -88,6 +91,8 @@ fn begin_twos(
     unit: u32,
     was: Row,
     row: Row,
+    listed: &[u32],
+    ranks: &[u32],
     twos: &mut Vec<u32>,
 ) -> Result<u32, Memory>
     requires unit { unit < unit_count problem.now }
@@ -95,19 +100,20 @@ fn begin_twos(
     requires was_there { was.last < alt_count problem.now unit }
     requires row { row.first ≤ row.last }
     requires row_there { row.last < alt_count problem.now unit }
-    requires twos { AreLeastTwos problem.now unit was.first was.last twos.old.items }
-    requires within { AreWithin (resource_count problem.now) twos.old.items }
+    requires ranks { AreRanksOf (resource_count problem.now) listed.now ranks.now }
+    requires twos { AreLeastTwos problem.now listed.now unit was.first was.last twos.old.items }
+    requires within { AreWithin (length listed.now) twos.old.items }
     ensures from { IfOk result (λ from. row.first ≤ from) }
     ensures to { IfOk result (λ from. from ≤ row.last) }
     ensures twos { IfOk result (λ from.
-        AreLeastTwos problem.now unit from row.last twos.new.items) }
-    ensures within { OnOk result (AreWithin (resource_count problem.now) twos.new.items) }
+        AreLeastTwos problem.now listed.now unit from row.last twos.new.items) }
+    ensures within { OnOk result (AreWithin (length listed.now) twos.new.items) }
 {
     let known = was.last - was.first;
     if known <= row.last - row.first && end_alike(problem, unit, was, row.last) {
         return Ok(row.last - known);
     }
-    *twos = second_list(alloc, problem, unit, row.last)?;
+    *twos = second_list(alloc, problem, unit, row.last, listed, ranks)?;
     Ok(row.last)
 }
 
@@ -119,6 +125,8 @@ fn lower_twos(
     unit: u32,
     row: Row,
     from: u32,
+    listed: &[u32],
+    ranks: &[u32],
     twos: &mut Vec<u32>,
     zeros: &mut [u32],
 ) -> Result<(), Memory>
@@ -126,19 +134,20 @@ fn lower_twos(
     requires row { row.first ≤ from }
     requires from { from ≤ row.last }
     requires row_there { row.last < alt_count problem.now unit }
-    requires twos { AreLeastTwos problem.now unit from row.last twos.old.items }
-    requires within { AreWithin (resource_count problem.now) twos.old.items }
-    requires count { length zeros.old ≡ resource_count problem.now }
+    requires ranks { AreRanksOf (resource_count problem.now) listed.now ranks.now }
+    requires twos { AreLeastTwos problem.now listed.now unit from row.last twos.old.items }
+    requires within { AreWithin (length listed.now) twos.old.items }
+    requires count { length zeros.old ≡ length listed.now }
     requires zeros { AreZero zeros.old }
-    ensures twos { OnOk result (AreLeastTwos problem.now unit row.first row.last twos.new.items) }
-    ensures within { OnOk result (AreWithin (resource_count problem.now) twos.new.items) }
+    ensures twos { OnOk result (AreLeastTwos problem.now listed.now unit row.first row.last twos.new.items) }
+    ensures within { OnOk result (AreWithin (length listed.now) twos.new.items) }
     ensures same { zeros.new ≡ zeros.old }
 {
     for alt in row.first..from {
         if twos.is_empty() {
             return Ok(());
         }
-        let other = second_list(alloc, problem, unit, alt)?;
+        let other = second_list(alloc, problem, unit, alt, listed, ranks)?;
         lower(twos, &other, zeros);
     }
     Ok(())
@@ -165,26 +174,30 @@ fn end_alike(problem: &Problem, unit: u32, row: Row, end: u32) -> bool
     true
 }
 
-// The resources that each alternative of a row uses, each as often as each of them does.
+// The listed resources that each alternative of a row uses, each as often as each of them does.
 pub(crate) fn row_list(
     alloc: Global,
     problem: &Problem,
     unit: u32,
     row: Row,
+    listed: &[u32],
+    ranks: &[u32],
     twos: &[u32],
 ) -> Result<Vec<u32>, Memory>
     requires unit { unit < unit_count problem.now }
     requires ordered { row.first ≤ row.last }
     requires there { row.last < alt_count problem.now unit }
     requires row { IsRow problem.now unit row.first row.last }
-    requires twos { AreLeastTwos problem.now unit row.first row.last twos.now }
-    requires within { AreWithin (resource_count problem.now) twos.now }
-    ensures least { IfOk result (λ list. (r : ℕ) → times_in list.items r
-        ≡ least_within row.first row.last (λ a. alt_uses problem.now unit a r)) }
-    ensures within { IfOk result (λ list. AreWithin (resource_count problem.now) list.items) }
+    requires ranks { AreRanksOf (resource_count problem.now) listed.now ranks.now }
+    requires twos { AreLeastTwos problem.now listed.now unit row.first row.last twos.now }
+    requires within { AreWithin (length listed.now) twos.now }
+    ensures least { IfOk result (λ list. (i : ℕ) → i < length listed.now → times_in list.items i
+        ≡ least_within row.first row.last
+        (λ a. alt_uses problem.now unit a (slice_index listed.now i))) }
+    ensures within { IfOk result (λ list. AreWithin (length listed.now) list.items) }
     ensures few { (r : ℕ) → alt_uses problem.now unit row.last r ≤ MOST_USES }
 {
-    let mut list = first_list(alloc, problem, unit, row.last)?;
+    let mut list = first_list(alloc, problem, unit, row.last, listed, ranks)?;
     list.extend_from_slice(twos)?;
     Ok(list)
 }

@@ -1,4 +1,4 @@
-//! Lists of resources, counted.
+//! Lists of places, counted.
 
 ghost use Rattle.std.specs.Prelude.{◌≡◌, ℕ, ◌+◌, ◌^◌, ◌<◌, ◌≤◌, min, take, length, slice_index};
 ghost use Rattle.choice_problem.specs.declared.problems.TheConstants.{MOST_USES};
@@ -32,7 +32,7 @@ pub(crate) fn take_list(counts: &mut [u32], list: &[u32])
 pub(crate) fn lower(list: &mut Vec<u32>, other: &[u32], zeros: &mut [u32])
     requires within { AreWithin (length zeros.old) list.old.items }
     requires other_within { AreWithin (length zeros.old) other.now }
-    requires few { (r : ℕ) → times_in other.now r ≤ MOST_USES }
+    requires few { (r : ℕ) → r < length zeros.old → times_in other.now r ≤ MOST_USES }
     requires zeros { AreZero zeros.old }
     ensures lowered { (r : ℕ) → times_in list.new.items r
         ≡ min (times_in list.old.items r) (times_in other.now r) }

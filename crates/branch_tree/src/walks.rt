@@ -14,6 +14,7 @@ use crate::branching::found_or_split;
 use crate::closings::{kept_leaf, leaf, priced_leaf};
 use crate::kept::{cheapest, count_least, first_cheapest, move_least};
 use crate::least_uses::least_list;
+use crate::ranks::ranks_of;
 use choice_problem::{Node, Problem, Ranges};
 use dual_bound::passable_resources;
 use price_table::{PriceTable, Totals};
@@ -22,11 +23,11 @@ use std::alloc::Global;
 use std::marker::Model;
 use window_counts::{Counts, add_choice, change_alt};
 
-/// Ranges of a problem, with what a visit asks of them: the least load of each resource, each unit's first cheapest
-/// alternative, what these together use and cost, and the resources that can be passed. Where a range changes, what changes
-/// with it is counted anew, and nothing else. Contracts see the problem and the ranges.
+/// Ranges of a problem, with what a visit asks of them: each unit's first cheapest alternative, what these together
+/// use and cost, and the resources that can be passed, with the least load of each. Where a range changes, what changes with
+/// it is counted anew, and nothing else. Contracts see the problem and the ranges.
 ///
-/// Memory: 12 bytes a resource, 12 bytes a unit, and 4 bytes a resource that can be passed.
+/// Memory: 8 bytes a resource, 12 bytes a unit, and 12 bytes a resource that can be passed.
 #[derive(Drop)]
 pub struct Walk<'a> {
     problem: &'a Problem,
@@ -37,6 +38,7 @@ pub struct Walk<'a> {
     least: Vec<u32>,
     zeros: Vec<u32>,
     passable: Vec<u32>,
+    ranks: Vec<u32>,
 }
 
 impl<'a> Model for Walk<'a> {
@@ -46,7 +48,7 @@ impl<'a> Model for Walk<'a> {
 
     ghost view = { λ w. record { problem = w.problem.now; ranges = w.ranges } };
 
-    ghost invariant = { λ w. IsKeptWith w.problem.now w.ranges w.cheapest.items w.cost w.loads w.least.items w.zeros.items w.passable.items };
+    ghost invariant = { λ w. IsKeptWith w.problem.now w.ranges w.cheapest.items w.cost w.loads w.least.items w.zeros.items w.passable.items w.ranks.items };
 }
 
 impl<'a> Walk<'a> {
@@ -71,12 +73,15 @@ impl<'a> Walk<'a> {
     {
         let resources = problem.resources();
         let passable = passable_resources(alloc, problem)?;
+        let ranks = ranks_of(alloc, &passable, resources)?;
         let mut loads = Counts::of(alloc, &[], resources)?;
-        let mut least = vec![in alloc; 0; resources as usize]?;
-        let mut zeros = vec![in alloc; 0; resources as usize]?;
+        let mut least = vec![in alloc; 0; passable.len()]?;
+        let mut zeros = vec![in alloc; 0; passable.len()]?;
         let cheapest = cheapest(alloc, problem, &ranges)?;
         let cost = add_choice(problem, &cheapest, &mut loads);
-        count_least(alloc, problem, &ranges, &mut least, &mut zeros)?;
+        count_least(
+            alloc, problem, &ranges, &passable, &ranks, &mut least, &mut zeros,
+        )?;
         Ok(Walk {
             problem,
             ranges,
@@ -86,6 +91,7 @@ impl<'a> Walk<'a> {
             least,
             zeros,
             passable,
+            ranks,
         })
     }
 
@@ -228,8 +234,26 @@ impl<'a> Walk<'a> {
         ensures err { OnErr result (self.new ≡ self.old) }
     {
         let (old_low, old_high) = (self.ranges.low(unit), self.ranges.high(unit));
-        let was = least_list(alloc, problem, unit, old_low, old_high, &mut self.zeros)?;
-        let now = least_list(alloc, problem, unit, low, high, &mut self.zeros)?;
+        let was = least_list(
+            alloc,
+            problem,
+            unit,
+            old_low,
+            old_high,
+            &self.passable,
+            &self.ranks,
+            &mut self.zeros,
+        )?;
+        let now = least_list(
+            alloc,
+            problem,
+            unit,
+            low,
+            high,
+            &self.passable,
+            &self.ranks,
+            &mut self.zeros,
+        )?;
         move_least(&mut self.least, &was, &now);
         let old_alt = self.cheapest[unit as usize];
         let alt = first_cheapest(problem, unit, low, high);
@@ -244,8 +268,8 @@ impl<'a> Walk<'a> {
 // The lowest resource whose least load is above its limit.
 fn first_over(problem: &Problem, ranges: &Ranges, least: &[u32], passable: &[u32]) -> Option<u32>
     requires ranges { AreRanges problem.now ranges.now }
-    requires count { length least.now ≡ resource_count problem.now }
-    requires least { AreLeast problem.now ranges.now least.now }
+    requires count { length least.now ≡ length passable.now }
+    requires least { AreLeast problem.now ranges.now passable.now least.now }
     requires passable { ListPassable problem.now passable.now }
     ensures some { IfSome result (IsFirstOver problem.now ranges.now) }
     ensures none { IfNone result ((r : ℕ) → r < resource_count problem.now →
@@ -254,7 +278,7 @@ fn first_over(problem: &Problem, ranges: &Ranges, least: &[u32], passable: &[u32
     let _ranges = ranges;
     for place in 0..passable.len() {
         let resource = passable[place];
-        if i64::from(least[resource as usize]) > problem.limit(resource) {
+        if i64::from(least[place]) > problem.limit(resource) {
             return Some(resource);
         }
     }

@@ -1,5 +1,5 @@
-use Rattle.std.proofs.Common.{◌<◌, ◌∙◌, arith}
-use Rattle.choice_problem.specs.Problems.{resource_count}
+use Rattle.std.proofs.Common.{◌<◌, ◌∙◌, length, arith}
+use Rattle.std.specs.Prelude.{slice_index}
 use Rattle.choice_problem.specs.Splits.{least_uses}
 use Rattle.finite_sums.proofs.SumLemmas.{sum_below-more}
 use Rattle.branch_tree.proofs.kept.count_least.Goals as goal
@@ -8,9 +8,9 @@ pub add_list-requires-clause-within : goal.add_list-requires-clause-within
 add_list-requires-clause-within c = rw c.deref.ensures.value (λ r h. omega (arith, c.in_ok-list.ensures.within r h))
 
 pub add_list-requires-clause-room : goal.add_list-requires-clause-room
-add_list-requires-clause-room c = rw c.deref.ensures.value (λ r l.
-    let there : r < resource_count c.args.problem.now = omega arith in
-    omega (arith, c.loop-unit.invariant.few r there, c.in_ok-list.ensures.least r, c.in_ok-list.ensures.few r, c.units-unit-end.ensures.few, c.loop-unit-test.true))
+add_list-requires-clause-room c = rw c.deref.ensures.value (λ i l.
+    let there : i < length c.args.listed.now = omega arith in
+    omega (arith, c.loop-unit.invariant.few i there, c.in_ok-list.ensures.least i there, c.in_ok-list.ensures.few (slice_index c.args.listed.now i), c.units-unit-end.ensures.few, c.loop-unit-test.true))
 
 pub loop-unit-preserved : goal.loop-unit-preserved
 loop-unit-preserved c =
@@ -19,7 +19,13 @@ loop-unit-preserved c =
     let listed = rw (c.low.ensures, c.high.ensures) at c.in_ok-list.ensures.least in
     let few = rw (c.low.ensures, c.high.ensures) at c.in_ok-list.ensures.few in
     record {
-      counted = λ r l. omega (arith, sum_below-more c.loop-unit.unit (λ u. least_uses p c.args.ranges.now u r), c.loop-unit.invariant.counted r l, grown r (omega arith), listed r);
-      few = λ r l. omega (arith, c.loop-unit.invariant.few r l, grown r (omega arith), listed r, few r);
+      counted = λ i l. omega (
+        arith,
+        sum_below-more c.loop-unit.unit (λ u. least_uses p c.args.ranges.now u (slice_index c.args.listed.now i)),
+        c.loop-unit.invariant.counted i l,
+        grown i (omega arith),
+        listed i l,
+      );
+      few = λ i l. omega (arith, c.loop-unit.invariant.few i l, grown i (omega arith), listed i l, few (slice_index c.args.listed.now i));
       same = c.in_ok-list.ensures.same ∙ c.loop-unit.invariant.same;
     }

@@ -1,5 +1,5 @@
-use Rattle.std.proofs.Common.{◌≡◌, ℕ, ◌≤◌, ◌∙◌, arith, refl, inl, inr, Bool, true, length}
-use Rattle.std.specs.Prelude.{vec_len, ◌==◌}
+use Rattle.std.proofs.Common.{◌≡◌, ℕ, ◌<◌, ◌≤◌, ◌∙◌, arith, refl, inl, inr, Bool, true, length}
+use Rattle.std.specs.Prelude.{vec_len, slice_index, ◌==◌}
 use Rattle.std.proofs.lemmas.Grind.{common_steps}
 use Rattle.std.proofs.lemmas.Bool.{cases_lt}
 use Rattle.finite_sums.specs.Sums.{least_within}
@@ -41,11 +41,15 @@ loop-done-init c =
       to = omega arith;
       ordered = omega arith;
       there = c.requires.there;
-      twos_are = λ r. omega (arith, c.in_ok-twos.ensures.listed r, least_within-one c.args.high (λ a. two_uses p u a r));
+      twos_are = λ i n. omega (arith, c.in_ok-twos.ensures.listed i n, least_within-one c.args.high (λ a. two_uses p u a (slice_index c.args.listed.now i)));
       twos_within = c.in_ok-twos.ensures.within;
-      above = λ r. omega (arith, least_within-le c.args.low c.args.high c.args.low (λ a. alt_uses p u a r) (omega arith) c.requires.ordered, c.in_ok-list.ensures.listed r);
-      first = λ r. omega (arith, c.in_ok-list.ensures.listed r);
-      tried = λ a r l m. absurd (omega arith);
+      above = λ i n. omega (
+        arith,
+        least_within-le c.args.low c.args.high c.args.low (λ a. alt_uses p u a (slice_index c.args.listed.now i)) (omega arith) c.requires.ordered,
+        c.in_ok-list.ensures.listed i n,
+      );
+      first = λ i n. omega (arith, c.in_ok-list.ensures.listed i n);
+      tried = λ a i n l m. absurd (omega arith);
       within = c.in_ok-list.ensures.within;
       same = refl;
     }
@@ -54,11 +58,11 @@ zero_is : (n : ℕ) (b : Bool) → b ≡ (n == 0) → b ≡ true → n ≡ 0
 zero_is n b e t = grind (arith, common_steps)
 
 pub returns-then-is_empty-clause-least : goal.returns-then-is_empty-clause-least
-returns-then-is_empty-clause-least c = λ r.
+returns-then-is_empty-clause-least c = λ i n.
     let list = c.loop-done.list in
     let none : vec_len list ≡ 0 = zero_is (vec_len list) c.is_empty.result c.is_empty.ensures c.if-is_empty.true in
     let nothing : length list.items ≡ 0 = omega arith in
-    omega (arith, times-empty list.items r nothing, c.loop-done.invariant.above r)
+    omega (arith, times-empty list.items i nothing, c.loop-done.invariant.above i n)
 
 pub row_list-requires-clause-within : goal.row_list-requires-clause-within
 row_list-requires-clause-within c = rw c.deref.ensures.value c.in_ok-move_twos.ensures.within
@@ -70,11 +74,13 @@ pub lower-requires-clause-other_within : goal.lower-requires-clause-other_within
 lower-requires-clause-other_within c = rw c.deref-in-loop-done.ensures.value (λ r h. omega (arith, c.in_ok-uses.ensures.within r h))
 
 pub lower-requires-clause-few : goal.lower-requires-clause-few
-lower-requires-clause-few c = rw c.deref-in-loop-done.ensures.value (λ r.
+lower-requires-clause-few c = rw c.deref-in-loop-done.ensures.value (λ i l.
     let next = c.row_before-next.result in
+    let r = slice_index c.args.listed.now i in
+    let n : i < length c.args.listed.now = omega arith in
     omega (
       arith,
-      c.in_ok-uses.ensures.least r,
+      c.in_ok-uses.ensures.least i n,
       least_within-le next.first next.last next.last (λ a. alt_uses c.args.problem.now c.args.unit a r) (omega arith) (omega arith),
       c.in_ok-uses.ensures.few r,
     ))
@@ -93,33 +99,33 @@ loop-done-preserved c =
       there = omega (arith, c.row_before-next.ensures.last, i.to, c.requires.there, c.loop-done-test.true);
       twos_are = c.in_ok-move_twos.ensures.twos;
       twos_within = c.in_ok-move_twos.ensures.within;
-      above = λ r. omega (
+      above = λ k n. omega (
         arith,
-        i.above r,
-        lowered r,
-        c.in_ok-uses.ensures.least r,
-        least_within-part c.args.low c.args.high next.first next.last (λ a. alt_uses p u a r) (omega arith) (omega arith) (omega arith),
+        i.above k n,
+        lowered k,
+        c.in_ok-uses.ensures.least k n,
+        least_within-part c.args.low c.args.high next.first next.last (λ a. alt_uses p u a (slice_index c.args.listed.now k)) (omega arith) (omega arith) (omega arith),
       );
-      first = λ r. omega (arith, i.first r, lowered r);
-      tried = λ a r l m. elim (cases_lt a c.loop-done.done) [
+      first = λ k n. omega (arith, i.first k n, lowered k);
+      tried = λ a k n l m. elim (cases_lt a c.loop-done.done) [
         | inl inside ↦ omega (
           arith,
-          lowered r,
-          c.in_ok-uses.ensures.least r,
-          least_within-le next.first next.last a (λ b. alt_uses p u b r) l (omega (arith, inside, c.row_before-next.ensures.last)),
+          lowered k,
+          c.in_ok-uses.ensures.least k n,
+          least_within-le next.first next.last a (λ b. alt_uses p u b (slice_index c.args.listed.now k)) l (omega (arith, inside, c.row_before-next.ensures.last)),
         )
-        | inr after ↦ omega (arith, lowered r, i.tried a r after m)
+        | inr after ↦ omega (arith, lowered k, i.tried a k n after m)
       ];
       within = λ r h. omega (arith, c.lower.ensures.within r h);
       same = c.lower.ensures.same ∙ (c.in_ok-move_twos.ensures.same ∙ i.same);
     }
 
 pub returns-clause-least : goal.returns-clause-least
-returns-clause-least c = λ r.
+returns-clause-least c = λ k n.
     let p = c.args.problem.now in
     let u = c.args.unit in
     let i = c.loop-done.invariant in
     let list = c.loop-done.list.items in
-    let below = least_within-ge c.args.low c.args.high (times_in list r) (λ a. alt_uses p u a r) c.requires.ordered
-    (λ a l m. i.tried a r (omega (arith, l, c.loop-done-test.false)) m) in
-    omega (arith, below, i.above r)
+    let below = least_within-ge c.args.low c.args.high (times_in list k) (λ a. alt_uses p u a (slice_index c.args.listed.now k)) c.requires.ordered
+    (λ a l m. i.tried a k n (omega (arith, l, c.loop-done-test.false)) m) in
+    omega (arith, below, i.above k n)

@@ -1,6 +1,6 @@
-use Rattle.std.proofs.Common.{◌≡◌, ℕ, ◌+◌, ◌<◌, ◌≤◌}
+use Rattle.std.proofs.Common.{◌≡◌, ℕ, ◌+◌, ◌<◌, ◌≤◌, length, slice_index}
 use Rattle.finite_sums.specs.Sums.{least_within}
-use Rattle.choice_problem.specs.Problems.{alt_count, alt_uses, resource_count}
+use Rattle.choice_problem.specs.Problems.{alt_count, alt_uses}
 use Rattle.branch_tree.specs.Lists.{times_in, AreWithin}
 use Rattle.branch_tree.specs.Rows.{AreLeastTwos}
 use Rattle.branch_tree.proofs.least_uses.least_list.Given as goal
@@ -11,12 +11,12 @@ invariant-loop-done l = record {
   to : l.done ≤ l.high + 1;
   ordered : l.row.first ≤ l.row.last;
   there : l.row.last < alt_count l.problem l.unit;
-  twos_are : AreLeastTwos l.problem l.unit l.row.first l.row.last l.twos.items;
-  twos_within : AreWithin (resource_count l.problem) l.twos.items;
-  above : (r : ℕ) → least_within l.low l.high (λ a. alt_uses l.problem l.unit a r) ≤ times_in l.list.items r;
-  first : (r : ℕ) → times_in l.list.items r ≤ alt_uses l.problem l.unit l.low r;
-  tried : (a r : ℕ) → l.done ≤ a → a ≤ l.high → times_in l.list.items r ≤ alt_uses l.problem l.unit a r;
-  within : AreWithin (resource_count l.problem) l.list.items;
+  twos_are : AreLeastTwos l.problem l.listed l.unit l.row.first l.row.last l.twos.items;
+  twos_within : AreWithin (length l.listed) l.twos.items;
+  above : (i : ℕ) → i < length l.listed → least_within l.low l.high (λ a. alt_uses l.problem l.unit a (slice_index l.listed i)) ≤ times_in l.list.items i;
+  first : (i : ℕ) → i < length l.listed → times_in l.list.items i ≤ alt_uses l.problem l.unit l.low (slice_index l.listed i);
+  tried : (a i : ℕ) → i < length l.listed → l.done ≤ a → a ≤ l.high → times_in l.list.items i ≤ alt_uses l.problem l.unit a (slice_index l.listed i);
+  within : AreWithin (length l.listed) l.list.items;
   same : l.zeros ≡ l.fn.zeros;
 }
 

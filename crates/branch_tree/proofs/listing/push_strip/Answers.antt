@@ -1,4 +1,5 @@
 use Rattle.std.proofs.Common.{◌≡◌, arith}
+use Rattle.std.specs.Prelude.{slice_index}
 use Rattle.choice_problem.specs.Strips.{is_in_run}
 use Rattle.finite_sums.proofs.SumLemmas.{count_below-more}
 use Rattle.branch_tree.proofs.listing.push_strip.Goals as goal
@@ -8,11 +9,11 @@ loop-i-preserved c =
     let s = c.args.strip.now in
     let uses = rw (c.run_of-start.ensures.start, c.run_of-start.ensures.end) at c.in_ok-push_run.ensures.uses in
     record {
-      uses = λ r. omega (arith, uses r, c.loop-i.invariant.uses r, count_below-more c.loop-i.i (λ i. is_in_run s r i));
+      uses = λ i l. omega (arith, uses i l, c.loop-i.invariant.uses i l, count_below-more c.loop-i.i (λ k. is_in_run s (slice_index c.args.listed.now i) k));
       within = c.in_ok-push_run.ensures.within;
     }
 
 pub returns-clause-uses : goal.returns-clause-uses
-returns-clause-uses c = λ r.
+returns-clause-uses c = λ i l.
     let e : c.loop-i.i ≡ c.args.strip.now.times = omega (arith, c.loop-i.auto.i-end, c.loop-i-test.false) in
-    rw e at (c.loop-i.invariant.uses r)
+    rw e at (c.loop-i.invariant.uses i l)

@@ -1,11 +1,12 @@
 use Rattle.std.proofs.Common.{arith, refl}
+use Rattle.std.specs.Prelude.{slice_index}
 use Rattle.branch_tree.proofs.RowLemmas.{least-alike}
 use Rattle.branch_tree.proofs.rows.begin_twos.Goals as goal
 
 pub returns-then-end_alike-clause-twos : goal.returns-then-end_alike-clause-twos
-returns-then-end_alike-clause-twos c = λ r. omega (
+returns-then-end_alike-clause-twos c = λ i l. omega (
   arith,
-  c.requires.twos r,
-  least-alike c.args.problem.now c.args.unit c.args.was.first c.args.was.last c.args.row.last r c.requires.was
+  c.requires.twos i l,
+  least-alike c.args.problem.now c.args.unit c.args.was.first c.args.was.last c.args.row.last (slice_index c.args.listed.now i) c.requires.was
       (omega (arith, c.if-known-row.true)) (c.if-end_alike.ensures refl),
 )

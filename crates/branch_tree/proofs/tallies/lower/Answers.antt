@@ -5,7 +5,7 @@ use Rattle.branch_tree.specs.Lists.{times_in}
 use Rattle.branch_tree.proofs.tallies.lower.Goals as goal
 
 pub add_list-requires-clause-room : goal.add_list-requires-clause-room
-add_list-requires-clause-room c = λ r l. omega (arith, c.requires.zeros r l, c.requires.few r)
+add_list-requires-clause-room c = λ r l. omega (arith, c.requires.zeros r l, c.requires.few r (omega arith))
 
 pub keep-requires : goal.keep-requires
 keep-requires c = λ r h. omega (arith, c.requires.within r h)

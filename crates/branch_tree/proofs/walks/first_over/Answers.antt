@@ -1,8 +1,8 @@
-use Rattle.std.proofs.Common.{◌<◌, ℕ, refl, arith}
+use Rattle.std.proofs.Common.{◌<◌, arith}
 use Rattle.std.specs.Prelude.{slice_index}
 use Rattle.std.proofs.lemmas.Int.{ints}
 use Rattle.choice_problem.specs.Problems.{limit_of}
-use Rattle.branch_tree.proofs.PassableLemmas.{first_listed-IsFirstOver, none_listed-none_over}
+use Rattle.branch_tree.proofs.PassableLemmas.{first_place-IsFirstOver, none_listed-none_over}
 use Rattle.branch_tree.proofs.walks.first_over.Goals as goal
 
 pub returns-then-from-limit-clause-some : goal.returns-then-from-limit-clause-some
@@ -11,12 +11,11 @@ returns-then-from-limit-clause-some c =
     let least = c.args.least.now in
     let list = c.args.passable.now in
     let place = c.loop-place.place in
-    let r : ℕ = slice_index list place in
-    let above : limit_of p r < slice_index least r = omega (arith, ints, c.if-from-limit.true, c.from.ensures, c.limit.ensures.value) in
-    first_listed-IsFirstOver p c.args.ranges.now least list r c.requires.ranges c.requires.least c.requires.passable
-    (record { place = place; there = c.loop-place-test.true; is = refl; above = above; first = c.loop-place.invariant })
+    let above : limit_of p (slice_index list place) < slice_index least place = omega (arith, ints, c.if-from-limit.true, c.from.ensures, c.limit.ensures.value) in
+    first_place-IsFirstOver p c.args.ranges.now list c.requires.ranges c.requires.passable least c.requires.least place c.loop-place-test.true above
+    c.loop-place.invariant
 
 pub returns-clause-none : goal.returns-clause-none
 returns-clause-none c =
-    none_listed-none_over c.args.problem.now c.args.ranges.now c.args.least.now c.args.passable.now c.requires.ranges c.requires.least c.requires.passable
+    none_listed-none_over c.args.problem.now c.args.ranges.now c.args.passable.now c.requires.ranges c.requires.passable c.args.least.now c.requires.least
     (λ i l. c.loop-place.invariant i (omega (arith, l, c.loop-place-test.false)))

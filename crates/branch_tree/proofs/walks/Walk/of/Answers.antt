@@ -1,5 +1,4 @@
 use Rattle.std.proofs.Common.{◌≡◌, List, ℕ, length, ap, arith}
-use Rattle.choice_problem.specs.Problems.{resource_count}
 use Rattle.branch_tree.proofs.WalkLemmas.{written-back}
 use Rattle.branch_tree.proofs.walks.Walk.of.Goals as goal
 
@@ -9,11 +8,12 @@ invariant_of-result c =
     let zeros_long : length c.count_least.new.zeros ≡ c.in_ok-zeros.zeros.len = omega (arith, ap (λ (xs : List ℕ). length xs) c.deref_mut-2.ensures.value) in
     let least_back = written-back c.count_least.new.least c.in_ok-least.least.items c.in_ok-least.least.len least_long in
     let zeros_back = written-back c.count_least.new.zeros c.in_ok-zeros.zeros.items c.in_ok-zeros.zeros.len zeros_long in
-    let chosen = c.deref.ensures.value in
-    let counted : length c.count_least.new.least ≡ resource_count c.args.problem.now =
-    omega (arith, ap (λ (xs : List ℕ). length xs) c.deref_mut.ensures.value, c.in_ok-least.ensures.len, c.resources-resources.ensures.count) in
+    let chosen = c.deref-2.ensures.value in
+    let counted : length c.count_least.new.least ≡ length c.in_ok-passable.passable.items =
+    omega (arith, ap (λ (xs : List ℕ). length xs) c.deref_mut.ensures.value, c.in_ok-least.ensures.len, c.len.ensures) in
     rw (least_back, zeros_back) (record {
       listed = c.in_ok-passable.ensures;
+      ranked = rw (c.deref.ensures.value, c.resources-resources.ensures.count) at c.in_ok-ranks.ensures;
       kept = record {
         valid = c.requires;
         few_units = c.add_choice-cost.ensures.few;
@@ -24,8 +24,8 @@ invariant_of-result c =
         loads_count = c.add_choice-cost.ensures.count;
         loads_are = rw chosen at c.add_choice-cost.ensures.loads;
         least_count = counted;
-        least_are = c.in_ok-count_least.ensures.least;
-        zeros_count = c.in_ok-count_least.ensures.zeros_count;
+        least_are = rw c.deref-3.ensures.value at c.in_ok-count_least.ensures.least;
+        zeros_count = rw c.deref-3.ensures.value at c.in_ok-count_least.ensures.zeros_count;
         zeros_are = c.in_ok-count_least.ensures.zeros;
       };
     })
