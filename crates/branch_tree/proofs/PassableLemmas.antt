@@ -4,12 +4,11 @@ use Rattle.std.specs.Prelude.{slice_index}
 use Rattle.std.proofs.lemmas.Bool.{cases_lt, cases_eq}
 use Rattle.finite_sums.proofs.SumLemmas.{sum_below-le, least_within-le}
 use Rattle.choice_problem.specs.Problems.{ProblemView, unit_count, resource_count, alt_uses, limit_of}
-use Rattle.choice_problem.specs.Choices.{IsChoice, Fits, IsFirstPassed}
+use Rattle.choice_problem.specs.Choices.{IsChoice, Fits, IsFirstPassed, load_of}
 use Rattle.choice_problem.specs.Bounds.{AreRanges, IsOver, least_load, low_of, high_of}
 use Rattle.choice_problem.specs.Splits.{IsFirstOver, least_uses}
 use Rattle.dual_bound.specs.Kept.{ListPassable}
-use Rattle.branch_tree.specs.Walks.{AreLeast, IsFirstListed, AreWithinListed, AreWithinPlaces}
-use Rattle.window_counts.specs.Placed.{AreLoads}
+use Rattle.branch_tree.specs.Walks.{AreLeast, AreLoadsAt, AreLimitsAt, IsFirstListed, AreWithinListed, AreWithinPlaces}
 
 -- where a resource stands in the list
 record IsListed (list : List ℕ) (n r : ℕ) : Type 0 where
@@ -51,58 +50,65 @@ module _ (p : ProblemView) (counts : ℕ → ℕ) (list : List ℕ) (h : ListPas
     | inr none ↦ low r l none
   ]
 
+-- counts that stand by places, beside the limits
+module _ (p : ProblemView) (load : ℕ → ℕ) (list : List ℕ) (h : ListPassable p list)
+    (low : (r : ℕ) → r < resource_count p → ((i : ℕ) → i < length list → slice_index list i ≡ r → ⊥) → load r ≤ limit_of p r)
+    (counts limits : List ℕ) (a : (i : ℕ) → i < length list → slice_index counts i ≡ load (slice_index list i)) (b : AreLimitsAt p list limits) where
+  within-listed : (n : ℕ) → n ≤ length list → AreWithinPlaces counts limits n → AreWithinListed p load list n
+  within-listed n few w = λ i l. omega (arith, w i l, a i (omega (arith, l, few)), b i (omega (arith, l, few)))
+
+  below-place : (place : ℕ) → place < length list → slice_index limits place < slice_index counts place → AreWithinPlaces counts limits place →
+      (q : ℕ) → q < slice_index list place → load q ≤ limit_of p q
+  below-place place there above w q l =
+      let f : IsFirstListed p load list (slice_index list place) = record {
+        place = place;
+        there = there;
+        is = refl;
+        above = omega (arith, above, a place there, b place there);
+        first = within-listed place (omega (arith, there)) w;
+      } in
+      below-first p load list h low (slice_index list place) q f l
+
+  all-below : AreWithinPlaces counts limits (length list) → (r : ℕ) → r < resource_count p → load r ≤ limit_of p r
+  all-below w r l = all-within p load list h low (within-listed (length list) (omega arith) w) r l
+
 -- least loads
 module _ (p : ProblemView) (ranges : List (ℕ × ℕ)) (list : List ℕ) (v : AreRanges p ranges) (h : ListPassable p list) where
-  abbrev load : ℕ → ℕ
-  load r = least_load p ranges r
+  abbrev least_at : ℕ → ℕ
+  least_at r = least_load p ranges r
 
-  least-low : (r : ℕ) → r < resource_count p → ((i : ℕ) → i < length list → slice_index list i ≡ r → ⊥) → load r ≤ limit_of p r
+  least-low : (r : ℕ) → r < resource_count p → ((i : ℕ) → i < length list → slice_index list i ≡ r → ⊥) → least_at r ≤ limit_of p r
   least-low r l none =
       let most = h.rest r l none (λ u. low_of ranges u) (λ u m. omega (arith, v.ordered u m, v.there u m)) in
       let fewer = sum_below-le (unit_count p) (λ u. least_uses p ranges u r) (λ u. alt_uses p u (low_of ranges u) r)
       (λ u m. least_within-le (low_of ranges u) (high_of ranges u) (low_of ranges u) (λ b. alt_uses p u b r) (omega arith) (v.ordered u m)) in
       omega (arith, most, fewer)
 
-  module _ (least : List ℕ) (a : AreLeast p ranges list least) where
-    within-listed : (n : ℕ) → n ≤ length list → AreWithinPlaces p least list n → AreWithinListed p (λ r. load r) list n
-    within-listed n few w = λ i l. omega (arith, w i l, a i (omega (arith, l, few)))
-
-    pub first_place-IsFirstOver : (place : ℕ) → place < length list → limit_of p (slice_index list place) < slice_index least place →
-        AreWithinPlaces p least list place → IsFirstOver p ranges (slice_index list place)
-    first_place-IsFirstOver place there above w =
-        let r = slice_index list place in
-        let f : IsFirstListed p (λ q. load q) list r = record {
-          place = place;
-          there = there;
-          is = refl;
-          above = omega (arith, above, a place there);
-          first = within-listed place (omega (arith, there)) w;
-        } in
-        record {
-          there = h.there place there;
-          over = omega (arith, above, a place there);
-          first = λ q l o. omega (arith, o, below-first p (λ c. load c) list h least-low r q f l);
-        }
-
-    pub none_listed-none_over : AreWithinPlaces p least list (length list) → (r : ℕ) → r < resource_count p → IsOver p ranges r → ⊥
-    none_listed-none_over w r l o =
-        omega (arith, o, all-within p (λ c. load c) list h least-low (within-listed (length list) (omega arith) w) r l)
-
--- loads of a choice
-loads-low : (p : ProblemView) (x loads list : List ℕ) → IsChoice p x → AreLoads p x loads → ListPassable p list →
-    (r : ℕ) → r < resource_count p → ((i : ℕ) → i < length list → slice_index list i ≡ r → ⊥) → slice_index loads r ≤ limit_of p r
-loads-low p x loads list c a h r l none = omega (arith, a r l, h.rest r l none (λ u. slice_index x u) c.there)
-
-pub first_listed-IsFirstPassed : (p : ProblemView) (x loads list : List ℕ) (r : ℕ) → IsChoice p x → AreLoads p x loads → ListPassable p list →
-    IsFirstListed p (λ q. slice_index loads q) list r → IsFirstPassed p x r
-first_listed-IsFirstPassed p x loads list r c a h f =
-    let there : r < resource_count p = omega (arith, f.is, h.there f.place f.there) in
-    record {
-      there = there;
-      passed = omega (arith, f.above, a r there);
-      first = λ q l. omega (arith, a q (omega (arith, l, there)), below-first p (λ n. slice_index loads n) list h (loads-low p x loads list c a h) r q f l);
+  module _ (least limits : List ℕ) (a : AreLeast p ranges list least) (b : AreLimitsAt p list limits) where
+    pub first_place-IsFirstOver : (place : ℕ) → place < length list → slice_index limits place < slice_index least place →
+        AreWithinPlaces least limits place → IsFirstOver p ranges (slice_index list place)
+    first_place-IsFirstOver place there above w = record {
+      there = h.there place there;
+      over = omega (arith, above, a place there, b place there);
+      first = λ q l o. omega (arith, o, below-place p (λ r. least_at r) list h least-low least limits a b place there above w q l);
     }
 
-pub none_listed-Fits : (p : ProblemView) (x loads list : List ℕ) → IsChoice p x → AreLoads p x loads → ListPassable p list →
-    AreWithinListed p (λ q. slice_index loads q) list (length list) → Fits p x
-none_listed-Fits p x loads list c a h w = λ r l. omega (arith, a r l, all-within p (λ n. slice_index loads n) list h (loads-low p x loads list c a h) w r l)
+    pub none_listed-none_over : AreWithinPlaces least limits (length list) → (r : ℕ) → r < resource_count p → IsOver p ranges r → ⊥
+    none_listed-none_over w r l o = omega (arith, o, all-below p (λ q. least_at q) list h least-low least limits a b w r l)
+
+-- loads of a choice
+module _ (p : ProblemView) (x list : List ℕ) (c : IsChoice p x) (h : ListPassable p list) where
+  loads-low : (r : ℕ) → r < resource_count p → ((i : ℕ) → i < length list → slice_index list i ≡ r → ⊥) → load_of p x r ≤ limit_of p r
+  loads-low r l none = omega (arith, h.rest r l none (λ u. slice_index x u) c.there)
+
+  module _ (loads limits : List ℕ) (a : AreLoadsAt p x list loads) (b : AreLimitsAt p list limits) where
+    pub first_place-IsFirstPassed : (place : ℕ) → place < length list → slice_index limits place < slice_index loads place →
+        AreWithinPlaces loads limits place → IsFirstPassed p x (slice_index list place)
+    first_place-IsFirstPassed place there above w = record {
+      there = h.there place there;
+      passed = omega (arith, above, a place there, b place there);
+      first = λ q l. below-place p (λ r. load_of p x r) list h loads-low loads limits a b place there above w q l;
+    }
+
+    pub none_listed-Fits : AreWithinPlaces loads limits (length list) → Fits p x
+    none_listed-Fits w = λ r l. all-below p (λ q. load_of p x q) list h loads-low loads limits a b w r l

@@ -6,7 +6,7 @@ use Rattle.std.proofs.lemmas.Bool.{cases_lt}
 use Rattle.std.proofs.lemmas.Int.{ints}
 use Rattle.std.proofs.lemmas.List.{get_or-set_same, get_or-set_other, length-set}
 use Rattle.finite_sums.specs.Sums.{least_within, IsFirstLeast}
-use Rattle.choice_problem.specs.Problems.{ProblemView, IsChooser, unit_count, alt_count, resource_count, chooser_at, alt_cost, alt_uses}
+use Rattle.choice_problem.specs.Problems.{ProblemView, IsChooser, unit_count, alt_count, chooser_at, alt_cost, alt_uses}
 use Rattle.choice_problem.specs.Choices.{IsChoice, choice_cost, load_of}
 use Rattle.choice_problem.specs.Bounds.{AreRanges, Closes, low_of, high_of, least_load, least_total, priced_cost}
 use Rattle.choice_problem.specs.Splits.{IsCheapest, IsFirstCheapest, least_uses}
@@ -68,19 +68,17 @@ module _ (p : ProblemView) (ranges : List (ℕ × ℕ)) (alts : List ℕ) (cost 
       let there : r < length listed = omega (arith, l, k.least_count) in
       omega (arith, k.least_are r there, least-small p ranges (slice_index listed r) k.units k.valid, k.few_units)
 
-  pub loads-room : (r : ℕ) → r < length loads → slice_index loads r + 434 < 4294967296
-  loads-room r l =
-      let there : r < resource_count p = omega (arith, l, k.loads_count) in
-      omega (arith, k.loads_are r there, load-small p alts r k.units k.choice, k.few_units)
+  pub loads-room : (i : ℕ) → i < length loads → slice_index loads i < 2147483648
+  loads-room i l =
+      let there : i < length listed = omega (arith, l, k.loads_count) in
+      omega (arith, k.loads_are i there, load-small p alts (slice_index listed i) k.units k.choice, k.few_units)
 
   module _ (u : ℕ) (l : u < unit_count p) where
     pub least-has : (i : ℕ) → i < length listed → least_uses p ranges u (slice_index listed i) ≤ slice_index least i
     least-has i m = omega (arith, k.least_are i m, term-le (unit_count p) u (λ v. least_uses p ranges v (slice_index listed i)) l)
 
-    pub loads-have : (r : ℕ) → r < length loads → alt_uses p u (slice_index alts u) r ≤ slice_index loads r
-    loads-have r m =
-        let there : r < resource_count p = omega (arith, m, k.loads_count) in
-        omega (arith, k.loads_are r there, term-le (unit_count p) u (λ v. alt_uses p v (slice_index alts v) r) l)
+    pub loads-have : (i : ℕ) → i < length listed → alt_uses p u (slice_index alts u) (slice_index listed i) ≤ slice_index loads i
+    loads-have i m = omega (arith, k.loads_are i m, term-le (unit_count p) u (λ v. alt_uses p v (slice_index alts v) (slice_index listed i)) l)
 
     pub cost-has : alt_cost p u (slice_index alts u) ≤ cost
     cost-has = omega (arith, k.cost_is, term-le (unit_count p) u (λ v. alt_cost p v (slice_index alts v)) l)
@@ -171,7 +169,7 @@ module _ (p : ProblemView) (ranges : List (ℕ × ℕ)) (alts : List ℕ) (cost 
 
       pub IsKept-moved : AreRanges p (slice_set ranges u (low, high)) → (more : ℕ) (uses fewest was now : List ℕ) → more + alt_cost p u (slice_index alts u) ≡ cost + alt_cost p u a →
           length uses ≡ length loads → length fewest ≡ length least →
-          ((r : ℕ) → r < length loads → slice_index uses r + alt_uses p u (slice_index alts u) r ≡ slice_index loads r + alt_uses p u a r) →
+          ((i : ℕ) → i < length listed → slice_index uses i + alt_uses p u (slice_index alts u) (slice_index listed i) ≡ slice_index loads i + alt_uses p u a (slice_index listed i)) →
           ((r : ℕ) → r < length least → slice_index fewest r + times_in was r ≡ slice_index least r + times_in now r) →
           ((i : ℕ) → i < length listed → times_in was i ≡ least_uses p ranges u (slice_index listed i)) →
           ((i : ℕ) → i < length listed → times_in now i ≡ least_within low high (λ b. alt_uses p u b (slice_index listed i))) →
@@ -184,7 +182,7 @@ module _ (p : ProblemView) (ranges : List (ℕ × ℕ)) (alts : List ℕ) (cost 
         choice = choice-moved;
         cost_is = omega (arith, paid, cost-moved, k.cost_is);
         loads_count = e ∙ k.loads_count;
-        loads_are = λ r m. omega (arith, g r (omega (arith, m, k.loads_count)), load-moved r, k.loads_are r m);
+        loads_are = λ q m. omega (arith, g q m, load-moved (slice_index listed q), k.loads_are q m);
         least_count = f ∙ k.least_count;
         least_are = λ q m. omega (arith, h q (omega (arith, m, k.least_count)), least-moved (slice_index listed q), k.least_are q m, i q m, j q m);
         zeros_count = k.zeros_count;

@@ -2,12 +2,12 @@
 use Rattle.std.specs.Prelude.{◌≡◌, ℕ, ◌<◌, ◌≤◌, List, length, slice_index}
 use Rattle.choice_problem.specs.declared.problems.TheConstants.{MOST_UNITS}
 use Rattle.choice_problem.specs.Problems.{ProblemView, IsChooser, unit_count, resource_count, chooser_at, limit_of}
-use Rattle.choice_problem.specs.Choices.{IsChoice, choice_cost}
+use Rattle.choice_problem.specs.Choices.{IsChoice, choice_cost, load_of}
 use Rattle.choice_problem.specs.Bounds.{AreRanges, least_load}
 use Rattle.choice_problem.specs.Splits.{IsCheapest}
 use Rattle.dual_bound.specs.Kept.{ListPassable}
 use Rattle.branch_tree.specs.Lists.{AreRanksOf}
-use Rattle.window_counts.specs.Placed.{AreZero, AreLoads}
+use Rattle.window_counts.specs.Placed.{AreZero}
 
 -- a problem, and ranges of it
 pub record WalkView : Type 0 where
@@ -19,8 +19,18 @@ abbrev pub AreLeast : ProblemView → List (ℕ × ℕ) → List ℕ → List �
 AreLeast p ranges listed counts = (i : ℕ) → i < length listed → slice_index counts i
     ≡ least_load p ranges (slice_index listed i)
 
--- what a walk keeps of its ranges: each unit's first cheapest alternative, what these cost and use, the least loads of the
--- listed resources, and room to count in
+-- the counts are what the choice uses of the listed resources
+abbrev pub AreLoadsAt : ProblemView → List ℕ → List ℕ → List ℕ → Type 0
+AreLoadsAt p x listed counts = (i : ℕ) → i < length listed → slice_index counts i
+    ≡ load_of p x (slice_index listed i)
+
+-- the limits of the listed resources
+abbrev pub AreLimitsAt : ProblemView → List ℕ → List ℕ → Type 0
+AreLimitsAt p listed limits = (i : ℕ) → i < length listed → slice_index limits i
+    ≡ limit_of p (slice_index listed i)
+
+-- what a walk keeps of its ranges: each unit's first cheapest alternative, what these cost, what they use and the least
+-- loads, both of the listed resources, and room to count in
 pub record IsKept (p : ProblemView) (ranges : List (ℕ × ℕ)) (alts : List ℕ) (cost : ℕ)
     (loads least zeros listed : List ℕ) : Type 0 where
   pub valid : AreRanges p ranges
@@ -29,24 +39,25 @@ pub record IsKept (p : ProblemView) (ranges : List (ℕ × ℕ)) (alts : List �
   pub cheapest : IsCheapest p ranges alts
   pub choice : IsChoice p alts
   pub cost_is : cost ≡ choice_cost p alts
-  pub loads_count : length loads ≡ resource_count p
-  pub loads_are : AreLoads p alts loads
+  pub loads_count : length loads ≡ length listed
+  pub loads_are : AreLoadsAt p alts listed loads
   pub least_count : length least ≡ length listed
   pub least_are : AreLeast p ranges listed least
   pub zeros_count : length zeros ≡ length listed
   pub zeros_are : AreZero zeros
 
--- the same, where beside the listed resources none can be passed, and with their ranks
+-- the same, where beside the listed resources none can be passed, with their ranks and limits
 pub record IsKeptWith (p : ProblemView) (ranges : List (ℕ × ℕ)) (alts : List ℕ) (cost : ℕ)
-    (loads least zeros passable ranks : List ℕ) : Type 0 where
+    (loads least zeros passable ranks limits : List ℕ) : Type 0 where
   pub kept : IsKept p ranges alts cost loads least zeros passable
   pub listed : ListPassable p passable
   pub ranked : AreRanksOf (resource_count p) passable ranks
+  pub limits_count : length limits ≡ length passable
+  pub limited : AreLimitsAt p passable limits
 
--- no least load of the first n listed resources is above its limit
-abbrev pub AreWithinPlaces : ProblemView → List ℕ → List ℕ → ℕ → Type 0
-AreWithinPlaces p least list n = (i : ℕ) → i < n →
-    slice_index least i ≤ limit_of p (slice_index list i)
+-- none of the first n counts is above its limit
+abbrev pub AreWithinPlaces : List ℕ → List ℕ → ℕ → Type 0
+AreWithinPlaces counts limits n = (i : ℕ) → i < n → slice_index counts i ≤ slice_index limits i
 
 -- no count of the first n listed resources is above its limit
 abbrev pub AreWithinListed : ProblemView → (ℕ → ℕ) → List ℕ → ℕ → Type 0

@@ -1,6 +1,6 @@
 //! What a walk keeps of its ranges.
 
-ghost use Rattle.std.specs.Prelude.{◌≡◌, ◌↔◌, ℕ, ◌+◌, ◌^◌, ◌<◌, ◌≤◌, length, slice_index, slice_set, IfOk, OnOk, IsTrue};
+ghost use Rattle.std.specs.Prelude.{◌≡◌, ◌↔◌, ℕ, ◌+◌, ◌^◌, ◌<◌, ◌≤◌, length, slice_index, slice_set, IfOk, OnOk, OnErr, IsTrue};
 ghost use Rattle.choice_problem.specs.declared.problems.TheConstants.{MOST_USES};
 ghost use Rattle.finite_sums.specs.Sums.{least_within, IsFirstLeast};
 ghost use Rattle.choice_problem.specs.Problems.{IsChooser, unit_count, alt_count, alt_cost, alt_uses, resource_count, chooser_at};
@@ -15,6 +15,7 @@ ghost use Rattle.branch_tree.specs.Walks.{AreLeast};
 ghost use Rattle.window_counts.specs.Placed.{AreLoads};
 
 use crate::least_uses::least_list;
+use crate::listing::uses_list;
 use crate::tallies::{add_list, take_list};
 use choice_problem::{Problem, Ranges};
 use slot_text::Memory;
@@ -56,7 +57,7 @@ pub(crate) fn count_least(
     Ok(())
 }
 
-// Moves the least loads from what a unit uses whatever it takes of its range to the same of another range.
+// Moves counts from what a unit adds to them to what it adds else.
 pub(crate) fn move_least(least: &mut [u32], was: &[u32], now: &[u32])
     requires was_within { AreWithin (length least.old) was.now }
     requires now_within { AreWithin (length least.old) now.now }
@@ -68,6 +69,40 @@ pub(crate) fn move_least(least: &mut [u32], was: &[u32], now: &[u32])
 {
     take_list(least, was);
     add_list(least, now);
+}
+
+// Moves the loads of the listed resources from one alternative of a unit to another. After want of memory they are as before.
+pub(crate) fn move_loads(
+    alloc: Global,
+    problem: &Problem,
+    unit: u32,
+    was: u32,
+    now: u32,
+    listed: &[u32],
+    ranks: &[u32],
+    loads: &mut [u32],
+) -> Result<(), Memory>
+    requires unit { unit < unit_count problem.now }
+    requires was { was < alt_count problem.now unit }
+    requires now { now < alt_count problem.now unit }
+    requires ranks { AreRanksOf (resource_count problem.now) listed.now ranks.now }
+    requires count { length loads.old ≡ length listed.now }
+    requires few { (i : ℕ) → i < length loads.old → slice_index loads.old i < 2 ^ 31 }
+    requires held { (i : ℕ) → i < length listed.now →
+        alt_uses problem.now unit was (slice_index listed.now i) ≤ slice_index loads.old i }
+    ensures length { length loads.new ≡ length loads.old }
+    ensures moved { OnOk result ((i : ℕ) → i < length listed.now →
+        slice_index loads.new i + alt_uses problem.now unit was (slice_index listed.now i)
+        ≡ slice_index loads.old i + alt_uses problem.now unit now (slice_index listed.now i)) }
+    ensures err { OnErr result (loads.new ≡ loads.old) }
+{
+    if was == now {
+        return Ok(());
+    }
+    let from = uses_list(alloc, problem, unit, was, listed, ranks)?;
+    let to = uses_list(alloc, problem, unit, now, listed, ranks)?;
+    move_least(loads, &from, &to);
+    Ok(())
 }
 
 // Each unit's first cheapest alternative.

@@ -11,6 +11,7 @@ mod kept;
 mod laws;
 mod least_uses;
 mod listing;
+mod placed;
 mod plain;
 mod ranks;
 mod rows;

@@ -75,7 +75,8 @@ pub(crate) fn move_twos(
     requires within { AreWithin (length listed.now) twos.old.items }
     requires count { length zeros.old ≡ length listed.now }
     requires zeros { AreZero zeros.old }
-    ensures twos { OnOk result (AreLeastTwos problem.now listed.now unit row.first row.last twos.new.items) }
+    ensures twos { OnOk result (AreLeastTwos problem.now listed.now unit
+        row.first row.last twos.new.items) }
     ensures within { OnOk result (AreWithin (length listed.now) twos.new.items) }
     ensures same { zeros.new ≡ zeros.old }
 {
@@ -139,7 +140,8 @@ fn lower_twos(
     requires within { AreWithin (length listed.now) twos.old.items }
     requires count { length zeros.old ≡ length listed.now }
     requires zeros { AreZero zeros.old }
-    ensures twos { OnOk result (AreLeastTwos problem.now listed.now unit row.first row.last twos.new.items) }
+    ensures twos { OnOk result (AreLeastTwos problem.now listed.now unit
+        row.first row.last twos.new.items) }
     ensures within { OnOk result (AreWithin (length listed.now) twos.new.items) }
     ensures same { zeros.new ≡ zeros.old }
 {

@@ -5,15 +5,15 @@ ghost use Rattle.choice_problem.specs.Problems.{unit_count, resource_count};
 ghost use Rattle.choice_problem.specs.Choices.{IsChoice, IsFirstPassed, Fits, choice_cost};
 ghost use Rattle.choice_problem.specs.Bounds.{AreRanges, Closes, IsOver};
 ghost use Rattle.choice_problem.specs.Splits.{IsCheapest, IsFirstOver};
-ghost use Rattle.branch_tree.specs.Walks.{AreLeast};
+ghost use Rattle.branch_tree.specs.Walks.{AreLeast, AreLoadsAt, AreLimitsAt};
 ghost use Rattle.dual_bound.specs.Kept.{ListPassable};
-ghost use Rattle.window_counts.specs.Placed.{AreLoads};
 
 use crate::answers::Visit;
 use crate::branching::found_or_split;
 use crate::closings::{kept_leaf, leaf, priced_leaf};
-use crate::kept::{cheapest, count_least, first_cheapest, move_least};
+use crate::kept::{cheapest, count_least, first_cheapest, move_least, move_loads};
 use crate::least_uses::least_list;
+use crate::placed::{counts_at, limits_at};
 use crate::ranks::ranks_of;
 use choice_problem::{Node, Problem, Ranges};
 use dual_bound::passable_resources;
@@ -21,24 +21,25 @@ use price_table::{PriceTable, Totals};
 use slot_text::Memory;
 use std::alloc::Global;
 use std::marker::Model;
-use window_counts::{Counts, add_choice, change_alt};
+use window_counts::{Counts, add_choice};
 
 /// Ranges of a problem, with what a visit asks of them: each unit's first cheapest alternative, what these together
-/// use and cost, and the resources that can be passed, with the least load of each. Where a range changes, what changes with
-/// it is counted anew, and nothing else. Contracts see the problem and the ranges.
+/// cost, and the resources that can be passed, with what they use of each and its least load. Where a range changes, what
+/// changes with it is counted anew, and nothing else. Contracts see the problem and the ranges.
 ///
-/// Memory: 8 bytes a resource, 12 bytes a unit, and 12 bytes a resource that can be passed.
+/// Memory: 4 bytes a resource (8 in `of`), 12 bytes a unit, and 20 bytes a resource that can be passed.
 #[derive(Drop)]
 pub struct Walk<'a> {
     problem: &'a Problem,
     ranges: Ranges,
     cheapest: Vec<u32>,
     cost: u64,
-    loads: Counts,
+    loads: Vec<u32>,
     least: Vec<u32>,
     zeros: Vec<u32>,
     passable: Vec<u32>,
     ranks: Vec<u32>,
+    limits: Vec<u32>,
 }
 
 impl<'a> Model for Walk<'a> {
@@ -48,7 +49,7 @@ impl<'a> Model for Walk<'a> {
 
     ghost view = { λ w. record { problem = w.problem.now; ranges = w.ranges } };
 
-    ghost invariant = { λ w. IsKeptWith w.problem.now w.ranges w.cheapest.items w.cost w.loads w.least.items w.zeros.items w.passable.items w.ranks.items };
+    ghost invariant = { λ w. IsKeptWith w.problem.now w.ranges w.cheapest.items w.cost w.loads.items w.least.items w.zeros.items w.passable.items w.ranks.items w.limits.items };
 }
 
 impl<'a> Walk<'a> {
@@ -62,10 +63,11 @@ impl<'a> Walk<'a> {
     ghost use Rattle.choice_problem.specs.declared.vectors.Price.{Price};
     ghost use Rattle.branch_tree.specs.Visits.{IsVisit, ClosesBy, NeedsPrices};
 
-    /// The walk at these ranges. A unit takes some steps a use of each part that its alternatives in range name, and ends
-    /// early where nothing is left that all of them use. This counts on alternatives that name the same first part
-    /// standing together, and on their second parts being those of the next such row, or these and others in front: else
-    /// the second parts of a row are listed anew. Beside this it takes some steps a use of each part.
+    /// The walk at these ranges. A unit takes a step an alternative in range, and, for each part that these name, some steps
+    /// a run and a use of a resource that can be passed; it ends early where nothing is left that all of them use. This
+    /// counts on alternatives that name the same first part standing together, and on their second parts being those of the
+    /// next such row, or these and others in front: else the second parts of a row are listed anew. Beside this it takes
+    /// some steps a use of each part, and a resource.
     pub fn of(alloc: Global, problem: &'a Problem, ranges: Ranges) -> Result<Walk<'a>, Memory>
         requires { AreRanges problem.now ranges }
         ensures problem { IfOk result (λ walk. walk.problem ≡ problem.now) }
@@ -74,11 +76,13 @@ impl<'a> Walk<'a> {
         let resources = problem.resources();
         let passable = passable_resources(alloc, problem)?;
         let ranks = ranks_of(alloc, &passable, resources)?;
-        let mut loads = Counts::of(alloc, &[], resources)?;
+        let limits = limits_at(alloc, problem, &passable)?;
+        let mut counts = Counts::of(alloc, &[], resources)?;
         let mut least = vec![in alloc; 0; passable.len()]?;
         let mut zeros = vec![in alloc; 0; passable.len()]?;
         let cheapest = cheapest(alloc, problem, &ranges)?;
-        let cost = add_choice(problem, &cheapest, &mut loads);
+        let cost = add_choice(problem, &cheapest, &mut counts);
+        let loads = counts_at(alloc, &counts, &passable)?;
         count_least(
             alloc, problem, &ranges, &passable, &ranks, &mut least, &mut zeros,
         )?;
@@ -92,6 +96,7 @@ impl<'a> Walk<'a> {
             zeros,
             passable,
             ranks,
+            limits,
         })
     }
 
@@ -151,7 +156,13 @@ impl<'a> Walk<'a> {
         ensures zero { IfSome result (NamesUpTo 0) }
         ensures none { IfNone result (NeedsPrices problem.now self.now.ranges seen) }
     {
-        if let Some(resource) = first_over(problem, &self.ranges, &self.least, &self.passable) {
+        if let Some(resource) = first_over(
+            problem,
+            &self.ranges,
+            &self.least,
+            &self.passable,
+            &self.limits,
+        ) {
             return Some(Node::Over { resource });
         }
         if zero_closes(problem, &self.ranges, &self.cheapest, self.cost, seen) {
@@ -181,7 +192,13 @@ impl<'a> Walk<'a> {
         if let Some(leaf) = priced_leaf(problem, &self.ranges, root, further, seen) {
             return Ok(Visit::Close(leaf));
         }
-        let passed = first_passed(problem, &self.cheapest, &self.loads, &self.passable);
+        let passed = first_passed(
+            problem,
+            &self.cheapest,
+            &self.loads,
+            &self.passable,
+            &self.limits,
+        );
         found_or_split(alloc, problem, &self.ranges, &self.cheapest, passed)
     }
 
@@ -210,13 +227,19 @@ impl<'a> Walk<'a> {
         if let Some(leaf) = kept_leaf(problem, &self.ranges, root, further, totals, seen) {
             return Ok(Visit::Close(leaf));
         }
-        let passed = first_passed(problem, &self.cheapest, &self.loads, &self.passable);
+        let passed = first_passed(
+            problem,
+            &self.cheapest,
+            &self.loads,
+            &self.passable,
+            &self.limits,
+        );
         found_or_split(alloc, problem, &self.ranges, &self.cheapest, passed)
     }
 
     /// Sets a unit's range, which is not empty and of its alternatives. `problem` is the one of `of`. After want of memory
-    /// the walk is as before. The steps of `of` for the unit at its old and at its new range, and one step a use of the
-    /// two alternatives that are cheapest in them.
+    /// the walk is as before. The steps of `of` for the unit at its old and at its new range, and for the two alternatives
+    /// that are cheapest in them.
     pub fn narrow(
         &mut self,
         alloc: Global,
@@ -254,10 +277,19 @@ impl<'a> Walk<'a> {
             &self.ranks,
             &mut self.zeros,
         )?;
-        move_least(&mut self.least, &was, &now);
         let old_alt = self.cheapest[unit as usize];
         let alt = first_cheapest(problem, unit, low, high);
-        change_alt(problem, unit, old_alt, alt, &mut self.loads);
+        move_loads(
+            alloc,
+            problem,
+            unit,
+            old_alt,
+            alt,
+            &self.passable,
+            &self.ranks,
+            &mut self.loads,
+        )?;
+        move_least(&mut self.least, &was, &now);
         self.cost = self.cost - problem.alt_cost(unit, old_alt) + problem.alt_cost(unit, alt);
         self.cheapest[unit as usize] = alt;
         self.ranges.set(unit, low, high);
@@ -266,20 +298,28 @@ impl<'a> Walk<'a> {
 }
 
 // The lowest resource whose least load is above its limit.
-fn first_over(problem: &Problem, ranges: &Ranges, least: &[u32], passable: &[u32]) -> Option<u32>
+fn first_over(
+    problem: &Problem,
+    ranges: &Ranges,
+    least: &[u32],
+    passable: &[u32],
+    limits: &[u32],
+) -> Option<u32>
     requires ranges { AreRanges problem.now ranges.now }
     requires count { length least.now ≡ length passable.now }
     requires least { AreLeast problem.now ranges.now passable.now least.now }
     requires passable { ListPassable problem.now passable.now }
+    requires limits_count { length limits.now ≡ length passable.now }
+    requires limits { AreLimitsAt problem.now passable.now limits.now }
     ensures some { IfSome result (IsFirstOver problem.now ranges.now) }
     ensures none { IfNone result ((r : ℕ) → r < resource_count problem.now →
         IsOver problem.now ranges.now r → ⊥) }
 {
+    let _problem = problem;
     let _ranges = ranges;
     for place in 0..passable.len() {
-        let resource = passable[place];
-        if i64::from(least[place]) > problem.limit(resource) {
-            return Some(resource);
+        if least[place] > limits[place] {
+            return Some(passable[place]);
         }
     }
     None
@@ -308,19 +348,27 @@ fn zero_closes(
 }
 
 // The lowest resource that the choice uses above its limit.
-fn first_passed(problem: &Problem, alts: &[u32], loads: &Counts, passable: &[u32]) -> Option<u32>
+fn first_passed(
+    problem: &Problem,
+    alts: &[u32],
+    loads: &[u32],
+    passable: &[u32],
+    limits: &[u32],
+) -> Option<u32>
     requires alts { IsChoice problem.now alts.now }
-    requires count { length loads.now ≡ resource_count problem.now }
-    requires loads { AreLoads problem.now alts.now loads.now }
+    requires count { length loads.now ≡ length passable.now }
+    requires loads { AreLoadsAt problem.now alts.now passable.now loads.now }
     requires passable { ListPassable problem.now passable.now }
+    requires limits_count { length limits.now ≡ length passable.now }
+    requires limits { AreLimitsAt problem.now passable.now limits.now }
     ensures some { IfSome result (IsFirstPassed problem.now alts.now) }
     ensures none { IfNone result (Fits problem.now alts.now) }
 {
+    let _problem = problem;
     let _alts = alts;
     for place in 0..passable.len() {
-        let resource = passable[place];
-        if i64::from(loads.count(resource)) > problem.limit(resource) {
-            return Some(resource);
+        if loads[place] > limits[place] {
+            return Some(passable[place]);
         }
     }
     None

@@ -9,13 +9,13 @@ use Rattle.branch_tree.proofs.walks.Walk.narrow.Goals as goal
 pub move_least-requires-clause-was_within : goal.move_least-requires-clause-was_within
 move_least-requires-clause-was_within c =
     let e : c.args.problem.now ≡ c.self.inside.problem.now = c.requires.problem ∙ sym (ap (λ (w : WalkView). w.problem) c.self.view_is) in
-    rw (c.deref-5.ensures.value, c.deref_mut-3.ensures.value)
+    rw (c.deref-7.ensures.value, c.deref_mut-4.ensures.value)
     (λ r h. omega (arith, c.in_ok-was.ensures.within r h, c.self.invariant.kept.least_count, ap (λ (q : ProblemView). resource_count q) e))
 
 pub move_least-requires-clause-now_within : goal.move_least-requires-clause-now_within
 move_least-requires-clause-now_within c =
     let e : c.args.problem.now ≡ c.self.inside.problem.now = c.requires.problem ∙ sym (ap (λ (w : WalkView). w.problem) c.self.view_is) in
-    rw (c.deref-6.ensures.value, c.deref_mut-3.ensures.value)
+    rw (c.deref-8.ensures.value, c.deref_mut-4.ensures.value)
     (λ r h. omega (arith, c.in_ok-now.ensures.within r h, c.self.invariant.kept.least_count, ap (λ (q : ProblemView). resource_count q) e))
 
 pub move_least-requires-clause-held : goal.move_least-requires-clause-held
@@ -24,38 +24,38 @@ move_least-requires-clause-held c =
     let e : c.args.problem.now ≡ s.problem.now = c.requires.problem ∙ sym (ap (λ (w : WalkView). w.problem) c.self.view_is) in
     let there : c.args.unit < unit_count s.problem.now = rw e at c.requires.unit in
     let listed = rw (e, c.deref.ensures.value, c.low-old_low.ensures, c.high-old_high.ensures) at c.in_ok-was.ensures.least in
-    rw (c.deref-5.ensures.value, c.deref_mut-3.ensures.value)
+    rw (c.deref-7.ensures.value, c.deref_mut-4.ensures.value)
     (λ r l.
     let there_too : r < length s.passable.items = omega (arith, l, c.self.invariant.kept.least_count) in
-    omega (arith, listed r there_too, least-has s.problem.now s.ranges s.cheapest.items s.cost s.loads s.least.items s.zeros.items s.passable.items c.self.invariant.kept c.args.unit there r there_too))
+    omega (arith, listed r there_too, least-has s.problem.now s.ranges s.cheapest.items s.cost s.loads.items s.least.items s.zeros.items s.passable.items c.self.invariant.kept c.args.unit there r there_too))
 
 pub move_least-requires-clause-few : goal.move_least-requires-clause-few
 move_least-requires-clause-few c =
     let s = c.self.inside in
-    rw c.deref_mut-3.ensures.value (least-few s.problem.now s.ranges s.cheapest.items s.cost s.loads s.least.items s.zeros.items s.passable.items c.self.invariant.kept)
+    rw c.deref_mut-4.ensures.value (least-few s.problem.now s.ranges s.cheapest.items s.cost s.loads.items s.least.items s.zeros.items s.passable.items c.self.invariant.kept)
 
 pub move_least-requires-clause-more : goal.move_least-requires-clause-more
 move_least-requires-clause-more c =
     let s = c.self.inside in
     let listed = rw c.deref-3.ensures.value at c.in_ok-now.ensures.least in
-    rw (c.deref-6.ensures.value, c.deref_mut-3.ensures.value)
+    rw (c.deref-8.ensures.value, c.deref_mut-4.ensures.value)
     (λ r l.
     let there : r < length s.passable.items = omega (arith, l, c.self.invariant.kept.least_count) in
     omega (arith, listed r there, c.in_ok-now.ensures.few (slice_index s.passable.items r)))
 
-pub change_alt-requires-clause-room : goal.change_alt-requires-clause-room
-change_alt-requires-clause-room c =
+pub move_loads-requires-clause-few : goal.move_loads-requires-clause-few
+move_loads-requires-clause-few c =
     let s = c.self.inside in
-    loads-room s.problem.now s.ranges s.cheapest.items s.cost s.loads s.least.items s.zeros.items s.passable.items c.self.invariant.kept
+    rw c.deref_mut-3.ensures.value (loads-room s.problem.now s.ranges s.cheapest.items s.cost s.loads.items s.least.items s.zeros.items s.passable.items c.self.invariant.kept)
 
-pub change_alt-requires-clause-added : goal.change_alt-requires-clause-added
-change_alt-requires-clause-added c =
+pub move_loads-requires-clause-held : goal.move_loads-requires-clause-held
+move_loads-requires-clause-held c =
     let s = c.self.inside in
     let e : c.args.problem.now ≡ s.problem.now = c.requires.problem ∙ sym (ap (λ (w : WalkView). w.problem) c.self.view_is) in
     let there : c.args.unit < unit_count s.problem.now = rw e at c.requires.unit in
     let within : c.args.unit < length s.cheapest.items = omega (arith, there, c.self.invariant.kept.cheapest.length) in
     let old : c.index-old_alt.result.now ≡ slice_index s.cheapest.items c.args.unit = get_or_read s.cheapest.items c.args.unit c.index-old_alt.result.now within c.index-old_alt.ensures 0 in
-    rw (e, old) (loads-have s.problem.now s.ranges s.cheapest.items s.cost s.loads s.least.items s.zeros.items s.passable.items c.self.invariant.kept c.args.unit there)
+    rw (e, old, c.deref-5.ensures.value, c.deref_mut-3.ensures.value) (loads-have s.problem.now s.ranges s.cheapest.items s.cost s.loads.items s.least.items s.zeros.items s.passable.items c.self.invariant.kept c.args.unit there)
 
 pub overflow_sub-self : goal.overflow_sub-self
 overflow_sub-self c =
@@ -65,14 +65,14 @@ overflow_sub-self c =
     let within : c.args.unit < length s.cheapest.items = omega (arith, there, c.self.invariant.kept.cheapest.length) in
     let old : c.index-old_alt.result.now ≡ slice_index s.cheapest.items c.args.unit = get_or_read s.cheapest.items c.args.unit c.index-old_alt.result.now within c.index-old_alt.ensures 0 in
     let paid = rw (e, old) at c.alt_cost.ensures.value in
-    omega (arith, paid, cost-has s.problem.now s.ranges s.cheapest.items s.cost s.loads s.least.items s.zeros.items s.passable.items c.self.invariant.kept c.args.unit there)
+    omega (arith, paid, cost-has s.problem.now s.ranges s.cheapest.items s.cost s.loads.items s.least.items s.zeros.items s.passable.items c.self.invariant.kept c.args.unit there)
 
 pub overflow_add-self : goal.overflow_add-self
 overflow_add-self c =
     let s = c.self.inside in
     let e : c.args.problem.now ≡ s.problem.now = c.requires.problem ∙ sym (ap (λ (w : WalkView). w.problem) c.self.view_is) in
     let there : c.args.unit < unit_count s.problem.now = rw e at c.requires.unit in
-    let few = cost-few s.problem.now s.ranges s.cheapest.items s.cost s.loads s.least.items s.zeros.items s.passable.items c.self.invariant.kept c.args.unit there in
+    let few = cost-few s.problem.now s.ranges s.cheapest.items s.cost s.loads.items s.least.items s.zeros.items s.passable.items c.self.invariant.kept c.args.unit there in
     omega (arith, few, c.alt_cost-2.ensures.small)
 
 pub invariant_of-self-2 : goal.invariant_of-self-2
@@ -85,7 +85,7 @@ invariant_of-self-2 c =
     let there : u < unit_count s.problem.now = rw e at c.requires.unit in
     let within : u < length s.cheapest.items = omega (arith, there, k.cheapest.length) in
     let old : c.index-old_alt.result.now ≡ slice_index s.cheapest.items u = get_or_read s.cheapest.items u c.index-old_alt.result.now within c.index-old_alt.ensures 0 in
-    let least_now : c.deref_mut-3.result.now ≡ s.least.items = c.deref_mut-3.ensures.value in
+    let least_now : c.deref_mut-4.result.now ≡ s.least.items = c.deref_mut-4.ensures.value in
     let least_long : length c.move_least.new.least ≡ s.least.len = omega (arith, ap (λ (xs : List ℕ). length xs) least_now) in
     let least_back = written-back c.move_least.new.least s.least.items s.least.len least_long in
     let zeros_one : c.least_list.new.zeros ≡ s.zeros.items = c.in_ok-was.ensures.same ∙ c.deref_mut.ensures.value in
@@ -96,18 +96,23 @@ invariant_of-self-2 c =
     let two_back = written-back c.least_list-2.new.zeros (take s.zeros.len (c.least_list.new.zeros ++ drop (length c.least_list.new.zeros) s.zeros.items)) s.zeros.len two_long in
     let old_cost = rw (e, old) at c.alt_cost.ensures.value in
     let new_cost = rw e at c.alt_cost-2.ensures.value in
-    let has = cost-has s.problem.now s.ranges s.cheapest.items s.cost s.loads s.least.items s.zeros.items s.passable.items k u there in
-    let changed = rw (e, old) at c.change_alt.ensures.changed in
-    let moved = rw (c.deref-5.ensures.value, c.deref-6.ensures.value, least_now) at c.move_least.ensures in
-    rw (c.set.ensures.value, least_back, two_back, zeros_two) (record {
+    let has = cost-has s.problem.now s.ranges s.cheapest.items s.cost s.loads.items s.least.items s.zeros.items s.passable.items k u there in
+    let loads_now : c.deref_mut-3.result.now ≡ s.loads.items = c.deref_mut-3.ensures.value in
+    let loads_long : length c.move_loads.new.loads ≡ s.loads.len = omega (arith, ap (λ (xs : List ℕ). length xs) loads_now) in
+    let loads_back = written-back c.move_loads.new.loads s.loads.items s.loads.len loads_long in
+    let changed = rw (e, old, c.deref-5.ensures.value, loads_now) at c.in_ok-move_loads.ensures.moved in
+    let moved = rw (c.deref-7.ensures.value, c.deref-8.ensures.value, least_now) at c.move_least.ensures in
+    rw (c.set.ensures.value, loads_back, least_back, two_back, zeros_two) (record {
       listed = c.self.invariant.listed;
       ranked = c.self.invariant.ranked;
+      limits_count = c.self.invariant.limits_count;
+      limited = c.self.invariant.limited;
       kept =
-          IsKept-moved s.problem.now s.ranges s.cheapest.items s.cost s.loads s.least.items s.zeros.items s.passable.items k u there c.args.low c.args.high a c.requires.ordered
+          IsKept-moved s.problem.now s.ranges s.cheapest.items s.cost s.loads.items s.least.items s.zeros.items s.passable.items k u there c.args.low c.args.high a c.requires.ordered
           (rw e at c.requires.there) (rw e at c.first_cheapest-alt.ensures.cheapest)
           (rw c.set.ensures.value at (c.set.ensures.valid s.problem.now k.valid c.requires.ordered (rw e at c.requires.there)))
-          (s.cost - c.alt_cost.result + c.alt_cost-2.result) c.change_alt.new.counts c.move_least.new.least c.in_ok-was.was'.items c.in_ok-now.now.items
-          (omega (arith, old_cost, new_cost, has)) c.change_alt.ensures.length (omega (arith, least_long))
+          (s.cost - c.alt_cost.result + c.alt_cost-2.result) c.move_loads.new.loads c.move_least.new.least c.in_ok-was.was'.items c.in_ok-now.now.items
+          (omega (arith, old_cost, new_cost, has)) (omega (arith, loads_long)) (omega (arith, least_long))
           changed moved (rw (e, c.deref.ensures.value, c.low-old_low.ensures, c.high-old_high.ensures) at c.in_ok-was.ensures.least)
           (rw (e, c.deref-3.ensures.value) at c.in_ok-now.ensures.least);
     })

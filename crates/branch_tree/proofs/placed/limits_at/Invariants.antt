@@ -1,0 +1,9 @@
+use Rattle.std.proofs.Common.{◌≡◌, ℕ, ◌<◌, length, slice_index}
+use Rattle.choice_problem.specs.Problems.{limit_of}
+use Rattle.branch_tree.proofs.placed.limits_at.Given as goal
+
+abbrev pub invariant-loop-place : goal.invariant-loop-place
+invariant-loop-place l = record {
+  counted : length l.at.items ≡ l.place;
+  each : (i : ℕ) → i < l.place → slice_index l.at.items i ≡ limit_of l.problem (slice_index l.listed i);
+}
