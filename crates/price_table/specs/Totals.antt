@@ -1,6 +1,6 @@
 -- Least priced costs of units and their sum, kept while ranges change.
 use Rattle.std.specs.Prelude.{◌≡◌, ℕ, ◌<◌, ◌≤◌, ◌^◌, List, [], length, slice_index, slice_index_or}
-use Rattle.choice_problem.specs.declared.closing.TheConstants.{PRICED_SCALE}
+use Rattle.choice_problem.specs.declared.closing.TheConstants.{PRICED_SCALE, SCALE_BOUND}
 use Rattle.choice_problem.specs.declared.problems.TheConstants.{MOST_UNITS}
 use Rattle.choice_problem.specs.declared.vectors.Price.{Price}
 use Rattle.finite_sums.specs.Sums.{sum_below}
@@ -24,13 +24,8 @@ pub record AreTotalsFor (p : ProblemView) (prices : List Price) (t : TotalsView)
   pub at_limits : t.limits ≡ priced prices (λ r. limit_of p r)
 
 abbrev pub totals_at : List TotalsView → ℕ → TotalsView
-totals_at totals k = slice_index_or totals k (record {
-  ranges = [];
-  scale = 0;
-  least = [];
-  limits =
-      0;
-})
+totals_at totals k =
+    slice_index_or totals k (record { ranges = []; scale = 0; least = []; limits = 0 })
 
 -- totals for each of these vectors, all at these ranges and at scale 1024
 pub record AreKeptFor (p : ProblemView) (vectors : List (List Price)) (ranges : List (ℕ × ℕ))
@@ -49,3 +44,8 @@ pub record AreSummed (numbers : List ℕ) (total : ℕ) : Type 0 where
   pub few : length numbers ≤ MOST_UNITS
   pub small : (u : ℕ) → u < length numbers → slice_index numbers u < 2 ^ 101
   pub total_is : total ≡ sum_of numbers
+
+-- what holds of all kept totals: a scale below the bound, costs with their sum, and what limits can cost
+abbrev pub AreTotals : ℕ → List ℕ → ℕ → ℕ → Type 0
+AreTotals scale least total limits =
+    (scale < SCALE_BOUND) × (AreSummed least total × (limits < 2 ^ 124))

@@ -44,8 +44,9 @@ pub(crate) struct Known {
     pub(crate) price: u128,
 }
 
-/// The prices of strips, at one price for each resource: the sums of the prices before each resource, and some strips that
-/// were priced by them, since the strips of many units are the same. Contracts see the sums. 8 bytes a resource and 2 MB.
+/// The prices of strips, at one price for each resource: the sums of the prices before each resource, and some strips of
+/// several runs that were priced by them, since the strips of many units are the same. Contracts see the sums. 8 bytes a
+/// resource and 2 MB.
 #[derive(Drop)]
 pub struct StripPrices {
     sums: Vec<u64>,
@@ -111,7 +112,7 @@ impl StripPrices {
             PricesUnit problem.now prices unit parts) }
         ensures same { self.new ≡ self.old }
     {
-        let mut parts = Vec::new(alloc);
+        let mut parts = Vec::with_capacity(alloc, problem.parts(unit) as usize)?;
         for part in problem.unit_parts(unit) {
             parts.push(self.part(part))?;
         }
@@ -164,13 +165,16 @@ impl StripPrices {
         total
     }
 
-    // What a strip costs.
+    // What a strip costs. One of a single run costs two sums, which is less than to look it up among the kept ones.
     fn strip(&mut self, strip: &Strip) -> u128
         requires some { 0 < length self.old }
         requires there { IsStripInRange (length self.old - 1) strip.now }
         ensures cost { result ≡ strip_cost self.old strip.now }
         ensures same { self.new ≡ self.old }
     {
+        if strip.times <= 1 {
+            return strip_price(&self.sums, strip);
+        }
         let place = place_of(strip);
         let known = self.known[place];
         if known.strip == *strip {

@@ -31,15 +31,18 @@ pub struct Totals {
 }
 
 impl Model for Totals {
-    ghost use Rattle.std.specs.Prelude.{◌<◌, ◌^◌};
-    ghost use Rattle.choice_problem.specs.declared.closing.TheConstants.{SCALE_BOUND};
-    ghost use Rattle.price_table.specs.Totals.{TotalsView, AreSummed};
+    ghost use Rattle.price_table.specs.Totals.{TotalsView, AreTotals};
 
     ghost Value = { TotalsView };
 
-    ghost view = { λ t. record { ranges = t.ranges; scale = t.scale; least = t.least.items; limits = t.limits } };
+    ghost view = { λ t. record {
+      ranges = t.ranges;
+      scale = t.scale;
+      least = t.least.items;
+      limits = t.limits;
+    } };
 
-    ghost invariant = { λ t. (t.scale < SCALE_BOUND) × (AreSummed t.least.items t.total × (t.limits < 2 ^ 124)) };
+    ghost invariant = { λ t. AreTotals t.scale t.least.items t.total t.limits };
 }
 
 impl Totals {
