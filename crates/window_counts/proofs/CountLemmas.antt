@@ -1,16 +1,12 @@
 -- Uses of runs and strips: what one more run adds, and what is used at all.
-use Rattle.std.proofs.Common.{ℕ, ◌+◌, ◌<◌, ◌≤◌, arith, List}
-use Rattle.std.specs.Prelude.{slice_index_or, if◌then◌else◌}
+use Rattle.std.proofs.Common.{ℕ, ◌+◌, ◌<◌, ◌≤◌, arith}
+use Rattle.std.specs.Prelude.{if◌then◌else◌}
 use Rattle.std.proofs.lemmas.Grind.{common_steps}
 use Rattle.choice_problem.specs.declared.strips.Strip.{Strip}
 use Rattle.finite_sums.specs.Sums.{count_below}
 use Rattle.choice_problem.specs.Strips.{run_start, is_in_run, strip_uses}
 use Rattle.choice_problem.specs.Loops.{run_uses}
 use Rattle.finite_sums.proofs.SumLemmas.{sum_below-more_le}
-
--- the strip at a place
-abbrev pub strip_at : List Strip → ℕ → Strip
-strip_at strips k = slice_index_or strips k (record { first = 0; width = 0; gap = 0; times = 0 })
 
 -- a run's uses with those of the runs before it are part of the strip's
 pub run-le : (s : Strip) (i n r : ℕ) → i < n →

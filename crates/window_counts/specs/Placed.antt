@@ -10,11 +10,13 @@ pub record KeepsLimits (p : ProblemView) (counts : List ℕ) : Type 0 where
 
 -- at each resource that is used further, count and further uses are together at most the limit
 abbrev pub FitsBeside : ProblemView → List ℕ → (ℕ → ℕ) → Type 0
-FitsBeside p counts uses = (r : ℕ) → r < resource_count p → 0 < uses r → slice_index counts r + uses r ≤ limit_of p r
+FitsBeside p counts uses = (r : ℕ) → r < resource_count p → 0 < uses r →
+    slice_index counts r + uses r ≤ limit_of p r
 
 -- each resource that is used further has room for one more use
 abbrev pub FitsOnce : ProblemView → List ℕ → (ℕ → ℕ) → Type 0
-FitsOnce p counts uses = (r : ℕ) → r < resource_count p → 0 < uses r → slice_index counts r + 1 ≤ limit_of p r
+FitsOnce p counts uses = (r : ℕ) → r < resource_count p → 0 < uses r →
+    slice_index counts r + 1 ≤ limit_of p r
 
 -- all counts are 0
 abbrev pub AreZero : List ℕ → Type 0

@@ -11,4 +11,4 @@ mod joint;
 mod placing;
 
 pub use counts::Counts;
-pub use placing::{add_alt, add_choice, change_alt, place_alt, take_alt};
+pub use placing::{add_choice, place_alt};

@@ -1,6 +1,6 @@
-//! Counting the uses of the alternatives of a problem, where they fit and at all, and taking them away again.
+//! Counting the uses of alternatives of a problem: of one where it fits, and of all that a choice takes.
 
-ghost use Rattle.std.specs.Prelude.{◌≡◌, ◌↔◌, ℕ, ◌+◌, ◌<◌, ◌≤◌, length, slice_index, false, IsTrue};
+ghost use Rattle.std.specs.Prelude.{◌≡◌, ◌↔◌, ℕ, ◌<◌, ◌≤◌, length, slice_index, false, IsTrue};
 ghost use Rattle.choice_problem.specs.declared.problems.TheConstants.{MOST_UNITS, MOST_USES};
 ghost use Rattle.std.specs.Option.{ForSome};
 ghost use Rattle.choice_problem.specs.Problems.{
@@ -116,8 +116,8 @@ fn take_named(problem: &Problem, unit: u32, part: Option<u32>, counts: &mut Coun
     }
 }
 
-/// Counts the uses of a unit's alternative: one step a use.
-pub fn add_alt(problem: &Problem, unit: u32, alt: u32, counts: &mut Counts)
+// Counts the uses of a unit's alternative.
+fn add_alt(problem: &Problem, unit: u32, alt: u32, counts: &mut Counts)
     requires unit { unit < unit_count problem.now }
     requires alt { alt < alt_count problem.now unit }
     requires counts { length counts.old ≡ resource_count problem.now }
@@ -130,40 +130,6 @@ pub fn add_alt(problem: &Problem, unit: u32, alt: u32, counts: &mut Counts)
     let chosen = problem.unit_alts(unit)[alt as usize];
     add_named(problem, unit, chosen.one, counts);
     add_named(problem, unit, chosen.two, counts);
-}
-
-/// Takes the uses of a unit's alternative away, which was counted before: one step a use.
-pub fn take_alt(problem: &Problem, unit: u32, alt: u32, counts: &mut Counts)
-    requires unit { unit < unit_count problem.now }
-    requires alt { alt < alt_count problem.now unit }
-    requires counts { length counts.old ≡ resource_count problem.now }
-    requires added { HasUses counts.old (λ r. alt_uses problem.now unit alt r) }
-    ensures length { length counts.new ≡ length counts.old }
-    ensures taken { GrowsBy counts.new counts.old (λ r. alt_uses problem.now unit alt r) }
-{
-    let chosen = problem.unit_alts(unit)[alt as usize];
-    take_named(problem, unit, chosen.one, counts);
-    take_named(problem, unit, chosen.two, counts);
-}
-
-/// Takes the uses of one alternative of a unit away and counts those of another: one step a use, and none where they are
-/// the same.
-pub fn change_alt(problem: &Problem, unit: u32, was: u32, now: u32, counts: &mut Counts)
-    requires unit { unit < unit_count problem.now }
-    requires was { was < alt_count problem.now unit }
-    requires now { now < alt_count problem.now unit }
-    requires counts { length counts.old ≡ resource_count problem.now }
-    requires room { HasRoom counts.old (λ _. MOST_USES) }
-    requires added { HasUses counts.old (λ r. alt_uses problem.now unit was r) }
-    ensures length { length counts.new ≡ length counts.old }
-    ensures changed { (r : ℕ) → r < length counts.old →
-        slice_index counts.new r + alt_uses problem.now unit was r
-        ≡ slice_index counts.old r + alt_uses problem.now unit now r }
-{
-    if was != now {
-        take_alt(problem, unit, was, counts);
-        add_alt(problem, unit, now, counts);
-    }
 }
 
 /// Counts the uses of a choice of a problem on counts of 0, and answers what it costs: one step a use.
