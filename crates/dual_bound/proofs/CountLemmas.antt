@@ -10,7 +10,7 @@ use Rattle.choice_problem.specs.declared.strips.Strip.{Strip}
 use Rattle.choice_problem.specs.Strips.{part_uses}
 use Rattle.choice_problem.specs.Loops.{run_uses}
 use Rattle.choice_problem.specs.Problems.{ChooserView, IsChooser, alt_at, named_uses, chooser_uses}
-use Rattle.dual_bound.specs.Kept.{AreAtLeast, AreRaised, AreCounted, AreBelow, AreMarked}
+use Rattle.dual_bound.specs.Kept.{AreAtLeast, AreRaised, AreCounted, AreBelow, MarkNamed}
 
 -- the same uses
 pub AreCounted-same : (from number : ℕ) (base uses others : ℕ → ℕ) (counts last : List ℕ) → ((r : ℕ) → uses r ≡ others r) → AreCounted from number base uses counts last →
@@ -158,7 +158,7 @@ named-counted m marks (Some k) base counts e raised there marked h = h k (there 
 
 -- the uses of an alternative, by the parts that it names first and second
 pub alt-counted : (m : ChooserView) (first second : List Bool) (old middle new : List ℕ) → IsChooser m → length old ≡ length middle → length middle ≡ length new →
-    AreMarked false m.alts (length m.alts) first → AreMarked true m.alts (length m.alts) second → AreRaised old middle → AreRaised middle new →
+    MarkNamed false m.alts (length m.alts) first → MarkNamed true m.alts (length m.alts) second → AreRaised old middle → AreRaised middle new →
     ((k : ℕ) → k < length m.parts → slice_index_or first k false ≡ true → AreAtLeast middle (λ r. slice_index old r + part_uses (slice_index_or m.parts k []) r)) →
     ((k : ℕ) → k < length m.parts → slice_index_or second k false ≡ true → AreAtLeast new (λ r. slice_index middle r + part_uses (slice_index_or m.parts k []) r)) →
     (a : ℕ) → a < length m.alts → AreAtLeast new (λ r. slice_index old r + chooser_uses m a r)

@@ -71,7 +71,8 @@ pub record IsOnKept (p : ProblemView) (ranks : List ℕ) (k : ProblemView) : Typ
 -- the price of a resource by the prices of the kept ones: those that are not kept are free
 abbrev pub price_in : List ℕ → List ℕ → ℕ → ℕ
 price_in ranks prices r =
-    if nat_lt (slice_index ranks r) (slice_index ranks (r + 1)) then slice_index prices (slice_index ranks r)
+    if nat_lt (slice_index ranks r) (slice_index ranks (r + 1))
+    then slice_index prices (slice_index ranks r)
     else 0
 
 -- the prices of the first n resources by those of the kept ones
@@ -107,9 +108,9 @@ abbrev pub named_part : Bool → Alt → Option ℕ
 named_part false alt = alt.one
 named_part true alt = alt.two
 
--- each part that one of the first n alternatives names first, or second, has a mark
-abbrev pub AreMarked : Bool → List Alt → ℕ → List Bool → Type 0
-AreMarked second alts n marks = (a k : ℕ) → a < n → named_part second (alt_in alts a) ≡ Some k →
+-- the marks mark each part that one of the first n alternatives names first, or second
+abbrev pub MarkNamed : Bool → List Alt → ℕ → List Bool → Type 0
+MarkNamed second alts n marks = (a k : ℕ) → a < n → named_part second (alt_in alts a) ≡ Some k →
     slice_index_or marks k false ≡ true
 
 -- the parts that alternatives name first, or second, are there

@@ -32,9 +32,9 @@ pub record IsPoint (p : ProblemView) (ranges : List (ℕ × ℕ)) (scale : ℕ) 
 pub record AreMoved (p : ProblemView) (numbers loads : List ℕ) (step : ℕ)
     (moved : List ℕ) : Type 0 where
   pub count : length moved ≡ resource_count p
-  pub each : (r : ℕ) → r < resource_count p →
-      slice_index moved r
-      ≡ min ((slice_index numbers r + step * slice_index loads r) - step * limit_of p r) (2 ^ 40 - 1)
+  pub each : (r : ℕ) → r < resource_count p → slice_index moved r ≡ min
+      ((slice_index numbers r + step * slice_index loads r) - step * limit_of p r)
+      (2 ^ 40 - 1)
 
 -- prices that are those after some steps, with how great they can be
 pub record IsAfter (p : ProblemView) (ranges : List (ℕ × ℕ)) (step : ℕ)

@@ -6,7 +6,7 @@ ghost use Rattle.finite_sums.specs.Sums.{sum_below};
 ghost use Rattle.choice_problem.specs.Strips.{strip_uses, part_uses, IsStripInRange, IsPartInRange};
 ghost use Rattle.choice_problem.specs.Loops.{run_uses};
 ghost use Rattle.choice_problem.specs.Problems.{unit_count, alt_count, resource_count, alt_uses};
-ghost use Rattle.dual_bound.specs.Kept.{AreAtLeast, AreRaised, AreCounted, AreBelow, AreMarked, AreNamed, named_part};
+ghost use Rattle.dual_bound.specs.Kept.{AreAtLeast, AreRaised, AreCounted, AreBelow, MarkNamed, AreNamed, named_part};
 
 use choice_problem::{Alt, Part, Problem, Strip};
 use slot_text::Memory;
@@ -86,7 +86,7 @@ fn marked_parts(
     requires { AreNamed second alts.now parts }
     ensures count { IfOk result (λ marks. length marks.items ≡ parts) }
     ensures marked { IfOk result (λ marks.
-        AreMarked second alts.now (length alts.now) marks.items) }
+        MarkNamed second alts.now (length alts.now) marks.items) }
 {
     let mut marks = vec![in alloc; false; parts]?;
     mark_parts(alts, second, &mut marks);
@@ -96,7 +96,7 @@ fn marked_parts(
 // Marks the parts that the alternatives name first, or second.
 fn mark_parts(alts: &[Alt], second: bool, marks: &mut [bool])
     requires { AreNamed second alts.now (length marks.old) }
-    ensures { AreMarked second alts.now (length alts.now) marks.new }
+    ensures { MarkNamed second alts.now (length alts.now) marks.new }
 {
     for at in 0..alts.len() {
         mark_part(marks, named_part(&alts[at], second));
