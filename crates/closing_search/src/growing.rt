@@ -1,8 +1,8 @@
 //! The growth of a tree by free splits.
 
-use crate::dives::rounded;
 use crate::entries::Entry;
 use crate::pricings::Pricing;
+use crate::rounding::rounded;
 use crate::splits::{Split, best_split};
 use crate::states::{NEVER, Open, State, Task};
 use relaxed_problem::{End, Relaxation};
@@ -12,23 +12,22 @@ use std::alloc::Global;
 // The most pivots of one node.
 const NODE_PIVOTS: u32 = 20_000;
 
-/// Visits open nodes, the last one first, until none is left, so many were visited, or one stays open. Answers whether none
-/// is left.
+/// Visits open nodes, the last one first, until none is left, so many were visited, or one stays open.
 pub(crate) fn grow(
     alloc: Global,
     task: &Task<'_>,
     state: &mut State,
     most: u32,
-) -> Result<bool, Memory> {
+) -> Result<(), Memory> {
     for _ in 0..most {
         let Some(open) = state.open.pop() else {
-            return Ok(true);
+            return Ok(());
         };
         if state.steps == 0 || !visit(alloc, task, state, open)? {
-            return Ok(false);
+            return Ok(());
         }
     }
-    Ok(state.open.is_empty())
+    Ok(())
 }
 
 // Closes or splits a node. Answers whether it did.
@@ -88,7 +87,7 @@ fn solve(
 fn complete_values(task: &Task<'_>, state: &State, open: &mut Open) -> Result<(), Memory> {
     let known = open.values.len();
     for pricing in state.pricings.iter().skip(known) {
-        let value = pricing.value(task.problem, task.reduced, &open.spans);
+        let value = pricing.value(task.problem, task.reduced, &open.allowed);
         open.values.push(value)?;
     }
     Ok(())
@@ -101,9 +100,6 @@ fn close_empty(
     state: &mut State,
     open: &Open,
 ) -> Result<bool, Memory> {
-    if task.is_rough {
-        return Ok(true);
-    }
     for greatest in [1, 1_024, 1_048_576] {
         let relaxation = &open.relaxation;
         let vector = relaxation.ray(alloc, task.problem, task.program, greatest)?;
@@ -122,9 +118,6 @@ fn close_bounded(
     state: &mut State,
     open: &Open,
 ) -> Result<bool, Memory> {
-    if task.is_rough {
-        return Ok(true);
-    }
     let vector = open.relaxation.vector(alloc, task.problem, task.program)?;
     let pricing = Pricing::new(alloc, task.reduced, vector, 1_024)?;
     state.close_by(task, open, pricing)
@@ -143,6 +136,8 @@ fn bound_or_split(
     }
     let shares = open.relaxation.shares(alloc, task.program)?;
     if let Some(split) = best_split(alloc, task, state, &open, &shares)? {
+        let vector = open.relaxation.vector(alloc, task.problem, task.program)?;
+        state.take_pricing(Pricing::new(alloc, task.reduced, vector, 1_024)?)?;
         return divide(alloc, task, state, open, split);
     }
     let choice = rounded(alloc, task, &open.relaxation, &shares)?;
@@ -150,7 +145,7 @@ fn bound_or_split(
     close_bounded(alloc, task, state, &open)
 }
 
-// Splits a node. The part of which the relaxation takes more is searched first.
+// Splits a node. The part whose bound seems to rise less is searched first.
 fn divide(
     alloc: Global,
     task: &Task<'_>,
@@ -158,55 +153,49 @@ fn divide(
     open: Open,
     split: Split,
 ) -> Result<bool, Memory> {
-    let Split { unit, cut, is_low } = split;
-    let (from, to) = open.spans.of(unit);
-    if cut <= from || to < cut {
-        return Ok(false);
-    }
     let low = state.add_entry()?;
     let high = state.add_entry()?;
     let parts = Entry::Split {
-        unit,
-        cut,
+        unit: split.unit,
+        rule: split.rule,
         low,
         high,
     };
     state.close(open.entry, parts);
-    let below = (from, cut - 1);
-    let above = (cut, to);
-    let (first, last) = if is_low {
-        ((low, below), (high, above))
+    if split.is_low_first {
+        push_part(alloc, task, state, &open, split, (high, true))?;
+        push_part(alloc, task, state, &open, split, (low, false))?;
     } else {
-        ((high, above), (low, below))
-    };
-    push_part(alloc, task, state, &open, unit, last)?;
-    push_part(alloc, task, state, &open, unit, first)?;
+        push_part(alloc, task, state, &open, split, (low, false))?;
+        push_part(alloc, task, state, &open, split, (high, true))?;
+    }
     Ok(true)
 }
 
-// Adds a part of a node: its entry, and the range of the unit there.
+// Adds a part of a node: its entry, and whether it is the high one.
 fn push_part(
     alloc: Global,
     task: &Task<'_>,
     state: &mut State,
     open: &Open,
-    unit: u32,
-    part: (u32, (u32, u32)),
+    split: Split,
+    part: (u32, bool),
 ) -> Result<(), Memory> {
-    let (entry, span) = part;
-    let old = open.spans.of(unit);
+    let (entry, is_high) = part;
+    let (unit, rule) = (split.unit, split.rule);
+    let (problem, reduced) = (task.problem, task.reduced);
+    let mut allowed = open.allowed.copy(alloc)?;
+    allowed.keep(problem, reduced, unit, rule, is_high);
     let mut values = Vec::with_capacity(alloc, open.values.len())?;
     for (pricing, value) in state.pricings.iter().zip(&open.values) {
-        let rise = pricing.rise(task.problem, task.reduced, unit, old, span);
+        let rise = pricing.rise(problem, reduced, unit, &open.allowed, &allowed);
         values.push(value.saturating_add(rise))?;
     }
-    let mut spans = open.spans.copy(alloc)?;
-    spans.set(unit, span);
     let mut relaxation = open.relaxation.copy(alloc)?;
-    relaxation.restrict(unit, span.0, span.1);
+    task.keep(&mut relaxation, unit, rule, is_high);
     state.open.push(Open {
         entry,
-        spans,
+        allowed,
         values,
         relaxation,
     })?;

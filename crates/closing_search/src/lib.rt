@@ -4,18 +4,21 @@
 #![tactic(auto)]
 
 mod accepted;
+mod allowed;
 mod barred;
 mod closed;
-mod dives;
 mod entries;
 mod exact;
 mod growing;
+mod pieces;
 mod pricings;
-mod rough;
+mod quotas;
+mod rounding;
+mod rules;
 mod searched;
+mod sides;
 mod spans;
 mod splits;
-mod starts;
 mod states;
 mod trees;
 mod unpriced;

@@ -1,5 +1,7 @@
 //! Bounds of ranges at vectors of prices, in whole numbers: what the test of a leaf will find.
 
+use crate::allowed::Allowed;
+use crate::rules::unit_alts;
 use crate::spans::{Spans, within};
 use choice_problem::{Alt, Price, Problem, Vector};
 use reduced_problem::{Class, Reduced};
@@ -57,8 +59,8 @@ impl Pricing {
         }
     }
 
-    // The priced cost of an alternative of the unit whose first part has this number.
-    fn cost(&self, alt: &Alt, first: u32) -> i64 {
+    /// The priced cost of an alternative of the unit whose first part has this number.
+    pub(crate) fn cost(&self, alt: &Alt, first: u32) -> i64 {
         let cost = i64::try_from(alt.cost).unwrap_or(i64::MAX);
         let scaled = cost.saturating_mul(i64::from(self.scale));
         scaled
@@ -74,42 +76,65 @@ impl Pricing {
         }
     }
 
-    // The least priced cost of a unit's alternatives from one to another.
-    fn least(&self, alts: &[Alt], first: u32, span: (u32, u32)) -> i64 {
+    // The least priced cost of a unit's alternatives that may be taken.
+    fn least(&self, problem: &Problem, reduced: &Reduced, unit: u32, flags: &[bool]) -> i64 {
+        let first = reduced.first_part(unit);
         let mut least = i64::MAX;
-        for alt in within(alts, span) {
+        for (alt, flag) in unit_alts(problem, unit).iter().zip(flags) {
+            if *flag {
+                least = least.min(self.cost(alt, first));
+            }
+        }
+        least
+    }
+
+    /// The bound of the alternatives that may be taken.
+    pub(crate) fn value(&self, problem: &Problem, reduced: &Reduced, allowed: &Allowed) -> i64 {
+        let mut total: i64 = 0;
+        for unit in 0..problem.units() {
+            let least = self.least(problem, reduced, unit, allowed.of(unit));
+            total = total.saturating_add(least);
+        }
+        total.saturating_sub(self.limits)
+    }
+
+    /// How much the bound rises where a unit may take others than before.
+    pub(crate) fn rise(
+        &self,
+        problem: &Problem,
+        reduced: &Reduced,
+        unit: u32,
+        old: &Allowed,
+        new: &Allowed,
+    ) -> i64 {
+        let after = self.least(problem, reduced, unit, new.of(unit));
+        after.saturating_sub(self.least(problem, reduced, unit, old.of(unit)))
+    }
+
+    /// The least priced cost of a unit's alternatives from one to another.
+    pub(crate) fn least_within(
+        &self,
+        problem: &Problem,
+        reduced: &Reduced,
+        unit: u32,
+        span: (u32, u32),
+    ) -> i64 {
+        let first = reduced.first_part(unit);
+        let mut least = i64::MAX;
+        for alt in within(unit_alts(problem, unit), span) {
             least = least.min(self.cost(alt, first));
         }
         least
     }
 
     /// The bound of ranges.
-    pub(crate) fn value(&self, problem: &Problem, reduced: &Reduced, spans: &Spans) -> i64 {
+    pub(crate) fn range_value(&self, problem: &Problem, reduced: &Reduced, spans: &Spans) -> i64 {
         let mut total: i64 = 0;
         for unit in 0..problem.units() {
-            let first = reduced.first_part(unit);
-            let least = self.least(problem.unit_alts(unit), first, spans.of(unit));
+            let least = self.least_within(problem, reduced, unit, spans.of(unit));
             total = total.saturating_add(least);
         }
         total.saturating_sub(self.limits)
-    }
-
-    /// How much the bound rises where a unit's range becomes another.
-    pub(crate) fn rise(
-        &self,
-        problem: &Problem,
-        reduced: &Reduced,
-        unit: u32,
-        old: (u32, u32),
-        new: (u32, u32),
-    ) -> i64 {
-        if unit >= problem.units() {
-            return 0;
-        }
-        let alts = problem.unit_alts(unit);
-        let first = reduced.first_part(unit);
-        let after = self.least(alts, first, new);
-        after.saturating_sub(self.least(alts, first, old))
     }
 
     /// Whether a bound closes ranges for a cost, or for none.
@@ -125,6 +150,16 @@ impl Pricing {
             None => false,
         }
     }
+}
+
+/// The number of the first vector whose bound closes ranges for a cost, or for none.
+pub(crate) fn closing(pricings: &[Pricing], values: &[i64], cost: Option<u64>) -> Option<u32> {
+    for (number, (pricing, value)) in (0..).zip(pricings.iter().zip(values)) {
+        if pricing.closes(*value, cost) {
+            return Some(number);
+        }
+    }
+    None
 }
 
 // Adds to the numbers from one place to another.

@@ -8,6 +8,7 @@ ghost use Rattle.closing_search.specs.Closed.{IsEnding, EndsAtMost};
 use crate::accepted::{Found, accepted, known_best};
 use crate::barred::barred_alts;
 use crate::closed::Ending;
+use crate::quotas::quotas_of;
 use crate::states::{NEVER, ROOT_PIVOTS, Task};
 use crate::trees::{MOST_NODES, search_tree};
 use crate::unpriced::unpriced;
@@ -26,8 +27,10 @@ use std::alloc::Global;
 /// It is a branch and bound by the linear relaxation over the resources that matter. A node is closed by a vector that
 /// closed another, or by its own prices or ray, rounded; else it is split where the relaxation takes shares of several
 /// alternatives, at the unit whose two parts gain most in some pivots (strong branching: Applegate, Bixby, Chvátal and Cook
-/// 1995, "Finding cuts in the TSP"). Its work is bounded by counts of nodes and pivots, and the same problem and start give
-/// the same answer. The test at its end takes one step an alternative for each leaf.
+/// 1995, "Finding cuts in the TSP"), by its uses of a quota where these differ (branching on sets: Beale and Tomlin 1970,
+/// "Special facilities in a general mathematical programming system for non-convex problems using ordered sets of
+/// variables"). In the end a tree whose splits cut ranges is made of it. Its work is bounded by counts of nodes and pivots,
+/// and the same problem and start give the same answer. The test at its end takes one step an alternative for each leaf.
 pub fn closing_search(
     alloc: Global,
     problem: &Problem,
@@ -79,11 +82,12 @@ fn searched(
     let program = Program::new(alloc, problem, &reduced, &barred)?;
     let mut root = Relaxation::start(alloc, &program)?;
     let ended = root.solve(alloc, &program, ROOT_PIVOTS, NEVER)?;
+    let quotas = quotas_of(alloc, &reduced)?;
     let task = Task {
         problem,
         reduced: &reduced,
+        quotas: &quotas,
         program: &program,
-        is_rough: false,
     };
     let (found, best) = search_tree(
         alloc,

@@ -1,6 +1,7 @@
 //! Where a search splits a node: at a unit of whose alternatives the relaxation takes shares, so that both parts have a
 //! greater bound.
 
+use crate::rules::{Rule, part_uses};
 use crate::states::{NEVER, Open, State, Task};
 use relaxed_problem::{End, Relaxation, Share};
 use slot_text::Memory;
@@ -17,15 +18,17 @@ const LOOK_PIVOTS: u32 = 8;
 // A share that counts as the whole.
 const WHOLE: f64 = 0.999999;
 
-/// A split: the unit, the lowest alternative of its high part, and whether the relaxation takes more of the low part.
+/// A split: the unit, what tells its parts apart, and whether the low part is searched first.
 #[derive(Clone, Copy, Debug)]
 pub(crate) struct Split {
     pub(crate) unit: u32,
-    pub(crate) cut: u32,
-    pub(crate) is_low: bool,
+    pub(crate) rule: Rule,
+    pub(crate) is_low_first: bool,
 }
 
-/// The split of a node whose relaxation is solved; none where it takes one alternative of each unit.
+/// The split of a node whose relaxation is solved; none where it takes one alternative of each unit. Where the relaxation
+/// takes shares of alternatives that use a quota differently, the split is by their uses: the other alternatives of a unit
+/// make up for a split by numbers, but not for one by uses.
 pub(crate) fn best_split(
     alloc: Global,
     task: &Task<'_>,
@@ -33,7 +36,7 @@ pub(crate) fn best_split(
     open: &Open,
     shares: &[Share],
 ) -> Result<Option<Split>, Memory> {
-    let candidates = candidates(alloc, task, &open.relaxation, shares)?;
+    let candidates = candidates(alloc, task, state, &open.relaxation, shares)?;
     let mut part = open.relaxation.copy(alloc)?;
     let mut best = None;
     let mut most = -1.0;
@@ -42,19 +45,120 @@ pub(crate) fn best_split(
         if idle >= LOOKED_ON {
             break;
         }
-        let gain = gain_of(alloc, task, state, open, split, &mut part)?;
+        let (low, high) = gains_of(alloc, task, state, open, split, &mut part)?;
         idle = idle.saturating_add(1);
-        if gain > most {
-            most = gain;
-            best = Some(*split);
+        if low * high > most {
+            most = low * high;
+            best = Some(Split {
+                is_low_first: low <= high,
+                ..*split
+            });
             idle = 0;
         }
     }
     Ok(best)
 }
 
-// The splits between the shares of each unit, those of the smallest greatest share first.
+// The splits by the uses of quotas where there are some and these are to be had, else those by numbers.
 fn candidates(
+    alloc: Global,
+    task: &Task<'_>,
+    state: &State,
+    relaxation: &Relaxation,
+    shares: &[Share],
+) -> Result<Vec<(u64, Split)>, Memory> {
+    if state.is_by_quotas {
+        let found = quota_splits(alloc, task, relaxation, shares)?;
+        if !found.is_empty() {
+            return Ok(found);
+        }
+    }
+    number_splits(alloc, task, relaxation, shares)
+}
+
+// The splits by the uses of quotas, where these have prices.
+fn quota_splits(
+    alloc: Global,
+    task: &Task<'_>,
+    relaxation: &Relaxation,
+    shares: &[Share],
+) -> Result<Vec<(u64, Split)>, Memory> {
+    let mut found = Vec::new(alloc);
+    for class in task.quotas {
+        if relaxation.is_priced(*class) {
+            add_quota_splits(task, shares, *class, &mut found)?;
+        }
+    }
+    found.sort_unstable_by_key(|entry| entry.0);
+    Ok(found)
+}
+
+// Adds the splits by the uses of a quota.
+fn add_quota_splits(
+    task: &Task<'_>,
+    shares: &[Share],
+    class: u32,
+    found: &mut Vec<(u64, Split)>,
+) -> Result<(), Memory> {
+    let mut rest = shares;
+    for _ in 0..shares.len() {
+        let (group, others) = first_group(rest);
+        rest = others;
+        if let Some(split) = split_by_uses(task, group, class) {
+            found.push((rank_of(greatest_share(group)), split))?;
+        }
+    }
+    Ok(())
+}
+
+// The split of a unit by its uses of a class that comes nearest to halves of its shares, if these use it differently.
+fn split_by_uses(task: &Task<'_>, group: &[Share], class: u32) -> Option<Split> {
+    let mut found = None;
+    let mut nearest = 0.5;
+    for share in group {
+        let least = share_uses(task, share, class);
+        let distance = size_of(part_below(task, group, class, least) - 0.5);
+        if distance < nearest {
+            nearest = distance;
+            found = Some(Split {
+                unit: share.unit,
+                rule: Rule::Uses { class, least },
+                is_low_first: true,
+            });
+        }
+    }
+    found
+}
+
+// The shares of the alternatives that use a class less often than this.
+fn part_below(task: &Task<'_>, group: &[Share], class: u32, least: i64) -> f64 {
+    let mut part = 0.0;
+    for share in group {
+        if share_uses(task, share, class) < least {
+            part += share.share;
+        }
+    }
+    part
+}
+
+// How often the alternative of a share uses a class.
+fn share_uses(task: &Task<'_>, share: &Share, class: u32) -> i64 {
+    for column in task.program.unit_columns(share.unit) {
+        if column.number == share.alt {
+            let one = part_uses(task.reduced, column.one, class);
+            return one.saturating_add(part_uses(task.reduced, column.two, class));
+        }
+    }
+    0
+}
+
+// The size of a number.
+fn size_of(value: f64) -> f64 {
+    if value < 0.0 { -value } else { value }
+}
+
+// The splits between the shares of each unit by numbers, those of the smallest greatest share first.
+fn number_splits(
     alloc: Global,
     task: &Task<'_>,
     relaxation: &Relaxation,
@@ -118,18 +222,17 @@ fn rank_of(share: f64) -> u64 {
 fn split_between(task: &Task<'_>, relaxation: &Relaxation, group: &[Share]) -> Split {
     let mut split = Split {
         unit: unit_of(group),
-        cut: 1,
-        is_low: true,
+        rule: Rule::From(1),
+        is_low_first: true,
     };
     let mut sum = 0.0;
     let mut nearest = NEVER;
     for (one, next) in group.iter().zip(group.iter().skip(1)) {
         sum += one.share;
-        let distance = if sum < 0.5 { 0.5 - sum } else { sum - 0.5 };
+        let distance = size_of(sum - 0.5);
         if distance < nearest {
             nearest = distance;
-            split.cut = cut_between(task, relaxation, one, next);
-            split.is_low = sum > 0.5;
+            split.rule = Rule::From(cut_between(task, relaxation, one, next));
         }
     }
     split
@@ -162,25 +265,22 @@ fn costs_from(costs: &[f64], first: usize) -> &[f64] {
     }
 }
 
-// The product of what the value of the relaxation gains in the two parts, as far as some pivots show it.
-fn gain_of(
+// What the value of the relaxation gains in the low and in the high part, as far as some pivots show it.
+fn gains_of(
     alloc: Global,
     task: &Task<'_>,
     state: &mut State,
     open: &Open,
     split: &Split,
     part: &mut Relaxation,
-) -> Result<f64, Memory> {
-    let (low, high) = open.spans.of(split.unit);
-    let below = (low, split.cut.saturating_sub(1));
-    let above = (split.cut, high);
+) -> Result<(f64, f64), Memory> {
     part.copy_from(alloc, &open.relaxation)?;
-    part.restrict(split.unit, below.0, below.1);
-    let one = part_gain(alloc, task, state, open, part)?;
+    task.keep(part, split.unit, split.rule, false);
+    let low = part_gain(alloc, task, state, open, part)?;
     part.copy_from(alloc, &open.relaxation)?;
-    part.restrict(split.unit, above.0, above.1);
-    let other = part_gain(alloc, task, state, open, part)?;
-    Ok(at_least(one) * at_least(other))
+    task.keep(part, split.unit, split.rule, true);
+    let high = part_gain(alloc, task, state, open, part)?;
+    Ok((at_least(low), at_least(high)))
 }
 
 // What the value gains in a part of a node.

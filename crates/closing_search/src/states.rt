@@ -1,8 +1,9 @@
 //! What a search knows while its tree grows.
 
+use crate::allowed::Allowed;
 use crate::entries::Entry;
-use crate::pricings::Pricing;
-use crate::spans::Spans;
+use crate::pricings::{Pricing, closing};
+use crate::rules::Rule;
 use choice_problem::{Choice, Problem, Vector, cost_of, fits};
 use reduced_problem::Reduced;
 use relaxed_problem::{Program, Relaxation, Work};
@@ -15,32 +16,47 @@ const STEPS_APART: u64 = 5_000;
 
 const STARTING: u64 = 4;
 
-// The most vectors, that without prices among them.
-const MOST_PRICINGS: usize = 65;
+// The most vectors, that without prices among them; and how many there may be while those of split nodes are taken in.
+const MOST_PRICINGS: usize = 128;
 
-/// The problem, its resources that matter, and the alternatives that take part in the relaxations. Where the search is for
-/// choices alone, leaves need no vectors.
+const MOST_TAKEN: usize = 100;
+
+/// The problem, its resources that matter, those of which some part uses several, and the alternatives that take part in the
+/// relaxations.
 #[derive(Drop)]
 pub(crate) struct Task<'a> {
     pub(crate) problem: &'a Problem,
     pub(crate) reduced: &'a Reduced,
+    pub(crate) quotas: &'a [u32],
     pub(crate) program: &'a Program<'a>,
-    pub(crate) is_rough: bool,
 }
 
-/// An open node: its entry, its ranges, their bounds at the vectors that there were when it was made, and a relaxation
-/// from which to go on.
+impl Task<'_> {
+    // Lets a relaxation take the alternatives of one part of a split alone.
+    pub(crate) fn keep(&self, relaxation: &mut Relaxation, unit: u32, rule: Rule, is_high: bool) {
+        let first = self.program.first_column(unit);
+        for (number, column) in (0..).zip(self.program.unit_columns(unit)) {
+            let column_is_high = rule.is_high(self.problem, self.reduced, unit, column.number);
+            if column_is_high != is_high {
+                relaxation.shut(first.saturating_add(number));
+            }
+        }
+    }
+}
+
+/// An open node: its entry, the alternatives that may be taken, their bounds at the vectors that there were when it was made,
+/// and a relaxation from which to go on.
 #[derive(Drop)]
 pub(crate) struct Open {
     pub(crate) entry: u32,
-    pub(crate) spans: Spans,
+    pub(crate) allowed: Allowed,
     pub(crate) values: Vec<i64>,
     pub(crate) relaxation: Relaxation,
 }
 
-/// The tree so far, its open nodes, those to be searched first last; the vectors that close leaves, the one without prices
-/// first; the best choice, and by how much a cheaper one costs less at least; how many steps of relaxations may still be made; and
-/// the numbers of these steps.
+/// The tree so far; its open nodes, those to be searched first last; the vectors that close leaves and those of split nodes,
+/// the one without prices first; the best choice; how many steps of relaxations may still be made, and the numbers of these
+/// steps; and whether splits by the uses of quotas come first.
 #[derive(Drop)]
 pub(crate) struct State {
     pub(crate) entries: Vec<Entry>,
@@ -48,9 +64,9 @@ pub(crate) struct State {
     pub(crate) pricings: Vec<Pricing>,
     pub(crate) best: Option<Choice>,
     pub(crate) cost: Option<u64>,
-    pub(crate) least: f64,
     pub(crate) steps: u64,
     pub(crate) work: Work,
+    pub(crate) is_by_quotas: bool,
 }
 
 impl State {
@@ -67,9 +83,9 @@ impl State {
             pricings: Vec::new(alloc),
             best: None,
             cost: None,
-            least: 1.0,
             steps,
             work: Work::new(alloc, task.program)?,
+            is_by_quotas: true,
         };
         let none = Vector::new(Vec::new(alloc));
         state
@@ -78,7 +94,7 @@ impl State {
         state.entries.push(Entry::Open)?;
         state.open.push(Open {
             entry: 0,
-            spans: Spans::whole(alloc, task.problem)?,
+            allowed: Allowed::all(alloc, task.problem)?,
             values: Vec::new(alloc),
             relaxation: root.copy(alloc)?,
         })?;
@@ -138,6 +154,14 @@ impl State {
         }
     }
 
+    // Takes in the vector of a node that is split: it may close ranges of which the node is made up in the end.
+    pub(crate) fn take_pricing(&mut self, pricing: Pricing) -> Result<(), Memory> {
+        if self.pricings.len() < MOST_TAKEN {
+            self.pricings.push(pricing)?;
+        }
+        Ok(())
+    }
+
     // Closes a node by a new vector. Where there is no room for it, the entry stays open, and the search goes on for better
     // choices alone. Answers whether the vector closes the node.
     pub(crate) fn close_by(
@@ -146,7 +170,7 @@ impl State {
         open: &Open,
         pricing: Pricing,
     ) -> Result<bool, Memory> {
-        let value = pricing.value(task.problem, task.reduced, &open.spans);
+        let value = pricing.value(task.problem, task.reduced, &open.allowed);
         if !pricing.closes(value, self.cost) {
             return Ok(false);
         }
@@ -154,26 +178,16 @@ impl State {
             return Ok(true);
         }
         let vector = u32::try_from(self.pricings.len()).unwrap_or(u32::MAX);
-        let scale = pricing.scale;
-        self.close(open.entry, Entry::Leaf { vector, scale });
+        self.close(open.entry, Entry::Closed(vector));
         self.pricings.push(pricing)?;
         Ok(true)
     }
 
     // Closes a node by a vector that there is. Answers whether one does.
     pub(crate) fn close_by_known(&mut self, open: &Open) -> bool {
-        let mut found = None;
-        for (number, (pricing, value)) in (0..).zip(self.pricings.iter().zip(&open.values)) {
-            if found.is_none() && pricing.closes(*value, self.cost) {
-                found = Some(Entry::Leaf {
-                    vector: number,
-                    scale: pricing.scale,
-                });
-            }
-        }
-        match found {
-            Some(leaf) => {
-                self.close(open.entry, leaf);
+        match closing(&self.pricings, &open.values, self.cost) {
+            Some(vector) => {
+                self.close(open.entry, Entry::Closed(vector));
                 true
             }
             None => false,
@@ -190,7 +204,7 @@ impl State {
     // The value above which a relaxation shows that no choice in its ranges is cheaper than the best one.
     pub(crate) fn enough(&self) -> f64 {
         match self.cost {
-            Some(cost) => number_of(cost) - self.least + 0.02,
+            Some(cost) => number_of(cost) - 0.98,
             None => NEVER,
         }
     }

@@ -1,11 +1,8 @@
 //! Trees that may close a problem, and the choices for them.
 
 use crate::accepted::Found;
-use crate::dives::dive;
-use crate::entries::nodes_of;
 use crate::growing::grow;
-use crate::rough::search_choices;
-use crate::starts::order_choices;
+use crate::pieces::{bit_of, nodes_of};
 use crate::states::{State, Task, copy_if_any, copy_of};
 use choice_problem::{Choice, Node, Vector};
 use relaxed_problem::{End, Relaxation};
@@ -13,17 +10,17 @@ use slot_text::Memory;
 use std::alloc::Global;
 
 /// The most nodes of a tree.
-pub(crate) const MOST_NODES: u32 = 4_000;
+pub(crate) const MOST_NODES: u32 = 20_000;
 
-// The most steps of the relaxations of a tree, where a best choice seems to be known and where not; how many trees are
-// tried.
+// The most vectors that leaves name.
+const MOST_VECTORS: usize = 64;
+
+// The most steps of the relaxations of all trees; how many trees are tried.
 const TREE_STEPS: u64 = 1_500_000_000;
-
-const SHORT_STEPS: u64 = 100_000_000;
 
 const MOST_TREES: u32 = 4;
 
-/// Looks for choices, and then for a tree, where the first relaxation ended like this.
+/// Looks for a tree, and for choices on the way, where the first relaxation ended like this.
 pub(crate) fn search_tree(
     alloc: Global,
     task: &Task<'_>,
@@ -32,27 +29,19 @@ pub(crate) fn search_tree(
     start: &Option<Choice>,
     most: u32,
 ) -> Result<(Option<Found>, Option<Choice>), Memory> {
+    if end == End::Above || end == End::Spent {
+        return Ok((None, None));
+    }
     let mut first = State::new(alloc, task, root, TREE_STEPS)?;
-    match end {
-        End::Solved => {
-            if let Some(start) = start {
-                let copy = copy_of(alloc, start)?;
-                first.take(alloc, task.problem, copy)?;
-            }
-            dive(alloc, task, &mut first, root)?;
-            let is_certain = search_choices(alloc, task, &mut first, root)?;
-            if first.cost.is_none() {
-                order_choices(alloc, task, &mut first, root)?;
-            }
-            first.steps = if is_certain { TREE_STEPS } else { SHORT_STEPS };
-        }
-        End::Infeasible => {}
-        End::Above | End::Spent => return Ok((None, None)),
+    if let Some(start) = start {
+        let copy = copy_of(alloc, start)?;
+        first.take(alloc, task.problem, copy)?;
     }
     grow_trees(alloc, task, first, root, most)
 }
 
-// A tree, or where it does not close while a better choice is found, the next one; and the best choice.
+// A tree and the best choice. Where a tree does not close, the next one is grown with the best choice that was found; and
+// where no better one was found, with splits by numbers alone.
 fn grow_trees(
     alloc: Global,
     task: &Task<'_>,
@@ -63,36 +52,75 @@ fn grow_trees(
     let mut state = first;
     for _ in 0..MOST_TREES {
         let known = state.cost;
-        let _is_whole = grow(alloc, task, &mut state, most)?;
-        if let Some(nodes) = nodes_of(alloc, &state.entries, state.cost)? {
-            return found_in(alloc, state, nodes);
+        grow(alloc, task, &mut state, most)?;
+        if let Some(found) = found_in(alloc, task, &state, most)? {
+            let State { best, .. } = state;
+            return Ok((Some(found), best));
         }
-        if state.cost == known {
+        let is_same = state.cost == known;
+        if is_same && !state.is_by_quotas {
             break;
         }
         state = state.with_best(alloc, task, root)?;
+        state.is_by_quotas = !is_same;
     }
     let State { best, .. } = state;
     Ok((None, best))
 }
 
-// The tree that was grown, with its vectors and the best choice.
+// The tree of ranges that was found, with its vectors and the best choice.
 fn found_in(
     alloc: Global,
-    state: State,
-    nodes: Vec<Node>,
-) -> Result<(Option<Found>, Option<Choice>), Memory> {
-    let State { pricings, best, .. } = state;
-    let mut vectors = Vec::with_capacity(alloc, pricings.len())?;
-    for pricing in pricings.iter().skip(1) {
-        let prices = Vec::from_slice(alloc, pricing.vector.items())?;
-        vectors.push(Vector::new(prices))?;
-    }
-    let kept = copy_if_any(alloc, &best)?;
-    let found = Found {
-        choice: best,
-        nodes,
-        vectors,
+    task: &Task<'_>,
+    state: &State,
+    most: u32,
+) -> Result<Option<Found>, Memory> {
+    let Some((nodes, used)) = nodes_of(alloc, task, state, most)? else {
+        return Ok(None);
     };
-    Ok((Some(found), kept))
+    let mut numbers = Vec::with_capacity(alloc, state.pricings.len())?;
+    let mut vectors = Vec::new(alloc);
+    for (number, pricing) in (0..).zip(&state.pricings) {
+        if number > 0 && used & bit_of(number) != 0 {
+            let prices = Vec::from_slice(alloc, pricing.vector.items())?;
+            vectors.push(Vector::new(prices))?;
+        }
+        numbers.push(u32::try_from(vectors.len()).unwrap_or(u32::MAX))?;
+    }
+    if vectors.len() > MOST_VECTORS {
+        return Ok(None);
+    }
+    Ok(Some(Found {
+        choice: copy_if_any(alloc, &state.best)?,
+        nodes: renumbered(alloc, nodes, &numbers)?,
+        vectors,
+    }))
+}
+
+// The nodes, where leaves name their vectors by these numbers.
+fn renumbered(alloc: Global, nodes: Vec<Node>, numbers: &[u32]) -> Result<Vec<Node>, Memory> {
+    let mut others = Vec::with_capacity(alloc, nodes.len())?;
+    for node in nodes {
+        others.push(renamed(node, numbers))?;
+    }
+    Ok(others)
+}
+
+// A node, where a leaf names its vector by one of these numbers.
+fn renamed(node: Node, numbers: &[u32]) -> Node {
+    match node {
+        Node::Leaf {
+            vector,
+            scale,
+            seen,
+        } => Node::Leaf {
+            vector: match numbers.get(vector as usize) {
+                Some(number) => *number,
+                None => u32::MAX,
+            },
+            scale,
+            seen,
+        },
+        other => other,
+    }
 }

@@ -55,11 +55,13 @@ fn shown(alloc: Global, ending: &Ending) -> Result<String, Fail> {
 // In turn: two units at one place, of which one pays, also from the choice that both pay; no unit; a unit with one
 // alternative, which fits, and which does not; two such units at one place, which are too many. A limit of 0. A quota of 2
 // that a unit of three dates passes alone: at no price is its bound more than 3, so that it takes a split; the same beside
-// a unit that keeps within it. Four units of equal costs for two places. Four units after three places. Two
-// units of which the second needs more what both want. Three units of which each finds its own place. Two units of which
-// one finds a place, for 3, and the other pays 9. A window that is full on three dates. Three units of which each two
-// exclude each other: no vector shows more than 30, so that a leaf is not enough, and a tree has no two nodes; with one
-// more place; with no way out, where one leaf shows that there is none.
+// a unit that keeps within it. Three units after a quota of 3, each with alternatives that use 2 of it and others in turn, so
+// that a split by uses is several of ranges; with one node too few, where another tree is found; and with too few for that.
+// Four units of equal costs for two places. Four units after three places. Two units of which the second needs more what
+// both want. Three units of which each finds its own place. Two units of which one finds a place, for 3, and the other pays
+// 9. A window that is full on three dates. Three units of which each two exclude each other: no vector shows more than 30,
+// so that a leaf is not enough, and a tree has no two nodes; with one more place; with no way out, where one leaf shows that
+// there is none.
 const CLOSED: &str = "pair | 9 = 3 by 1
 pair | 9 | 1 1 = 3 by 1
 pair | 1 = 3 by 1
@@ -72,6 +74,9 @@ P 0 1 1 1; A 3 0 -; A 8 - -; U; L 0 | 9 = 8 by 1
 P 0 1 0 3; A 0 0 -; A 9 - -; U; L 2 | 9 = 9 by 3
 P 0 1 0 3; A 0 0 -; A 9 - -; U; L 2 | 1 = open
 P 0 1 0 3; A 0 0 -; A 9 - -; U; P 0 1 0 1; A 0 0 -; A 4 - -; U; L 2 | 9 = 9 by 3
+P 0 1 0 2; A 0 0 -; A 5 - -; A 1 0 -; A 6 - -; U; P 0 1 0 2; A 0 0 -; A 5 - -; A 1 0 -; A 6 - -; U; P 0 1 0 2; A 0 0 -; A 5 - -; A 1 0 -; A 6 - -; U; L 3 | 99 = 10 by 55
+P 0 1 0 2; A 0 0 -; A 5 - -; A 1 0 -; A 6 - -; U; P 0 1 0 2; A 0 0 -; A 5 - -; A 1 0 -; A 6 - -; U; P 0 1 0 2; A 0 0 -; A 5 - -; A 1 0 -; A 6 - -; U; L 3 | 54 = 10 by 51
+P 0 1 0 2; A 0 0 -; A 5 - -; A 1 0 -; A 6 - -; U; P 0 1 0 2; A 0 0 -; A 5 - -; A 1 0 -; A 6 - -; U; P 0 1 0 2; A 0 0 -; A 5 - -; A 1 0 -; A 6 - -; U; L 3 | 50 = open
 P 0 1 1 1; A 0 0 -; A 5 - -; U; P 0 1 1 1; A 0 0 -; A 5 - -; U; P 0 1 1 1; A 0 0 -; A 5 - -; U; P 0 1 1 1; A 0 0 -; A 5 - -; U; L 2 | 9 = 10 by 1
 four | 9 = 35 by 1
 needed | 9 = 1 by 1

@@ -29,6 +29,16 @@ fn bound_at(
     Ok(bound(problem, ranges, &table, scale))
 }
 
+// Lets a unit take the alternatives of a range alone.
+fn keep(program: &Program<'_>, relaxation: &mut Relaxation, unit: u32, range: (u32, u32)) {
+    let first = program.first_column(unit);
+    for (number, column) in (0..).zip(program.unit_columns(unit)) {
+        if column.number < range.0 || range.1 < column.number {
+            relaxation.shut(first.saturating_add(number));
+        }
+    }
+}
+
 // How a relaxation of ranges ends: solved, with the value in thousandths and the bound of its vector; or without a
 // solution, and whether a ray shows it.
 fn ending(
@@ -41,7 +51,12 @@ fn ending(
     requires { AreRanges problem.now ranges.now }
 {
     for unit in 0..problem.units() {
-        relaxation.restrict(unit, ranges.low(unit), ranges.high(unit));
+        keep(
+            program,
+            relaxation,
+            unit,
+            (ranges.low(unit), ranges.high(unit)),
+        );
     }
     let ended = relaxation.solve(alloc, program, 1_000, 1_000_000_000_000.0)?;
     if ended.end == End::Solved {

@@ -145,7 +145,7 @@ impl Relaxation {
         for (at, (place, value)) in self.basics.iter().zip(&self.values).enumerate() {
             let column = program.column(*place);
             add(&mut work.sums, column.unit as usize, *value);
-            let violation = self.violation(&column, *value);
+            let violation = self.violation(*place, *value);
             if violation > 0.0 {
                 let square = self.inverse.square(at) + NOTHING;
                 leaving.offer(Place::Basic(at, *value > 0.0), violation, square);
@@ -164,8 +164,7 @@ impl Relaxation {
         for unit in 0..program.units() {
             let sum = value_at(&work.sums, unit as usize);
             if value_at(&work.counts, unit as usize) > 0.0 {
-                let key = program.column(self.key_place(unit));
-                let violation = self.violation(&key, 1.0 - sum);
+                let violation = self.violation(self.key_place(unit), 1.0 - sum);
                 if violation > 0.0 {
                     let row = self.unit_row(alloc, program, unit)?;
                     leaving.offer(Place::Key(unit), violation, product(&row, &row) + NOTHING);
@@ -176,10 +175,10 @@ impl Relaxation {
     }
 
     // How far an alternative with this value passes its bounds.
-    fn violation(&self, column: &Column, value: f64) -> f64 {
+    fn violation(&self, place: u32, value: f64) -> f64 {
         if value < -PASSED {
             -value
-        } else if value > PASSED && !self.is_allowed(column) {
+        } else if value > PASSED && self.is_shut(place) {
             value
         } else {
             0.0

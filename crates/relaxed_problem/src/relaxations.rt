@@ -1,4 +1,4 @@
-//! The state of a relaxation: its basis, prices and reduced costs, and the ranges of its units.
+//! The state of a relaxation: its basis, prices and reduced costs, and the alternatives that it may take.
 
 use crate::inverses::Inverse;
 use crate::programs::{Column, Program};
@@ -26,8 +26,8 @@ pub struct Share {
 /// A linear relaxation in the making: a basis, from which `solve` goes on.
 #[derive(Drop)]
 pub struct Relaxation {
-    // The lowest and the highest alternative that each unit may take.
-    pub(crate) spans: Vec<(u32, u32)>,
+    // Whether an alternative may not be taken.
+    shut: Vec<bool>,
     // The place of each unit's key alternative.
     pub(crate) keys: Vec<u32>,
     // The places of the basic alternatives.
@@ -58,7 +58,7 @@ impl Relaxation {
         let classes = program.limits().len();
         let columns = program.columns().len();
         let mut relaxation = Relaxation {
-            spans: Vec::new(alloc),
+            shut: vec![in alloc; false; columns]?,
             keys: Vec::new(alloc),
             basics: Vec::new(alloc),
             priced: Vec::new(alloc),
@@ -83,7 +83,6 @@ impl Relaxation {
         let first = program.first_column(unit);
         let columns = program.unit_columns(unit);
         let (place, least) = cheapest(columns, first).unwrap_or((u32::MAX, 0.0));
-        self.spans.push((0, u32::MAX))?;
         self.keys.push(place)?;
         self.value += least;
         program.add_uses(&program.column(place), 1.0, &mut self.loads);
@@ -97,7 +96,7 @@ impl Relaxation {
     /// A copy, from which both can go on.
     pub fn copy(&self, alloc: Global) -> Result<Relaxation, Memory> {
         Ok(Relaxation {
-            spans: Vec::from_slice(alloc, &self.spans)?,
+            shut: Vec::from_slice(alloc, &self.shut)?,
             keys: Vec::from_slice(alloc, &self.keys)?,
             basics: Vec::from_slice(alloc, &self.basics)?,
             priced: Vec::from_slice(alloc, &self.priced)?,
@@ -115,7 +114,7 @@ impl Relaxation {
 
     /// Becomes a copy of another one.
     pub fn copy_from(&mut self, alloc: Global, other: &Relaxation) -> Result<(), Memory> {
-        refill(&mut self.spans, &other.spans)?;
+        refill(&mut self.shut, &other.shut)?;
         refill(&mut self.keys, &other.keys)?;
         refill(&mut self.basics, &other.basics)?;
         refill(&mut self.priced, &other.priced)?;
@@ -131,11 +130,9 @@ impl Relaxation {
         Ok(())
     }
 
-    /// Lets a unit take only alternatives from a lowest to a highest one, by their numbers in the unit.
-    pub fn restrict(&mut self, unit: u32, low: u32, high: u32) {
-        if let Some(span) = self.spans.get_mut(unit as usize) {
-            *span = (low, high);
-        }
+    /// Lets an alternative be taken no more, by its place among the program's columns.
+    pub fn shut(&mut self, place: u32) {
+        put_flag(&mut self.shut, place as usize, true);
     }
 
     /// The value with changed costs: where the relaxation is not solved yet, at most the solution's. A cost is changed by
@@ -161,6 +158,11 @@ impl Relaxation {
     /// The reduced costs of the program's columns, in their order, with changed costs.
     pub fn reduced_costs(&self) -> &[f64] {
         &self.reduced
+    }
+
+    /// Whether a class may have a price.
+    pub fn is_priced(&self, class: u32) -> bool {
+        number_at(&self.places, class as usize) != u32::MAX
     }
 
     /// The alternative that a unit takes where `shares` does not name it.
@@ -202,11 +204,11 @@ impl Relaxation {
         number_at(&self.keys, unit as usize)
     }
 
-    // Whether an alternative is in its unit's range.
-    pub(crate) fn is_allowed(&self, column: &Column) -> bool {
-        match self.spans.get(column.unit as usize) {
-            Some((low, high)) => *low <= column.number && column.number <= *high,
-            None => false,
+    // Whether an alternative may not be taken. What is none may not.
+    pub(crate) fn is_shut(&self, place: u32) -> bool {
+        match self.shut.get(place as usize) {
+            Some(flag) => *flag,
+            None => true,
         }
     }
 
@@ -270,10 +272,10 @@ impl Relaxation {
     fn best_allowed(&self, program: &Program<'_>, unit: u32) -> Option<(u32, f64)> {
         let first = program.first_column(unit);
         let mut best: Option<(u32, f64)> = None;
-        for (number, column) in program.unit_columns(unit).iter().enumerate() {
+        for number in 0..program.unit_columns(unit).len() {
             let at = place_after(first, number);
             let cost = value_at(&self.reduced, at as usize);
-            if is_less(cost, best) && self.is_allowed(column) {
+            if is_less(cost, best) && !self.is_shut(at) {
                 best = Some((at, cost));
             }
         }
@@ -299,7 +301,7 @@ impl Relaxation {
     pub(crate) fn is_out(&self, column: &Column, place: u32) -> bool {
         is_set(&self.is_basic, place as usize)
             || self.key_place(column.unit) == place
-            || !self.is_allowed(column)
+            || self.is_shut(place)
     }
 }
 

@@ -112,7 +112,7 @@ impl Relaxation {
         }
     }
 
-    // Replaces keys that are out of their ranges. Answers whether each unit has an alternative.
+    // Replaces keys that may not be taken. Answers whether each unit has an alternative.
     fn mend_keys(
         &mut self,
         alloc: Global,
@@ -120,8 +120,7 @@ impl Relaxation {
         work: &Work,
     ) -> Result<bool, Memory> {
         for unit in 0..program.units() {
-            let key = program.column(self.key_place(unit));
-            if !self.is_allowed(&key) {
+            if self.is_shut(self.key_place(unit)) {
                 if value_at(&work.counts, unit as usize) > 0.0 {
                     let place = self.allowed_basic(program, unit);
                     self.switch_key(alloc, program, place)?;
@@ -138,7 +137,7 @@ impl Relaxation {
         let mut found = self.basics.len();
         for (at, place) in self.basics.iter().enumerate() {
             let column = program.column(*place);
-            if column.unit == unit && (found == self.basics.len() || self.is_allowed(&column)) {
+            if column.unit == unit && (found == self.basics.len() || !self.is_shut(*place)) {
                 found = at;
             }
         }

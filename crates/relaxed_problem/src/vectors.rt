@@ -5,7 +5,7 @@ ghost use Rattle.choice_problem.specs.Bounds.{IsVector};
 
 use crate::programs::{Barred, Program};
 use crate::relaxations::Relaxation;
-use crate::slots::value_at;
+use crate::slots::{place_after, value_at};
 use choice_problem::{HIGHEST_PRICE, PRICED_SCALE, Price, Problem, Vector};
 use slot_text::Memory;
 use std::alloc::Global;
@@ -24,8 +24,8 @@ struct Rounded {
 
 impl Relaxation {
     /// The prices of the basis at the costs themselves, times 1024, rounded, as a vector of the problem: the one that the
-    /// program was made from. Where an excluded alternative that a range allows would be cheaper at these prices than all
-    /// others of its unit, a resource of limit 0 that it uses gets a price of 2^32.
+    /// program was made from. Where an excluded alternative would be cheaper at these prices than all others of its
+    /// unit that may be taken, a resource of limit 0 that it uses gets a price of 2^32.
     pub fn vector(
         &self,
         alloc: Global,
@@ -100,22 +100,22 @@ impl Relaxation {
                 unit = barred.column.unit;
                 least = self.least_cost(program, rounded, unit);
             }
-            if self.is_allowed(&barred.column) {
-                rounded.raise(barred, least);
-            }
+            rounded.raise(barred, least);
         }
     }
 
     // The least priced cost of a unit's allowed alternatives, or 0.
     fn least_cost(&self, program: &Program<'_>, rounded: &Rounded, unit: u32) -> f64 {
         let mut least: Option<f64> = None;
-        for column in program.unit_columns(unit) {
+        let first = program.first_column(unit);
+        for (number, column) in program.unit_columns(unit).iter().enumerate() {
+            let place = place_after(first, number);
             let cost = rounded.cost(column.cost, column.one, column.two);
             let is_less = match least {
                 Some(other) => cost < other,
                 None => true,
             };
-            if is_less && self.is_allowed(column) {
+            if is_less && !self.is_shut(place) {
                 least = Some(cost);
             }
         }

@@ -1,0 +1,82 @@
+//! The alternatives that units may take in a search.
+
+use crate::rules::Rule;
+use choice_problem::Problem;
+use reduced_problem::Reduced;
+use slot_text::Memory;
+use std::alloc::Global;
+
+/// Of each alternative, unit after unit, whether it may be taken.
+#[derive(Drop)]
+pub(crate) struct Allowed {
+    // The place of each unit's first alternative, and past the last one.
+    firsts: Vec<usize>,
+    flags: Vec<bool>,
+}
+
+impl Allowed {
+    // All alternatives.
+    pub(crate) fn all(alloc: Global, problem: &Problem) -> Result<Allowed, Memory> {
+        let mut allowed = Allowed {
+            firsts: Vec::new(alloc),
+            flags: Vec::new(alloc),
+        };
+        for unit in 0..problem.units() {
+            allowed.firsts.push(allowed.flags.len())?;
+            for _ in 0..problem.alts(unit) {
+                allowed.flags.push(true)?;
+            }
+        }
+        allowed.firsts.push(allowed.flags.len())?;
+        Ok(allowed)
+    }
+
+    // A copy.
+    pub(crate) fn copy(&self, alloc: Global) -> Result<Allowed, Memory> {
+        Ok(Allowed {
+            firsts: Vec::from_slice(alloc, &self.firsts)?,
+            flags: Vec::from_slice(alloc, &self.flags)?,
+        })
+    }
+
+    // The flags of a unit's alternatives.
+    pub(crate) fn of(&self, unit: u32) -> &[bool] {
+        let place = unit as usize;
+        match (
+            self.firsts.get(place),
+            self.firsts.get(place.saturating_add(1)),
+        ) {
+            (Some(first), Some(end)) if first <= end && *end <= self.flags.len() => {
+                &self.flags[*first..*end]
+            }
+            _ => &[],
+        }
+    }
+
+    // Lets a unit take the alternatives of one part of a split alone.
+    pub(crate) fn keep(
+        &mut self,
+        problem: &Problem,
+        reduced: &Reduced,
+        unit: u32,
+        rule: Rule,
+        is_high: bool,
+    ) {
+        let Some(first) = self.firsts.get(unit as usize) else {
+            return;
+        };
+        let first = *first;
+        for number in 0..count(self.of(unit)) {
+            if rule.is_high(problem, reduced, unit, number) != is_high {
+                if let Some(flag) = self.flags.get_mut(first.saturating_add(number as usize)) {
+                    *flag = false;
+                }
+            }
+        }
+    }
+}
+
+// How many flags there are.
+fn count(flags: &[bool]) -> u32 {
+    u32::try_from(flags.len()).unwrap_or(u32::MAX)
+}

@@ -1,0 +1,237 @@
+//! The tree of ranges that a grown tree stands for.
+
+use crate::entries::{Entry, has_open};
+use crate::sides::Sides;
+use crate::spans::Spans;
+use crate::states::{State, Task};
+use choice_problem::Node;
+use slot_text::Memory;
+use std::alloc::Global;
+
+// A part of the tree that is to be made: an entry of the grown tree, the ranges, and their bounds at the vectors.
+#[derive(Drop)]
+struct Piece {
+    entry: u32,
+    spans: Spans,
+    values: Vec<i64>,
+}
+
+/// The nodes, in preorder, of a tree of ranges whose leaves the vectors close, at most so many, and the vectors that the
+/// leaves name, as bits; none where an entry is open or the nodes are too few. A split by uses becomes as many splits of
+/// ranges as the alternatives of its two parts take turns there, and what follows it stands in each of these ranges.
+pub(crate) fn nodes_of(
+    alloc: Global,
+    task: &Task<'_>,
+    state: &State,
+    most: u32,
+) -> Result<Option<(Vec<Node>, u128)>, Memory> {
+    if has_open(&state.entries) {
+        return Ok(None);
+    }
+    let mut used = 0;
+    let mut nodes = Vec::new(alloc);
+    let mut pieces = Vec::new(alloc);
+    pieces.push(whole(alloc, task, state)?)?;
+    let closers = closers_of(alloc, state)?;
+    for _ in 0..most {
+        let Some(piece) = pieces.pop() else {
+            break;
+        };
+        match make(alloc, task, state, &closers, piece, used, &mut pieces)? {
+            Some(node) => {
+                used |= named_by(node);
+                nodes.push(node)?;
+            }
+            None => return Ok(None),
+        }
+    }
+    Ok(if pieces.is_empty() {
+        Some((nodes, used))
+    } else {
+        None
+    })
+}
+
+// The first entry on all alternatives.
+fn whole(alloc: Global, task: &Task<'_>, state: &State) -> Result<Piece, Memory> {
+    let spans = Spans::whole(alloc, task.problem)?;
+    let mut values = Vec::with_capacity(alloc, state.pricings.len())?;
+    for pricing in &state.pricings {
+        values.push(pricing.range_value(task.problem, task.reduced, &spans))?;
+    }
+    Ok(Piece {
+        entry: 0,
+        spans,
+        values,
+    })
+}
+
+// The vector that a leaf names, as a bit.
+fn named_by(node: Node) -> u128 {
+    match node {
+        Node::Leaf { vector, .. } => bit_of(vector),
+        _ => 0,
+    }
+}
+
+// The node of a piece, if there is one: a leaf, by a vector among the used ones where one of them closes it; or a split,
+// whose parts become pieces.
+fn make(
+    alloc: Global,
+    task: &Task<'_>,
+    state: &State,
+    closers: &[u128],
+    mut piece: Piece,
+    used: u128,
+    pieces: &mut Vec<Piece>,
+) -> Result<Option<Node>, Memory> {
+    if let Some(leaf) = piece.leaf(state, used) {
+        return Ok(Some(leaf));
+    }
+    let Some((unit, cut)) = piece.settle(alloc, task, state, closers)? else {
+        return Ok(None);
+    };
+    let (below, above) = halves(alloc, task, state, &piece, unit, cut)?;
+    pieces.push(above)?;
+    pieces.push(below)?;
+    Ok(Some(Node::Split {
+        unit,
+        cut,
+        seen: state.cost,
+    }))
+}
+
+// The two parts of a piece, where a unit's range is cut.
+fn halves(
+    alloc: Global,
+    task: &Task<'_>,
+    state: &State,
+    piece: &Piece,
+    unit: u32,
+    cut: u32,
+) -> Result<(Piece, Piece), Memory> {
+    let (low, high) = piece.spans.of(unit);
+    let mut below = piece.with_range(alloc, unit, (low, cut.saturating_sub(1)))?;
+    let mut above = piece.with_range(alloc, unit, (cut, high))?;
+    for (pricing, value) in state.pricings.iter().zip(&piece.values) {
+        let one = pricing.least_within(task.problem, task.reduced, unit, below.spans.of(unit));
+        let other = pricing.least_within(task.problem, task.reduced, unit, above.spans.of(unit));
+        let least = one.min(other);
+        below
+            .values
+            .push(value.saturating_add(one.saturating_sub(least)))?;
+        above
+            .values
+            .push(value.saturating_add(other.saturating_sub(least)))?;
+    }
+    Ok((below, above))
+}
+
+// For each entry the vectors that close entries below it, as bits.
+fn closers_of(alloc: Global, state: &State) -> Result<Vec<u128>, Memory> {
+    let mut closers = vec![in alloc; 0; state.entries.len()]?;
+    for back in 0..state.entries.len() {
+        let place = state.entries.len() - 1 - back;
+        let bits = match state.entries.get(place) {
+            Some(Entry::Closed(vector)) => bit_of(*vector),
+            Some(Entry::Split { low, high, .. }) => {
+                closers_at(&closers, *low) | closers_at(&closers, *high)
+            }
+            _ => 0,
+        };
+        if let Some(slot) = closers.get_mut(place) {
+            *slot = bits;
+        }
+    }
+    Ok(closers)
+}
+
+// The vectors that close entries below one.
+fn closers_at(closers: &[u128], entry: u32) -> u128 {
+    match closers.get(entry as usize) {
+        Some(bits) => *bits,
+        None => 0,
+    }
+}
+
+/// The bit of a vector.
+pub(crate) fn bit_of(vector: u32) -> u128 {
+    if vector < 128 { 1 << vector } else { 0 }
+}
+
+impl Piece {
+    // The leaf that closes the piece, if a vector does.
+    fn leaf(&self, state: &State, used: u128) -> Option<Node> {
+        let vector = match self.closing(state, used) {
+            Some(vector) => vector,
+            None => self.closing(state, u128::MAX)?,
+        };
+        let pricing = state.pricings.get(vector as usize)?;
+        Some(Node::Leaf {
+            vector,
+            scale: u64::from(pricing.scale),
+            seen: state.cost,
+        })
+    }
+
+    // The first of these vectors that closes the piece.
+    fn closing(&self, state: &State, vectors: u128) -> Option<u32> {
+        for (number, (pricing, value)) in (0..).zip(state.pricings.iter().zip(&self.values)) {
+            if vectors & bit_of(number) != 0 && pricing.closes(*value, state.cost) {
+                return Some(number);
+            }
+        }
+        None
+    }
+
+    // The piece with another range of a unit, and no bounds yet.
+    fn with_range(&self, alloc: Global, unit: u32, span: (u32, u32)) -> Result<Piece, Memory> {
+        let mut spans = self.spans.copy(alloc)?;
+        spans.set(unit, span);
+        Ok(Piece {
+            entry: self.entry,
+            spans,
+            values: Vec::with_capacity(alloc, self.values.len())?,
+        })
+    }
+
+    // Where the piece is split: its entry goes on past splits that leave its ranges whole.
+    fn settle(
+        &mut self,
+        alloc: Global,
+        task: &Task<'_>,
+        state: &State,
+        closers: &[u128],
+    ) -> Result<Option<(u32, u32)>, Memory> {
+        for _ in 0..state.entries.len() {
+            let Some(
+                Entry::Split {
+                    unit,
+                    rule,
+                    low,
+                    high,
+                },
+            ) = state.entries.get(self.entry as usize)
+            else {
+                return Ok(None);
+            };
+            let span = self.spans.of(*unit);
+            let mut sides = Sides::of(alloc, task, *unit, *rule, span)?;
+            let below = closers_at(closers, *low);
+            let above = closers_at(closers, *high);
+            for (number, (pricing, value)) in (0..).zip(state.pricings.iter().zip(&self.values)) {
+                let bit = bit_of(number);
+                if (below | above) & bit != 0 {
+                    let needs = (below & bit != 0, above & bit != 0);
+                    sides.test(task, pricing, *value, state.cost, needs);
+                }
+            }
+            let (cut, is_low) = sides.turn();
+            if let Some(cut) = cut {
+                return Ok(Some((*unit, cut)));
+            }
+            self.entry = if is_low { *low } else { *high };
+        }
+        Ok(None)
+    }
+}
