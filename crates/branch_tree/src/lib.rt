@@ -16,6 +16,7 @@ mod plain;
 mod ranks;
 mod rows;
 mod tallies;
+mod uses;
 mod visits;
 mod walks;
 

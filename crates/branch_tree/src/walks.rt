@@ -15,6 +15,7 @@ use crate::kept::{cheapest, count_least, first_cheapest, move_least, move_loads}
 use crate::least_uses::least_list;
 use crate::placed::{counts_at, limits_at};
 use crate::ranks::ranks_of;
+use crate::uses::Uses;
 use choice_problem::{Node, Problem, Ranges};
 use dual_bound::passable_resources;
 use price_table::{PriceTable, Totals};
@@ -24,10 +25,12 @@ use std::marker::Model;
 use window_counts::{Counts, add_choice};
 
 /// Ranges of a problem, with what a visit asks of them: each unit's first cheapest alternative, what these together
-/// cost, and the resources that can be passed, with what they use of each and its least load. Where a range changes, what
-/// changes with it is counted anew, and nothing else. Contracts see the problem and the ranges.
+/// cost, and the resources that can be passed, with what they use of each and its least load, and what each unit adds to
+/// these. Where a range changes, what changes with it is counted anew, and nothing else. Contracts see the problem and the
+/// ranges.
 ///
-/// Memory: 4 bytes a resource (8 in `of`), 12 bytes a unit, and 20 bytes a resource that can be passed.
+/// Memory: 4 bytes a resource (8 in `of`), 20 bytes a resource that can be passed, and for each unit 44 bytes and up to 8
+/// a use that the first alternative in its range has of those.
 #[derive(Drop)]
 pub struct Walk<'a> {
     problem: &'a Problem,
@@ -40,6 +43,7 @@ pub struct Walk<'a> {
     passable: Vec<u32>,
     ranks: Vec<u32>,
     limits: Vec<u32>,
+    lists: Vec<Uses>,
 }
 
 impl<'a> Model for Walk<'a> {
@@ -49,7 +53,9 @@ impl<'a> Model for Walk<'a> {
 
     ghost view = { λ w. record { problem = w.problem.now; ranges = w.ranges } };
 
-    ghost invariant = { λ w. IsKeptWith w.problem.now w.ranges w.cheapest.items w.cost w.loads.items w.least.items w.zeros.items w.passable.items w.ranks.items w.limits.items };
+    ghost invariant = { λ w. IsKeptWith w.problem.now w.ranges w.cheapest.items w.cost
+        w.loads.items w.least.items w.zeros.items w.passable.items w.ranks.items w.limits.items
+        w.lists.items };
 }
 
 impl<'a> Walk<'a> {
@@ -83,7 +89,7 @@ impl<'a> Walk<'a> {
         let cheapest = cheapest(alloc, problem, &ranges)?;
         let cost = add_choice(problem, &cheapest, &mut counts);
         let loads = counts_at(alloc, &counts, &passable)?;
-        count_least(
+        let lists = count_least(
             alloc, problem, &ranges, &passable, &ranks, &mut least, &mut zeros,
         )?;
         Ok(Walk {
@@ -97,6 +103,7 @@ impl<'a> Walk<'a> {
             passable,
             ranks,
             limits,
+            lists,
         })
     }
 
@@ -238,8 +245,8 @@ impl<'a> Walk<'a> {
     }
 
     /// Sets a unit's range, which is not empty and of its alternatives. `problem` is the one of `of`. After want of memory
-    /// the walk is as before. The steps of `of` for the unit at its old and at its new range, and for the two alternatives
-    /// that are cheapest in them.
+    /// the walk is as before. The steps of `of` for the unit at its new range, and for the alternatives that are
+    /// cheapest in its old and in its new range.
     pub fn narrow(
         &mut self,
         alloc: Global,
@@ -256,17 +263,6 @@ impl<'a> Walk<'a> {
         ensures ok { OnOk result (self.new.ranges ≡ slice_set self.old.ranges unit (low, high)) }
         ensures err { OnErr result (self.new ≡ self.old) }
     {
-        let (old_low, old_high) = (self.ranges.low(unit), self.ranges.high(unit));
-        let was = least_list(
-            alloc,
-            problem,
-            unit,
-            old_low,
-            old_high,
-            &self.passable,
-            &self.ranks,
-            &mut self.zeros,
-        )?;
         let now = least_list(
             alloc,
             problem,
@@ -289,7 +285,9 @@ impl<'a> Walk<'a> {
             &self.ranks,
             &mut self.loads,
         )?;
-        move_least(&mut self.least, &was, &now);
+        let was = self.lists[unit as usize].places();
+        move_least(&mut self.least, was, &now);
+        self.lists[unit as usize] = Uses::of(now);
         self.cost = self.cost - problem.alt_cost(unit, old_alt) + problem.alt_cost(unit, alt);
         self.cheapest[unit as usize] = alt;
         self.ranges.set(unit, low, high);

@@ -17,6 +17,7 @@ invariant_of-result c =
     rw (least_back, zeros_back) (record {
       listed = c.in_ok-passable.ensures;
       limits_count = rw c.deref-2.ensures.value at c.in_ok-limits.ensures.count;
+      lists_are = rw c.deref-5.ensures.value at c.in_ok-lists.ensures.lists;
       limited = rw c.deref-2.ensures.value at c.in_ok-limits.ensures.each;
       ranked = rw (c.deref.ensures.value, c.resources-resources.ensures.count) at c.in_ok-ranks.ensures;
       kept = record {
@@ -29,8 +30,8 @@ invariant_of-result c =
         loads_count = rw c.deref-4.ensures.value at c.in_ok-loads.ensures.count;
         loads_are = λ i l. omega (arith, gathered i l, loads (slice_index c.in_ok-passable.passable.items i) (c.in_ok-passable.ensures.there i l));
         least_count = counted;
-        least_are = rw c.deref-5.ensures.value at c.in_ok-count_least.ensures.least;
-        zeros_count = rw c.deref-5.ensures.value at c.in_ok-count_least.ensures.zeros_count;
-        zeros_are = c.in_ok-count_least.ensures.zeros;
+        least_are = rw c.deref-5.ensures.value at c.in_ok-lists.ensures.least;
+        zeros_count = rw c.deref-5.ensures.value at c.in_ok-lists.ensures.zeros_count;
+        zeros_are = c.in_ok-lists.ensures.zeros;
       };
     })
