@@ -69,6 +69,17 @@ pub record IsKeptWith (p : ProblemView) (ranges : List (ℕ × ℕ)) (alts : Lis
 abbrev pub AreWithinPlaces : List ℕ → List ℕ → ℕ → Type 0
 AreWithinPlaces counts limits n = (i : ℕ) → i < n → slice_index counts i ≤ slice_index limits i
 
+-- none of the counts from one place to another is above its limit
+abbrev pub AreWithinFrom : List ℕ → List ℕ → ℕ → ℕ → Type 0
+AreWithinFrom counts limits from to = (i : ℕ) → from ≤ i → i < to →
+    slice_index counts i ≤ slice_index limits i
+
+-- the first place whose count is above its limit
+pub record IsFirstPlaceAbove (counts limits : List ℕ) (place : ℕ) : Type 0 where
+  pub there : place < length counts
+  pub above : slice_index limits place < slice_index counts place
+  pub before : AreWithinPlaces counts limits place
+
 -- no count of the first n listed resources is above its limit
 abbrev pub AreWithinListed : ProblemView → (ℕ → ℕ) → List ℕ → ℕ → Type 0
 AreWithinListed p counts list n = (i : ℕ) → i < n →

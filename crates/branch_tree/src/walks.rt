@@ -15,6 +15,7 @@ use crate::kept::{cheapest, count_least, first_cheapest, move_least, move_loads}
 use crate::least_uses::least_list;
 use crate::placed::{counts_at, limits_at};
 use crate::ranks::ranks_of;
+use crate::scans::first_above;
 use crate::uses::Uses;
 use choice_problem::{Node, Problem, Ranges};
 use dual_bound::passable_resources;
@@ -315,12 +316,8 @@ fn first_over(
 {
     let _problem = problem;
     let _ranges = ranges;
-    for place in 0..passable.len() {
-        if least[place] > limits[place] {
-            return Some(passable[place]);
-        }
-    }
-    None
+    let place = first_above(least, limits)?;
+    Some(passable[place])
 }
 
 // Whether vector 0 closes ranges at scale 1: whether their first cheapest alternatives together cost at least what was seen.
@@ -364,10 +361,6 @@ fn first_passed(
 {
     let _problem = problem;
     let _alts = alts;
-    for place in 0..passable.len() {
-        if loads[place] > limits[place] {
-            return Some(passable[place]);
-        }
-    }
-    None
+    let place = first_above(loads, limits)?;
+    Some(passable[place])
 }
