@@ -15,8 +15,8 @@ ghost use Rattle.branch_tree.specs.Walks.{AreLeast, AreLists};
 ghost use Rattle.window_counts.specs.Placed.{AreLoads};
 
 use crate::least_uses::least_list;
-use crate::listing::uses_list;
-use crate::tallies::{add_list, take_list};
+use crate::runs::alt_runs;
+use crate::tallies::{add_list, add_runs, take_list, take_runs};
 use crate::uses::Uses;
 use choice_problem::{Problem, Ranges};
 use slot_text::Memory;
@@ -104,9 +104,10 @@ pub(crate) fn move_loads(
     if was == now {
         return Ok(());
     }
-    let from = uses_list(alloc, problem, unit, was, listed, ranks)?;
-    let to = uses_list(alloc, problem, unit, now, listed, ranks)?;
-    move_least(loads, &from, &to);
+    let from = alt_runs(alloc, problem, unit, was, listed, ranks)?;
+    let to = alt_runs(alloc, problem, unit, now, listed, ranks)?;
+    take_runs(loads, &from);
+    add_runs(loads, &to);
     Ok(())
 }
 

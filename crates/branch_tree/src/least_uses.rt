@@ -7,9 +7,9 @@ ghost use Rattle.choice_problem.specs.Problems.{unit_count, alt_count, alt_uses,
 ghost use Rattle.branch_tree.specs.Lists.{times_in, AreWithin, AreRanksOf};
 ghost use Rattle.window_counts.specs.Placed.{AreZero};
 
-use crate::listing::{second_list, uses_list};
-use crate::rows::{Row, move_twos, row_before, row_list};
-use crate::tallies::lower;
+use crate::listing::places_of;
+use crate::rows::{Row, lower_row, move_twos, row_before};
+use crate::runs::{alt_runs, second_runs};
 use choice_problem::Problem;
 use slot_text::Memory;
 use std::alloc::Global;
@@ -41,11 +41,13 @@ pub(crate) fn least_list(
     ensures same { zeros.new ≡ zeros.old }
     ensures few { (r : ℕ) → least_within low high (λ a. alt_uses problem.now unit a r) ≤ MOST_USES }
 {
-    let mut list = uses_list(alloc, problem, unit, low, listed, ranks)?;
+    let first = alt_runs(alloc, problem, unit, low, listed, ranks)?;
+    let mut list = places_of(alloc, &first, listed)?;
     if low == high {
         return Ok(list);
     }
-    let mut twos = second_list(alloc, problem, unit, high, listed, ranks)?;
+    let last = second_runs(alloc, problem, unit, high, listed, ranks)?;
+    let mut twos = places_of(alloc, &last, listed)?;
     let mut row = Row {
         first: high,
         last: high,
@@ -59,8 +61,9 @@ pub(crate) fn least_list(
         move_twos(
             alloc, problem, unit, row, next, listed, ranks, &mut twos, zeros,
         )?;
-        let uses = row_list(alloc, problem, unit, next, listed, ranks, &twos)?;
-        lower(&mut list, &uses, zeros);
+        lower_row(
+            alloc, problem, unit, next, listed, ranks, &twos, &mut list, zeros,
+        )?;
         done = next.first;
         row = next;
     }

@@ -15,6 +15,7 @@ mod placed;
 mod plain;
 mod ranks;
 mod rows;
+mod runs;
 mod scans;
 mod tallies;
 mod uses;

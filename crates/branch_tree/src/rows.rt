@@ -1,14 +1,14 @@
 //! Rows of alternatives: those one after the other that name the same first part.
 
-ghost use Rattle.std.specs.Prelude.{◌≡◌, ℕ, ◌-◌, ◌<◌, ◌≤◌, length, slice_index, IfOk, OnOk, IsTrue};
-ghost use Rattle.choice_problem.specs.declared.problems.TheConstants.{MOST_USES};
+ghost use Rattle.std.specs.Prelude.{◌≡◌, ℕ, ◌-◌, ◌<◌, ◌≤◌, min, length, slice_index, IfOk, OnOk, IsTrue};
 ghost use Rattle.finite_sums.specs.Sums.{least_within};
 ghost use Rattle.choice_problem.specs.Problems.{unit_count, alt_count, alt_uses, resource_count};
 ghost use Rattle.branch_tree.specs.Lists.{times_in, AreWithin, AreRanksOf};
 ghost use Rattle.window_counts.specs.Placed.{AreZero};
 ghost use Rattle.branch_tree.specs.Rows.{IsRow, EndAlike, AreLeastTwos};
 
-use crate::listing::{first_list, second_list};
+use crate::listing::places_of;
+use crate::runs::{first_runs, second_runs};
 use crate::tallies::lower;
 use choice_problem::Problem;
 use slot_text::Memory;
@@ -114,7 +114,8 @@ fn begin_twos(
     if known <= row.last - row.first && end_alike(problem, unit, was, row.last) {
         return Ok(row.last - known);
     }
-    *twos = second_list(alloc, problem, unit, row.last, listed, ranks)?;
+    let runs = second_runs(alloc, problem, unit, row.last, listed, ranks)?;
+    *twos = places_of(alloc, &runs, listed)?;
     Ok(row.last)
 }
 
@@ -149,8 +150,8 @@ fn lower_twos(
         if twos.is_empty() {
             return Ok(());
         }
-        let other = second_list(alloc, problem, unit, alt, listed, ranks)?;
-        lower(twos, &other, zeros);
+        let other = second_runs(alloc, problem, unit, alt, listed, ranks)?;
+        lower(twos, &other, &[], zeros);
     }
     Ok(())
 }
@@ -176,8 +177,9 @@ fn end_alike(problem: &Problem, unit: u32, row: Row, end: u32) -> bool
     true
 }
 
-// The listed resources that each alternative of a row uses, each as often as each of them does.
-pub(crate) fn row_list(
+// Lowers a list to what each alternative of a row uses, by what their first part uses and the least uses of their second
+// parts.
+pub(crate) fn lower_row(
     alloc: Global,
     problem: &Problem,
     unit: u32,
@@ -185,7 +187,9 @@ pub(crate) fn row_list(
     listed: &[u32],
     ranks: &[u32],
     twos: &[u32],
-) -> Result<Vec<u32>, Memory>
+    list: &mut Vec<u32>,
+    zeros: &mut [u32],
+) -> Result<(), Memory>
     requires unit { unit < unit_count problem.now }
     requires ordered { row.first ≤ row.last }
     requires there { row.last < alt_count problem.now unit }
@@ -193,13 +197,16 @@ pub(crate) fn row_list(
     requires ranks { AreRanksOf (resource_count problem.now) listed.now ranks.now }
     requires twos { AreLeastTwos problem.now listed.now unit row.first row.last twos.now }
     requires within { AreWithin (length listed.now) twos.now }
-    ensures least { IfOk result (λ list. (i : ℕ) → i < length listed.now → times_in list.items i
-        ≡ least_within row.first row.last
-        (λ a. alt_uses problem.now unit a (slice_index listed.now i))) }
-    ensures within { IfOk result (λ list. AreWithin (length listed.now) list.items) }
-    ensures few { (r : ℕ) → alt_uses problem.now unit row.last r ≤ MOST_USES }
+    requires list { AreWithin (length listed.now) list.old.items }
+    requires count { length zeros.old ≡ length listed.now }
+    requires zeros { AreZero zeros.old }
+    ensures lowered { OnOk result ((i : ℕ) → i < length listed.now → times_in list.new.items i
+        ≡ min (times_in list.old.items i) (least_within row.first row.last
+        (λ a. alt_uses problem.now unit a (slice_index listed.now i)))) }
+    ensures within { OnOk result (AreWithin (length listed.now) list.new.items) }
+    ensures same { zeros.new ≡ zeros.old }
 {
-    let mut list = first_list(alloc, problem, unit, row.last, listed, ranks)?;
-    list.extend_from_slice(twos)?;
-    Ok(list)
+    let ones = first_runs(alloc, problem, unit, row.last, listed, ranks)?;
+    lower(list, &ones, twos, zeros);
+    Ok(())
 }

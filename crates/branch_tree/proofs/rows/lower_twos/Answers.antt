@@ -48,12 +48,12 @@ pub lower-requires-clause-within : goal.lower-requires-clause-within
 lower-requires-clause-within c = λ r h. omega (arith, c.loop-alt.invariant.within r h)
 
 pub lower-requires-clause-other_within : goal.lower-requires-clause-other_within
-lower-requires-clause-other_within c = rw c.deref.ensures.value (λ r h. omega (arith, c.in_ok-other.ensures.within r h))
+lower-requires-clause-other_within c = λ r h. absurd (omega (arith, h))
 
 pub lower-requires-clause-few : goal.lower-requires-clause-few
 lower-requires-clause-few c = rw c.deref.ensures.value (λ i l.
     let m : i < length c.args.listed.now = omega arith in
-    omega (arith, c.in_ok-other.ensures.listed i m, c.in_ok-other.ensures.few (slice_index c.args.listed.now i)))
+    omega (arith, c.in_ok-other.ensures.uses i m, c.in_ok-other.ensures.few (slice_index c.args.listed.now i)))
 
 pub lower-requires-clause-zeros : goal.lower-requires-clause-zeros
 lower-requires-clause-zeros c = rw c.loop-alt.invariant.same c.requires.zeros
@@ -68,15 +68,15 @@ loop-alt-preserved c =
     record {
       above = λ k n. omega (
         arith,
-        lowered k,
+        lowered k (omega arith),
         i.above k n,
-        c.in_ok-other.ensures.listed k n,
+        c.in_ok-other.ensures.uses k n,
         least_within-le c.args.row.first c.args.row.last alt (λ a. two_uses p u a (slice_index c.args.listed.now k)) (omega arith) (omega arith),
       );
-      known = λ k n. omega (arith, lowered k, i.known k n);
+      known = λ k n. omega (arith, lowered k (omega arith), i.known k n);
       tried = λ a k n l m. elim (cases_lt a alt) [
-        | inl before ↦ omega (arith, lowered k, i.tried a k n l before)
-        | inr same ↦ let e : a ≡ alt = omega (arith, same, m) in rw e (omega (arith, lowered k, c.in_ok-other.ensures.listed k n))
+        | inl before ↦ omega (arith, lowered k (omega arith), i.tried a k n l before)
+        | inr same ↦ let e : a ≡ alt = omega (arith, same, m) in rw e (omega (arith, lowered k (omega arith), c.in_ok-other.ensures.uses k n))
       ];
       within = λ r h. omega (arith, c.lower.ensures.within r h);
       same = c.lower.ensures.same ∙ i.same;
