@@ -1,12 +1,11 @@
 -- Runs of places and how often they hold each.
 use Rattle.std.proofs.Common.{◌≡◌, ℕ, ◌+◌, ◌<◌, ◌≤◌, arith, List, [], ◌∷◌, ◌++◌, length, take}
-use Rattle.std.specs.Prelude.{slice_index_or, All}
+use Rattle.std.specs.Prelude.{slice_index_or}
 use Rattle.std.proofs.lemmas.Grind.{common_steps}
 use Rattle.std.proofs.lemmas.List.Sums.{sum_by_push, sum_by_more, sum_by_more_le}
-use Rattle.std.proofs.lemmas.List.Elements.{All-push}
 use Rattle.choice_problem.specs.Loops.{run_uses}
 use Rattle.branch_tree.specs.declared.runs.Run.{Run}
-use Rattle.branch_tree.specs.Runs.{times_held, IsRunBelow}
+use Rattle.branch_tree.specs.Runs.{times_held}
 
 abbrev none : Run
 none = record { from = 0; to = 0 }

@@ -7,7 +7,6 @@ ghost use Rattle.branch_tree.specs.Lists.{times_in, AreWithin, AreRanksOf};
 ghost use Rattle.window_counts.specs.Placed.{AreZero};
 ghost use Rattle.branch_tree.specs.Rows.{IsRow, EndAlike, AreLeastTwos};
 
-use crate::listing::places_of;
 use crate::runs::{first_runs, second_runs};
 use crate::tallies::lower;
 use choice_problem::Problem;
@@ -53,7 +52,7 @@ fn is_same(one: Option<u32>, other: Option<u32>) -> bool
 }
 
 // Moves the least uses of second parts from a row to another one. Where the second row ends as the first one does, only
-// its other parts are listed.
+// its other parts are listed. They are wanted only as far as a list has them.
 pub(crate) fn move_twos(
     alloc: Global,
     problem: &Problem,
@@ -62,6 +61,7 @@ pub(crate) fn move_twos(
     row: Row,
     listed: &[u32],
     ranks: &[u32],
+    list: &[u32],
     twos: &mut Vec<u32>,
     zeros: &mut [u32],
 ) -> Result<(), Memory>
@@ -71,17 +71,23 @@ pub(crate) fn move_twos(
     requires row { row.first ≤ row.last }
     requires row_there { row.last < alt_count problem.now unit }
     requires ranks { AreRanksOf (resource_count problem.now) listed.now ranks.now }
-    requires twos { AreLeastTwos problem.now listed.now unit was.first was.last twos.old.items }
+    requires twos { AreLeastTwos problem.now listed.now unit
+        was.first was.last list.now twos.old.items }
     requires within { AreWithin (length listed.now) twos.old.items }
+    requires list { AreWithin (length listed.now) list.now }
     requires count { length zeros.old ≡ length listed.now }
     requires zeros { AreZero zeros.old }
     ensures twos { OnOk result (AreLeastTwos problem.now listed.now unit
-        row.first row.last twos.new.items) }
+        row.first row.last list.now twos.new.items) }
     ensures within { OnOk result (AreWithin (length listed.now) twos.new.items) }
     ensures same { zeros.new ≡ zeros.old }
 {
-    let from = begin_twos(alloc, problem, unit, was, row, listed, ranks, twos)?;
-    lower_twos(alloc, problem, unit, row, from, listed, ranks, twos, zeros)
+    let from = begin_twos(
+        alloc, problem, unit, was, row, listed, ranks, list, twos, zeros,
+    )?;
+    lower_twos(
+        alloc, problem, unit, row, from, listed, ranks, list, twos, zeros,
+    )
 }
 
 // Moves the least uses of second parts from a row to the last alternatives of another one, and tells the first of these:
@@ -94,7 +100,9 @@ fn begin_twos(
     row: Row,
     listed: &[u32],
     ranks: &[u32],
+    list: &[u32],
     twos: &mut Vec<u32>,
+    zeros: &mut [u32],
 ) -> Result<u32, Memory>
     requires unit { unit < unit_count problem.now }
     requires was { was.first ≤ was.last }
@@ -102,21 +110,53 @@ fn begin_twos(
     requires row { row.first ≤ row.last }
     requires row_there { row.last < alt_count problem.now unit }
     requires ranks { AreRanksOf (resource_count problem.now) listed.now ranks.now }
-    requires twos { AreLeastTwos problem.now listed.now unit was.first was.last twos.old.items }
+    requires twos { AreLeastTwos problem.now listed.now unit
+        was.first was.last list.now twos.old.items }
     requires within { AreWithin (length listed.now) twos.old.items }
+    requires list { AreWithin (length listed.now) list.now }
+    requires count { length zeros.old ≡ length listed.now }
+    requires zeros { AreZero zeros.old }
     ensures from { IfOk result (λ from. row.first ≤ from) }
     ensures to { IfOk result (λ from. from ≤ row.last) }
     ensures twos { IfOk result (λ from.
-        AreLeastTwos problem.now listed.now unit from row.last twos.new.items) }
+        AreLeastTwos problem.now listed.now unit from row.last list.now twos.new.items) }
     ensures within { OnOk result (AreWithin (length listed.now) twos.new.items) }
+    ensures same { zeros.new ≡ zeros.old }
 {
     let known = was.last - was.first;
     if known <= row.last - row.first && end_alike(problem, unit, was, row.last) {
         return Ok(row.last - known);
     }
-    let runs = second_runs(alloc, problem, unit, row.last, listed, ranks)?;
-    *twos = places_of(alloc, &runs, listed)?;
+    *twos = twos_of(alloc, problem, unit, row.last, listed, ranks, list, zeros)?;
     Ok(row.last)
+}
+
+// What the second part of an alternative uses, as far as a list has it.
+pub(crate) fn twos_of(
+    alloc: Global,
+    problem: &Problem,
+    unit: u32,
+    alt: u32,
+    listed: &[u32],
+    ranks: &[u32],
+    list: &[u32],
+    zeros: &mut [u32],
+) -> Result<Vec<u32>, Memory>
+    requires unit { unit < unit_count problem.now }
+    requires alt { alt < alt_count problem.now unit }
+    requires ranks { AreRanksOf (resource_count problem.now) listed.now ranks.now }
+    requires list { AreWithin (length listed.now) list.now }
+    requires count { length zeros.old ≡ length listed.now }
+    requires zeros { AreZero zeros.old }
+    ensures twos { IfOk result (λ twos.
+        AreLeastTwos problem.now listed.now unit alt alt list.now twos.items) }
+    ensures within { IfOk result (λ twos. AreWithin (length listed.now) twos.items) }
+    ensures same { zeros.new ≡ zeros.old }
+{
+    let runs = second_runs(alloc, problem, unit, alt, listed, ranks)?;
+    let mut twos = Vec::from_slice(alloc, list)?;
+    lower(&mut twos, &runs, &[], zeros);
+    Ok(twos)
 }
 
 // Lowers the least uses of the second parts of a row's alternatives from one on to those of the whole row. The first
@@ -129,6 +169,7 @@ fn lower_twos(
     from: u32,
     listed: &[u32],
     ranks: &[u32],
+    list: &[u32],
     twos: &mut Vec<u32>,
     zeros: &mut [u32],
 ) -> Result<(), Memory>
@@ -137,15 +178,17 @@ fn lower_twos(
     requires from { from ≤ row.last }
     requires row_there { row.last < alt_count problem.now unit }
     requires ranks { AreRanksOf (resource_count problem.now) listed.now ranks.now }
-    requires twos { AreLeastTwos problem.now listed.now unit from row.last twos.old.items }
+    requires twos { AreLeastTwos problem.now listed.now unit
+        from row.last list.now twos.old.items }
     requires within { AreWithin (length listed.now) twos.old.items }
     requires count { length zeros.old ≡ length listed.now }
     requires zeros { AreZero zeros.old }
     ensures twos { OnOk result (AreLeastTwos problem.now listed.now unit
-        row.first row.last twos.new.items) }
+        row.first row.last list.now twos.new.items) }
     ensures within { OnOk result (AreWithin (length listed.now) twos.new.items) }
     ensures same { zeros.new ≡ zeros.old }
 {
+    let _list = list;
     for alt in row.first..from {
         if twos.is_empty() {
             return Ok(());
@@ -195,7 +238,8 @@ pub(crate) fn lower_row(
     requires there { row.last < alt_count problem.now unit }
     requires row { IsRow problem.now unit row.first row.last }
     requires ranks { AreRanksOf (resource_count problem.now) listed.now ranks.now }
-    requires twos { AreLeastTwos problem.now listed.now unit row.first row.last twos.now }
+    requires twos { AreLeastTwos problem.now listed.now unit
+        row.first row.last list.old.items twos.now }
     requires within { AreWithin (length listed.now) twos.now }
     requires list { AreWithin (length listed.now) list.old.items }
     requires count { length zeros.old ≡ length listed.now }

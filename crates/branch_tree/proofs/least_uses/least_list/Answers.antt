@@ -1,12 +1,11 @@
-use Rattle.std.proofs.Common.{◌≡◌, ℕ, ◌<◌, ◌≤◌, ◌∙◌, arith, refl, inl, inr, Bool, true, length}
+use Rattle.std.proofs.Common.{◌≡◌, ℕ, ◌≤◌, ◌∙◌, arith, inl, inr, Bool, true, length}
 use Rattle.std.specs.Prelude.{vec_len, slice_index, ◌==◌}
 use Rattle.std.proofs.lemmas.Grind.{common_steps}
 use Rattle.std.proofs.lemmas.Bool.{cases_lt}
 use Rattle.finite_sums.specs.Sums.{least_within}
 use Rattle.choice_problem.specs.Problems.{ProblemView, alt_uses}
-use Rattle.finite_sums.proofs.SumLemmas.{least_within-le, least_within-ge, least_within-one}
+use Rattle.finite_sums.proofs.SumLemmas.{least_within-le, least_within-ge}
 use Rattle.branch_tree.specs.Lists.{times_in}
-use Rattle.branch_tree.specs.Rows.{two_uses}
 use Rattle.branch_tree.proofs.ListLemmas.{times-empty}
 use Rattle.branch_tree.proofs.RowLemmas.{least_within-part}
 use Rattle.branch_tree.proofs.least_uses.least_list.Goals as goal
@@ -19,9 +18,6 @@ returns-in_err-first-clause-few c = few_least c.args.problem.now c.args.unit c.a
 
 pub returns-in_err-list-clause-few : goal.returns-in_err-list-clause-few
 returns-in_err-list-clause-few c = few_least c.args.problem.now c.args.unit c.args.low c.args.high c.requires.ordered c.in_ok-first.ensures.few
-
-pub returns-in_err-last-clause-few : goal.returns-in_err-last-clause-few
-returns-in_err-last-clause-few c = few_least c.args.problem.now c.args.unit c.args.low c.args.high c.requires.ordered c.in_ok-first.ensures.few
 
 pub returns-in_err-twos-clause-few : goal.returns-in_err-twos-clause-few
 returns-in_err-twos-clause-few c = few_least c.args.problem.now c.args.unit c.args.low c.args.high c.requires.ordered c.in_ok-first.ensures.few
@@ -38,18 +34,23 @@ returns-then-is_empty-clause-few c = few_least c.args.problem.now c.args.unit c.
 pub returns-clause-few : goal.returns-clause-few
 returns-clause-few c = few_least c.args.problem.now c.args.unit c.args.low c.args.high c.requires.ordered c.in_ok-first.ensures.few
 
+pub twos_of-requires-clause-list : goal.twos_of-requires-clause-list
+twos_of-requires-clause-list c = rw c.deref-2.ensures.value c.in_ok-list.ensures.within
+
+pub move_twos-requires-clause-list : goal.move_twos-requires-clause-list
+move_twos-requires-clause-list c = rw c.deref-in-loop-done.ensures.value c.loop-done.invariant.within
+
 pub loop-done-init : goal.loop-done-init
 loop-done-init c =
     let p = c.args.problem.now in
     let u = c.args.unit in
     let list = rw c.deref.ensures.value at c.in_ok-list.ensures.places in
-    let twos = rw c.deref-2.ensures.value at c.in_ok-twos.ensures.places in
     record {
       from = omega arith;
       to = omega arith;
       ordered = omega arith;
       there = c.requires.there;
-      twos_are = λ i n. omega (arith, twos i, c.in_ok-last.ensures.uses i n, least_within-one c.args.high (λ a. two_uses p u a (slice_index c.args.listed.now i)));
+      twos_are = rw c.deref-2.ensures.value at c.in_ok-twos.ensures.twos;
       twos_within = c.in_ok-twos.ensures.within;
       above = λ i n. omega (
         arith,
@@ -60,7 +61,7 @@ loop-done-init c =
       first = λ i n. omega (arith, list i, c.in_ok-first.ensures.uses i n);
       tried = λ a i n l m. absurd (omega arith);
       within = c.in_ok-list.ensures.within;
-      same = refl;
+      same = c.in_ok-twos.ensures.same;
     }
 
 zero_is : (n : ℕ) (b : Bool) → b ≡ (n == 0) → b ≡ true → n ≡ 0
@@ -74,10 +75,10 @@ returns-then-is_empty-clause-least c = λ i n.
     omega (arith, times-empty list.items i nothing, c.loop-done.invariant.above i n)
 
 pub lower_row-requires-clause-twos : goal.lower_row-requires-clause-twos
-lower_row-requires-clause-twos c = rw c.deref-in-loop-done.ensures.value c.in_ok-move_twos.ensures.twos
+lower_row-requires-clause-twos c = rw c.deref-in-loop-done-2.ensures.value (rw c.deref-in-loop-done.ensures.value at c.in_ok-move_twos.ensures.twos)
 
 pub lower_row-requires-clause-within : goal.lower_row-requires-clause-within
-lower_row-requires-clause-within c = rw c.deref-in-loop-done.ensures.value c.in_ok-move_twos.ensures.within
+lower_row-requires-clause-within c = rw c.deref-in-loop-done-2.ensures.value c.in_ok-move_twos.ensures.within
 
 pub loop-done-preserved : goal.loop-done-preserved
 loop-done-preserved c =
@@ -86,12 +87,13 @@ loop-done-preserved c =
     let i = c.loop-done.invariant in
     let next = c.row_before-next.result in
     let lowered = c.in_ok-lower_row.ensures.lowered in
+    let twos = rw c.deref-in-loop-done.ensures.value at c.in_ok-move_twos.ensures.twos in
     record {
       from = c.row_before-next.ensures.from;
       to = omega (arith, i.to, c.row_before-next.ensures.some);
       ordered = omega (arith, c.row_before-next.ensures.some, c.row_before-next.ensures.last);
       there = omega (arith, c.row_before-next.ensures.last, i.to, c.requires.there, c.loop-done-test.true);
-      twos_are = c.in_ok-move_twos.ensures.twos;
+      twos_are = record { most = twos.most; enough = λ k n. omega (arith, twos.enough k n, lowered k n) };
       twos_within = c.in_ok-move_twos.ensures.within;
       above = λ k n. omega (
         arith,

@@ -16,7 +16,7 @@ lower-requires-clause-few c =
     omega (
       arith,
       c.in_ok-ones.ensures.uses i there,
-      c.requires.twos i there,
+      c.requires.twos.most i there,
       row-least p u row.first row.last r c.requires.ordered c.requires.row,
       least_within-le row.first row.last row.last (λ a. alt_uses p u a r) c.requires.ordered (omega arith),
       c.in_ok-ones.ensures.few r,
@@ -29,7 +29,8 @@ returns-clause-lowered c =
       arith,
       lowered i (omega arith),
       c.in_ok-ones.ensures.uses i l,
-      c.requires.twos i l,
+      c.requires.twos.most i l,
+      c.requires.twos.enough i l,
       row-least c.args.problem.now c.args.unit c.args.row.first c.args.row.last (slice_index c.args.listed.now i) c.requires.ordered c.requires.row,
     )
 
