@@ -31,7 +31,11 @@ impl<'a> Model for Task<'a> {
 
     ghost Value = { Setting };
 
-    ghost view = { λ t. record { problem = t.problem.now; greedy = t.greedy; vectors = vectors_of t.tables.items } };
+    ghost view = { λ t. record {
+      problem = t.problem.now;
+      greedy = t.greedy;
+      vectors = vectors_of t.tables.items;
+    } };
 
     ghost invariant = { λ t. AreTables t.problem.now t.greedy t.tables.items t.given t.prices };
 }
