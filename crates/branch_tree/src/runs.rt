@@ -14,6 +14,9 @@ use choice_problem::{Problem, Strip};
 use slot_text::Memory;
 use std::alloc::Global;
 
+// For how many runs there is room before more is made.
+const FIRST_RUNS: usize = 256;
+
 // The places from one to another.
 #[derive(Clone, Copy)]
 pub(crate) struct Run {
@@ -40,7 +43,7 @@ pub(crate) fn alt_runs(
     ensures alts { alt_count problem.now unit < 2 ^ 32 }
 {
     let chosen = problem.unit_alts(unit)[alt as usize];
-    let mut runs = Vec::new(alloc);
+    let mut runs = Vec::with_capacity(alloc, FIRST_RUNS)?;
     push_named(problem, unit, chosen.one, listed, ranks, &mut runs)?;
     push_named(problem, unit, chosen.two, listed, ranks, &mut runs)?;
     Ok(runs)
@@ -64,7 +67,7 @@ pub(crate) fn first_runs(
     ensures few { (r : ℕ) → alt_uses problem.now unit alt r ≤ MOST_USES }
 {
     let chosen = problem.unit_alts(unit)[alt as usize];
-    let mut runs = Vec::new(alloc);
+    let mut runs = Vec::with_capacity(alloc, FIRST_RUNS)?;
     push_named(problem, unit, chosen.one, listed, ranks, &mut runs)?;
     Ok(runs)
 }
@@ -87,7 +90,7 @@ pub(crate) fn second_runs(
     ensures few { (r : ℕ) → alt_uses problem.now unit alt r ≤ MOST_USES }
 {
     let chosen = problem.unit_alts(unit)[alt as usize];
-    let mut runs = Vec::new(alloc);
+    let mut runs = Vec::with_capacity(alloc, FIRST_RUNS)?;
     push_named(problem, unit, chosen.two, listed, ranks, &mut runs)?;
     Ok(runs)
 }
