@@ -62,12 +62,15 @@ impl<'a> Model for Walk<'a> {
 impl<'a> Walk<'a> {
     ghost use Rattle.std.specs.Prelude.{◌≡◌, ◌<◌, ◌≤◌, ℕ, List, [], ◌∷◌, All, length, slice_set, IfOk, IfSome, IfNone, OnOk, OnErr};
     ghost use Rattle.choice_problem.specs.declared.vectors.TheConstants.{MOST_FURTHER};
-    ghost use Rattle.choice_problem.specs.Problems.{unit_count, alt_count};
+    ghost use Rattle.choice_problem.specs.Problems.{unit_count, alt_count, resource_count};
     ghost use Rattle.choice_problem.specs.Bounds.{AreRanges};
     ghost use Rattle.choice_problem.specs.Renumbered.{NamesUpTo};
     ghost use Rattle.price_table.specs.Tables.{IsTableFor, vectors_of};
     ghost use Rattle.price_table.specs.Totals.{AreKeptFor};
     ghost use Rattle.choice_problem.specs.declared.vectors.Price.{Price};
+    ghost use Rattle.dual_bound.specs.Kept.{ListPassable};
+    ghost use Rattle.branch_tree.specs.Lists.{AreRanksOf};
+    ghost use Rattle.branch_tree.specs.Walks.{AreLimitsAt};
     ghost use Rattle.branch_tree.specs.Visits.{IsVisit, ClosesBy, NeedsPrices};
 
     /// The walk at these ranges. A unit takes a step an alternative in range, and, for each part that these name, some steps
@@ -84,7 +87,40 @@ impl<'a> Walk<'a> {
         let passable = passable_resources(alloc, problem)?;
         let ranks = ranks_of(alloc, &passable, resources)?;
         let limits = limits_at(alloc, problem, &passable)?;
-        let mut counts = Counts::of(alloc, &[], resources)?;
+        Walk::over(alloc, problem, ranges, passable, ranks, limits)
+    }
+
+    /// A walk of the same problem at these ranges. What does not change with ranges is copied, so that it takes far fewer
+    /// steps than `of` where there are many resources.
+    pub fn copy_at(&self, alloc: Global, ranges: Ranges) -> Result<Walk<'a>, Memory>
+        requires { AreRanges self.now.problem ranges }
+        ensures problem { IfOk result (λ walk. walk.problem ≡ self.now.problem) }
+        ensures ranges { IfOk result (λ walk. walk.ranges ≡ ranges) }
+    {
+        let passable = Vec::from_slice(alloc, &self.passable)?;
+        let ranks = Vec::from_slice(alloc, &self.ranks)?;
+        let limits = Vec::from_slice(alloc, &self.limits)?;
+        Walk::over(alloc, self.problem, ranges, passable, ranks, limits)
+    }
+
+    // The walk at these ranges, with the resources that can be passed, and the ranks and limits of these.
+    fn over(
+        alloc: Global,
+        problem: &'a Problem,
+        ranges: Ranges,
+        passable: Vec<u32>,
+        ranks: Vec<u32>,
+        limits: Vec<u32>,
+    ) -> Result<Walk<'a>, Memory>
+        requires ranges { AreRanges problem.now ranges }
+        requires passable { ListPassable problem.now passable.items }
+        requires ranks { AreRanksOf (resource_count problem.now) passable.items ranks.items }
+        requires count { length limits.items ≡ length passable.items }
+        requires limits { AreLimitsAt problem.now passable.items limits.items }
+        ensures problem { IfOk result (λ walk. walk.problem ≡ problem.now) }
+        ensures ranges { IfOk result (λ walk. walk.ranges ≡ ranges) }
+    {
+        let mut counts = Counts::of(alloc, &[], problem.resources())?;
         let mut least = vec![in alloc; 0; passable.len()]?;
         let mut zeros = vec![in alloc; 0; passable.len()]?;
         let cheapest = cheapest(alloc, problem, &ranges)?;
@@ -106,6 +142,13 @@ impl<'a> Walk<'a> {
             limits,
             lists,
         })
+    }
+
+    /// The problem.
+    pub fn problem(&self) -> &'a Problem
+        ensures { result.now ≡ self.now.problem }
+    {
+        self.problem
     }
 
     /// The ranges.
