@@ -6,3 +6,4 @@ mod RowLemmas
 mod VisitLemmas
 mod PassableLemmas
 mod PlaceLemmas
+mod RunLemmas

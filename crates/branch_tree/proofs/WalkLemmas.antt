@@ -1,10 +1,10 @@
 -- What a walk keeps, and how it changes with one unit's range.
-use Rattle.std.proofs.Common.{◌≡◌, ℕ, ◌+◌, ◌*◌, ◌<◌, ◌≤◌, sym, ◌∙◌, ap, subst, arith, inl, inr, ◌⊎◌, List, [], ◌++◌, length, take, drop, Some, None, set}
+use Rattle.std.proofs.Common.{◌≡◌, ℕ, ◌+◌, ◌*◌, ◌<◌, ◌≤◌, sym, ◌∙◌, ap, subst, arith, inl, inr, ◌⊎◌, List, [], ◌∷◌, ◌++◌, length, take, drop, Some, None, set}
 use Rattle.std.proofs.Math.Seq.{take-append_seam}
 use Rattle.std.specs.Prelude.{slice_index, slice_index_or, slice_set}
 use Rattle.std.proofs.lemmas.Bool.{cases_lt}
 use Rattle.std.proofs.lemmas.Int.{ints}
-use Rattle.std.proofs.lemmas.List.{get_or-set_same, get_or-set_other, length-set}
+use Rattle.std.proofs.lemmas.List.{get_or-set_same, get_or-set_other, length-set, length-append, get_or_append_left, get_or_push}
 use Rattle.finite_sums.specs.Sums.{least_within, IsFirstLeast}
 use Rattle.choice_problem.specs.Problems.{ProblemView, IsChooser, unit_count, alt_count, chooser_at, alt_cost, alt_uses}
 use Rattle.choice_problem.specs.Choices.{IsChoice, choice_cost, load_of}
@@ -12,8 +12,8 @@ use Rattle.choice_problem.specs.Bounds.{AreRanges, Closes, low_of, high_of, leas
 use Rattle.choice_problem.specs.Splits.{IsCheapest, IsFirstCheapest, least_uses}
 use Rattle.finite_sums.proofs.SumLemmas.{sum_below-same, least_within-le, least_within-ge}
 use Rattle.finite_sums.proofs.ChangeLemmas.{sum_below-change, sum_below-const, term-le}
-use Rattle.branch_tree.specs.Lists.{times_in}
-use Rattle.branch_tree.specs.Walks.{IsKept}
+use Rattle.branch_tree.specs.Lists.{times_in, AreWithin}
+use Rattle.branch_tree.specs.Walks.{IsKept, AreLists}
 
 -- the first cheapest alternatives cost what is least in range
 least-cheapest : (p : ProblemView) (ranges : List (ℕ × ℕ)) (u a : ℕ) → low_of ranges u ≤ high_of ranges u → IsFirstCheapest p ranges u a →
@@ -60,6 +60,26 @@ cost-small p x units c = sum_below-const (unit_count p) 16777216 (λ u. alt_cost
 -- what a slice of a vector leaves in it
 pub written-back : {X : Type 0} (new items : List X) (n : ℕ) → length new ≡ n → take n (new ++ drop (length new) items) ≡ new
 written-back new items n e = rw (← e) (take-append_seam new (drop (length new) items))
+
+-- one more list
+pub lists-pushed : (p : ProblemView) (ranges : List (ℕ × ℕ)) (listed : List ℕ) (n : ℕ) (lists : List (List ℕ)) (list : List ℕ) → AreLists p ranges listed n lists →
+    ((i : ℕ) → i < length listed → times_in list i ≡ least_uses p ranges n (slice_index listed i)) → AreWithin (length listed) list →
+    AreLists p ranges listed (n + 1) (lists ++ list ∷ [])
+lists-pushed p ranges listed n lists list h e w = record {
+  count = omega (arith, length-append lists (list ∷ []), h.count);
+  each = λ u i l m. elim (cases_lt u n) [
+    | inl before ↦ rw (get_or_append_left lists (list ∷ []) [] u (omega (arith, before, h.count))) (h.each u i before m)
+    | inr none ↦
+        let same : u ≡ n = omega (arith, l, none) in
+        rw (same, get_or_push lists list [] n h.count) (e i m)
+  ];
+  within = λ u l. elim (cases_lt u n) [
+    | inl before ↦ rw (get_or_append_left lists (list ∷ []) [] u (omega (arith, before, h.count))) (h.within u before)
+    | inr none ↦
+        let same : u ≡ n = omega (arith, l, none) in
+        rw (same, get_or_push lists list [] n h.count) w
+  ];
+}
 
 -- what a walk keeps has room, and holds what one unit adds to it
 module _ (p : ProblemView) (ranges : List (ℕ × ℕ)) (alts : List ℕ) (cost : ℕ) (loads least zeros listed : List ℕ) (k : IsKept p ranges alts cost loads least zeros listed) where
@@ -166,6 +186,29 @@ module _ (p : ProblemView) (ranges : List (ℕ × ℕ)) (alts : List ℕ) (cost 
             sum_below-change (unit_count p) u (λ v. least_uses p spans v r) (λ v. least_uses p ranges v r) l
                 (λ v m ne. ap (λ (s : ℕ × ℕ). least_within s.0 s.1 (λ b. alt_uses p v b r)) (span-other v ne)),
           )
+
+      pub lists-moved : (lists : List (List ℕ)) (now : List ℕ) → AreLists p ranges listed (unit_count p) lists →
+          ((i : ℕ) → i < length listed → times_in now i ≡ least_within low high (λ b. alt_uses p u b (slice_index listed i))) → AreWithin (length listed) now →
+          AreLists p (slice_set ranges u (low, high)) listed (unit_count p) (slice_set lists u now)
+      lists-moved lists now h e w =
+          let there : u < length lists = omega (arith, l, h.count) in
+          record {
+            count = length-set lists u now ∙ h.count;
+            each = λ v i m n. elim (apart v) [
+              | inl same ↦
+                  let used : least_uses p spans u (slice_index listed i) ≡ least_within low high (λ b. alt_uses p u b (slice_index listed i)) =
+                  ap (λ (s : ℕ × ℕ). least_within s.0 s.1 (λ b. alt_uses p u b (slice_index listed i))) span-same in
+                  rw (same, get_or-set_same lists u now [] there) (e i n ∙ sym used)
+              | inr ne ↦
+                  let used : least_uses p spans v (slice_index listed i) ≡ least_uses p ranges v (slice_index listed i) =
+                  ap (λ (s : ℕ × ℕ). least_within s.0 s.1 (λ b. alt_uses p v b (slice_index listed i))) (span-other v ne) in
+                  rw (get_or-set_other lists u v now [] ne) (h.each v i m n ∙ sym used)
+            ];
+            within = λ v m. elim (apart v) [
+              | inl same ↦ rw (same, get_or-set_same lists u now [] there) w
+              | inr ne ↦ rw (get_or-set_other lists u v now [] ne) (h.within v m)
+            ];
+          }
 
       pub IsKept-moved : AreRanges p (slice_set ranges u (low, high)) → (more : ℕ) (uses fewest was now : List ℕ) → more + alt_cost p u (slice_index alts u) ≡ cost + alt_cost p u a →
           length uses ≡ length loads → length fewest ≡ length least →

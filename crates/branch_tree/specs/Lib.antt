@@ -2,4 +2,5 @@ pub mod Visits
 pub mod Walks
 pub mod Lists
 pub mod Rows
+pub mod Runs
 pub mod Loops

@@ -5,11 +5,6 @@ use Rattle.std.specs.Prelude.{◌≡◌, ℕ, ◌+◌, ◌<◌, ◌≤◌, ◌==
 abbrev pub times_in : List ℕ → ℕ → ℕ
 times_in list r = count_by (λ c. c == r) list
 
--- the list grew by the places of the listed resources, each as often as the uses of its resource
-abbrev pub Appends : List ℕ → List ℕ → List ℕ → (ℕ → ℕ) → Type 0
-Appends listed old new uses = (i : ℕ) → i < length listed →
-    times_in new i ≡ times_in old i + uses (slice_index listed i)
-
 -- no other numbers come in it than those below the count
 abbrev pub AreWithin : ℕ → List ℕ → Type 0
 AreWithin count list = (r : ℕ) → 0 < times_in list r → r < count

@@ -1,5 +1,5 @@
 -- Rows of alternatives: those that name the same first part. Contracts of private functions alone cite them.
-use Rattle.std.specs.Prelude.{◌≡◌, ℕ, ◌-◌, ◌<◌, ◌≤◌, List, length, slice_index}
+use Rattle.std.specs.Prelude.{◌≡◌, ℕ, ◌-◌, ◌<◌, ◌≤◌, min, List, length, slice_index}
 use Rattle.finite_sums.specs.Sums.{least_within}
 use Rattle.choice_problem.specs.Problems.{ProblemView, chooser_at, alt_at, named_uses}
 use Rattle.branch_tree.specs.Lists.{times_in}
@@ -20,7 +20,11 @@ abbrev pub EndAlike : ProblemView → ℕ → ℕ → ℕ → ℕ → Type 0
 EndAlike p u first last end = (back r : ℕ) → back ≤ last - first → two_uses p u (end - back) r
     ≡ two_uses p u (last - back) r
 
--- the list is the least uses of the second parts of a row at the listed resources
-abbrev pub AreLeastTwos : ProblemView → List ℕ → ℕ → ℕ → ℕ → List ℕ → Type 0
-AreLeastTwos p listed u first last list = (i : ℕ) → i < length listed → times_in list i
-    ≡ least_within first last (λ a. two_uses p u a (slice_index listed i))
+-- the places of the least uses of the second parts of a row at the listed resources; where a list has less, maybe fewer, but
+-- no fewer than the list has
+pub record AreLeastTwos (p : ProblemView) (listed : List ℕ) (u first last : ℕ)
+    (list twos : List ℕ) : Type 0 where
+  pub most : (i : ℕ) → i < length listed → times_in twos i
+      ≤ least_within first last (λ a. two_uses p u a (slice_index listed i))
+  pub enough : (i : ℕ) → i < length listed → min (times_in list i)
+      (least_within first last (λ a. two_uses p u a (slice_index listed i))) ≤ times_in twos i

@@ -11,17 +11,18 @@ ghost use Rattle.choice_problem.specs.Splits.{IsCheapest, least_uses};
 ghost use Rattle.choice_problem.specs.Counts.{HasUses};
 ghost use Rattle.branch_tree.specs.Lists.{times_in, AreWithin, AreRanksOf};
 ghost use Rattle.window_counts.specs.Placed.{AreZero};
-ghost use Rattle.branch_tree.specs.Walks.{AreLeast};
+ghost use Rattle.branch_tree.specs.Walks.{AreLeast, AreLists};
 ghost use Rattle.window_counts.specs.Placed.{AreLoads};
 
 use crate::least_uses::least_list;
-use crate::listing::uses_list;
-use crate::tallies::{add_list, take_list};
+use crate::runs::alt_runs;
+use crate::tallies::{add_list, add_runs, take_list, take_runs};
+use crate::uses::Uses;
 use choice_problem::{Problem, Ranges};
 use slot_text::Memory;
 use std::alloc::Global;
 
-// Counts the least loads of the listed resources on counts of 0.
+// Counts the least loads of the listed resources on counts of 0, and answers what each unit uses of them.
 pub(crate) fn count_least(
     alloc: Global,
     problem: &Problem,
@@ -30,7 +31,7 @@ pub(crate) fn count_least(
     ranks: &[u32],
     least: &mut [u32],
     zeros: &mut [u32],
-) -> Result<(), Memory>
+) -> Result<Vec<Uses>, Memory>
     requires ranges { AreRanges problem.now ranges.now }
     requires ranks { AreRanksOf (resource_count problem.now) listed.now ranks.now }
     requires count { length least.old ≡ length listed.now }
@@ -38,9 +39,12 @@ pub(crate) fn count_least(
     requires zeros_count { length zeros.old ≡ length listed.now }
     requires zeros { AreZero zeros.old }
     ensures least { OnOk result (AreLeast problem.now ranges.now listed.now least.new) }
+    ensures lists { IfOk result (λ lists.
+        AreLists problem.now ranges.now listed.now (unit_count problem.now) lists.items) }
     ensures zeros { AreZero zeros.new }
     ensures zeros_count { length zeros.new ≡ length listed.now }
 {
+    let mut lists = Vec::new(alloc);
     for unit in 0..problem.units() {
         let list = least_list(
             alloc,
@@ -53,8 +57,9 @@ pub(crate) fn count_least(
             zeros,
         )?;
         add_list(least, &list);
+        lists.push(Uses::of(list))?;
     }
-    Ok(())
+    Ok(lists)
 }
 
 // Moves counts from what a unit adds to them to what it adds else.
@@ -99,9 +104,10 @@ pub(crate) fn move_loads(
     if was == now {
         return Ok(());
     }
-    let from = uses_list(alloc, problem, unit, was, listed, ranks)?;
-    let to = uses_list(alloc, problem, unit, now, listed, ranks)?;
-    move_least(loads, &from, &to);
+    let from = alt_runs(alloc, problem, unit, was, listed, ranks)?;
+    let to = alt_runs(alloc, problem, unit, now, listed, ranks)?;
+    take_runs(loads, &from);
+    add_runs(loads, &to);
     Ok(())
 }
 

@@ -7,18 +7,19 @@ ghost use Rattle.choice_problem.specs.Problems.{unit_count, alt_count, alt_uses,
 ghost use Rattle.branch_tree.specs.Lists.{times_in, AreWithin, AreRanksOf};
 ghost use Rattle.window_counts.specs.Placed.{AreZero};
 
-use crate::listing::{second_list, uses_list};
-use crate::rows::{Row, move_twos, row_before, row_list};
-use crate::tallies::lower;
+use crate::listing::places_of;
+use crate::rows::{Row, lower_row, move_twos, row_before, twos_of};
+use crate::runs::alt_runs;
 use choice_problem::Problem;
 use slot_text::Memory;
 use std::alloc::Global;
 
 // The places of the listed resources that each alternative of a unit from one to another uses, each as often as each of
 // them does; `ranks` are the ranks of all resources among the listed ones, so that no other is looked at. In a row of
-// alternatives with the same first part this is what that part uses, and what their second parts have in common; from row
-// to row mostly the same second parts come again, so that each part is listed once. The last row is tried first, since it
-// has least in common with the first alternative. `zeros` is room to count in.
+// alternatives with the same first part this is what that part uses, and what their second parts have in common. From row
+// to row mostly the same second parts come again, so that each part is looked at once; and what they have in common is
+// kept only as far as the rows before have it. The last row is tried first, since it has least in common with the first
+// alternative. `zeros` is room to count in.
 pub(crate) fn least_list(
     alloc: Global,
     problem: &Problem,
@@ -41,11 +42,12 @@ pub(crate) fn least_list(
     ensures same { zeros.new ≡ zeros.old }
     ensures few { (r : ℕ) → least_within low high (λ a. alt_uses problem.now unit a r) ≤ MOST_USES }
 {
-    let mut list = uses_list(alloc, problem, unit, low, listed, ranks)?;
+    let first = alt_runs(alloc, problem, unit, low, listed, ranks)?;
+    let mut list = places_of(alloc, &first, listed)?;
     if low == high {
         return Ok(list);
     }
-    let mut twos = second_list(alloc, problem, unit, high, listed, ranks)?;
+    let mut twos = twos_of(alloc, problem, unit, high, listed, ranks, &list, zeros)?;
     let mut row = Row {
         first: high,
         last: high,
@@ -57,10 +59,11 @@ pub(crate) fn least_list(
         }
         let next = row_before(problem, unit, low, done);
         move_twos(
-            alloc, problem, unit, row, next, listed, ranks, &mut twos, zeros,
+            alloc, problem, unit, row, next, listed, ranks, &list, &mut twos, zeros,
         )?;
-        let uses = row_list(alloc, problem, unit, next, listed, ranks, &twos)?;
-        lower(&mut list, &uses, zeros);
+        lower_row(
+            alloc, problem, unit, next, listed, ranks, &twos, &mut list, zeros,
+        )?;
         done = next.first;
         row = next;
     }

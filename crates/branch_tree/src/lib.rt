@@ -15,7 +15,10 @@ mod placed;
 mod plain;
 mod ranks;
 mod rows;
+mod runs;
+mod scans;
 mod tallies;
+mod uses;
 mod visits;
 mod walks;
 

@@ -1,14 +1,13 @@
 //! Rows of alternatives: those one after the other that name the same first part.
 
-ghost use Rattle.std.specs.Prelude.{◌≡◌, ℕ, ◌-◌, ◌<◌, ◌≤◌, length, slice_index, IfOk, OnOk, IsTrue};
-ghost use Rattle.choice_problem.specs.declared.problems.TheConstants.{MOST_USES};
+ghost use Rattle.std.specs.Prelude.{◌≡◌, ℕ, ◌-◌, ◌<◌, ◌≤◌, min, length, slice_index, IfOk, OnOk, IsTrue};
 ghost use Rattle.finite_sums.specs.Sums.{least_within};
 ghost use Rattle.choice_problem.specs.Problems.{unit_count, alt_count, alt_uses, resource_count};
 ghost use Rattle.branch_tree.specs.Lists.{times_in, AreWithin, AreRanksOf};
 ghost use Rattle.window_counts.specs.Placed.{AreZero};
 ghost use Rattle.branch_tree.specs.Rows.{IsRow, EndAlike, AreLeastTwos};
 
-use crate::listing::{first_list, second_list};
+use crate::runs::{first_runs, second_runs};
 use crate::tallies::lower;
 use choice_problem::Problem;
 use slot_text::Memory;
@@ -53,7 +52,7 @@ fn is_same(one: Option<u32>, other: Option<u32>) -> bool
 }
 
 // Moves the least uses of second parts from a row to another one. Where the second row ends as the first one does, only
-// its other parts are listed.
+// its other parts are listed. They are wanted only as far as a list has them.
 pub(crate) fn move_twos(
     alloc: Global,
     problem: &Problem,
@@ -62,6 +61,7 @@ pub(crate) fn move_twos(
     row: Row,
     listed: &[u32],
     ranks: &[u32],
+    list: &[u32],
     twos: &mut Vec<u32>,
     zeros: &mut [u32],
 ) -> Result<(), Memory>
@@ -71,17 +71,23 @@ pub(crate) fn move_twos(
     requires row { row.first ≤ row.last }
     requires row_there { row.last < alt_count problem.now unit }
     requires ranks { AreRanksOf (resource_count problem.now) listed.now ranks.now }
-    requires twos { AreLeastTwos problem.now listed.now unit was.first was.last twos.old.items }
+    requires twos { AreLeastTwos problem.now listed.now unit
+        was.first was.last list.now twos.old.items }
     requires within { AreWithin (length listed.now) twos.old.items }
+    requires list { AreWithin (length listed.now) list.now }
     requires count { length zeros.old ≡ length listed.now }
     requires zeros { AreZero zeros.old }
     ensures twos { OnOk result (AreLeastTwos problem.now listed.now unit
-        row.first row.last twos.new.items) }
+        row.first row.last list.now twos.new.items) }
     ensures within { OnOk result (AreWithin (length listed.now) twos.new.items) }
     ensures same { zeros.new ≡ zeros.old }
 {
-    let from = begin_twos(alloc, problem, unit, was, row, listed, ranks, twos)?;
-    lower_twos(alloc, problem, unit, row, from, listed, ranks, twos, zeros)
+    let from = begin_twos(
+        alloc, problem, unit, was, row, listed, ranks, list, twos, zeros,
+    )?;
+    lower_twos(
+        alloc, problem, unit, row, from, listed, ranks, list, twos, zeros,
+    )
 }
 
 // Moves the least uses of second parts from a row to the last alternatives of another one, and tells the first of these:
@@ -94,7 +100,9 @@ fn begin_twos(
     row: Row,
     listed: &[u32],
     ranks: &[u32],
+    list: &[u32],
     twos: &mut Vec<u32>,
+    zeros: &mut [u32],
 ) -> Result<u32, Memory>
     requires unit { unit < unit_count problem.now }
     requires was { was.first ≤ was.last }
@@ -102,20 +110,53 @@ fn begin_twos(
     requires row { row.first ≤ row.last }
     requires row_there { row.last < alt_count problem.now unit }
     requires ranks { AreRanksOf (resource_count problem.now) listed.now ranks.now }
-    requires twos { AreLeastTwos problem.now listed.now unit was.first was.last twos.old.items }
+    requires twos { AreLeastTwos problem.now listed.now unit
+        was.first was.last list.now twos.old.items }
     requires within { AreWithin (length listed.now) twos.old.items }
+    requires list { AreWithin (length listed.now) list.now }
+    requires count { length zeros.old ≡ length listed.now }
+    requires zeros { AreZero zeros.old }
     ensures from { IfOk result (λ from. row.first ≤ from) }
     ensures to { IfOk result (λ from. from ≤ row.last) }
     ensures twos { IfOk result (λ from.
-        AreLeastTwos problem.now listed.now unit from row.last twos.new.items) }
+        AreLeastTwos problem.now listed.now unit from row.last list.now twos.new.items) }
     ensures within { OnOk result (AreWithin (length listed.now) twos.new.items) }
+    ensures same { zeros.new ≡ zeros.old }
 {
     let known = was.last - was.first;
     if known <= row.last - row.first && end_alike(problem, unit, was, row.last) {
         return Ok(row.last - known);
     }
-    *twos = second_list(alloc, problem, unit, row.last, listed, ranks)?;
+    *twos = twos_of(alloc, problem, unit, row.last, listed, ranks, list, zeros)?;
     Ok(row.last)
+}
+
+// What the second part of an alternative uses, as far as a list has it.
+pub(crate) fn twos_of(
+    alloc: Global,
+    problem: &Problem,
+    unit: u32,
+    alt: u32,
+    listed: &[u32],
+    ranks: &[u32],
+    list: &[u32],
+    zeros: &mut [u32],
+) -> Result<Vec<u32>, Memory>
+    requires unit { unit < unit_count problem.now }
+    requires alt { alt < alt_count problem.now unit }
+    requires ranks { AreRanksOf (resource_count problem.now) listed.now ranks.now }
+    requires list { AreWithin (length listed.now) list.now }
+    requires count { length zeros.old ≡ length listed.now }
+    requires zeros { AreZero zeros.old }
+    ensures twos { IfOk result (λ twos.
+        AreLeastTwos problem.now listed.now unit alt alt list.now twos.items) }
+    ensures within { IfOk result (λ twos. AreWithin (length listed.now) twos.items) }
+    ensures same { zeros.new ≡ zeros.old }
+{
+    let runs = second_runs(alloc, problem, unit, alt, listed, ranks)?;
+    let mut twos = Vec::from_slice(alloc, list)?;
+    lower(&mut twos, &runs, &[], zeros);
+    Ok(twos)
 }
 
 // Lowers the least uses of the second parts of a row's alternatives from one on to those of the whole row. The first
@@ -128,6 +169,7 @@ fn lower_twos(
     from: u32,
     listed: &[u32],
     ranks: &[u32],
+    list: &[u32],
     twos: &mut Vec<u32>,
     zeros: &mut [u32],
 ) -> Result<(), Memory>
@@ -136,21 +178,23 @@ fn lower_twos(
     requires from { from ≤ row.last }
     requires row_there { row.last < alt_count problem.now unit }
     requires ranks { AreRanksOf (resource_count problem.now) listed.now ranks.now }
-    requires twos { AreLeastTwos problem.now listed.now unit from row.last twos.old.items }
+    requires twos { AreLeastTwos problem.now listed.now unit
+        from row.last list.now twos.old.items }
     requires within { AreWithin (length listed.now) twos.old.items }
     requires count { length zeros.old ≡ length listed.now }
     requires zeros { AreZero zeros.old }
     ensures twos { OnOk result (AreLeastTwos problem.now listed.now unit
-        row.first row.last twos.new.items) }
+        row.first row.last list.now twos.new.items) }
     ensures within { OnOk result (AreWithin (length listed.now) twos.new.items) }
     ensures same { zeros.new ≡ zeros.old }
 {
+    let _list = list;
     for alt in row.first..from {
         if twos.is_empty() {
             return Ok(());
         }
-        let other = second_list(alloc, problem, unit, alt, listed, ranks)?;
-        lower(twos, &other, zeros);
+        let other = second_runs(alloc, problem, unit, alt, listed, ranks)?;
+        lower(twos, &other, &[], zeros);
     }
     Ok(())
 }
@@ -176,8 +220,9 @@ fn end_alike(problem: &Problem, unit: u32, row: Row, end: u32) -> bool
     true
 }
 
-// The listed resources that each alternative of a row uses, each as often as each of them does.
-pub(crate) fn row_list(
+// Lowers a list to what each alternative of a row uses, by what their first part uses and the least uses of their second
+// parts.
+pub(crate) fn lower_row(
     alloc: Global,
     problem: &Problem,
     unit: u32,
@@ -185,21 +230,27 @@ pub(crate) fn row_list(
     listed: &[u32],
     ranks: &[u32],
     twos: &[u32],
-) -> Result<Vec<u32>, Memory>
+    list: &mut Vec<u32>,
+    zeros: &mut [u32],
+) -> Result<(), Memory>
     requires unit { unit < unit_count problem.now }
     requires ordered { row.first ≤ row.last }
     requires there { row.last < alt_count problem.now unit }
     requires row { IsRow problem.now unit row.first row.last }
     requires ranks { AreRanksOf (resource_count problem.now) listed.now ranks.now }
-    requires twos { AreLeastTwos problem.now listed.now unit row.first row.last twos.now }
+    requires twos { AreLeastTwos problem.now listed.now unit
+        row.first row.last list.old.items twos.now }
     requires within { AreWithin (length listed.now) twos.now }
-    ensures least { IfOk result (λ list. (i : ℕ) → i < length listed.now → times_in list.items i
-        ≡ least_within row.first row.last
-        (λ a. alt_uses problem.now unit a (slice_index listed.now i))) }
-    ensures within { IfOk result (λ list. AreWithin (length listed.now) list.items) }
-    ensures few { (r : ℕ) → alt_uses problem.now unit row.last r ≤ MOST_USES }
+    requires list { AreWithin (length listed.now) list.old.items }
+    requires count { length zeros.old ≡ length listed.now }
+    requires zeros { AreZero zeros.old }
+    ensures lowered { OnOk result ((i : ℕ) → i < length listed.now → times_in list.new.items i
+        ≡ min (times_in list.old.items i) (least_within row.first row.last
+        (λ a. alt_uses problem.now unit a (slice_index listed.now i)))) }
+    ensures within { OnOk result (AreWithin (length listed.now) list.new.items) }
+    ensures same { zeros.new ≡ zeros.old }
 {
-    let mut list = first_list(alloc, problem, unit, row.last, listed, ranks)?;
-    list.extend_from_slice(twos)?;
-    Ok(list)
+    let ones = first_runs(alloc, problem, unit, row.last, listed, ranks)?;
+    lower(list, &ones, twos, zeros);
+    Ok(())
 }

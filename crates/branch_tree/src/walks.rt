@@ -15,6 +15,8 @@ use crate::kept::{cheapest, count_least, first_cheapest, move_least, move_loads}
 use crate::least_uses::least_list;
 use crate::placed::{counts_at, limits_at};
 use crate::ranks::ranks_of;
+use crate::scans::first_above;
+use crate::uses::Uses;
 use choice_problem::{Node, Problem, Ranges};
 use dual_bound::passable_resources;
 use price_table::{PriceTable, Totals};
@@ -24,10 +26,12 @@ use std::marker::Model;
 use window_counts::{Counts, add_choice};
 
 /// Ranges of a problem, with what a visit asks of them: each unit's first cheapest alternative, what these together
-/// cost, and the resources that can be passed, with what they use of each and its least load. Where a range changes, what
-/// changes with it is counted anew, and nothing else. Contracts see the problem and the ranges.
+/// cost, and the resources that can be passed, with what they use of each and its least load, and what each unit adds to
+/// these. Where a range changes, what changes with it is counted anew, and nothing else. Contracts see the problem and the
+/// ranges.
 ///
-/// Memory: 4 bytes a resource (8 in `of`), 12 bytes a unit, and 20 bytes a resource that can be passed.
+/// Memory: 4 bytes a resource (8 in `of`), 20 bytes a resource that can be passed, and for each unit 44 bytes and up to 8
+/// a use that the first alternative in its range has of those.
 #[derive(Drop)]
 pub struct Walk<'a> {
     problem: &'a Problem,
@@ -40,6 +44,7 @@ pub struct Walk<'a> {
     passable: Vec<u32>,
     ranks: Vec<u32>,
     limits: Vec<u32>,
+    lists: Vec<Uses>,
 }
 
 impl<'a> Model for Walk<'a> {
@@ -49,18 +54,23 @@ impl<'a> Model for Walk<'a> {
 
     ghost view = { λ w. record { problem = w.problem.now; ranges = w.ranges } };
 
-    ghost invariant = { λ w. IsKeptWith w.problem.now w.ranges w.cheapest.items w.cost w.loads.items w.least.items w.zeros.items w.passable.items w.ranks.items w.limits.items };
+    ghost invariant = { λ w. IsKeptWith w.problem.now w.ranges w.cheapest.items w.cost
+        w.loads.items w.least.items w.zeros.items w.passable.items w.ranks.items w.limits.items
+        w.lists.items };
 }
 
 impl<'a> Walk<'a> {
     ghost use Rattle.std.specs.Prelude.{◌≡◌, ◌<◌, ◌≤◌, ℕ, List, [], ◌∷◌, All, length, slice_set, IfOk, IfSome, IfNone, OnOk, OnErr};
     ghost use Rattle.choice_problem.specs.declared.vectors.TheConstants.{MOST_FURTHER};
-    ghost use Rattle.choice_problem.specs.Problems.{unit_count, alt_count};
+    ghost use Rattle.choice_problem.specs.Problems.{unit_count, alt_count, resource_count};
     ghost use Rattle.choice_problem.specs.Bounds.{AreRanges};
     ghost use Rattle.choice_problem.specs.Renumbered.{NamesUpTo};
     ghost use Rattle.price_table.specs.Tables.{IsTableFor, vectors_of};
     ghost use Rattle.price_table.specs.Totals.{AreKeptFor};
     ghost use Rattle.choice_problem.specs.declared.vectors.Price.{Price};
+    ghost use Rattle.dual_bound.specs.Kept.{ListPassable};
+    ghost use Rattle.branch_tree.specs.Lists.{AreRanksOf};
+    ghost use Rattle.branch_tree.specs.Walks.{AreLimitsAt};
     ghost use Rattle.branch_tree.specs.Visits.{IsVisit, ClosesBy, NeedsPrices};
 
     /// The walk at these ranges. A unit takes a step an alternative in range, and, for each part that these name, some steps
@@ -77,13 +87,46 @@ impl<'a> Walk<'a> {
         let passable = passable_resources(alloc, problem)?;
         let ranks = ranks_of(alloc, &passable, resources)?;
         let limits = limits_at(alloc, problem, &passable)?;
-        let mut counts = Counts::of(alloc, &[], resources)?;
+        Walk::over(alloc, problem, ranges, passable, ranks, limits)
+    }
+
+    /// A walk of the same problem at these ranges. What does not change with ranges is copied, so that it takes far fewer
+    /// steps than `of` where there are many resources.
+    pub fn copy_at(&self, alloc: Global, ranges: Ranges) -> Result<Walk<'a>, Memory>
+        requires { AreRanges self.now.problem ranges }
+        ensures problem { IfOk result (λ walk. walk.problem ≡ self.now.problem) }
+        ensures ranges { IfOk result (λ walk. walk.ranges ≡ ranges) }
+    {
+        let passable = Vec::from_slice(alloc, &self.passable)?;
+        let ranks = Vec::from_slice(alloc, &self.ranks)?;
+        let limits = Vec::from_slice(alloc, &self.limits)?;
+        Walk::over(alloc, self.problem, ranges, passable, ranks, limits)
+    }
+
+    // The walk at these ranges, with the resources that can be passed, and the ranks and limits of these.
+    fn over(
+        alloc: Global,
+        problem: &'a Problem,
+        ranges: Ranges,
+        passable: Vec<u32>,
+        ranks: Vec<u32>,
+        limits: Vec<u32>,
+    ) -> Result<Walk<'a>, Memory>
+        requires ranges { AreRanges problem.now ranges }
+        requires passable { ListPassable problem.now passable.items }
+        requires ranks { AreRanksOf (resource_count problem.now) passable.items ranks.items }
+        requires count { length limits.items ≡ length passable.items }
+        requires limits { AreLimitsAt problem.now passable.items limits.items }
+        ensures problem { IfOk result (λ walk. walk.problem ≡ problem.now) }
+        ensures ranges { IfOk result (λ walk. walk.ranges ≡ ranges) }
+    {
+        let mut counts = Counts::of(alloc, &[], problem.resources())?;
         let mut least = vec![in alloc; 0; passable.len()]?;
         let mut zeros = vec![in alloc; 0; passable.len()]?;
         let cheapest = cheapest(alloc, problem, &ranges)?;
         let cost = add_choice(problem, &cheapest, &mut counts);
         let loads = counts_at(alloc, &counts, &passable)?;
-        count_least(
+        let lists = count_least(
             alloc, problem, &ranges, &passable, &ranks, &mut least, &mut zeros,
         )?;
         Ok(Walk {
@@ -97,7 +140,15 @@ impl<'a> Walk<'a> {
             passable,
             ranks,
             limits,
+            lists,
         })
+    }
+
+    /// The problem.
+    pub fn problem(&self) -> &'a Problem
+        ensures { result.now ≡ self.now.problem }
+    {
+        self.problem
     }
 
     /// The ranges.
@@ -238,8 +289,8 @@ impl<'a> Walk<'a> {
     }
 
     /// Sets a unit's range, which is not empty and of its alternatives. `problem` is the one of `of`. After want of memory
-    /// the walk is as before. The steps of `of` for the unit at its old and at its new range, and for the two alternatives
-    /// that are cheapest in them.
+    /// the walk is as before. The steps of `of` for the unit at its new range, and for the alternatives that are
+    /// cheapest in its old and in its new range.
     pub fn narrow(
         &mut self,
         alloc: Global,
@@ -256,17 +307,6 @@ impl<'a> Walk<'a> {
         ensures ok { OnOk result (self.new.ranges ≡ slice_set self.old.ranges unit (low, high)) }
         ensures err { OnErr result (self.new ≡ self.old) }
     {
-        let (old_low, old_high) = (self.ranges.low(unit), self.ranges.high(unit));
-        let was = least_list(
-            alloc,
-            problem,
-            unit,
-            old_low,
-            old_high,
-            &self.passable,
-            &self.ranks,
-            &mut self.zeros,
-        )?;
         let now = least_list(
             alloc,
             problem,
@@ -289,7 +329,9 @@ impl<'a> Walk<'a> {
             &self.ranks,
             &mut self.loads,
         )?;
-        move_least(&mut self.least, &was, &now);
+        let was = self.lists[unit as usize].places();
+        move_least(&mut self.least, was, &now);
+        self.lists[unit as usize] = Uses::of(now);
         self.cost = self.cost - problem.alt_cost(unit, old_alt) + problem.alt_cost(unit, alt);
         self.cheapest[unit as usize] = alt;
         self.ranges.set(unit, low, high);
@@ -317,12 +359,8 @@ fn first_over(
 {
     let _problem = problem;
     let _ranges = ranges;
-    for place in 0..passable.len() {
-        if least[place] > limits[place] {
-            return Some(passable[place]);
-        }
-    }
-    None
+    let place = first_above(least, limits)?;
+    Some(passable[place])
 }
 
 // Whether vector 0 closes ranges at scale 1: whether their first cheapest alternatives together cost at least what was seen.
@@ -366,10 +404,6 @@ fn first_passed(
 {
     let _problem = problem;
     let _alts = alts;
-    for place in 0..passable.len() {
-        if loads[place] > limits[place] {
-            return Some(passable[place]);
-        }
-    }
-    None
+    let place = first_above(loads, limits)?;
+    Some(passable[place])
 }

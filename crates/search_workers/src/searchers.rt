@@ -14,7 +14,6 @@ use crate::growths::Growth;
 use crate::looks::look;
 use crate::places::Place;
 use crate::tasks::Task;
-use branch_tree::Walk;
 use choice_problem::{Choice, Node, Problem, Ranges, cost_of, part_ranges};
 use desk_outside::Gate;
 use incumbent_word::{Board, BoardSeat};
@@ -274,7 +273,7 @@ impl Searcher {
             ≡ pieces_of self.new.done.items) }
         ensures marked { OnOk result (self.new.seat.view.no_piece_left ≡ true) }
     {
-        let walk = Walk::of(alloc, task.problem(), pieces[0].copy(alloc)?)?;
+        let walk = task.walk_at(alloc, pieces[0].copy(alloc)?)?;
         let mut place = Place::new(alloc, task, walk)?;
         // Pieces are claimed in rising order: those below this number are gone, so that the loop ends.
         let mut _next = 0u64;

@@ -36,8 +36,8 @@ use std::thread::Threads;
 /// Searches a problem with at most `budget` visits, by `workers` workers on threads of their own, from the greedy choice.
 /// Each worker passes `gate` before a visit. Where no thread can be made, the workers go one after another.
 ///
-/// Memory: for each worker what a `Walk` takes, 24 bytes a unit and a vector, and the ranges of its open parts; for each
-/// vector a price table; and the tree twice, at 24 bytes a node.
+/// Memory: for each worker, and twice more, what a `Walk` takes; for each worker 24 bytes a unit and a vector, and the ranges
+/// of its open parts; for each vector a price table; and the tree twice, at 24 bytes a node.
 pub fn search<R: Threads + Sync, G: Gate>(
     rt: &R,
     alloc: Global,
@@ -189,8 +189,9 @@ fn search_priced<R: Threads + Sync, G: Gate>(
         AtMost start.cost (Some (choice_cost problem.now x)) →
         OutcomeCostsAtMost problem.now (choice_cost problem.now x) outcome) }
 {
-    let mut task = Task::new(alloc, problem, start.greedy, further)?;
-    let mut place = Place::new(alloc, &task, walk)?;
+    let whole = walk.ranges().copy(alloc)?;
+    let mut task = Task::new(alloc, problem, walk, start.greedy, further)?;
+    let mut place = Place::new(alloc, &task, task.walk_at(alloc, whole)?)?;
     let state = first_visit(alloc, &task, &place, start)?;
     let (state, taken) = open_parts(alloc, &task, &mut place, budget, workers, state)?;
     let state = run(rt, alloc, gate, &mut task, budget, workers, state, taken)?;

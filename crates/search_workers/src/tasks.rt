@@ -7,18 +7,20 @@ ghost use Rattle.search_workers.specs.declared.outcomes.TheConstants.{MOST_LISTE
 ghost use Rattle.search_workers.specs.Outcomes.{price_count};
 
 use crate::outcomes::{MOST_LISTED, MOST_LISTED_PRICES};
-use choice_problem::{Problem, Vector, VectorList};
+use branch_tree::Walk;
+use choice_problem::{Problem, Ranges, Vector, VectorList};
 use dual_bound::root_vector;
 use price_table::{PriceTable, price_table};
 use slot_text::Memory;
 use std::alloc::Global;
 use std::marker::Model;
 
-// The problem, the cost of its greedy choice, and the tables of the vectors: the root vector, those that were handed in, and
-// those that rounds added. Contracts see the problem, the cost and the vectors.
+// A walk of the problem, from which those of the workers are copied, the cost of the greedy choice, and the tables of the
+// vectors: the root vector, those that were handed in, and those that rounds added. Contracts see the problem, the cost
+// and the vectors.
 #[derive(Drop)]
 pub(crate) struct Task<'a> {
-    problem: &'a Problem,
+    walk: Walk<'a>,
     greedy: Option<u64>,
     tables: Vec<PriceTable>,
     given: usize,
@@ -31,27 +33,33 @@ impl<'a> Model for Task<'a> {
 
     ghost Value = { Setting };
 
-    ghost view = { λ t. record { problem = t.problem.now; greedy = t.greedy; vectors = vectors_of t.tables.items } };
+    ghost view = { λ t. record {
+      problem = t.walk.problem;
+      greedy = t.greedy;
+      vectors = vectors_of t.tables.items;
+    } };
 
-    ghost invariant = { λ t. AreTables t.problem.now t.greedy t.tables.items t.given t.prices };
+    ghost invariant = { λ t. AreTables t.walk.problem t.greedy t.tables.items t.given t.prices };
 }
 
 impl<'a> Task<'a> {
     ghost use Rattle.std.specs.Prelude.{◌≡◌, ◌<◌, ◌≤◌, ◌∷◌, [], IfOk, OnOk, take, drop, length, All};
-    ghost use Rattle.choice_problem.specs.Bounds.{IsVector};
+    ghost use Rattle.choice_problem.specs.Bounds.{AreRanges, IsVector};
     ghost use Rattle.choice_problem.specs.Greedy.{IsGreedyCost};
     ghost use Rattle.price_table.specs.Tables.{IsTableFor, vectors_of};
     ghost use Rattle.search_workers.specs.declared.outcomes.TheConstants.{MOST_LISTED};
     ghost use Rattle.search_workers.specs.Outcomes.{AreFurther};
     ghost use Rattle.search_workers.specs.Settings.{IsSetting, IsWider, root_of};
 
-    // The task of a problem with these further vectors. It computes the root vector.
+    // The task of a walk's problem with these further vectors. It computes the root vector.
     pub(crate) fn new(
         alloc: Global,
-        problem: &'a Problem,
+        problem: &Problem,
+        walk: Walk<'a>,
         greedy: Option<u64>,
         further: &[Vector],
     ) -> Result<Task<'a>, Memory>
+        requires walk { walk.problem ≡ problem.now }
         requires greedy { IsGreedyCost problem.now greedy }
         requires further { AreFurther problem.now further.now }
         ensures problem { IfOk result (λ task. task.problem ≡ problem.now) }
@@ -63,7 +71,7 @@ impl<'a> Task<'a> {
         tables.push(price_table(alloc, problem, &root)?)?;
         push_tables(alloc, problem, further, &mut tables)?;
         Ok(Task {
-            problem,
+            walk,
             greedy,
             tables,
             given: further.len(),
@@ -74,14 +82,23 @@ impl<'a> Task<'a> {
     pub(crate) fn problem(&self) -> &'a Problem
         ensures { result.now ≡ self.now.problem }
     {
-        self.problem
+        self.walk.problem()
+    }
+
+    // A walk of the problem at these ranges.
+    pub(crate) fn walk_at(&self, alloc: Global, ranges: Ranges) -> Result<Walk<'a>, Memory>
+        requires { AreRanges self.now.problem ranges }
+        ensures problem { IfOk result (λ walk. walk.problem ≡ self.now.problem) }
+        ensures ranges { IfOk result (λ walk. walk.ranges ≡ ranges) }
+    {
+        self.walk.copy_at(alloc, ranges)
     }
 
     // What is known of the task.
     pub(crate) fn known(&self)
         ensures { IsSetting self.now }
     {
-        let _ = &self.problem;
+        let _ = &self.walk;
     }
 
     pub(crate) fn tables(&self) -> &[PriceTable]
@@ -116,7 +133,7 @@ impl<'a> Task<'a> {
         {
             return Ok(());
         }
-        let table = price_table(alloc, self.problem, vector)?;
+        let table = price_table(alloc, self.walk.problem(), vector)?;
         self.tables.push(table)?;
         self.prices = prices;
         Ok(())

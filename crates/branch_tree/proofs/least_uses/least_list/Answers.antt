@@ -1,12 +1,11 @@
-use Rattle.std.proofs.Common.{◌≡◌, ℕ, ◌<◌, ◌≤◌, ◌∙◌, arith, refl, inl, inr, Bool, true, length}
+use Rattle.std.proofs.Common.{◌≡◌, ℕ, ◌≤◌, ◌∙◌, arith, inl, inr, Bool, true, length}
 use Rattle.std.specs.Prelude.{vec_len, slice_index, ◌==◌}
 use Rattle.std.proofs.lemmas.Grind.{common_steps}
 use Rattle.std.proofs.lemmas.Bool.{cases_lt}
 use Rattle.finite_sums.specs.Sums.{least_within}
 use Rattle.choice_problem.specs.Problems.{ProblemView, alt_uses}
-use Rattle.finite_sums.proofs.SumLemmas.{least_within-le, least_within-ge, least_within-one}
+use Rattle.finite_sums.proofs.SumLemmas.{least_within-le, least_within-ge}
 use Rattle.branch_tree.specs.Lists.{times_in}
-use Rattle.branch_tree.specs.Rows.{two_uses}
 use Rattle.branch_tree.proofs.ListLemmas.{times-empty}
 use Rattle.branch_tree.proofs.RowLemmas.{least_within-part}
 use Rattle.branch_tree.proofs.least_uses.least_list.Goals as goal
@@ -14,44 +13,55 @@ use Rattle.branch_tree.proofs.least_uses.least_list.Goals as goal
 few_least : (p : ProblemView) (u low high : ℕ) → low ≤ high → ((r : ℕ) → alt_uses p u low r ≤ 434) → (r : ℕ) → least_within low high (λ a. alt_uses p u a r) ≤ 434
 few_least p u low high l h = λ r. omega (arith, least_within-le low high low (λ a. alt_uses p u a r) (omega arith) l, h r)
 
+pub returns-in_err-first-clause-few : goal.returns-in_err-first-clause-few
+returns-in_err-first-clause-few c = few_least c.args.problem.now c.args.unit c.args.low c.args.high c.requires.ordered c.in_err-first.ensures.few
+
 pub returns-in_err-list-clause-few : goal.returns-in_err-list-clause-few
-returns-in_err-list-clause-few c = few_least c.args.problem.now c.args.unit c.args.low c.args.high c.requires.ordered c.in_err-list.ensures.few
+returns-in_err-list-clause-few c = few_least c.args.problem.now c.args.unit c.args.low c.args.high c.requires.ordered c.in_ok-first.ensures.few
 
 pub returns-in_err-twos-clause-few : goal.returns-in_err-twos-clause-few
-returns-in_err-twos-clause-few c = few_least c.args.problem.now c.args.unit c.args.low c.args.high c.requires.ordered c.in_ok-list.ensures.few
+returns-in_err-twos-clause-few c = few_least c.args.problem.now c.args.unit c.args.low c.args.high c.requires.ordered c.in_ok-first.ensures.few
 
 pub returns-in_err-move_twos-clause-few : goal.returns-in_err-move_twos-clause-few
-returns-in_err-move_twos-clause-few c = few_least c.args.problem.now c.args.unit c.args.low c.args.high c.requires.ordered c.in_ok-list.ensures.few
+returns-in_err-move_twos-clause-few c = few_least c.args.problem.now c.args.unit c.args.low c.args.high c.requires.ordered c.in_ok-first.ensures.few
 
-pub returns-in_err-uses-clause-few : goal.returns-in_err-uses-clause-few
-returns-in_err-uses-clause-few c = few_least c.args.problem.now c.args.unit c.args.low c.args.high c.requires.ordered c.in_ok-list.ensures.few
+pub returns-in_err-lower_row-clause-few : goal.returns-in_err-lower_row-clause-few
+returns-in_err-lower_row-clause-few c = few_least c.args.problem.now c.args.unit c.args.low c.args.high c.requires.ordered c.in_ok-first.ensures.few
 
 pub returns-then-is_empty-clause-few : goal.returns-then-is_empty-clause-few
-returns-then-is_empty-clause-few c = few_least c.args.problem.now c.args.unit c.args.low c.args.high c.requires.ordered c.in_ok-list.ensures.few
+returns-then-is_empty-clause-few c = few_least c.args.problem.now c.args.unit c.args.low c.args.high c.requires.ordered c.in_ok-first.ensures.few
 
 pub returns-clause-few : goal.returns-clause-few
-returns-clause-few c = few_least c.args.problem.now c.args.unit c.args.low c.args.high c.requires.ordered c.in_ok-list.ensures.few
+returns-clause-few c = few_least c.args.problem.now c.args.unit c.args.low c.args.high c.requires.ordered c.in_ok-first.ensures.few
+
+pub twos_of-requires-clause-list : goal.twos_of-requires-clause-list
+twos_of-requires-clause-list c = rw c.deref-2.ensures.value c.in_ok-list.ensures.within
+
+pub move_twos-requires-clause-list : goal.move_twos-requires-clause-list
+move_twos-requires-clause-list c = rw c.deref-in-loop-done.ensures.value c.loop-done.invariant.within
 
 pub loop-done-init : goal.loop-done-init
 loop-done-init c =
     let p = c.args.problem.now in
     let u = c.args.unit in
+    let list = rw c.deref.ensures.value at c.in_ok-list.ensures.places in
     record {
       from = omega arith;
       to = omega arith;
       ordered = omega arith;
       there = c.requires.there;
-      twos_are = λ i n. omega (arith, c.in_ok-twos.ensures.listed i n, least_within-one c.args.high (λ a. two_uses p u a (slice_index c.args.listed.now i)));
+      twos_are = rw c.deref-2.ensures.value at c.in_ok-twos.ensures.twos;
       twos_within = c.in_ok-twos.ensures.within;
       above = λ i n. omega (
         arith,
         least_within-le c.args.low c.args.high c.args.low (λ a. alt_uses p u a (slice_index c.args.listed.now i)) (omega arith) c.requires.ordered,
-        c.in_ok-list.ensures.listed i n,
+        list i,
+        c.in_ok-first.ensures.uses i n,
       );
-      first = λ i n. omega (arith, c.in_ok-list.ensures.listed i n);
+      first = λ i n. omega (arith, list i, c.in_ok-first.ensures.uses i n);
       tried = λ a i n l m. absurd (omega arith);
       within = c.in_ok-list.ensures.within;
-      same = refl;
+      same = c.in_ok-twos.ensures.same;
     }
 
 zero_is : (n : ℕ) (b : Bool) → b ≡ (n == 0) → b ≡ true → n ≡ 0
@@ -64,26 +74,11 @@ returns-then-is_empty-clause-least c = λ i n.
     let nothing : length list.items ≡ 0 = omega arith in
     omega (arith, times-empty list.items i nothing, c.loop-done.invariant.above i n)
 
-pub row_list-requires-clause-within : goal.row_list-requires-clause-within
-row_list-requires-clause-within c = rw c.deref.ensures.value c.in_ok-move_twos.ensures.within
+pub lower_row-requires-clause-twos : goal.lower_row-requires-clause-twos
+lower_row-requires-clause-twos c = rw c.deref-in-loop-done-2.ensures.value (rw c.deref-in-loop-done.ensures.value at c.in_ok-move_twos.ensures.twos)
 
-pub lower-requires-clause-within : goal.lower-requires-clause-within
-lower-requires-clause-within c = λ r h. omega (arith, c.loop-done.invariant.within r h)
-
-pub lower-requires-clause-other_within : goal.lower-requires-clause-other_within
-lower-requires-clause-other_within c = rw c.deref-in-loop-done.ensures.value (λ r h. omega (arith, c.in_ok-uses.ensures.within r h))
-
-pub lower-requires-clause-few : goal.lower-requires-clause-few
-lower-requires-clause-few c = rw c.deref-in-loop-done.ensures.value (λ i l.
-    let next = c.row_before-next.result in
-    let r = slice_index c.args.listed.now i in
-    let n : i < length c.args.listed.now = omega arith in
-    omega (
-      arith,
-      c.in_ok-uses.ensures.least i n,
-      least_within-le next.first next.last next.last (λ a. alt_uses c.args.problem.now c.args.unit a r) (omega arith) (omega arith),
-      c.in_ok-uses.ensures.few r,
-    ))
+pub lower_row-requires-clause-within : goal.lower_row-requires-clause-within
+lower_row-requires-clause-within c = rw c.deref-in-loop-done-2.ensures.value c.in_ok-move_twos.ensures.within
 
 pub loop-done-preserved : goal.loop-done-preserved
 loop-done-preserved c =
@@ -91,33 +86,32 @@ loop-done-preserved c =
     let u = c.args.unit in
     let i = c.loop-done.invariant in
     let next = c.row_before-next.result in
-    let lowered = rw c.deref-in-loop-done.ensures.value at c.lower.ensures.lowered in
+    let lowered = c.in_ok-lower_row.ensures.lowered in
+    let twos = rw c.deref-in-loop-done.ensures.value at c.in_ok-move_twos.ensures.twos in
     record {
       from = c.row_before-next.ensures.from;
       to = omega (arith, i.to, c.row_before-next.ensures.some);
       ordered = omega (arith, c.row_before-next.ensures.some, c.row_before-next.ensures.last);
       there = omega (arith, c.row_before-next.ensures.last, i.to, c.requires.there, c.loop-done-test.true);
-      twos_are = c.in_ok-move_twos.ensures.twos;
+      twos_are = record { most = twos.most; enough = λ k n. omega (arith, twos.enough k n, lowered k n) };
       twos_within = c.in_ok-move_twos.ensures.within;
       above = λ k n. omega (
         arith,
         i.above k n,
-        lowered k,
-        c.in_ok-uses.ensures.least k n,
+        lowered k n,
         least_within-part c.args.low c.args.high next.first next.last (λ a. alt_uses p u a (slice_index c.args.listed.now k)) (omega arith) (omega arith) (omega arith),
       );
-      first = λ k n. omega (arith, i.first k n, lowered k);
+      first = λ k n. omega (arith, i.first k n, lowered k n);
       tried = λ a k n l m. elim (cases_lt a c.loop-done.done) [
         | inl inside ↦ omega (
           arith,
-          lowered k,
-          c.in_ok-uses.ensures.least k n,
+          lowered k n,
           least_within-le next.first next.last a (λ b. alt_uses p u b (slice_index c.args.listed.now k)) l (omega (arith, inside, c.row_before-next.ensures.last)),
         )
-        | inr after ↦ omega (arith, lowered k, i.tried a k n after m)
+        | inr after ↦ omega (arith, lowered k n, i.tried a k n after m)
       ];
-      within = λ r h. omega (arith, c.lower.ensures.within r h);
-      same = c.lower.ensures.same ∙ (c.in_ok-move_twos.ensures.same ∙ i.same);
+      within = c.in_ok-lower_row.ensures.within;
+      same = c.in_ok-lower_row.ensures.same ∙ (c.in_ok-move_twos.ensures.same ∙ i.same);
     }
 
 pub returns-clause-least : goal.returns-clause-least

@@ -11,7 +11,7 @@ invariant-loop-done l = record {
   to : l.done ≤ l.high + 1;
   ordered : l.row.first ≤ l.row.last;
   there : l.row.last < alt_count l.problem l.unit;
-  twos_are : AreLeastTwos l.problem l.listed l.unit l.row.first l.row.last l.twos.items;
+  twos_are : AreLeastTwos l.problem l.listed l.unit l.row.first l.row.last l.list.items l.twos.items;
   twos_within : AreWithin (length l.listed) l.twos.items;
   above : (i : ℕ) → i < length l.listed → least_within l.low l.high (λ a. alt_uses l.problem l.unit a (slice_index l.listed i)) ≤ times_in l.list.items i;
   first : (i : ℕ) → i < length l.listed → times_in l.list.items i ≤ alt_uses l.problem l.unit l.low (slice_index l.listed i);

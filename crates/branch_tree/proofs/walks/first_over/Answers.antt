@@ -2,12 +2,13 @@ use Rattle.std.proofs.Common.{arith}
 use Rattle.branch_tree.proofs.PassableLemmas.{first_place-IsFirstOver, none_listed-none_over}
 use Rattle.branch_tree.proofs.walks.first_over.Goals as goal
 
-pub returns-then-least-place-clause-some : goal.returns-then-least-place-clause-some
-returns-then-least-place-clause-some c =
-    first_place-IsFirstOver c.args.problem.now c.args.ranges.now c.args.passable.now c.requires.ranges c.requires.passable c.args.least.now c.args.limits.now c.requires.least c.requires.limits c.loop-place.place
-    c.loop-place-test.true (omega arith) c.loop-place.invariant
-
-pub returns-clause-none : goal.returns-clause-none
-returns-clause-none c =
+pub returns-in_err-place-clause-none : goal.returns-in_err-place-clause-none
+returns-in_err-place-clause-none c = rw c.from_residual.ensures (
     none_listed-none_over c.args.problem.now c.args.ranges.now c.args.passable.now c.requires.ranges c.requires.passable c.args.least.now c.args.limits.now c.requires.least c.requires.limits
-    (λ i l. c.loop-place.invariant i (omega (arith, l, c.loop-place-test.false)))
+    (λ i l. c.in_err-place.ensures.none i (omega (arith, l, c.requires.count))))
+
+pub returns-clause-some : goal.returns-clause-some
+returns-clause-some c =
+    let above = c.in_ok-place.ensures.some in
+    first_place-IsFirstOver c.args.problem.now c.args.ranges.now c.args.passable.now c.requires.ranges c.requires.passable c.args.least.now c.args.limits.now c.requires.least c.requires.limits c.in_ok-place.place
+    (omega (arith, above.there, c.requires.count)) above.above above.before

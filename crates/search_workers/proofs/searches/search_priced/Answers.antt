@@ -1,7 +1,8 @@
-use Rattle.std.proofs.Common.{◌≡◌, ◌∙◌, Some}
+use Rattle.std.proofs.Common.{◌≡◌, ◌≤◌, ◌∙◌, Some, length}
 use Rattle.std.proofs.lemmas.Result.{IfOk-weaker}
 use Rattle.choice_problem.specs.Choices.{choice_cost}
 use Rattle.search_workers.proofs.CostLemmas.{at_most_trans}
+use Rattle.search_workers.proofs.FinishLemmas.{given_wider}
 use Rattle.search_workers.proofs.searches.search_priced.Goals as goal
 
 pub returns-clause-start : goal.returns-clause-start
@@ -17,3 +18,16 @@ returns-clause-start g c =
     h' x f (at_most_trans three start (Some (choice_cost p x))
     (at_most_trans three two start c.in_ok-state-3.ensures.fell (at_most_trans two one start c.in_ok-state-2.ensures.fell c.in_ok-state.ensures.fell)) a))
     c.finish.ensures.start
+
+pub first_visit-requires-clause-start : goal.first_visit-requires-clause-start
+first_visit-requires-clause-start g c = rw c.in_ok-task.ensures.problem c.requires.start
+
+pub finish-requires-clause-given : goal.finish-requires-clause-given
+finish-requires-clause-given g c =
+    let some : 1 ≤ length c.in_ok-task.task.vectors = rw (← c.task.view_is) c.task.invariant.setting.some in
+    given_wider c.in_ok-task.task c.run.new.task c.args.further.now some c.in_ok-state-3.ensures.wider c.in_ok-task.ensures.further
+
+pub returns-clause-outcome : goal.returns-clause-outcome
+returns-clause-outcome g c =
+    let same : c.run.new.task.problem ≡ c.args.problem.now = c.in_ok-state-3.ensures.wider.problem ∙ c.in_ok-task.ensures.problem in
+    rw same at c.finish.ensures.outcome

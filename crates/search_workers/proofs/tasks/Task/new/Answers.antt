@@ -21,5 +21,5 @@ invariant_of-result c =
     let first : c.push.new.self.items ≡ t ∷ [] = search rules in
     let is : vectors_of tables ≡ t.prices ∷ given = c.in_ok-push_tables.ensures.vectors ∙ ap (λ l. vectors_of l ++ given) first in
     let root : IsRootVector p t.prices = rw c.in_ok-price_table.ensures.vector c.in_ok-root.ensures.root in
-    (tables_new p c.args.greedy t tables given c.count_prices.result c.requires.greedy root c.in_ok-price_table.ensures.valid.vector
+    rw c.requires.walk (tables_new p c.args.greedy t tables given c.count_prices.result c.requires.greedy root c.in_ok-price_table.ensures.valid.vector
     c.in_ok-push_tables.ensures.valid is c.requires.further c.count_prices.ensures)

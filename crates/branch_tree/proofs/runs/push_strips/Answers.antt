@@ -3,7 +3,7 @@ use Rattle.std.proofs.lemmas.List.Sums.{sum_by_more}
 use Rattle.std.specs.Prelude.{slice_index}
 use Rattle.choice_problem.specs.declared.strips.Strip.{Strip}
 use Rattle.choice_problem.specs.Strips.{strip_uses}
-use Rattle.branch_tree.proofs.listing.push_strips.Goals as goal
+use Rattle.branch_tree.proofs.runs.push_strips.Goals as goal
 
 pub loop-strip-preserved : goal.loop-strip-preserved
 loop-strip-preserved c = record {
@@ -13,5 +13,5 @@ loop-strip-preserved c = record {
     c.in_ok-push_strip.ensures.uses i l,
     c.loop-strip.invariant.uses i l,
   );
-  within = c.in_ok-push_strip.ensures.within;
+  below = c.in_ok-push_strip.ensures.below;
 }
