@@ -115,7 +115,7 @@ fn priced_cost(alt: &Alt, prices: &[u128], scale: u64) -> u128
 }
 
 // The prices of the parts that an alternative names, together.
-pub(crate) fn named_prices(alt: &Alt, prices: &[u128]) -> u128
+fn named_prices(alt: &Alt, prices: &[u128]) -> u128
     requires one { ForSome alt.now.one (λ k. k < length prices.now) }
     requires two { ForSome alt.now.two (λ k. k < length prices.now) }
     requires uses { named_price prices.now alt.now.one

@@ -6,7 +6,6 @@ ghost use Rattle.choice_problem.specs.Bounds.{IsVector};
 ghost use Rattle.price_table.specs.Tables.{IsTableFor};
 ghost use Rattle.price_table.specs.Strips.{IsSpread, AreSumsOf};
 
-use crate::bounds::named_prices;
 use crate::strips::{StripPrices, UnitPrices};
 use choice_problem::{Problem, Vector, priced_limits};
 use slot_text::Memory;
@@ -35,27 +34,12 @@ impl Model for PriceTable {
 
 impl PriceTable {
     ghost use Rattle.std.specs.Prelude.{◌≡◌, ◌<◌, ◌^◌, length, slice_index_or, []};
-    ghost use Rattle.choice_problem.specs.Problems.{unit_count, alt_count, alt_uses};
-    ghost use Rattle.choice_problem.specs.Bounds.{priced};
-    ghost use Rattle.price_table.specs.Tables.{IsTableFor};
 
     /// The vector whose table it is.
     pub fn vector(&self) -> &Vector
         ensures { result.now ≡ self.now.prices }
     {
         &self.vector
-    }
-
-    /// What the uses of a unit's alternative cost: two look-ups.
-    pub fn uses_price(&self, problem: &Problem, unit: u32, alt: u32) -> u128
-        requires table { IsTableFor problem.now self.now }
-        requires unit { unit < unit_count problem.now }
-        requires alt { alt < alt_count problem.now unit }
-        ensures value { result ≡ priced self.now.prices (λ r. alt_uses problem.now unit alt r) }
-        ensures small { result < 2 ^ 100 }
-    {
-        let alts = problem.unit_alts(unit);
-        named_prices(&alts[alt as usize], self.unit(unit))
     }
 
     pub(crate) fn unit(&self, unit: u32) -> &[u128]

@@ -107,9 +107,9 @@ impl Counts {
         add_both(&mut self.counts, one, two, limits)
     }
 
-    /// Whether there is room for one more use of each resource that the part uses: whether its count is below its limit.
-    /// One step for each use and each of the part's strips, and none after the first resource that has no room.
-    pub fn has_room(&self, part: &Part, limits: &[i64]) -> bool
+    // Whether there is room for one more use of each resource that the part uses: whether its count is below its limit.
+    // One step for each use and each of the part's strips, and none after the first resource that has no room.
+    pub(crate) fn has_room(&self, part: &Part, limits: &[i64]) -> bool
         requires there { IsPartInRange (length self.now) part.now }
         requires limits { length limits.now ≡ length self.now }
         ensures { IsTrue result
