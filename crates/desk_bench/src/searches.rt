@@ -1,24 +1,28 @@
 //! Searches by workers: of a ring of units that exclude each other, by one and by four workers, and
-//! of a season, for the time of a visit.
+//! of two seasons, for the time of a visit.
 
 ghost use Rattle.std.specs.Prelude.{◌≤◌};
 
 use crate::report::{Size, millis_since, print_row, step};
 use crate::seasons::count_visited;
 use crate::stages::last_problem;
+use crate::texts::submission_of;
 use choice_problem::{Alt, Chooser, Node, Part, Problem, Strip};
 use desk_outside::RealGate;
 use dual_bound::root_vector;
 use search_workers::{Outcome, search};
+use season_maker::make_season;
 use slot_text::Memory;
 use std::alloc::Global;
 use std::io::Print;
 use std::thread::Threads;
 use std::time::{Clock, Instant};
+use wasg_stages::{problem_after, states_of};
 
-/// Searches a ring of 100 units with a budget of 120,000 visits by one and by four workers, and a
-/// season of 138 daily turnarounds with a budget of 20,000 by one. Prints how many nodes were
-/// visited, and at full size the times, and that of the root vector, which each search makes.
+/// Searches a ring of 100 units with a budget of 120,000 visits by one and by four workers; and a
+/// season of 138 daily turnarounds, and the 138 units of stage 4 of a generated one, with a budget of
+/// 20,000 by one. Prints how many nodes were visited, and at full size the times, and that of the
+/// root vector, which each search makes.
 pub fn run<R: Threads + Sync + Print + Clock>(
     rt: &R,
     alloc: Global,
@@ -35,34 +39,41 @@ pub fn run<R: Threads + Sync + Print + Clock>(
         let share = together.saturating_mul(100) / alone.max(1);
         print_row(rt, "searches: four workers", &[("per cent of one", share)])?;
     }
-    search_season(rt, alloc, size)
+    let (units, window, requests) = match size {
+        Size::Short => (8, b"CAP TOT 60 0000 2355 1234567 1\n".as_slice(), 40),
+        Size::Full => (138, b"CAP TOT 60 0000 2355 1234567 17\n".as_slice(), 184),
+    };
+    let daily = last_problem(alloc, units, *b"NNNN", 5, window)?;
+    search_season(rt, alloc, size, &daily)?;
+    let generated = generated_problem(alloc, requests)?;
+    search_season(rt, alloc, size, &generated)
 }
 
-// Makes the root vector of a season, and searches the season by one worker.
+// The problem of stage 4 of a generated season, where no unit got anything before: it has three
+// quarters of the units.
+fn generated_problem(alloc: Global, units: u32) -> Result<Problem, Memory> {
+    let (capacity, requests) = make_season(alloc, 7, units.min(4_096))?;
+    let made = submission_of(alloc, &capacity, &requests)?.ok_or(Memory)?;
+    let states = states_of(alloc, &made)?;
+    problem_after(alloc, &made, 4, &states)
+}
+
+// Makes the root vector of a problem, and searches it by one worker.
 fn search_season<R: Threads + Sync + Print + Clock>(
     rt: &R,
     alloc: Global,
     size: Size,
+    problem: &Problem,
 ) -> anyhow::Result<()> {
-    let problem = match size {
-        Size::Short => last_problem(alloc, 8, *b"NNNN", 5, b"CAP TOT 60 0000 2355 1234567 1\n")?,
-        Size::Full => last_problem(
-            alloc,
-            138,
-            *b"NNNN",
-            5,
-            b"CAP TOT 60 0000 2355 1234567 17\n",
-        )?,
-    };
     let start = Instant::now(rt)?;
-    let vector = root_vector(alloc, &problem)?;
+    let vector = root_vector(alloc, problem)?;
     step(rt, size, "root_vector", start)?;
     print_row(rt, "searches", &[("prices", vector.items().len() as u64)])?;
     let budget = match size {
         Size::Short => 20,
         Size::Full => 20_000,
     };
-    search_by(rt, alloc, size, &problem, budget, 1)?;
+    search_by(rt, alloc, size, problem, budget, 1)?;
     Ok(())
 }
 
