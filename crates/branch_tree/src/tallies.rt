@@ -9,7 +9,7 @@ ghost use Rattle.window_counts.specs.Placed.{AreZero};
 
 use crate::runs::Run;
 
-// Adds one to the count of each listed resource.
+// Adds one to the count of each listed place.
 pub(crate) fn add_list(counts: &mut [u32], list: &[u32])
     requires within { AreWithin (length counts.old) list.now }
     requires room { HasRoom counts.old (λ r. times_in list.now r) }
@@ -20,7 +20,7 @@ pub(crate) fn add_list(counts: &mut [u32], list: &[u32])
     }
 }
 
-// Takes one from the count of each listed resource.
+// Takes one from the count of each listed place.
 pub(crate) fn take_list(counts: &mut [u32], list: &[u32])
     requires within { AreWithin (length counts.old) list.now }
     requires held { HasListed counts.old list.now }
@@ -99,7 +99,7 @@ pub(crate) fn lower(list: &mut Vec<u32>, runs: &[Run], other: &[u32], zeros: &mu
     take_runs(zeros, runs);
 }
 
-// Keeps of the list each resource at most as often as its count says, and takes what is kept from the counts.
+// Keeps of the list each place at most as often as its count says, and takes what is kept from the counts.
 pub(crate) fn keep(list: &mut Vec<u32>, counts: &mut [u32])
     requires { AreWithin (length counts.old) list.old.items }
     ensures kept { (r : ℕ) → times_in list.new.items r

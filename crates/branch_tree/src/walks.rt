@@ -30,8 +30,8 @@ use window_counts::{Counts, add_choice};
 /// these. Where a range changes, what changes with it is counted anew, and nothing else. Contracts see the problem and the
 /// ranges.
 ///
-/// Memory: 4 bytes a resource (8 in `of`), 20 bytes a resource that can be passed, and for each unit 44 bytes and up to 8
-/// a use that the first alternative in its range has of those.
+/// Memory: 4 bytes a resource (8 while it is made), 20 bytes a resource that can be passed, and for each unit up to 76 bytes
+/// and 8 a use that the first alternative in its range has of those.
 #[derive(Drop)]
 pub struct Walk<'a> {
     problem: &'a Problem,

@@ -192,7 +192,7 @@ fn closes_whole(
     if !has_few_nodes(tree, budget) {
         return Ok(false);
     }
-    if !are_listable(vectors) {
+    if !are_listable(vectors.items()) {
         return Ok(false);
     }
     match tables_of(alloc, problem, vectors.items())? {
@@ -208,13 +208,12 @@ fn has_few_nodes(tree: &Tree, budget: u32) -> bool
     tree.items().len() < 1 << 32 && count_nodes(tree) <= budget
 }
 
-// Whether vectors keep the limits on their number and on their prices.
-fn are_listable(vectors: &VectorList) -> bool
+/// Whether vectors keep the limits on their number and on their prices.
+pub(crate) fn are_listable(vectors: &[Vector]) -> bool
     ensures few { IsTrue result → length vectors.now ≤ 64 }
     ensures prices { IsTrue result →
         sum_by (λ (prices : List Price). length prices) (drop 1 vectors.now) ≤ 1000000 }
 {
-    let vectors = vectors.items();
     vectors.len() <= MOST_LISTED && are_few_prices(after_first(vectors))
 }
 

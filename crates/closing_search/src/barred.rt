@@ -15,7 +15,7 @@ pub(crate) fn barred_alts(
     for unit in 0..problem.units() {
         let alts = problem.unit_alts(unit);
         let first = reduced.first_part(unit);
-        let is_left = has_open(reduced, first, alts);
+        let is_left = has_unbarred(reduced, first, alts);
         for alt in alts {
             barred.push(is_left && is_barred(reduced, first, alt))?;
         }
@@ -24,7 +24,7 @@ pub(crate) fn barred_alts(
 }
 
 // Whether some alternative of a unit uses no resource of limit 0.
-fn has_open(reduced: &Reduced, first: u32, alts: &[Alt]) -> bool {
+fn has_unbarred(reduced: &Reduced, first: u32, alts: &[Alt]) -> bool {
     for alt in alts {
         if !is_barred(reduced, first, alt) {
             return true;

@@ -47,7 +47,9 @@ fn visit(
         End::Solved => bound_or_split(alloc, task, state, open),
         End::Infeasible => close_empty(alloc, task, state, &open),
         End::Above => {
-            if close_bounded(alloc, task, state, &open)? {
+            let pricing = prices_of(alloc, task, &open)?;
+            if state.is_closed_by(task, &open, &pricing) {
+                state.close_by(&open, pricing)?;
                 return Ok(true);
             }
             split_bounded(alloc, task, state, open)
@@ -104,23 +106,18 @@ fn close_empty(
         let relaxation = &open.relaxation;
         let vector = relaxation.ray(alloc, task.problem, task.program, greatest)?;
         let pricing = Pricing::new(alloc, task.reduced, vector, 0)?;
-        if state.close_by(task, open, pricing)? {
+        if state.is_closed_by(task, open, &pricing) {
+            state.close_by(open, pricing)?;
             return Ok(true);
         }
     }
     Ok(false)
 }
 
-// Closes a node whose relaxation is above the cost.
-fn close_bounded(
-    alloc: Global,
-    task: &Task<'_>,
-    state: &mut State,
-    open: &Open,
-) -> Result<bool, Memory> {
+// The prices of a node's relaxation.
+fn prices_of(alloc: Global, task: &Task<'_>, open: &Open) -> Result<Pricing, Memory> {
     let vector = open.relaxation.vector(alloc, task.problem, task.program)?;
-    let pricing = Pricing::new(alloc, task.reduced, vector, 1_024)?;
-    state.close_by(task, open, pricing)
+    Pricing::new(alloc, task.reduced, vector, 1_024)
 }
 
 // Closes or splits a node whose relaxation is solved.
@@ -130,19 +127,23 @@ fn bound_or_split(
     state: &mut State,
     open: Open,
 ) -> Result<bool, Memory> {
-    let is_near = open.relaxation.value() > state.enough() - 0.02;
-    if is_near && close_bounded(alloc, task, state, &open)? {
+    let pricing = prices_of(alloc, task, &open)?;
+    if state.is_closed_by(task, &open, &pricing) {
+        state.close_by(&open, pricing)?;
         return Ok(true);
     }
     let shares = open.relaxation.shares(alloc, task.program)?;
     if let Some(split) = best_split(alloc, task, state, &open, &shares)? {
-        let vector = open.relaxation.vector(alloc, task.problem, task.program)?;
-        state.take_pricing(Pricing::new(alloc, task.reduced, vector, 1_024)?)?;
+        state.take_pricing(pricing)?;
         return divide(alloc, task, state, open, split);
     }
     let choice = rounded(alloc, task, &open.relaxation, &shares)?;
     state.take(alloc, task.problem, choice)?;
-    close_bounded(alloc, task, state, &open)
+    let is_closed = state.is_closed_by(task, &open, &pricing);
+    if is_closed {
+        state.close_by(&open, pricing)?;
+    }
+    Ok(is_closed)
 }
 
 // Splits a node. The part whose bound seems to rise less is searched first.

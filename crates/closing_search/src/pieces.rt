@@ -17,8 +17,8 @@ struct Piece {
 }
 
 /// The nodes, in preorder, of a tree of ranges whose leaves the vectors close, at most so many, and the vectors that the
-/// leaves name, as bits; none where an entry is open or the nodes are too few. A split by uses becomes as many splits of
-/// ranges as the alternatives of its two parts take turns there, and what follows it stands in each of these ranges.
+/// leaves name, as bits; none where an entry is open or so many nodes do not suffice. A split by uses becomes at most as many
+/// splits of ranges as the alternatives of its two parts take turns there, and what follows it stands in each of these ranges.
 pub(crate) fn nodes_of(
     alloc: Global,
     task: &Task<'_>,

@@ -52,18 +52,17 @@ fn alt_uses(reduced: &Reduced, first: u32, alt: &Alt, class: u32) -> i64 {
 // How often the part that an alternative may name uses a class.
 fn named_uses(reduced: &Reduced, first: u32, part: Option<u32>, class: u32) -> i64 {
     match part {
-        Some(number) => part_uses(reduced, first.saturating_add(number), class),
+        Some(number) => uses_of_part(reduced, first.saturating_add(number), class),
         None => 0,
     }
 }
 
 /// How often a part uses a class.
-pub(crate) fn part_uses(reduced: &Reduced, part: u32, class: u32) -> i64 {
-    let mut uses: i64 = 0;
+pub(crate) fn uses_of_part(reduced: &Reduced, part: u32, class: u32) -> i64 {
     for entry in reduced.part_uses(part) {
         if entry.class == class {
-            uses = i64::from(entry.uses);
+            return i64::from(entry.uses);
         }
     }
-    uses
+    0
 }

@@ -9,7 +9,7 @@ use crate::accepted::{Found, accepted, known_best};
 use crate::barred::barred_alts;
 use crate::closed::Ending;
 use crate::quotas::quotas_of;
-use crate::states::{NEVER, ROOT_PIVOTS, Task};
+use crate::states::{NEVER, Task};
 use crate::trees::{MOST_NODES, search_tree};
 use crate::unpriced::unpriced;
 use choice_problem::{Choice, Problem, Vector};
@@ -18,6 +18,9 @@ use relaxed_problem::{Program, Relaxation};
 use slot_text::Memory;
 use std::alloc::Global;
 
+// The most pivots of the first relaxation.
+const ROOT_PIVOTS: u32 = 50_000;
+
 /// A best choice of the problem, or that it has none, with a tree of at most `budget` nodes that proves it; or what is known
 /// where this was not found, of which nothing is promised: neither that a problem of some kind is closed, nor how much is
 /// tried, nor how good the choice and the vector are.
@@ -25,12 +28,12 @@ use std::alloc::Global;
 /// A start is a feasible choice: what is answered costs no more.
 ///
 /// It is a branch and bound by the linear relaxation over the resources that matter. A node is closed by a vector that
-/// closed another, or by its own prices or ray, rounded; else it is split where the relaxation takes shares of several
+/// is there already, or by its own prices or ray, rounded; else it is split where the relaxation takes shares of several
 /// alternatives, at the unit whose two parts gain most in some pivots (strong branching: Applegate, Bixby, Chvátal and Cook
 /// 1995, "Finding cuts in the TSP"), by its uses of a quota where these differ (branching on sets: Beale and Tomlin 1970,
 /// "Special facilities in a general mathematical programming system for non-convex problems using ordered sets of
 /// variables"). In the end a tree whose splits cut ranges is made of it. Its work is bounded by counts of nodes and pivots,
-/// and the same problem and start give the same answer. The test at its end takes one step an alternative for each leaf.
+/// and the same problem, start and budget give the same answer. The test at its end takes one step an alternative for each leaf.
 pub fn closing_search(
     alloc: Global,
     problem: &Problem,

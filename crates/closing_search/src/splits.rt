@@ -1,14 +1,14 @@
 //! Where a search splits a node: at a unit of whose alternatives the relaxation takes shares, so that both parts have a
 //! greater bound.
 
-use crate::rules::{Rule, part_uses};
+use crate::rules::{Rule, uses_of_part};
 use crate::states::{NEVER, Open, State, Task};
 use relaxed_problem::{End, Relaxation, Share};
 use slot_text::Memory;
 use std::alloc::Global;
 use std::num::saturating_f64_to_i64;
 
-// How many units are looked at, after how many without a better one the rest is not, and by how many pivots for each part.
+// How many splits are looked at, after how many without a better one the rest is not, and by how many pivots for each part.
 const LOOKED_AT: usize = 32;
 
 const LOOKED_ON: u32 = 12;
@@ -41,17 +41,17 @@ pub(crate) fn best_split(
     let mut best = None;
     let mut most = -1.0;
     let mut idle: u32 = 0;
-    for (_, split) in candidates.iter().take(LOOKED_AT) {
+    for candidate in candidates.iter().take(LOOKED_AT) {
         if idle >= LOOKED_ON {
             break;
         }
-        let (low, high) = gains_of(alloc, task, state, open, split, &mut part)?;
+        let (low, high) = gains_of(alloc, task, state, open, &candidate.split, &mut part)?;
         idle = idle.saturating_add(1);
         if low * high > most {
             most = low * high;
             best = Some(Split {
                 is_low_first: low <= high,
-                ..*split
+                ..candidate.split
             });
             idle = 0;
         }
@@ -59,53 +59,63 @@ pub(crate) fn best_split(
     Ok(best)
 }
 
-// The splits by the uses of quotas where there are some and these are to be had, else those by numbers.
+// The splits by the uses of quotas that have prices, where there are some, else those by numbers; those of the units of the
+// smallest greatest share come first.
 fn candidates(
     alloc: Global,
     task: &Task<'_>,
     state: &State,
     relaxation: &Relaxation,
     shares: &[Share],
-) -> Result<Vec<(u64, Split)>, Memory> {
-    if state.is_by_quotas {
-        let found = quota_splits(alloc, task, relaxation, shares)?;
-        if !found.is_empty() {
-            return Ok(found);
-        }
-    }
-    number_splits(alloc, task, relaxation, shares)
-}
-
-// The splits by the uses of quotas, where these have prices.
-fn quota_splits(
-    alloc: Global,
-    task: &Task<'_>,
-    relaxation: &Relaxation,
-    shares: &[Share],
-) -> Result<Vec<(u64, Split)>, Memory> {
+) -> Result<Vec<Candidate>, Memory> {
     let mut found = Vec::new(alloc);
-    for class in task.quotas {
-        if relaxation.is_priced(*class) {
-            add_quota_splits(task, shares, *class, &mut found)?;
+    if state.is_by_quotas {
+        for class in task.quotas {
+            if relaxation.is_priced(*class) {
+                add_splits(task, relaxation, shares, Some(*class), &mut found)?;
+            }
         }
     }
-    found.sort_unstable_by_key(|entry| entry.0);
+    if found.is_empty() {
+        add_splits(task, relaxation, shares, None, &mut found)?;
+    }
+    found.sort_unstable_by_key(|candidate| (candidate.rank, candidate.place));
     Ok(found)
 }
 
-// Adds the splits by the uses of a quota.
-fn add_quota_splits(
+// A split that is looked at, the rank of its unit's greatest share, and its place among those that were found.
+#[derive(Clone, Copy)]
+struct Candidate {
+    rank: u64,
+    place: usize,
+    split: Split,
+}
+
+// Adds the splits of the units of which the relaxation takes several alternatives: by the uses of a class, or by numbers.
+fn add_splits(
     task: &Task<'_>,
+    relaxation: &Relaxation,
     shares: &[Share],
-    class: u32,
-    found: &mut Vec<(u64, Split)>,
+    class: Option<u32>,
+    found: &mut Vec<Candidate>,
 ) -> Result<(), Memory> {
     let mut rest = shares;
     for _ in 0..shares.len() {
         let (group, others) = first_group(rest);
         rest = others;
-        if let Some(split) = split_by_uses(task, group, class) {
-            found.push((rank_of(greatest_share(group)), split))?;
+        let most = greatest_share(group);
+        if group.len() >= 2 && most < WHOLE {
+            let split = match class {
+                Some(class) => split_by_uses(task, group, class),
+                None => Some(split_by_number(task, relaxation, group)),
+            };
+            if let Some(split) = split {
+                found.push(Candidate {
+                    rank: rank_of(most),
+                    place: found.len(),
+                    split,
+                })?;
+            }
         }
     }
     Ok(())
@@ -145,8 +155,8 @@ fn part_below(task: &Task<'_>, group: &[Share], class: u32, least: i64) -> f64 {
 fn share_uses(task: &Task<'_>, share: &Share, class: u32) -> i64 {
     for column in task.program.unit_columns(share.unit) {
         if column.number == share.alt {
-            let one = part_uses(task.reduced, column.one, class);
-            return one.saturating_add(part_uses(task.reduced, column.two, class));
+            let one = uses_of_part(task.reduced, column.one, class);
+            return one.saturating_add(uses_of_part(task.reduced, column.two, class));
         }
     }
     0
@@ -157,29 +167,8 @@ fn size_of(value: f64) -> f64 {
     if value < 0.0 { -value } else { value }
 }
 
-// The splits between the shares of each unit by numbers, those of the smallest greatest share first.
-fn number_splits(
-    alloc: Global,
-    task: &Task<'_>,
-    relaxation: &Relaxation,
-    shares: &[Share],
-) -> Result<Vec<(u64, Split)>, Memory> {
-    let mut found = Vec::new(alloc);
-    let mut rest = shares;
-    for _ in 0..shares.len() {
-        let (group, others) = first_group(rest);
-        rest = others;
-        let most = greatest_share(group);
-        if group.len() >= 2 && most < WHOLE {
-            found.push((rank_of(most), split_between(task, relaxation, group)))?;
-        }
-    }
-    found.sort_unstable_by_key(|entry| entry.0);
-    Ok(found)
-}
-
 // The shares of the first unit, and the others.
-pub(crate) fn first_group(shares: &[Share]) -> (&[Share], &[Share]) {
+fn first_group(shares: &[Share]) -> (&[Share], &[Share]) {
     let mut count: usize = 0;
     for share in shares {
         if share.unit != unit_of(shares) {
@@ -203,7 +192,7 @@ fn unit_of(shares: &[Share]) -> u32 {
 }
 
 // The greatest share.
-pub(crate) fn greatest_share(shares: &[Share]) -> f64 {
+fn greatest_share(shares: &[Share]) -> f64 {
     let mut most = 0.0;
     for share in shares {
         if share.share > most {
@@ -219,7 +208,7 @@ fn rank_of(share: f64) -> u64 {
 }
 
 // The split of a unit that comes nearest to halves of its shares.
-fn split_between(task: &Task<'_>, relaxation: &Relaxation, group: &[Share]) -> Split {
+fn split_by_number(task: &Task<'_>, relaxation: &Relaxation, group: &[Share]) -> Split {
     let mut split = Split {
         unit: unit_of(group),
         rule: Rule::From(1),

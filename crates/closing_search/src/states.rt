@@ -16,10 +16,11 @@ const STEPS_APART: u64 = 5_000;
 
 const STARTING: u64 = 4;
 
-// The most vectors, that without prices among them; and how many there may be while those of split nodes are taken in.
+// The most vectors, that without prices among them: as many as bits tell which of them are used. And how many there may be
+// while those of split nodes are taken in.
 const MOST_PRICINGS: usize = 128;
 
-const MOST_TAKEN: usize = 100;
+const MOST_TAKEN: usize = 64;
 
 /// The problem, its resources that matter, those of which some part uses several, and the alternatives that take part in the
 /// relaxations.
@@ -85,7 +86,7 @@ impl State {
             cost: None,
             steps,
             work: Work::new(alloc, task.program)?,
-            is_by_quotas: true,
+            is_by_quotas: !task.quotas.is_empty(),
         };
         let none = Vector::new(Vec::new(alloc));
         state
@@ -154,7 +155,7 @@ impl State {
         }
     }
 
-    // Takes in the vector of a node that is split: it may close ranges of which the node is made up in the end.
+    // Takes in the vector of a node that is split: it may close ranges that the node becomes in the end.
     pub(crate) fn take_pricing(&mut self, pricing: Pricing) -> Result<(), Memory> {
         if self.pricings.len() < MOST_TAKEN {
             self.pricings.push(pricing)?;
@@ -162,25 +163,21 @@ impl State {
         Ok(())
     }
 
-    // Closes a node by a new vector. Where there is no room for it, the entry stays open, and the search goes on for better
-    // choices alone. Answers whether the vector closes the node.
-    pub(crate) fn close_by(
-        &mut self,
-        task: &Task<'_>,
-        open: &Open,
-        pricing: Pricing,
-    ) -> Result<bool, Memory> {
+    // Whether a vector closes a node.
+    pub(crate) fn is_closed_by(&self, task: &Task<'_>, open: &Open, pricing: &Pricing) -> bool {
         let value = pricing.value(task.problem, task.reduced, &open.allowed);
-        if !pricing.closes(value, self.cost) {
-            return Ok(false);
+        pricing.closes(value, self.cost)
+    }
+
+    // Closes a node by a new vector that does. Where there is no room for it, the entry stays open, and the search goes on
+    // for better choices alone.
+    pub(crate) fn close_by(&mut self, open: &Open, pricing: Pricing) -> Result<(), Memory> {
+        if self.pricings.len() < MOST_PRICINGS {
+            let vector = u32::try_from(self.pricings.len()).unwrap_or(u32::MAX);
+            self.close(open.entry, Entry::Closed(vector));
+            self.pricings.push(pricing)?;
         }
-        if self.pricings.len() >= MOST_PRICINGS {
-            return Ok(true);
-        }
-        let vector = u32::try_from(self.pricings.len()).unwrap_or(u32::MAX);
-        self.close(open.entry, Entry::Closed(vector));
-        self.pricings.push(pricing)?;
-        Ok(true)
+        Ok(())
     }
 
     // Closes a node by a vector that there is. Answers whether one does.
@@ -212,9 +209,6 @@ impl State {
 
 /// A value that no relaxation has.
 pub(crate) const NEVER: f64 = 1000000000000000000000000000000.0;
-
-/// The most pivots of a first relaxation.
-pub(crate) const ROOT_PIVOTS: u32 = 50_000;
 
 /// A copy of a choice.
 pub(crate) fn copy_of(alloc: Global, choice: &Choice) -> Result<Choice, Memory> {

@@ -1,6 +1,6 @@
 //! Trees that may close a problem, and the choices for them.
 
-use crate::accepted::Found;
+use crate::accepted::{Found, are_listable};
 use crate::growing::grow;
 use crate::pieces::{bit_of, nodes_of};
 use crate::states::{State, Task, copy_if_any, copy_of};
@@ -11,9 +11,6 @@ use std::alloc::Global;
 
 /// The most nodes of a tree.
 pub(crate) const MOST_NODES: u32 = 20_000;
-
-// The most vectors that leaves name.
-const MOST_VECTORS: usize = 64;
 
 // The most steps of the relaxations of all trees; how many trees are tried.
 const TREE_STEPS: u64 = 1_500_000_000;
@@ -57,12 +54,13 @@ fn grow_trees(
             let State { best, .. } = state;
             return Ok((Some(found), best));
         }
-        let is_same = state.cost == known;
-        if is_same && !state.is_by_quotas {
+        let is_better = state.cost != known;
+        if state.steps == 0 || (!is_better && !state.is_by_quotas) {
             break;
         }
+        let is_by_quotas = state.is_by_quotas && is_better;
         state = state.with_best(alloc, task, root)?;
-        state.is_by_quotas = !is_same;
+        state.is_by_quotas = is_by_quotas;
     }
     let State { best, .. } = state;
     Ok((None, best))
@@ -87,7 +85,7 @@ fn found_in(
         }
         numbers.push(u32::try_from(vectors.len()).unwrap_or(u32::MAX))?;
     }
-    if vectors.len() > MOST_VECTORS {
+    if !are_listable(&vectors) {
         return Ok(None);
     }
     Ok(Some(Found {

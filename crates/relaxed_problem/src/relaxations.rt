@@ -160,7 +160,7 @@ impl Relaxation {
         &self.reduced
     }
 
-    /// Whether a class may have a price.
+    /// Whether a class has a place in the basis: only such have prices.
     pub fn is_priced(&self, class: u32) -> bool {
         number_at(&self.places, class as usize) != u32::MAX
     }
@@ -204,7 +204,7 @@ impl Relaxation {
         number_at(&self.keys, unit as usize)
     }
 
-    // Whether an alternative may not be taken. What is none may not.
+    // Whether an alternative may not be taken. A place past the last may not either.
     pub(crate) fn is_shut(&self, place: u32) -> bool {
         match self.shut.get(place as usize) {
             Some(flag) => *flag,
