@@ -25,7 +25,7 @@ const MOST_PRICES: usize = 1_000_000;
 pub(crate) struct Found {
     pub(crate) choice: Option<Choice>,
     pub(crate) nodes: Vec<Node>,
-    pub(crate) vectors: Vec<Vector>,
+    pub(crate) vectors: VectorList,
 }
 
 /// The answer that was found, if it passes the test.
@@ -47,7 +47,6 @@ pub(crate) fn accepted(
         vectors,
     } = found;
     let tree = Tree::new(nodes);
-    let vectors = VectorList::new(vectors);
     match choice {
         Some(choice) => accepted_best(alloc, problem, start, budget, choice, tree, vectors),
         None if start.is_some() => Ok(None),
@@ -192,7 +191,7 @@ fn closes_whole(
     if !has_few_nodes(tree, budget) {
         return Ok(false);
     }
-    if !are_listable(vectors.items()) {
+    if !are_listable(vectors) {
         return Ok(false);
     }
     match tables_of(alloc, problem, vectors.items())? {
@@ -209,11 +208,12 @@ fn has_few_nodes(tree: &Tree, budget: u32) -> bool
 }
 
 /// Whether vectors keep the limits on their number and on their prices.
-pub(crate) fn are_listable(vectors: &[Vector]) -> bool
+pub(crate) fn are_listable(vectors: &VectorList) -> bool
     ensures few { IsTrue result → length vectors.now ≤ 64 }
     ensures prices { IsTrue result →
         sum_by (λ (prices : List Price). length prices) (drop 1 vectors.now) ≤ 1000000 }
 {
+    let vectors = vectors.items();
     vectors.len() <= MOST_LISTED && are_few_prices(after_first(vectors))
 }
 

@@ -4,7 +4,7 @@ use crate::accepted::{Found, are_listable};
 use crate::growing::grow;
 use crate::pieces::{bit_of, nodes_of};
 use crate::states::{State, Task, copy_if_any, copy_of};
-use choice_problem::{Choice, Node, Vector};
+use choice_problem::{Choice, Node, Vector, VectorList};
 use relaxed_problem::{End, Relaxation};
 use slot_text::Memory;
 use std::alloc::Global;
@@ -85,6 +85,7 @@ fn found_in(
         }
         numbers.push(u32::try_from(vectors.len()).unwrap_or(u32::MAX))?;
     }
+    let vectors = VectorList::new(vectors);
     if !are_listable(&vectors) {
         return Ok(None);
     }

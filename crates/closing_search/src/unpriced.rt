@@ -1,7 +1,7 @@
 //! A problem that is closed without prices.
 
 use crate::accepted::Found;
-use choice_problem::{Alt, Choice, Node, Problem};
+use choice_problem::{Alt, Choice, Node, Problem, VectorList};
 use slot_text::Memory;
 use std::alloc::Global;
 
@@ -22,7 +22,7 @@ pub(crate) fn unpriced(alloc: Global, problem: &Problem) -> Result<Found, Memory
     Ok(Found {
         choice: Some(Choice::new(alts)),
         nodes: vec![in alloc; leaf; 1]?,
-        vectors: Vec::new(alloc),
+        vectors: VectorList::new(Vec::new(alloc)),
     })
 }
 
