@@ -55,7 +55,8 @@ KnownFlex lines count None = Unstated lines count flex_word
 KnownFlex lines count (Some flex) = (flex.line ≤ count)
     × LineStates lines flex.line (Flex flex.minutes)
 
-pub record Collected (lines : List (List ℕ)) (count : ℕ) (singles : Singles) (rules : List Rule) : Type 0 where
+pub record Collected (lines : List (List ℕ)) (count : ℕ) (singles : Singles)
+    (rules : List Rule) : Type 0 where
   pub clean : IsCleanBefore lines (suc count)
   pub airport : Known lines count airport_word Airport singles.airport
   pub season : Known lines count season_word Season singles.season

@@ -34,7 +34,8 @@ pub record IsLastSunday (year : ℤ) (month of_month : ℕ) : Type 0 where
 -- weekday is after Sunday
 abbrev pub last_sunday : ℤ → ℕ → ℕ
 last_sunday year month =
-    days_in_month year month - (weekday_number (days_from_civil year month (days_in_month year month)) + 1) % 7
+    days_in_month year month
+    - (weekday_number (days_from_civil year month (days_in_month year month)) + 1) % 7
 
 -- the day number of that day
 abbrev pub last_sunday_number : ℤ → ℕ → ℤ

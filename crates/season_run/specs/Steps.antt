@@ -126,5 +126,6 @@ pub record AreRunSoFar (s : SubmissionView) (budget stage : ℕ) (states : List 
 
 -- a stage of a run, by whether it may follow the earlier ones
 abbrev pub IsNextStage : Declaration → ℕ → List UnitState → ℕ → StageCert → Bool → Type 0
-IsNextStage d stage states budget c true = (is_tried c.mark ≡ true) × IsTriedRun d stage states budget c
+IsNextStage d stage states budget c true = (is_tried c.mark ≡ true)
+    × IsTriedRun d stage states budget c
 IsNextStage d stage states budget c false = (is_tried c.mark ≡ false)

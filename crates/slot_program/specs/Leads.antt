@@ -44,12 +44,13 @@ pub record Leads (w : World) (all : List Step) (before : List NamedBytes) (steps
   pub files : v.files ≡ w.files
   pub faults : v.faults ≡ w.faults
   pub log : v.log ≡ w.log ++ map read_of before
-  pub pass : (inputs : List NamedBytes) → PassFrom w.files before steps inputs → AllPass w.files all inputs
+  pub pass : (inputs : List NamedBytes) → PassFrom w.files before steps inputs →
+      AllPass w.files all inputs
   pub refuse : (count now : ℕ) (refusal : Refusal) (inputs : List NamedBytes) →
       RefuseFrom w.files count now before steps refusal inputs →
       RefuseFrom w.files count now [] all refusal inputs
-  pub reach : (name : Word) (inputs : List NamedBytes) → ReachFrom w.files before steps name inputs →
-      ReachFrom w.files [] all name inputs
+  pub reach : (name : Word) (inputs : List NamedBytes) →
+      ReachFrom w.files before steps name inputs → ReachFrom w.files [] all name inputs
   pub told : IfSome w.files (λ held. ToldLead held all before steps)
   pub asked : (name : Word) → Contains (names_read steps) name → Contains (names_read all) name
   pub named : All (λ (file : NamedBytes). Contains (names_read all) file.name) before

@@ -34,8 +34,8 @@ pub record ViewHolds {O E : Type 0} (caller : E → ℕ) (history : List E) (ori
 module _ {T O E : Type 0} (origin : T → O) (entries : T → List E) (caller : E → ℕ) where
   -- There is one history. A value that is at home has it, every seat has seen a beginning of it,
   -- and some caller has seen all of it.
-  pub record Stands (start : T) (callers turn : ℕ) (history : List E) (homes : List (Maybe (Option T)))
-      (views : List (View O E)) : Type 0 where
+  pub record Stands (start : T) (callers turn : ℕ) (history : List E)
+      (homes : List (Maybe (Option T))) (views : List (View O E)) : Type 0 where
     pub entries_are : AllByRecursion (λ e. caller e < callers) history
     pub turn_is : turn ≡ count_by (λ v. v.holds) views
     pub one_holds : turn ≤ 1
