@@ -15,7 +15,7 @@ use std::marker::Model;
 // What each part of a unit costs.
 #[derive(Drop)]
 pub(crate) struct UnitPrices {
-    parts: Vec<u128>,
+    pub(crate) parts: Vec<u128>,
 }
 
 impl Model for UnitPrices {
@@ -35,7 +35,7 @@ impl UnitPrices {
 }
 
 // How many strips are kept with their prices.
-const PLACES: usize = 65_536;
+pub(crate) const PLACES: usize = 65_536;
 
 // A strip, and what it costs.
 #[derive(Clone, Copy)]
