@@ -3,3 +3,4 @@ mod TableLemmas
 mod BoundLemmas
 mod KnownLemmas
 mod TotalLemmas
+mod FewLemmas

@@ -15,7 +15,7 @@ use std::marker::Model;
 // What each part of a unit costs.
 #[derive(Drop)]
 pub(crate) struct UnitPrices {
-    parts: Vec<u128>,
+    pub(crate) parts: Vec<u128>,
 }
 
 impl Model for UnitPrices {
@@ -35,7 +35,7 @@ impl UnitPrices {
 }
 
 // How many strips are kept with their prices.
-const PLACES: usize = 65_536;
+pub(crate) const PLACES: usize = 65_536;
 
 // A strip, and what it costs.
 #[derive(Clone, Copy)]
@@ -65,12 +65,12 @@ impl Model for StripPrices {
 }
 
 impl StripPrices {
-    ghost use Rattle.std.specs.Prelude.{◌≡◌, ◌+◌, ◌-◌, ◌<◌, ◌≤◌, ◌^◌, IfOk, List, length, map};
+    ghost use Rattle.std.specs.Prelude.{◌≡◌, ℕ, ◌+◌, ◌-◌, ◌<◌, ◌≤◌, ◌^◌, IfOk, List, length, map, slice_index};
     ghost use Rattle.choice_problem.specs.declared.closing.TheConstants.{SCALE_BOUND};
     ghost use Rattle.choice_problem.specs.declared.problems.TheConstants.{MOST_RESOURCES};
     ghost use Rattle.choice_problem.specs.declared.vectors.Price.{Price};
     ghost use Rattle.choice_problem.specs.Strips.{IsStripInRange, IsPartInRange};
-    ghost use Rattle.choice_problem.specs.Problems.{unit_count, alt_count, resource_count, chooser_at};
+    ghost use Rattle.choice_problem.specs.Problems.{unit_count, alt_count, part_count, resource_count, chooser_at, part_at};
     ghost use Rattle.choice_problem.specs.Bounds.{AreRanges};
     ghost use Rattle.price_table.specs.Tables.{PricesUnit};
     ghost use Rattle.price_table.specs.Strips.{ArePrices, AreSums, AreSumsOf, IsPricedBy, strip_cost, capped_cost};
@@ -151,8 +151,37 @@ impl StripPrices {
         Ok(first_least(alts, low, high, prices.items(), scale))
     }
 
-    // What a part costs, within 128 bits. Parts that an alternative names stay far below.
-    fn part(&mut self, part: &Part) -> u128
+    /// What `first_least` answers for a unit whose parts cost so much at these sums: one step an alternative in range.
+    pub fn first_by(
+        &self,
+        problem: &Problem,
+        ranges: &Ranges,
+        unit: u32,
+        parts: &[u128],
+        scale: u64,
+    ) -> Least
+        requires ranges { AreRanges problem.now ranges.now }
+        requires unit { unit < unit_count problem.now }
+        requires priced { (prices : List Price) × IsPricedBy problem.now prices self.now }
+        requires count { length parts.now ≡ part_count problem.now unit }
+        requires each { (n : ℕ) → n < part_count problem.now unit → slice_index parts.now n
+            ≡ capped_cost self.now (part_at (chooser_at problem.now unit) n) }
+        requires scale { scale < SCALE_BOUND }
+        ensures alt { (prices : List Price) → IsPricedBy problem.now prices self.now →
+            result.alt ≡ least_alt problem.now ranges.now prices scale unit }
+        ensures cost { (prices : List Price) → IsPricedBy problem.now prices self.now →
+            result.cost ≡ unit_least problem.now ranges.now prices scale unit }
+        ensures there { result.alt < alt_count problem.now unit }
+        ensures small { result.cost < 2 ^ 101 }
+    {
+        let (_sums, _parts) = (&self.sums, problem.unit_parts(unit));
+        let (low, high) = (ranges.low(unit), ranges.high(unit));
+        first_least(problem.unit_alts(unit), low, high, parts, scale)
+    }
+
+    /// What a part costs, within 128 bits, in one step a strip, and one a run of each strip that is priced. Parts that an
+    /// alternative names stay far below.
+    pub fn part(&mut self, part: &Part) -> u128
         requires some { 0 < length self.old }
         requires there { IsPartInRange (length self.old - 1) part.now }
         ensures cost { result ≡ capped_cost self.old part.now }
