@@ -1,8 +1,9 @@
 -- Prices that are looked up strip by strip.
-use Rattle.std.proofs.Common.{◌≡◌, ℕ, zero, suc, ◌+◌, ◌-◌, ◌*◌, ◌<◌, ◌≤◌, ◌^◌, min, refl, sym, ◌∙◌, ap, arith, List, [], ◌∷◌, length, map, take, inl, inr, false, ltb, ltb-true, lt-ltb, Option, Some, None}
+use Rattle.std.proofs.Common.{◌≡◌, ℕ, zero, suc, ◌+◌, ◌-◌, ◌*◌, ◌%◌, ◌<◌, ◌≤◌, ◌^◌, min, refl, sym, ◌∙◌, ap, arith, List, [], ◌∷◌, length, map, take, inl, inr, false, ltb, ltb-true, lt-ltb, Option, Some, None}
 use Rattle.std.specs.Prelude.{slice_index_or, AllPairs, nat_le, nat_lt, ◌&&◌, sum_by}
 use Rattle.std.specs.Option.{ForSome}
 use Rattle.std.proofs.lemmas.Nat.{mul-le}
+use Rattle.std.proofs.Math.Nat.{mul-add-mod_self_right, mod-le}
 use Rattle.std.proofs.lemmas.Bool.{cases_lt, cases_eq}
 use Rattle.std.specs.List.Sorted.{IsPartitionedBy}
 use Rattle.std.proofs.lemmas.Grind.{common_steps}
@@ -42,6 +43,20 @@ strip_uses-after s r h = count_below-none s.times (λ i. is_in_run s r i) (λ i 
 
     ended : (i : ℕ) → i < s.times → run_start s i + s.width ≤ r
     ended i l = omega (arith, mul-le i s.gap (s.times - 1) s.gap (omega arith) (omega arith), h)
+
+-- nor one that lies between runs
+pub strip_uses-between : (s : Strip) (r : ℕ) → s.width ≤ (r - s.first) % s.gap → strip_uses s r ≡ 0
+strip_uses-between s r h =
+    count_below-none s.times (λ i. is_in_run s r i) (λ i _. outside s.first (i * s.gap) s.width r ((r - s.first) % s.gap) (rest (r - s.first) i s.gap) h)
+  where
+    rest : (d i g : ℕ) → i * g ≤ d → d % g ≤ d - i * g
+    rest d i g l =
+        let whole : i * g + (d - i * g) ≡ d = omega (arith, l) in
+        let same : d % g ≡ (d - i * g) % g = ap (λ v. v % g) (sym whole) ∙ mul-add-mod_self_right i g (d - i * g) in
+        omega (arith, same, mod-le (d - i * g) g)
+
+    outside : (first t width q m : ℕ) → (t ≤ q - first → m ≤ q - first - t) → width ≤ m → (nat_le (first + t) q && nat_lt q (first + t + width)) ≡ false
+    outside first t width q m k w = grind (arith, common_steps)
 
 -- uses of resources that are not priced cost nothing
 priced-none : (prices : List Price) (uses : ℕ → ℕ) → ((k : ℕ) → k < length prices → uses (price_at prices k).resource ≡ 0) → priced prices uses ≡ 0

@@ -2,6 +2,7 @@
 
 ghost use Rattle.std.specs.Prelude.{◌≡◌, ◌<◌, ◌≤◌, ℕ, IsTrue, IfOk, AllPairs, length};
 ghost use Rattle.choice_problem.specs.declared.problems.TheConstants.{MOST_RESOURCES};
+ghost use Rattle.choice_problem.specs.Strips.{strip_uses};
 ghost use Rattle.choice_problem.specs.Problems.{unit_count, resource_count};
 ghost use Rattle.choice_problem.specs.Bounds.{IsVector, price_at};
 ghost use Rattle.price_table.specs.Tables.{PricesUnit};
@@ -97,9 +98,19 @@ fn strip_price(prices: &[Price], strip: &Strip) -> u128
         if u64::from(entry.resource) >= end {
             return total;
         }
-        total += u128::from(entry.amount()) * u128::from(strip.uses(entry.resource));
+        total += u128::from(entry.amount()) * u128::from(uses_of(strip, entry.resource));
     }
     total
+}
+
+// How often a strip uses a resource. Most lie between its runs, and cost one division.
+fn uses_of(strip: &Strip, resource: u32) -> u32
+    ensures { result ≡ strip_uses strip.now resource }
+{
+    if strip.gap > 0 && resource.saturating_sub(strip.first) % strip.gap >= strip.width {
+        return 0;
+    }
+    strip.uses(resource)
 }
 
 // How many prices are of resources before this one.
