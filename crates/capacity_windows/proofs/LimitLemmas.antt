@@ -32,6 +32,20 @@ next_limit c limits limit are is r lt =
           ∙ ap Some (ap (λ (k : ℕ). get_or more k (pos 0)) last ∙ get_or-append_seam limits limit [] (pos 0) ∙ sym is ∙ ap (λ (k : ℕ). pos (window_limit c k)) (sym last))
     ]
 
+-- some equal limits more
+pub equal_limits : (c : Capacity) (old new : List ℤ) (n : ℕ) (limit : ℤ) → AreLimits c old → length new ≡ length old + n →
+    ((k : ℕ) (d : ℤ) → k < length old + n → k < length old → get_or new k d ≡ get_or old k d) → ((k : ℕ) (d : ℤ) → length old ≤ k → k < length old + n → get_or new k d ≡ limit) →
+    ((start : ℕ) → start < n → pos (window_limit c (length old + start)) ≡ limit) → AreLimits c new
+equal_limits c old new n limit are long same more is r lt =
+    slice_get-get_or new r (pos 0) lt
+    ∙ ap Some (elim (cases_lt r (length old)) [
+      | inl before ↦
+          same r (pos 0) (omega (arith, before)) before ∙ get_or_from_slice_get old r (pos (window_limit c r)) (pos 0) (are r before)
+      | inr past ↦
+          let at : length old + (r - length old) ≡ r = omega (arith, past) in
+          more r (pos 0) past (omega (arith, lt, long)) ∙ sym (is (r - length old) (omega (arith, lt, long, past))) ∙ ap (λ (k : ℕ). pos (window_limit c k)) at
+    ])
+
 -- the limits of a line's windows on a day, where the windows are numbered day by day
 pub day_limits : (c : Capacity) (rule : Rule) (first day n now start r : ℕ) → ((day start : ℕ) → day < date_count c.season → start < n → resource_at c (first + day * n + start) ≡ Window rule day start)
     → day < date_count c.season → start < n → now ≡ first + day * n → r ≡ now + start → window_limit c r ≡ day_limit c rule day

@@ -14,15 +14,15 @@ use std::alloc::Global;
 
 impl Windows {
     /// The limits of all resources in the order of their numbers, as problems of choice take them:
-    /// what `limit` says of each, in one step, where `limit` looks through the capacity lines. The
-    /// one fault is want of memory.
+    /// what `limit` says of each, in one step, where `limit` looks through the capacity lines. They
+    /// are allotted once, eight bytes each. The one fault is want of memory.
     pub fn limits(&self, alloc: Global) -> Result<Vec<i64>, Memory>
         ensures count { IfOk result (λ limits. length limits.items ≡ declared_resources self.now) }
         ensures each { IfOk result (λ limits. (r : ℕ) → r < declared_resources self.now →
             slice_get limits.items r ≡ Some (pos (window_limit self.now r))) }
         ensures few { OnOk result ((r : ℕ) → window_limit self.now r ≤ HIGHEST_NIGHT_LIMIT) }
     {
-        let mut limits = Vec::new(alloc);
+        let mut limits = Vec::with_capacity(alloc, self.resources() as usize)?;
         for rule in self.rules() {
             self.push_rule(&mut limits, rule)?;
         }
@@ -59,9 +59,7 @@ impl Windows {
         ensures limits { OnOk result (AreLimits self.now limits.new.items) }
         ensures count { OnOk result (length limits.new.items ≡ length limits.old.items + starts) }
     {
-        for _ in 0..starts {
-            limits.push(i64::from(limit))?;
-        }
+        limits.resize(limits.len() + starts as usize, i64::from(limit))?;
         Ok(())
     }
 

@@ -101,11 +101,12 @@ drop-front (x ∷ xs) ys = drop-front xs ys
 pub changes-more : (old new : List (ℕ × ℕ)) (before after : List ℕ) → (changed : AreChanges old new before after) → drop (length before) after ≡ changed.more
 changes-more old new before after changed = ap (λ (xs : List ℕ). drop (length before) xs) changed.after_is ∙ drop-front before changed.more
 
-pub loads-more : (p : ProblemView) (old new : List (ℕ × ℕ)) (before after : List ℕ) (l next : Loads) → AreChanges old new before after → next.whole ≡ l.whole → next.known ≡ l.known → next.kept ≡ l.kept → next.changed.most ≡ l.changed.most →
+pub loads-more : (p : ProblemView) (old new : List (ℕ × ℕ)) (before after : List ℕ) (l next : Loads) → AreChanges old new before after → next.whole ≡ l.whole → next.named ≡ l.named → next.known ≡ l.known → next.kept ≡ l.kept → next.changed.most ≡ l.changed.most →
     ((u : ℕ) → Contains (drop (length before) after) u → Contains next.changed.units u) → ((u : ℕ) → Contains l.changed.units u → Contains next.changed.units u) → IsLoadState p old before l → IsLoadState p new after next
-loads-more p old new before after l next changed whole known kept most all stay are =
+loads-more p old new before after l next changed whole named known kept most all stay are =
     let more = changes-more old new before after changed in
-    let one : AreWholeLoads p l.whole next.known.items = subst (λ (k : _). AreWholeLoads p l.whole k.items) (sym known) are.known in
+    let first : AreWholeLoads p l.whole l.named.items next.known.items = subst (λ (k : _). AreWholeLoads p l.whole l.named.items k.items) (sym known) are.known in
+    let one : AreWholeLoads p l.whole next.named.items next.known.items = subst (λ (k : _). AreWholeLoads p l.whole k.items next.known.items) (sym named) first in
     let places : AreKeptLoads p new l.whole after next.changed.units next.kept.items =
     subst (λ (k : _). AreKeptLoads p new l.whole after next.changed.units k.items) (sym kept) (places-more p old new l.whole before after l.changed.units next.changed.units l.kept.items changed stay are.kept) in
     record {
@@ -114,7 +115,7 @@ loads-more p old new before after l next changed whole known kept most all stay 
       most = most ∙ are.most;
       others = λ u out. ap (λ (w : List (ℕ × ℕ)). get_or w u (0, 0)) whole ∙ are.others u (λ h. out (stay u h))
           ∙ sym (changed.same u (λ h. out (all u (subst (λ (xs : List ℕ). Contains xs u) (sym more) h))));
-      known = subst (λ (w : List (ℕ × ℕ)). AreWholeLoads p w next.known.items) (sym whole) one;
+      known = subst (λ (w : List (ℕ × ℕ)). AreWholeLoads p w next.named.items next.known.items) (sym whole) one;
       some = subst (λ (k : _). 0 < length k.items) (sym kept) are.some;
       kept = subst (λ (w : List (ℕ × ℕ)). AreKeptLoads p new w after next.changed.units next.kept.items) (sym whole) places;
     }

@@ -31,16 +31,16 @@ marks-there p old (next ∷ others) rest ranges before after is on count changed
 
 -- the state after a step, where the walk is still on
 pub state-more : (p : ProblemView) (vectors : List (List Price)) (old new rest : List (List (ℕ × ℕ))) (ranges : List (ℕ × ℕ)) (s next : State) → old ≡ ranges ∷ rest → (new ≡ [] → ⊥) → length ranges ≡ unit_count p →
-    ChangesFirst old new s.changes.items next.changes.items → next.bounds ≡ s.bounds → next.loads.whole ≡ s.loads.whole → next.loads.known ≡ s.loads.known → next.loads.kept ≡ s.loads.kept → next.loads.changed.most ≡ s.loads.changed.most →
+    ChangesFirst old new s.changes.items next.changes.items → next.bounds ≡ s.bounds → next.loads.whole ≡ s.loads.whole → next.loads.named ≡ s.loads.named → next.loads.known ≡ s.loads.known → next.loads.kept ≡ s.loads.kept → next.loads.changed.most ≡ s.loads.changed.most →
     ((u : ℕ) → Contains (drop (length s.changes.items) next.changes.items) u → Contains next.loads.changed.units u) → ((u : ℕ) → Contains s.loads.changed.units u → Contains next.loads.changed.units u) →
     IsState p vectors ranges s → IsStateFirst p vectors new next
-state-more p vectors old [] rest ranges s next is on count changed bounds whole known kept most all stay are = absurd (on refl)
-state-more p vectors old (first ∷ others) rest ranges s next is on count changed bounds whole known kept most all stay are =
+state-more p vectors old [] rest ranges s next is on count changed bounds whole named known kept most all stay are = absurd (on refl)
+state-more p vectors old (first ∷ others) rest ranges s next is on count changed bounds whole named known kept most all stay are =
     let here : AreChanges ranges first s.changes.items next.changes.items = subst (λ (w : List (List (ℕ × ℕ))). ChangesFirst w (first ∷ others) s.changes.items next.changes.items) is changed in
     let moved : AreKept p vectors first next.changes.items s.bounds.items = kept-more p vectors ranges first s.changes.items next.changes.items s.bounds.items count here are.bounds in
     record {
       bounds = subst (λ (b : _). AreKept p vectors first next.changes.items b.items) (sym bounds) moved;
-      loads = loads-more p ranges first s.changes.items next.changes.items s.loads next.loads here whole known kept most all stay are.loads;
+      loads = loads-more p ranges first s.changes.items next.changes.items s.loads next.loads here whole named known kept most all stay are.loads;
     }
 
 -- ---- a step of a walk that ranges are pending for
@@ -53,9 +53,9 @@ step-there p vectors (now ∷ rest) new s after some ranges first on changed =
     subst (λ (n : ℕ). All (λ u. u < n) (drop (length s.changes.items) after)) (sym first.loads.most) (marks-there p (now ∷ rest) new rest now s.changes.items after refl on count changed).0
 
 pub step-more : (p : ProblemView) (vectors : List (List Price)) (old new : List (List (ℕ × ℕ))) (s next : State) → 0 < length old → All (AreRanges p) old → IsStateFirst p vectors old s → (new ≡ [] → ⊥) →
-    ChangesFirst old new s.changes.items next.changes.items → next.bounds ≡ s.bounds → next.loads.whole ≡ s.loads.whole → next.loads.known ≡ s.loads.known → next.loads.kept ≡ s.loads.kept → next.loads.changed.most ≡ s.loads.changed.most →
+    ChangesFirst old new s.changes.items next.changes.items → next.bounds ≡ s.bounds → next.loads.whole ≡ s.loads.whole → next.loads.named ≡ s.loads.named → next.loads.known ≡ s.loads.known → next.loads.kept ≡ s.loads.kept → next.loads.changed.most ≡ s.loads.changed.most →
     ((u : ℕ) → Contains (drop (length s.changes.items) next.changes.items) u → Contains next.loads.changed.units u) → ((u : ℕ) → Contains s.loads.changed.units u → Contains next.loads.changed.units u) →
     IsStateFirst p vectors new next
-step-more p vectors [] new s next some ranges first on changed bounds whole known kept most all stay = absurd (omega arith)
-step-more p vectors (now ∷ rest) new s next some ranges first on changed bounds whole known kept most all stay =
-    state-more p vectors (now ∷ rest) new rest now s next refl on (ranges 0 now (omega arith)).length changed bounds whole known kept most all stay first
+step-more p vectors [] new s next some ranges first on changed bounds whole named known kept most all stay = absurd (omega arith)
+step-more p vectors (now ∷ rest) new s next some ranges first on changed bounds whole named known kept most all stay =
+    state-more p vectors (now ∷ rest) new rest now s next refl on (ranges 0 now (omega arith)).length changed bounds whole named known kept most all stay first

@@ -1,16 +1,17 @@
 -- Least loads that are kept while the ranges change. Contracts of private functions alone cite this.
-use Rattle.std.specs.Prelude.{◌≡◌, ℕ, ◌<◌, List, length, Option, None, IfSome, slice_index_or}
-use Rattle.choice_problem.specs.Problems.{ProblemView, unit_count, resource_count}
+use Rattle.std.specs.Prelude.{◌≡◌, ℕ, ◌<◌, List, length, Option, None, IfSome, slice_index, slice_index_or}
+use Rattle.choice_problem.specs.Problems.{ProblemView, unit_count}
 use Rattle.choice_problem.specs.Bounds.{AreRanges, least_load, whole_of}
 use Rattle.cert_checker.specs.declared.loads.Loads.{Loads}
 use Rattle.cert_checker.specs.Kept.{AgreeBut}
 use Rattle.cert_checker.specs.KeptLoads.{AreKeptLoads}
 
--- a place for each resource, with its least load in these ranges once a node has named it
-pub record AreWholeLoads (p : ProblemView) (whole : List (ℕ × ℕ))
+-- a place for each of these resources, with its least load in these ranges once that was found
+pub record AreWholeLoads (p : ProblemView) (whole : List (ℕ × ℕ)) (named : List ℕ)
     (known : List (Option ℕ)) : Type 0 where
-  pub count : length known ≡ resource_count p
-  pub each : (r : ℕ) → IfSome (slice_index_or known r None) (λ load. load ≡ least_load p whole r)
+  pub count : length known ≡ length named
+  pub each : (i : ℕ) → IfSome (slice_index_or known i None)
+      (λ load. load ≡ least_load p whole (slice_index named i))
 
 -- all units but the changed ones have all their alternatives in range, and what is kept is of these
 -- ranges, after these changes
@@ -20,6 +21,6 @@ pub record IsLoadState (p : ProblemView) (ranges : List (ℕ × ℕ)) (changes :
   pub valid : AreRanges p l.whole
   pub most : l.changed.most ≡ unit_count p
   pub others : AgreeBut l.changed.units l.whole ranges
-  pub known : AreWholeLoads p l.whole l.known.items
+  pub known : AreWholeLoads p l.whole l.named.items l.known.items
   pub some : 0 < length l.kept.items
   pub kept : AreKeptLoads p ranges l.whole changes l.changed.units l.kept.items

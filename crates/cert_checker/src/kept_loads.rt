@@ -24,17 +24,18 @@ pub(crate) struct KeptLoad {
 // Of how many units in all the least uses are kept.
 const MOST_KEPT: u32 = 2_097_152;
 
-/// Empty places for as many resources as may be kept, at least one: 2^21 units in all.
+/// Empty places for as many of so many resources as may be kept, at least one: 2^21 units in all.
 pub(crate) fn empty_places(
     alloc: Global,
     problem: &Problem,
+    resources: usize,
 ) -> Result<Vec<Option<KeptLoad>>, Memory>
     ensures some { IfOk result (λ kept. 0 < length kept.items) }
     ensures empty { IfOk result (λ kept. (p : ProblemView) (ranges whole : List (ℕ × ℕ))
         (changes marked : List ℕ) → AreKeptLoads p ranges whole changes marked kept.items) }
 {
-    let places = (MOST_KEPT / problem.units().max(1)).min(problem.resources());
-    let mut kept = Vec::new(alloc);
+    let places = resources.min((MOST_KEPT / problem.units().max(1)) as usize);
+    let mut kept = Vec::with_capacity(alloc, places)?;
     kept.push(None)?;
     for _ in 1..places {
         kept.push(None)?;

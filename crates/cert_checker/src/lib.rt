@@ -11,6 +11,7 @@ mod laws;
 mod lines;
 mod loads;
 mod marked;
+mod named;
 mod nodes;
 mod states;
 mod trees;

@@ -1,6 +1,6 @@
 //! Least loads of resources, by the units whose ranges have changed.
 
-ghost use Rattle.std.specs.Prelude.{◌≡◌, ◌↔◌, ◌+◌, ◌*◌, ◌<◌, ◌≤◌, ◌^◌, List, [], ℕ, All, None, IsTrue, IfOk, IfSome, length, slice_index_or};
+ghost use Rattle.std.specs.Prelude.{◌≡◌, ◌↔◌, ◌+◌, ◌*◌, ◌<◌, ◌≤◌, ◌^◌, List, [], ℕ, All, None, IsTrue, IfOk, IfSome, length, slice_index, slice_index_or};
 ghost use Rattle.choice_problem.specs.declared.problems.TheConstants.{MOST_UNITS, MOST_USES};
 ghost use Rattle.choice_problem.specs.Problems.{unit_count, resource_count};
 ghost use Rattle.choice_problem.specs.Bounds.{AreRanges, least_load, whole_of};
@@ -12,31 +12,37 @@ ghost use Rattle.cert_checker.specs.Marked.{AreOnce};
 
 use crate::kept_loads::{KeptLoad, empty_places, has_other, renewed};
 use crate::marked::Marked;
-use choice_problem::{Problem, Ranges, least_uses};
+use crate::named::{named_resources, place_of};
+use choice_problem::{Node, Problem, Ranges, least_uses};
 use slot_text::Memory;
 use std::alloc::Global;
 
-// The ranges of all alternatives, and the units whose ranges have changed since; the least loads over
-// all alternatives of the resources that have no place of their own, and of those that have one what
-// is kept of them.
+// The ranges of all alternatives, and the units whose ranges have changed since; the resources that
+// nodes name, in rising order; the least loads over all alternatives of those that have no place of
+// their own, and of those that have one what is kept of them.
 #[derive(Drop)]
 pub(crate) struct Loads {
     pub(crate) whole: Ranges,
     pub(crate) changed: Marked,
+    pub(crate) named: Vec<u32>,
     pub(crate) known: Vec<Option<u32>>,
     pub(crate) kept: Vec<Option<KeptLoad>>,
 }
 
-/// Loads before any change.
-pub(crate) fn first_loads(alloc: Global, problem: &Problem) -> Result<Loads, Memory>
+/// Loads before any change, for a walk of these nodes: a few numbers for each resource that one of
+/// them names, and for each unit.
+pub(crate) fn first_loads(alloc: Global, problem: &Problem, nodes: &[Node]) -> Result<Loads, Memory>
     ensures { IfOk result (λ loads. IsLoadState problem.now (whole_of problem.now) [] loads) }
 {
-    let known = vec![in alloc; None; problem.resources() as usize]?;
+    let named = named_resources(alloc, nodes)?;
+    let known = vec![in alloc; None; named.len()]?;
+    let kept = empty_places(alloc, problem, named.len())?;
     Ok(Loads {
         whole: Ranges::whole(alloc, problem)?,
         changed: Marked::none(alloc, problem.units())?,
+        named,
         known,
-        kept: empty_places(alloc, problem)?,
+        kept,
     })
 }
 
@@ -53,19 +59,26 @@ fn least_load(problem: &Problem, ranges: &Ranges, resource: u32) -> u32
     load
 }
 
-// The least load of a resource over all alternatives, found once.
-fn whole_load(problem: &Problem, whole: &Ranges, known: &mut Vec<Option<u32>>, resource: u32) -> u32
+// The least load over all alternatives of one of the named resources, found once.
+fn whole_load(
+    problem: &Problem,
+    whole: &Ranges,
+    named: &[u32],
+    known: &mut Vec<Option<u32>>,
+    at: usize,
+) -> u32
     requires ranges { AreRanges problem.now whole.now }
-    requires known { AreWholeLoads problem.now whole.now known.old.items }
-    requires resource { resource < resource_count problem.now }
-    ensures load { result ≡ least_load problem.now whole.now resource }
-    ensures known { AreWholeLoads problem.now whole.now known.new.items }
+    requires known { AreWholeLoads problem.now whole.now named.now known.old.items }
+    requires at { at < length named.now }
+    requires resource { slice_index named.now at < resource_count problem.now }
+    ensures load { result ≡ least_load problem.now whole.now (slice_index named.now at) }
+    ensures known { AreWholeLoads problem.now whole.now named.now known.new.items }
 {
-    if let Some(load) = known[resource as usize] {
+    if let Some(load) = known[at] {
         return load;
     }
-    let load = least_load(problem, whole, resource);
-    known[resource as usize] = Some(load);
+    let load = least_load(problem, whole, named[at]);
+    known[at] = Some(load);
     load
 }
 
@@ -124,15 +137,23 @@ fn load_now(
 }
 
 // The least load of a resource that has no place of its own.
-fn load_by_changes(problem: &Problem, ranges: &Ranges, loads: &mut Loads, resource: u32) -> u128
+fn load_by_changes(
+    problem: &Problem,
+    ranges: &Ranges,
+    loads: &mut Loads,
+    at: usize,
+    resource: u32,
+) -> u128
     requires ranges { AreRanges problem.now ranges.now }
     requires loads { (changes : List ℕ) × IsLoadState problem.now ranges.now changes loads.old }
     requires resource { resource < resource_count problem.now }
+    requires at { at < length loads.old.named.items }
+    requires named { slice_index loads.old.named.items at ≡ resource }
     ensures loads { (changes : List ℕ) → IsLoadState problem.now ranges.now changes loads.old →
         IsLoadState problem.now ranges.now changes loads.new }
     ensures load { result ≡ least_load problem.now ranges.now resource }
 {
-    let load = whole_load(problem, &loads.whole, &mut loads.known, resource);
+    let load = whole_load(problem, &loads.whole, &loads.named, &mut loads.known, at);
     let units = loads.changed.units();
     load_now(problem, &loads.whole, ranges, units, load, resource)
 }
@@ -166,7 +187,8 @@ fn load_kept(
     Ok(u128::from(load))
 }
 
-// The least load of a resource, by what is kept of it, where its place has no other.
+// The least load of a resource, by what is kept of it, where its place has no other. A node of the
+// walk names a resource that has a place, or shares one.
 fn load_of(
     alloc: Global,
     problem: &Problem,
@@ -183,9 +205,12 @@ fn load_of(
         (λ load. IsLoadState problem.now ranges.now changes.now loads.new) }
     ensures load { IfOk result (λ load. load ≡ least_load problem.now ranges.now resource) }
 {
-    let place = resource as usize % loads.kept.len();
+    let Some(at) = place_of(&loads.named, resource) else {
+        return Ok(u128::from(least_load(problem, ranges, resource)));
+    };
+    let place = at % loads.kept.len();
     if has_other(&loads.kept[place], resource) {
-        return Ok(load_by_changes(problem, ranges, loads, resource));
+        return Ok(load_by_changes(problem, ranges, loads, at, resource));
     }
     load_kept(alloc, problem, ranges, loads, changes, resource, place)
 }
@@ -195,7 +220,8 @@ fn load_of(
 /// one step for each change of a range since one last named it, at most one for each unit whose
 /// range has changed since the walk began, and one an alternative that uses it of each range that
 /// differs. Where another resource has its place, a node goes over each unit whose range has changed
-/// since the walk began, and its alternatives that use the resource.
+/// since the walk began, and its alternatives that use the resource. A resource is looked up among
+/// those that nodes of the walk name by halving their list.
 pub(crate) fn over_holds(
     alloc: Global,
     problem: &Problem,

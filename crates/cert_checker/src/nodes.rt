@@ -173,9 +173,9 @@ fn check_nodes(
 {
     let whole = Ranges::whole(alloc, problem)?;
     let mut walk = RangeWalk::new(alloc, whole);
-    let mut state = first_state(alloc, problem, &cert.vectors)?;
-    let mut floors = cert.floors.items();
     let nodes = cert.tree.items();
+    let mut state = first_state(alloc, problem, &cert.vectors, nodes)?;
+    let mut floors = cert.floors.items();
     let mut at = line;
     for node in nodes {
         if walk.is_done() {

@@ -22,18 +22,19 @@ pub(crate) struct State {
     pub(crate) changes: Vec<u32>,
 }
 
-/// The state at the root.
+/// The state at the root of a tree of these nodes.
 pub(crate) fn first_state(
     alloc: Global,
     problem: &Problem,
     vectors: &VectorList,
+    nodes: &[Node],
 ) -> Result<State, Memory>
     ensures { IfOk result
         (λ state. IsState problem.now vectors.now (whole_of problem.now) state) }
 {
     Ok(State {
         bounds: empty_kept(alloc, vectors)?,
-        loads: first_loads(alloc, problem)?,
+        loads: first_loads(alloc, problem, nodes)?,
         changes: Vec::new(alloc),
     })
 }

@@ -1,19 +1,15 @@
--- The units and the limits of a stage's problem.
-use Rattle.std.proofs.Common.{◌≡◌, ℕ, zero, suc, ◌+◌, ◌-◌, ◌<◌, ◌≤◌, Bool, true, false, refl, sym, ◌∙◌, ap, subst, arith, List, [], ◌∷◌, ◌++◌, length, get_or, drop, inl, inr}
-use Rattle.std.specs.Prelude.{All, ℤ, pos, Some, slice_get}
-use Rattle.std.proofs.lemmas.Option.{get_or_from_slice_get}
+-- The units of a stage's problem.
+use Rattle.std.proofs.Common.{◌≡◌, ℕ, zero, suc, ◌+◌, ◌<◌, ◌≤◌, Bool, true, false, refl, sym, ap, subst, arith, List, [], ◌∷◌, ◌++◌, length, get_or, drop}
+use Rattle.std.specs.Prelude.{All}
 use Rattle.std.specs.List.{AllZip}
-use Rattle.std.proofs.lemmas.List.{append_assoc, get_or_append_left}
-use Rattle.std.proofs.lemmas.Bool.{cases_lt}
-use Rattle.std.proofs.Common.{length-append}
+use Rattle.std.proofs.lemmas.List.{append_assoc}
 use Rattle.season_days.specs.declared.declaration.Declaration.{Declaration}
-use Rattle.capacity_windows.specs.Windows.{capacity_of, declared_resources, window_limit}
+use Rattle.capacity_windows.specs.Windows.{capacity_of, declared_resources}
 use Rattle.choice_problem.specs.Problems.{ChooserView, ArePartsInRange}
 use Rattle.series_model.specs.declared.state.UnitState.{UnitState}
 use Rattle.series_model.specs.Stages.{is_due_state, stage_units}
-use Rattle.season_days.specs.declared.declaration.TheConstants.{HIGHEST_NIGHT_LIMIT}
 use Rattle.wasg_stages.specs.StageProblems.{IsChooserOf}
-use Rattle.wasg_stages.specs.Steps.{AddsDue, AreChoosers, AreLimits, share_at}
+use Rattle.wasg_stages.specs.Steps.{AddsDue, AreChoosers}
 use Rattle.wasg_stages.proofs.StepLemmas.{drop-cons, units_by}
 
 -- ---- units
@@ -41,37 +37,7 @@ AreChoosers-on d stage states old new i e lt are adds range few = record {
   few = omega (arith, few, are.few);
 }
 
--- ---- limits
-
--- what is read of a list at a place
-pub declared_at : (declared : List ℤ) (r : ℕ) (x y : ℤ) → x ≡ get_or declared r x → slice_get declared r ≡ Some y → x ≡ y
-declared_at declared r x y at is = at ∙ get_or_from_slice_get declared r y x is
-
-last_limit : (limits : List ℤ) (z d : ℤ) → get_or (limits ++ z ∷ []) (length limits) d ≡ z
-last_limit [] z d = refl
-last_limit (x ∷ limits) z d = last_limit limits z d
-
-pub AreLimits-push : (d : Declaration) (stage : ℕ) (loads : List ℕ) (limits : List ℤ) (n : ℕ) (z : ℤ) → AreLimits d stage loads limits n →
-    z ≡ pos (share_at d.share stage (window_limit (capacity_of d) n - get_or loads n 0)) → share_at d.share stage (window_limit (capacity_of d) n - get_or loads n 0) ≤ HIGHEST_NIGHT_LIMIT →
-    AreLimits d stage loads (limits ++ z ∷ []) (n + 1)
-AreLimits-push d stage loads limits n z are is small = record {
-  count = omega (arith, length-append limits (z ∷ []), are.count);
-  each = λ r lt. elim (cases_lt r n) [
-    | inl before ↦ get_or_append_left limits (z ∷ []) (pos 0) r (omega (arith, are.count)) ∙ are.each r before
-    | inr last ↦
-        let same : r ≡ n = omega arith in
-        let at : get_or (limits ++ z ∷ []) n (pos 0) ≡ z = ap (λ (i : ℕ). get_or (limits ++ z ∷ []) i (pos 0)) (sym are.count) ∙ last_limit limits z (pos 0) in
-        subst (λ (k : ℕ). get_or (limits ++ z ∷ []) k (pos 0) ≡ pos (share_at d.share stage (window_limit (capacity_of d) k - get_or loads k 0))) (sym same) (at ∙ is)
-  ];
-  few = λ r lt. elim (cases_lt r n) [
-    | inl before ↦ are.few r before
-    | inr last ↦
-        let same : r ≡ n = omega arith in
-        subst (λ (k : ℕ). share_at d.share stage (window_limit (capacity_of d) k - get_or loads k 0) ≤ HIGHEST_NIGHT_LIMIT) (sym same) small
-  ];
-}
-
-drop-past : {X : Type 0} (xs : List X) (i : ℕ) → length xs ≤ i → drop i xs ≡ []
+pub drop-past : {X : Type 0} (xs : List X) (i : ℕ) → length xs ≤ i → drop i xs ≡ []
 drop-past [] zero le = refl
 drop-past [] (suc i) le = refl
 drop-past (x ∷ xs) zero le = absurd (omega arith)

@@ -1,16 +1,18 @@
 -- The loads of what was given, unit by unit.
-use Rattle.std.proofs.Common.{◌≡◌, ℕ, ◌+◌, ◌<◌, ◌∙◌, ap, arith, List, [], length, get_or, drop}
-use Rattle.std.specs.Prelude.{None}
+use Rattle.std.proofs.Common.{◌≡◌, ℕ, ◌+◌, ◌-◌, ◌<◌, ◌∙◌, Bool, false, refl, sym, ap, arith, List, [], length, get_or, drop}
+use Rattle.std.specs.Prelude.{Option, Some, None, is_some, ◌==◌, if◌then◌else◌}
+use Rattle.std.proofs.lemmas.Bool.{false≢true, ne_eqb}
 use Rattle.season_days.specs.declared.declaration.Kind.TheVariants.{Arr, Dep}
 use Rattle.scr_reader.specs.declared.line.Code.TheVariants.{N}
 use Rattle.series_model.specs.declared.group.Group.TheVariants.{F}
-use Rattle.capacity_windows.specs.Windows.{Capacity, window_load}
+use Rattle.season_days.specs.declared.declaration.Declaration.{Declaration}
+use Rattle.capacity_windows.specs.Windows.{Capacity, capacity_of, window_limit, window_load}
 use Rattle.series_model.specs.declared.unit.Unit.{Unit as SlotUnit}
 use Rattle.series_model.specs.declared.times.Times.{Times}
 use Rattle.series_model.specs.declared.times.Times.TheVariants.{At}
 use Rattle.series_model.specs.Movements.{stop_load, movements_of}
 use Rattle.series_model.specs.declared.state.UnitState.{UnitState}
-use Rattle.series_model.specs.Stages.{given_movements, movements_given}
+use Rattle.series_model.specs.Stages.{movements_once_given, given_movements, movements_given, limit_left, share_of, stage_limit}
 use Rattle.wasg_stages.proofs.ZipLemmas.{window_load-append}
 use Rattle.wasg_stages.proofs.PartLemmas.{LoadsOfStops}
 use Rattle.wasg_stages.proofs.StepLemmas.{drop-cons}
@@ -53,3 +55,24 @@ load-on c states i r old new whole lt grows all =
     ap (λ (s : List UnitState). window_load c (movements_given c.season s) r) (drop-cons states i no_state lt)
     ∙ window_load-append c (given_movements c.season state) (movements_given c.season (drop (i + 1) states)) r in
     omega (arith, both, grows, all)
+
+-- a unit that was given nothing
+pub load-skip : (states : List UnitState) (i : ℕ) → i < length states → (get_or states i no_state).given ≡ None →
+    ((c : Capacity) (r : ℕ) → window_load c (movements_given c.season (drop i states)) r ≡ window_load c (movements_given c.season states) r) →
+    (c : Capacity) (r : ℕ) → window_load c (movements_given c.season (drop (i + 1) states)) r ≡ window_load c (movements_given c.season states) r
+load-skip states i lt none before c r =
+    let state = get_or states i no_state in
+    let nothing : state_load c states i r ≡ 0 = ap (λ (g : Option Times). window_load c (movements_once_given c.season state.unit g) r) none in
+    let on = load-on c states i r 0 0 (window_load c (movements_given c.season states) r) lt (omega (arith, nothing)) (omega (arith, before c r)) in
+    omega (arith, on)
+
+pub is-none : (given : Option Times) → is_some given ≡ false → given ≡ None
+is-none None is = refl
+is-none (Some times) is = absurd (false≢true (sym is))
+
+-- where nothing was given and no share is taken
+pub whole-limit : (d : Declaration) (stage : ℕ) (states : List UnitState) (r : ℕ) → (stage ≡ 3 → ⊥) → window_load (capacity_of d) (movements_given d.season states) r ≡ 0 →
+    stage_limit d stage states r ≡ window_limit (capacity_of d) r
+whole-limit d stage states r other none =
+    let left : limit_left d states r ≡ window_limit (capacity_of d) r = omega (arith, none) in
+    ap (λ (b : Bool). if b then share_of d.share (limit_left d states r) else limit_left d states r) (ne_eqb stage 3 other) ∙ left

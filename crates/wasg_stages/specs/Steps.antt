@@ -25,16 +25,18 @@ Advances d stage state numbers after taken =
 abbrev pub share_at : ℕ → ℕ → ℕ → ℕ
 share_at share stage left = if stage == 3 then share_of share left else left
 
--- the limits of a stage, where resources have these loads
+-- the first n limits are those of a stage, where resources have these loads; the others are still the
+-- declared ones
 pub record AreLimits (d : Declaration) (stage : ℕ) (loads : List ℕ) (limits : List ℤ)
     (n : ℕ) : Type 0 where
-  pub count : length limits ≡ n
   pub each : (r : ℕ) → r < n →
       slice_index_or limits r (pos 0)
       ≡ pos (share_at d.share stage (window_limit (capacity_of d) r - slice_index loads r))
   pub few : (r : ℕ) → r < n →
       share_at d.share stage (window_limit (capacity_of d) r - slice_index loads r)
       ≤ HIGHEST_NIGHT_LIMIT
+  pub others : (r : ℕ) → n ≤ r → r < length limits →
+      slice_index_or limits r (pos 0) ≡ pos (window_limit (capacity_of d) r)
 
 -- the unit first in line is added where it is one of the stage's
 abbrev pub AddsDue : Declaration → ℕ → UnitState → List ChooserView → List ChooserView → Type 0

@@ -1,16 +1,17 @@
 //! What the resources may still hold in a stage.
 
-ghost use Rattle.std.specs.Prelude.{◌≡◌, ◌+◌, ◌*◌, ◌-◌, ◌<◌, ◌≤◌, ◌≤ℤ◌, ℕ, List, All, length, slice_index, slice_index_or, OnOk, IfOk, pos};
+ghost use Rattle.std.specs.Prelude.{◌≡◌, ◌+◌, ◌*◌, ◌-◌, ◌<◌, ◌≤◌, ◌≤ℤ◌, ℕ, true, List, All, length, slice_index, slice_index_or, OnOk, IfOk, pos};
 ghost use Rattle.season_days.specs.Seasons.{date_count};
 ghost use Rattle.season_days.specs.declared.declaration.TheConstants.{HIGHEST_NIGHT_LIMIT, HIGHEST_SHARE};
 ghost use Rattle.season_days.specs.declared.season.TheConstants.{MOST_DATES};
-ghost use Rattle.capacity_windows.specs.Windows.{capacity_of, declared_resources, window_load};
+ghost use Rattle.capacity_windows.specs.Windows.{capacity_of, declared_resources, window_limit, window_load};
 ghost use Rattle.choice_problem.specs.declared.problems.TheConstants.{MOST_UNITS, MOST_USES};
 ghost use Rattle.choice_problem.specs.Counts.{GrowsBy, HasRoom};
 ghost use Rattle.series_model.specs.Units.{UnitFits};
 ghost use Rattle.series_model.specs.Movements.{stop_load, movements_of};
 ghost use Rattle.series_model.specs.Stages.{movements_once_given, movements_given, limit_left, share_of, stage_limit};
 ghost use Rattle.wasg_stages.specs.Steps.{share_at, AreLimits};
+ghost use Rattle.season_days.specs.declared.declaration.Declaration.{Declaration as DeclarationValue};
 ghost use Rattle.series_model.specs.declared.state.UnitState.{UnitState as UnitStateValue};
 
 use capacity_windows::Windows;
@@ -180,33 +181,41 @@ fn stage_share(declaration: &Declaration, stage: u32, limit: i64, load: u32) -> 
     }
 }
 
-// The limits of a stage, where the resources have these loads already.
-fn limits_of(
-    alloc: Global,
-    declaration: &Declaration,
-    windows: &Windows,
-    stage: u32,
-    loads: &[u32],
-) -> Result<Vec<i64>, Memory>
+// Takes these loads from the declared limits, and in stage 3 leaves the share of new entrants.
+fn leave_shares(declaration: &Declaration, stage: u32, loads: &[u32], limits: &mut [i64])
     requires share { declaration.now.share ≤ HIGHEST_SHARE }
-    requires windows { windows.now ≡ capacity_of declaration.now }
-    requires loads { length loads.now ≡ declared_resources windows.now }
-    ensures { IfOk result
-        (λ limits. AreLimits declaration.now stage loads.now limits.items
-        (declared_resources windows.now)) }
+    requires loads { length loads.now ≡ length limits.old }
+    requires declared { (r : ℕ) → r < length limits.old →
+        slice_index_or limits.old r (pos 0) ≡ pos (window_limit (capacity_of declaration.now) r) }
+    requires few { (r : ℕ) → window_limit (capacity_of declaration.now) r ≤ HIGHEST_NIGHT_LIMIT }
+    ensures { AreLimits declaration.now stage loads.now limits.new (length limits.old) }
 {
-    let declared = windows.limits(alloc)?;
-    let mut limits = Vec::new(alloc);
-    for resource in 0..windows.resources() {
-        let i = resource as usize;
-        let limit = stage_share(declaration, stage, declared[i], loads[i]);
-        limits.push(i64::from(limit))?;
+    for at in 0..limits.len() {
+        let limit = stage_share(declaration, stage, limits[at], loads[at]);
+        limits[at] = i64::from(limit);
     }
-    Ok(limits)
+}
+
+// Whether a stage may use each declared limit whole: it takes no share, and no unit was given
+// anything.
+fn is_whole(stage: u32, states: &[UnitState]) -> bool
+    ensures { result ≡ true → (d : DeclarationValue) (r : ℕ) →
+        stage_limit d stage states.now r ≡ window_limit (capacity_of d) r }
+{
+    if stage == 3 {
+        return false;
+    }
+    for state in states {
+        if state.given.is_some() {
+            return false;
+        }
+    }
+    true
 }
 
 /// The limits of a stage: of each resource its declared limit, less the movements that units were
-/// given, and in stage 3 the share of new entrants of that.
+/// given, and in stage 3 the share of new entrants of that. They are written over the declared ones;
+/// beside them there is a count of movements for each resource, once a unit was given something.
 pub(crate) fn stage_limits(
     alloc: Global,
     declaration: &Declaration,
@@ -226,6 +235,11 @@ pub(crate) fn stage_limits(
     ensures few { IfOk result (λ limits. (r : ℕ) → r < declared_resources windows.now →
         stage_limit declaration.now stage states.now r ≤ HIGHEST_NIGHT_LIMIT) }
 {
+    let mut limits = windows.limits(alloc)?;
+    if is_whole(stage, states) {
+        return Ok(limits);
+    }
     let loads = loads_given(alloc, windows, states)?;
-    limits_of(alloc, declaration, windows, stage, &loads)
+    leave_shares(declaration, stage, &loads, &mut limits);
+    Ok(limits)
 }

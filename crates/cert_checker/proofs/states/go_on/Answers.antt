@@ -28,6 +28,6 @@ returns-in_ok-mark_all-clause-state c = λ yes.
     ∙ ap (λ (n : ℕ). drop n c.deref.result.now) count
     ∙ ap (λ (xs : List ℕ). drop (length s.changes.items) xs) c.deref.ensures.value in
     step-more c.args.problem.now c.args.vectors.now c.args.walk.now c.advance.new.self s
-    (record { bounds = s.bounds; loads = record { whole = s.loads.whole; changed = c.mark_all.new.marked; known = s.loads.known; kept = s.loads.kept }; changes = c.advance.new.changed })
-    c.requires.some c.requires.ranges c.requires.state on (c.in_ok-goes_on.ensures.changed yes) refl refl refl refl c.mark_all.ensures.most
+    (record { bounds = s.bounds; loads = record { whole = s.loads.whole; changed = c.mark_all.new.marked; named = s.loads.named; known = s.loads.known; kept = s.loads.kept }; changes = c.advance.new.changed })
+    c.requires.some c.requires.ranges c.requires.state on (c.in_ok-goes_on.ensures.changed yes) refl refl refl refl refl c.mark_all.ensures.most
     (λ u h. c.in_ok-mark_all.ensures.all u (subst (λ (xs : List ℕ). Contains xs u) (sym same) h)) c.mark_all.ensures.stay

@@ -1,9 +1,0 @@
-use Rattle.std.proofs.Common.{◌≡◌, ◌+◌, length}
-use Rattle.capacity_windows.specs.Kept.{AreLimits}
-use Rattle.capacity_windows.proofs.windows.Windows.push_day.Given as goal
-
-abbrev pub invariant-loop : goal.invariant-loop
-invariant-loop l = record {
-  limits : AreLimits l.self l.limits.items;
-  count : length l.limits.items ≡ length l.initial.limits.items + l.counter;
-}
