@@ -16,8 +16,8 @@ use std::alloc::Global;
 // The most prices that are looked up.
 const MOST_FEW: usize = 4096;
 
-// How many prices of strips, for each resource and each place of a strip that is kept, are looked up in the time that the
-// sums over all resources take.
+// How many prices are looked up in the time that sums take for one resource, or for one place of a strip that is kept: less
+// than was measured, where a price counts once for each strip, though most lie outside it.
 const LOOKED_UP: u64 = 16;
 
 // Whether the vector has so few prices that to look them up for each strip takes less time than sums over all resources.
