@@ -1,12 +1,17 @@
-//! What enters the basis: of what the direction brings to its bound first, the one with the greatest pivot.
+//! What enters the basis: how far the prices go, which units change their key on the way, and what enters in the end.
+//!
+//! Where an alternative of a unit without basic alternatives comes to its bound, it may be the unit's key from then on, and
+//! the prices go on while what leaves still passes its bound (long steps: Maros 2003, "A generalized dual phase-2 simplex
+//! algorithm"). Of what comes to its bound at the same time the greatest pivot comes first.
 
 use crate::leaving::Work;
 use crate::programs::Program;
 use crate::relaxations::Relaxation;
 use crate::slots::{
-    LEAST_PIVOT, NOTHING, above_zero, add_multiple, is_set, part_of, place_after, size_of_number,
-    value_at,
+    LEAST_PIVOT, NOTHING, PASSED, above_zero, add_multiple, is_set, part_of, place_after,
+    size_of_number, value_at,
 };
+use slot_text::Memory;
 
 // What enters.
 #[derive(Clone, Copy)]
@@ -45,76 +50,202 @@ impl Entering {
         }
     }
 
-    // Takes what comes to its bound earlier, or as early with a greater pivot.
-    fn offer(&mut self, entry: Entry, length: f64, pivot: f64) {
+    // Takes what comes to its bound earlier, or as early with a greater pivot. Answers whether it does.
+    fn offer(&mut self, other: Entering) -> bool {
         let is_first = match self.entry {
             Entry::Nothing => true,
-            _ => length < self.length - NOTHING,
+            _ => other.length < self.length - NOTHING,
         };
-        let is_greater = size_of_number(pivot) > size_of_number(self.pivot);
-        if is_first || (length <= self.length + NOTHING && is_greater) {
-            let is_earlier = is_first || length < self.length;
-            self.length = if is_earlier { length } else { self.length };
-            self.entry = entry;
-            self.pivot = pivot;
+        let is_greater = size_of_number(other.pivot) > size_of_number(self.pivot);
+        let is_taken = is_first || (other.length <= self.length + NOTHING && is_greater);
+        if is_taken {
+            let is_earlier = is_first || other.length < self.length;
+            *self = Entering {
+                length: if is_earlier {
+                    other.length
+                } else {
+                    self.length
+                },
+                ..other
+            };
         }
+        is_taken
     }
 }
 
+// The reduced cost of a unit's key, and how it moves.
+#[derive(Clone, Copy)]
+struct Base {
+    cost: f64,
+    step: f64,
+}
+
 impl Relaxation {
-    // What enters, where the prices of classes move along this direction and those of the parts as the work says.
+    // What enters, where the prices of classes move along this direction and those of the parts as the work says, and what
+    // leaves passes its bound by so much. The work gets the alternatives that become keys until then.
     pub(crate) fn entering(
         &self,
         program: &Program<'_>,
         work: &mut Work,
         direction: &[f64],
-    ) -> Entering {
-        let mut entering = Entering::nothing();
+        violation: f64,
+    ) -> Result<Entering, Memory> {
+        work.stops.clear();
+        work.flips.clear();
+        let mut last = self.first_slack(direction);
+        for unit in 0..program.units() {
+            if is_set(&work.touched, unit as usize) {
+                self.look_at_unit(program, work, unit, &mut last)?;
+            }
+        }
+        self.last_stop(program, work, last, violation)
+    }
+
+    // The slack that comes to its bound first.
+    fn first_slack(&self, direction: &[f64]) -> Entering {
+        let mut first = Entering::nothing();
         for (at, (class, step)) in self.priced.iter().zip(direction).enumerate() {
             if *step < -LEAST_PIVOT {
                 let price = above_zero(value_at(&self.prices, *class as usize));
-                entering.offer(Entry::Slack(at), price / -*step, *step);
+                let _is_first = first.offer(Entering {
+                    entry: Entry::Slack(at),
+                    length: price / -*step,
+                    pivot: *step,
+                });
             }
         }
-        for unit in 0..program.units() {
-            if is_set(&work.touched, unit as usize) {
-                self.offer_unit(program, work, unit, &mut entering);
-            }
-        }
-        entering
+        first
     }
 
-    // Offers the alternatives of a unit.
-    fn offer_unit(
+    // Takes the steps of a unit's alternatives. Where some are basic, the prices end at the first that comes to its bound.
+    fn look_at_unit(
         &self,
         program: &Program<'_>,
         work: &mut Work,
         unit: u32,
-        entering: &mut Entering,
-    ) {
+        last: &mut Entering,
+    ) -> Result<(), Memory> {
         let key = program.column(self.key_place(unit));
         let base = work.at(key.one, key.two);
-        let span = program.span(unit);
-        work.take_steps(program.unit_columns(unit), span, base);
-        let first = program.first_column(unit);
-        for (number, step) in part_of(&work.steps, span).iter().enumerate() {
-            if *step < -LEAST_PIVOT {
-                self.offer_alternative(program, place_after(first, number), *step, entering);
-            }
+        work.take_steps(program.unit_columns(unit), program.span(unit), base);
+        let none = Base {
+            cost: 0.0,
+            step: 0.0,
+        };
+        let stop = self.first_of(program, work, unit, none, *last);
+        if value_at(&work.counts, unit as usize) > 0.0 {
+            *last = stop;
+            Ok(())
+        } else {
+            self.add_stop(program, work, unit, stop)
         }
     }
 
-    // Offers an alternative.
+    // Notes where a unit comes to its bound, if it does.
+    fn add_stop(
+        &self,
+        program: &Program<'_>,
+        work: &mut Work,
+        unit: u32,
+        stop: Entering,
+    ) -> Result<(), Memory> {
+        if let Entry::Alternative(place) = stop.entry {
+            if program.column(place).unit == unit {
+                work.stops.push(stop)?;
+            }
+        }
+        Ok(())
+    }
+
+    // The alternative of a unit that comes to its bound first, beside this key, if it does so before something else.
+    fn first_of(
+        &self,
+        program: &Program<'_>,
+        work: &Work,
+        unit: u32,
+        base: Base,
+        other: Entering,
+    ) -> Entering {
+        let mut first = other;
+        let start = program.first_column(unit);
+        let steps = part_of(&work.steps, program.span(unit));
+        for (number, step) in steps.iter().enumerate() {
+            let fall = base.step - *step;
+            if fall > LEAST_PIVOT {
+                let at = place_after(start, number);
+                self.offer_alternative(program, at, base, fall, &mut first);
+            }
+        }
+        first
+    }
+
+    // Offers an alternative whose reduced cost falls by so much beside the key's.
     fn offer_alternative(
         &self,
         program: &Program<'_>,
         at: u32,
-        step: f64,
-        entering: &mut Entering,
+        base: Base,
+        fall: f64,
+        first: &mut Entering,
     ) {
-        let cost = above_zero(value_at(&self.reduced, at as usize));
-        if entering.wants(cost, -step) && !self.is_out(&program.column(at), at) {
-            entering.offer(Entry::Alternative(at), cost / -step, step);
+        let cost = above_zero(value_at(&self.reduced, at as usize) - base.cost);
+        if first.wants(cost, fall) && !self.is_out(&program.column(at), at) {
+            let _is_first = first.offer(Entering {
+                entry: Entry::Alternative(at),
+                length: cost / fall,
+                pivot: -fall,
+            });
+        }
+    }
+
+    // What enters where something ends the way at the latest. Takes the stops before it in their order.
+    fn last_stop(
+        &self,
+        program: &Program<'_>,
+        work: &mut Work,
+        last: Entering,
+        violation: f64,
+    ) -> Result<Entering, Memory> {
+        let mut left = violation;
+        for _ in 0..program.columns().len() {
+            let (at, stop) = first_stop(&work.stops, last);
+            left -= size_of_number(stop.pivot);
+            match stop.entry {
+                Entry::Alternative(place) if at < work.stops.len() && left > PASSED => {
+                    self.pass(program, work, at, place, last)?;
+                }
+                _ => return Ok(stop),
+            }
+        }
+        Ok(last)
+    }
+
+    // Passes a stop: its alternative is the key from then on.
+    fn pass(
+        &self,
+        program: &Program<'_>,
+        work: &mut Work,
+        at: usize,
+        place: u32,
+        last: Entering,
+    ) -> Result<(), Memory> {
+        work.flips.push(place)?;
+        if at < work.stops.len() {
+            let _stop = work.stops.swap_remove(at);
+        }
+        let unit = program.column(place).unit;
+        let base = Base {
+            cost: value_at(&self.reduced, place as usize),
+            step: value_at(&work.steps, place as usize),
+        };
+        let next = self.first_of(program, work, unit, base, last);
+        self.add_stop(program, work, unit, next)
+    }
+
+    // Makes the alternatives the keys of their units that came to their bounds on the way.
+    pub(crate) fn take_flips(&mut self, program: &Program<'_>, work: &Work) {
+        for place in &work.flips {
+            self.take_key(program, *place);
         }
     }
 
@@ -127,6 +258,18 @@ impl Relaxation {
             }
         }
     }
+}
+
+// What comes to its bound first, and its place among the stops, or past them where that is something else.
+fn first_stop(stops: &[Entering], other: Entering) -> (usize, Entering) {
+    let mut first = other;
+    let mut found = stops.len();
+    for (at, stop) in stops.iter().enumerate() {
+        if first.offer(*stop) {
+            found = at;
+        }
+    }
+    (found, first)
 }
 
 // Adds a multiple of some numbers to those from one place to another.

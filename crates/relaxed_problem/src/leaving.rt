@@ -1,6 +1,7 @@
 //! What leaves the basis: of what passes its bounds, the one with the greatest ratio of the square of its violation and the
 //! square of the length of its direction.
 
+use crate::entering::Entering;
 use crate::programs::{Column, Program};
 use crate::relaxations::Relaxation;
 use crate::slots::{
@@ -12,6 +13,9 @@ use std::alloc::Global;
 
 // How many of the most passed classes are looked at.
 const LOOKED_AT: usize = 8;
+
+// How many users for each basic alternative are many.
+const MANY_USERS: usize = 8;
 
 // What leaves.
 #[derive(Clone, Copy)]
@@ -72,6 +76,10 @@ pub struct Work {
     sums: Vec<f64>,
     // For each unit the number of its basic alternatives.
     pub(crate) counts: Vec<f64>,
+    // For the touched units without basic alternatives the one that comes to its bound first.
+    pub(crate) stops: Vec<Entering>,
+    // The alternatives that become keys, in the order in which they come to their bounds.
+    pub(crate) flips: Vec<u32>,
 }
 
 impl Work {
@@ -85,6 +93,8 @@ impl Work {
             loads: vec![in alloc; 0.0; program.limits().len()]?,
             sums: vec![in alloc; 0.0; units]?,
             counts: vec![in alloc; 0.0; units]?,
+            stops: Vec::new(alloc),
+            flips: Vec::new(alloc),
         })
     }
 
@@ -232,8 +242,26 @@ impl Relaxation {
         Ok(())
     }
 
-    // How the prices change while that of a class without one rises by 1.
+    // How the prices change while that of a class without one rises by 1. Where the class has many users, its uses are
+    // looked up in the parts of the basic alternatives; else it is priced in those of its users.
     pub(crate) fn class_direction(
+        &self,
+        alloc: Global,
+        program: &Program<'_>,
+        work: &mut Work,
+        class: u32,
+    ) -> Result<Vec<f64>, Memory> {
+        let users = program.reduced().users(class).len();
+        let weights = if users / MANY_USERS > self.basics.len() {
+            self.looked_up(alloc, program, class)?
+        } else {
+            self.priced_weights(alloc, program, work, class)?
+        };
+        self.inverse.weighted(alloc, &weights)
+    }
+
+    // How often the keys of the basic alternatives use a class more than these, by pricing its users.
+    fn priced_weights(
         &self,
         alloc: Global,
         program: &Program<'_>,
@@ -248,7 +276,23 @@ impl Relaxation {
             weights.push(work.at(key.one, key.two) - work.at(column.one, column.two))?;
         }
         program.clear_users(class, &mut work.parts);
-        self.inverse.weighted(alloc, &weights)
+        Ok(weights)
+    }
+
+    // The same by looking it up in their parts.
+    fn looked_up(
+        &self,
+        alloc: Global,
+        program: &Program<'_>,
+        class: u32,
+    ) -> Result<Vec<f64>, Memory> {
+        let mut weights = Vec::with_capacity(alloc, self.basics.len())?;
+        for place in &self.basics {
+            let column = program.column(*place);
+            let key = program.column(self.key_place(column.unit));
+            weights.push(program.uses(&key, class) - program.uses(&column, class))?;
+        }
+        Ok(weights)
     }
 }
 

@@ -2,7 +2,7 @@
 
 use crate::slots::{add, is_set, number_at, value_at};
 use choice_problem::{Alt, Problem};
-use reduced_problem::Reduced;
+use reduced_problem::{ClassUse, Reduced};
 use slot_text::Memory;
 use std::alloc::Global;
 use std::num::nearest_i64_to_f64;
@@ -226,6 +226,12 @@ impl<'a> Program<'a> {
         }
     }
 
+    // How often an alternative uses a class.
+    pub(crate) fn uses(&self, column: &Column, class: u32) -> f64 {
+        let one = uses_in(self.reduced.part_uses(column.one), class);
+        one + uses_in(self.reduced.part_uses(column.two), class)
+    }
+
     // Adds the price of a class, so often as a part uses it, to numbers of the parts.
     pub(crate) fn add_price(&self, class: u32, price: f64, parts: &mut [f64]) {
         for run in self.reduced.users(class) {
@@ -296,4 +302,21 @@ fn limits_of(alloc: Global, reduced: &Reduced) -> Result<Vec<f64>, Memory> {
         limits.push(nearest_i64_to_f64(class.limit))?;
     }
     Ok(limits)
+}
+
+// How often a class is used where these are the uses of a part, by rising class.
+fn uses_in(uses: &[ClassUse], class: u32) -> f64 {
+    let (mut low, mut high) = (0, uses.len());
+    for _ in 0..uses.len() {
+        if low >= high {
+            break;
+        }
+        let middle = low + (high - low) / 2;
+        match uses.get(middle) {
+            Some(entry) if entry.class == class => return f64::from(entry.uses),
+            Some(entry) if entry.class < class => low = middle.saturating_add(1),
+            _ => high = middle,
+        }
+    }
+    0.0
 }

@@ -258,14 +258,21 @@ impl Relaxation {
 
     // Lets a unit without basic alternatives take its best allowed one. Answers whether there is one.
     pub(crate) fn set_best_key(&mut self, program: &Program<'_>, unit: u32) -> bool {
-        let Some((place, least)) = self.best_allowed(program, unit) else {
+        let Some((place, _)) = self.best_allowed(program, unit) else {
             return false;
         };
-        self.set_key(program, unit, place);
-        self.value += least;
-        let (first, end) = program.span(unit);
-        lower_all(&mut self.reduced, first, end, least);
+        self.take_key(program, place);
         true
+    }
+
+    // Makes an alternative the key of its unit, which has no basic alternatives.
+    pub(crate) fn take_key(&mut self, program: &Program<'_>, place: u32) {
+        let unit = program.column(place).unit;
+        let cost = value_at(&self.reduced, place as usize);
+        self.set_key(program, unit, place);
+        self.value += cost;
+        let (first, end) = program.span(unit);
+        lower_all(&mut self.reduced, first, end, cost);
     }
 
     // The place of a unit's first allowed alternative of least reduced cost, and that cost.

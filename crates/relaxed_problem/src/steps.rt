@@ -37,7 +37,8 @@ pub struct Ended {
 impl Relaxation {
     /// Goes on from the basis that there is, until the relaxation is solved or its value, with changed costs, is above
     /// `stop_above`, by at most so many pivots. A pivot takes a step for each alternative of the units whose prices move,
-    /// each use of the basic alternatives, and some ten for each entry of the inverse.
+    /// each use of the basic alternatives, and some ten for each entry of the inverse; and for each unit whose key changes
+    /// on the way, a step for each of those units, and for each use and alternative of that one.
     pub fn solve(
         &mut self,
         alloc: Global,
@@ -197,7 +198,7 @@ impl Relaxation {
     ) -> Result<Option<End>, Memory> {
         let direction = self.direction(alloc, program, work, leaving.place)?;
         self.price_parts(program, work, &direction, leaving.place);
-        let entering = self.entering(program, work, &direction);
+        let entering = self.entering(program, work, &direction, leaving.violation)?;
         let end = match entering.entry {
             Entry::Nothing => {
                 self.take_ray(alloc, &direction, leaving.place)?;
@@ -207,10 +208,11 @@ impl Relaxation {
                 self.value += entering.length * leaving.violation;
                 self.move_prices(&direction, leaving.place, entering.length);
                 self.move_costs(program, work, entering.length);
+                self.take_flips(program, work);
                 None
             }
         };
-        self.clear_parts(program, work, leaving.place);
+        fill(&mut work.parts, 0.0);
         self.exchange(alloc, program, &direction, leaving.place, entering)?;
         Ok(end)
     }
@@ -245,16 +247,6 @@ impl Relaxation {
         }
         if let Place::Class(class) = place {
             work.add_price(program, class, 1.0);
-        }
-    }
-
-    // Makes the prices of the parts 0 again.
-    fn clear_parts(&self, program: &Program<'_>, work: &mut Work, place: Place) {
-        for class in &self.priced {
-            program.clear_users(*class, &mut work.parts);
-        }
-        if let Place::Class(class) = place {
-            program.clear_users(class, &mut work.parts);
         }
     }
 
