@@ -1,3 +1,4 @@
 pub mod Stated
 pub mod Loops
 pub mod Kept
+pub mod Same

@@ -11,6 +11,7 @@ mod kept;
 mod passable;
 mod points;
 mod roots;
+mod same;
 
 pub use floors::{StatedFloor, floor_of};
 pub use passable::passable_resources;

@@ -12,17 +12,15 @@ loop-unit-preserved c =
     let ranges = c.args.ranges.now in
     let scale = c.args.scale in
     let unit = c.loop-unit.unit in
-    let same : c.loop-unit.strips ≡ c.args.strips.now = c.loop-unit.invariant.same in
     record {
       total = λ prices h.
           let f : ℕ → ℕ = λ u. least_within (low_of ranges u) (high_of ranges u) (λ a. priced_cost p prices scale u a) in
-          omega (arith, sum_below-more unit f, c.loop-unit.invariant.total prices h, c.in_ok-total.ensures.cost prices (rw same h));
+          omega (arith, sum_below-more unit f, c.loop-unit.invariant.total prices h, c.take_unit-total.ensures.cost prices h);
       loads = λ prices h r l.
           let f : ℕ → ℕ = λ u. alt_uses p u (least_alt p ranges prices scale u) r in
-          omega (arith, sum_below-more unit f, c.loop-unit.invariant.loads prices h r l, c.in_ok-total.ensures.loads prices (rw same h) r (omega arith));
-      few = λ r l. omega (arith, c.loop-unit.invariant.few r l, c.in_ok-total.ensures.few r (omega arith));
-      small = omega (arith, c.loop-unit.invariant.small, c.in_ok-total.ensures.small);
-      same = c.in_ok-total.ensures.same ∙ same;
+          omega (arith, sum_below-more unit f, c.loop-unit.invariant.loads prices h r l, c.take_unit-total.ensures.loads prices h r (omega arith));
+      few = λ r l. omega (arith, c.loop-unit.invariant.few r l, c.take_unit-total.ensures.few r (omega arith));
+      small = omega (arith, c.loop-unit.invariant.small, c.take_unit-total.ensures.small);
     }
 
 pub returns-clause-total : goal.returns-clause-total

@@ -9,11 +9,10 @@ use Rattle.dual_bound.proofs.points.take_least.Given as goal
 
 abbrev pub invariant-loop-unit : goal.invariant-loop-unit
 invariant-loop-unit l = record {
-  total : (prices : List Price) → IsPricedBy l.problem prices l.fn.strips →
+  total : (prices : List Price) → IsPricedBy l.problem prices l.strips →
       l.total ≡ sum_below l.unit (λ u. least_within (low_of l.ranges u) (high_of l.ranges u) (λ a. priced_cost l.problem prices l.scale u a));
-  loads : (prices : List Price) → IsPricedBy l.problem prices l.fn.strips → (r : ℕ) → r < length l.fn.loads →
+  loads : (prices : List Price) → IsPricedBy l.problem prices l.strips → (r : ℕ) → r < length l.fn.loads →
       slice_index l.loads r ≡ least_alt_load l.problem l.ranges prices l.scale l.unit r;
   few : (r : ℕ) → r < length l.fn.loads → slice_index l.loads r ≤ l.unit * 434;
   small : l.total ≤ l.unit * 2 ^ 101;
-  same : l.strips ≡ l.fn.strips;
 }
