@@ -2,3 +2,4 @@ pub mod Stated
 pub mod Loops
 pub mod Kept
 pub mod Same
+pub mod Ends

@@ -8,6 +8,7 @@
 mod counts;
 mod floors;
 mod kept;
+mod loads;
 mod passable;
 mod points;
 mod roots;

@@ -4,13 +4,14 @@ ghost use Rattle.std.specs.Prelude.{◌≡◌, ℕ, ◌+◌, ◌*◌, ◌^◌, �
 ghost use Rattle.choice_problem.specs.declared.closing.TheConstants.{PRICED_SCALE, SCALE_BOUND};
 ghost use Rattle.choice_problem.specs.declared.problems.TheConstants.{MOST_UNITS, MOST_USES};
 ghost use Rattle.choice_problem.specs.declared.vectors.Price.{Price};
-ghost use Rattle.choice_problem.specs.Counts.{GrowsBy, HasRoom};
 ghost use Rattle.choice_problem.specs.Problems.{ProblemView, unit_count, resource_count, alt_uses, limit_of};
 ghost use Rattle.choice_problem.specs.Bounds.{AreRanges, IsVector, priced, least_total};
 ghost use Rattle.price_table.specs.Strips.{ArePrices, IsPricedBy, least_alt, unit_least};
+ghost use Rattle.dual_bound.specs.Ends.{AreEnds, AddEnds};
 ghost use Rattle.dual_bound.specs.Same.{AreSameTo, AreCosts, AreCostsTo};
 ghost use Rattle.dual_bound.specs.Loops.{IsPoint, AreMoved, IsAfter, IsGreatestUpTo, vector_in, least_alt_load};
 
+use crate::loads::{add_alt, loads_of};
 use crate::same::{PartCosts, SameParts, part_costs};
 use choice_problem::{HIGHEST_PRICE, Price, Problem, Ranges, Vector, price_vectors};
 use price_table::StripPrices;
@@ -105,8 +106,19 @@ pub(crate) fn evaluate(
     price_vectors();
     let mut strips = StripPrices::new(alloc, problem, &prices)?;
     let costs = part_costs(alloc, problem, same, &mut strips)?;
-    let mut loads = vec![in alloc; 0; problem.resources() as usize]?;
-    let total = take_least(problem, ranges, &costs, &strips, scale, &mut loads);
+    let places = problem.resources() as usize + 1;
+    let mut begins = vec![in alloc; 0; places]?;
+    let mut ends = vec![in alloc; 0; places]?;
+    let total = take_least(
+        problem,
+        ranges,
+        &costs,
+        &strips,
+        scale,
+        &mut begins,
+        &mut ends,
+    );
+    let loads = loads_of(alloc, problem.resources(), &begins, &ends)?;
     let bound = difference(total, priced_limits(problem, &prices));
     Ok(Point {
         prices,
@@ -139,40 +151,44 @@ fn priced_limits(problem: &Problem, prices: &[u64]) -> u128
     total
 }
 
-// Adds the uses of each unit's first least alternative, and answers the sum of the least priced costs.
+// Adds the runs of each unit's first least alternative, and answers the sum of the least priced costs.
 fn take_least(
     problem: &Problem,
     ranges: &Ranges,
     costs: &[PartCosts],
     strips: &StripPrices,
     scale: u64,
-    loads: &mut [u32],
+    begins: &mut [u32],
+    ends: &mut [u32],
 ) -> u128
     requires ranges { AreRanges problem.now ranges.now }
     requires costs { AreCostsTo problem.now strips.now (unit_count problem.now) costs.now }
     requires priced { (prices : List Price) × IsPricedBy problem.now prices strips.now }
     requires scale { scale < SCALE_BOUND }
-    requires count { length loads.old ≡ resource_count problem.now }
-    requires empty { (r : ℕ) → r < length loads.old → slice_index loads.old r ≡ 0 }
+    requires begins { length begins.old ≡ resource_count problem.now + 1 }
+    requires ends { length ends.old ≡ resource_count problem.now + 1 }
+    requires empty { (k : ℕ) → k < length begins.old → slice_index begins.old k ≡ 0 }
+    requires none { (k : ℕ) → k < length ends.old → slice_index ends.old k ≡ 0 }
     ensures total { (prices : List Price) → IsPricedBy problem.now prices strips.now →
         result ≡ least_total problem.now ranges.now prices scale }
-    ensures loads { (prices : List Price) → IsPricedBy problem.now prices strips.now → (r : ℕ) →
-        r < length loads.old →
-        slice_index loads.new r ≡ least_alt_load problem.now ranges.now prices scale
-        (unit_count problem.now) r }
-    ensures few { (r : ℕ) → r < length loads.old → slice_index loads.new r
+    ensures runs { (prices : List Price) → IsPricedBy problem.now prices strips.now →
+        AreEnds (resource_count problem.now)
+        (λ r. least_alt_load problem.now ranges.now prices scale (unit_count problem.now) r)
+        begins.new ends.new }
+    ensures few { (prices : List Price) → IsPricedBy problem.now prices strips.now → (r : ℕ) →
+        least_alt_load problem.now ranges.now prices scale (unit_count problem.now) r
         ≤ MOST_UNITS * MOST_USES }
     ensures small { result < 2 ^ 126 }
 {
     let mut total = 0;
     for unit in 0..problem.units() {
         let parts = costs[unit as usize].items();
-        total += take_unit(problem, ranges, unit, parts, strips, scale, loads);
+        total += take_unit(problem, ranges, unit, parts, strips, scale, begins, ends);
     }
     total
 }
 
-// Adds the uses of a unit's first least alternative, and answers its priced cost.
+// Adds the runs of a unit's first least alternative, and answers its priced cost.
 fn take_unit(
     problem: &Problem,
     ranges: &Ranges,
@@ -180,26 +196,29 @@ fn take_unit(
     parts: &[u128],
     strips: &StripPrices,
     scale: u64,
-    loads: &mut [u32],
+    begins: &mut [u32],
+    ends: &mut [u32],
 ) -> u128
     requires ranges { AreRanges problem.now ranges.now }
     requires unit { unit < unit_count problem.now }
     requires parts { AreCosts problem.now strips.now unit parts.now }
     requires priced { (prices : List Price) × IsPricedBy problem.now prices strips.now }
     requires scale { scale < SCALE_BOUND }
-    requires count { length loads.old ≡ resource_count problem.now }
-    requires room { HasRoom loads.old (λ _. MOST_USES) }
+    requires begins { length begins.old ≡ resource_count problem.now + 1 }
+    requires ends { length ends.old ≡ resource_count problem.now + 1 }
     ensures cost { (prices : List Price) → IsPricedBy problem.now prices strips.now →
         result ≡ unit_least problem.now ranges.now prices scale unit }
-    ensures loads { (prices : List Price) → IsPricedBy problem.now prices strips.now →
-        GrowsBy loads.old loads.new (λ r. alt_uses problem.now unit
+    ensures runs { (prices : List Price) → IsPricedBy problem.now prices strips.now →
+        AddEnds begins.old ends.old begins.new ends.new (λ r. alt_uses problem.now unit
         (least_alt problem.now ranges.now prices scale unit) r) }
-    ensures few { (r : ℕ) → r < length loads.old → slice_index loads.new r
-        ≤ slice_index loads.old r + MOST_USES }
+    ensures few { (prices : List Price) → IsPricedBy problem.now prices strips.now → (r : ℕ) →
+        alt_uses problem.now unit (least_alt problem.now ranges.now prices scale unit) r
+        ≤ MOST_USES }
     ensures small { result < 2 ^ 101 }
 {
     let least = strips.first_by(problem, ranges, unit, parts, scale);
-    problem.add_uses(unit, least.alt, loads);
+    let _alts = problem.unit_alts(unit);
+    add_alt(problem, unit, least.alt, begins, ends);
     least.cost
 }
 
