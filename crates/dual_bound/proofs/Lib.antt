@@ -4,3 +4,4 @@ mod RankLemmas
 mod KeptLemmas
 mod CountLemmas
 mod PassableLemmas
+mod EndLemmas

@@ -1,3 +1,5 @@
 pub mod Stated
 pub mod Loops
 pub mod Kept
+pub mod Same
+pub mod Ends

@@ -8,9 +8,11 @@
 mod counts;
 mod floors;
 mod kept;
+mod loads;
 mod passable;
 mod points;
 mod roots;
+mod same;
 
 pub use floors::{StatedFloor, floor_of};
 pub use passable::passable_resources;

@@ -4,12 +4,15 @@ ghost use Rattle.std.specs.Prelude.{◌≡◌, ℕ, ◌+◌, ◌*◌, ◌^◌, �
 ghost use Rattle.choice_problem.specs.declared.closing.TheConstants.{PRICED_SCALE, SCALE_BOUND};
 ghost use Rattle.choice_problem.specs.declared.problems.TheConstants.{MOST_UNITS, MOST_USES};
 ghost use Rattle.choice_problem.specs.declared.vectors.Price.{Price};
-ghost use Rattle.choice_problem.specs.Counts.{GrowsBy, HasRoom};
 ghost use Rattle.choice_problem.specs.Problems.{ProblemView, unit_count, resource_count, alt_uses, limit_of};
 ghost use Rattle.choice_problem.specs.Bounds.{AreRanges, IsVector, priced, least_total};
 ghost use Rattle.price_table.specs.Strips.{ArePrices, IsPricedBy, least_alt, unit_least};
+ghost use Rattle.dual_bound.specs.Ends.{AreEnds, AddEnds};
+ghost use Rattle.dual_bound.specs.Same.{AreSameTo, AreCosts, AreCostsTo};
 ghost use Rattle.dual_bound.specs.Loops.{IsPoint, AreMoved, IsAfter, IsGreatestUpTo, vector_in, least_alt_load};
 
+use crate::loads::{add_alt, loads_of};
+use crate::same::{PartCosts, SameParts, part_costs};
 use choice_problem::{HIGHEST_PRICE, Price, Problem, Ranges, Vector, price_vectors};
 use price_table::StripPrices;
 use slot_text::Memory;
@@ -67,9 +70,11 @@ pub(crate) fn better(alloc: Global, best: Best, here: &Point) -> Result<Best, Me
 pub(crate) fn start(
     alloc: Global,
     problem: &Problem,
+    same: &[SameParts],
     ranges: &Ranges,
     scale: u64,
 ) -> Result<Point, Memory>
+    requires same { AreSameTo problem.now (unit_count problem.now) same.now }
     requires ranges { AreRanges problem.now ranges.now }
     requires scale { scale < SCALE_BOUND }
     ensures point { IfOk result (λ point. IsPoint problem.now ranges.now scale point.prices.items
@@ -78,17 +83,19 @@ pub(crate) fn start(
         slice_index point.prices.items r ≡ 0) }
 {
     let prices = vec![in alloc; 0; problem.resources() as usize]?;
-    evaluate(alloc, problem, ranges, prices, scale)
+    evaluate(alloc, problem, same, ranges, prices, scale)
 }
 
 // The point of these prices.
 pub(crate) fn evaluate(
     alloc: Global,
     problem: &Problem,
+    same: &[SameParts],
     ranges: &Ranges,
     prices: Vec<u64>,
     scale: u64,
 ) -> Result<Point, Memory>
+    requires same { AreSameTo problem.now (unit_count problem.now) same.now }
     requires ranges { AreRanges problem.now ranges.now }
     requires prices { ArePrices problem.now prices.items }
     requires scale { scale < SCALE_BOUND }
@@ -98,8 +105,20 @@ pub(crate) fn evaluate(
 {
     price_vectors();
     let mut strips = StripPrices::new(alloc, problem, &prices)?;
-    let mut loads = vec![in alloc; 0; problem.resources() as usize]?;
-    let total = take_least(alloc, problem, ranges, &mut strips, scale, &mut loads)?;
+    let costs = part_costs(alloc, problem, same, &mut strips)?;
+    let places = problem.resources() as usize + 1;
+    let mut begins = vec![in alloc; 0; places]?;
+    let mut ends = vec![in alloc; 0; places]?;
+    let total = take_least(
+        problem,
+        ranges,
+        &costs,
+        &strips,
+        scale,
+        &mut begins,
+        &mut ends,
+    );
+    let loads = loads_of(alloc, problem.resources(), &begins, &ends)?;
     let bound = difference(total, priced_limits(problem, &prices));
     Ok(Point {
         prices,
@@ -132,72 +151,75 @@ fn priced_limits(problem: &Problem, prices: &[u64]) -> u128
     total
 }
 
-// Adds the uses of each unit's first least alternative, and answers the sum of the least priced costs.
+// Adds the runs of each unit's first least alternative, and answers the sum of the least priced costs.
 fn take_least(
-    alloc: Global,
     problem: &Problem,
     ranges: &Ranges,
-    strips: &mut StripPrices,
+    costs: &[PartCosts],
+    strips: &StripPrices,
     scale: u64,
-    loads: &mut [u32],
-) -> Result<u128, Memory>
+    begins: &mut [u32],
+    ends: &mut [u32],
+) -> u128
     requires ranges { AreRanges problem.now ranges.now }
-    requires priced { (prices : List Price) × IsPricedBy problem.now prices strips.old }
-    requires sums { length strips.old ≡ resource_count problem.now + 1 }
+    requires costs { AreCostsTo problem.now strips.now (unit_count problem.now) costs.now }
+    requires priced { (prices : List Price) × IsPricedBy problem.now prices strips.now }
     requires scale { scale < SCALE_BOUND }
-    requires count { length loads.old ≡ resource_count problem.now }
-    requires empty { (r : ℕ) → r < length loads.old → slice_index loads.old r ≡ 0 }
-    ensures total { IfOk result (λ total. (prices : List Price) →
-        IsPricedBy problem.now prices strips.old →
-        total ≡ least_total problem.now ranges.now prices scale) }
-    ensures loads { IfOk result (λ _. (prices : List Price) →
-        IsPricedBy problem.now prices strips.old → (r : ℕ) → r < length loads.old →
-        slice_index loads.new r ≡ least_alt_load problem.now ranges.now prices scale
-        (unit_count problem.now) r) }
-    ensures few { IfOk result (λ _. (r : ℕ) → r < length loads.old → slice_index loads.new r
-        ≤ MOST_UNITS * MOST_USES) }
-    ensures small { IfOk result (λ total. total < 2 ^ 126) }
-    ensures same { strips.new ≡ strips.old }
+    requires begins { length begins.old ≡ resource_count problem.now + 1 }
+    requires ends { length ends.old ≡ resource_count problem.now + 1 }
+    requires empty { (k : ℕ) → k < length begins.old → slice_index begins.old k ≡ 0 }
+    requires none { (k : ℕ) → k < length ends.old → slice_index ends.old k ≡ 0 }
+    ensures total { (prices : List Price) → IsPricedBy problem.now prices strips.now →
+        result ≡ least_total problem.now ranges.now prices scale }
+    ensures runs { (prices : List Price) → IsPricedBy problem.now prices strips.now →
+        AreEnds (resource_count problem.now)
+        (λ r. least_alt_load problem.now ranges.now prices scale (unit_count problem.now) r)
+        begins.new ends.new }
+    ensures few { (prices : List Price) → IsPricedBy problem.now prices strips.now → (r : ℕ) →
+        least_alt_load problem.now ranges.now prices scale (unit_count problem.now) r
+        ≤ MOST_UNITS * MOST_USES }
+    ensures small { result < 2 ^ 126 }
 {
     let mut total = 0;
     for unit in 0..problem.units() {
-        total += take_unit(alloc, problem, ranges, unit, strips, scale, loads)?;
+        let parts = costs[unit as usize].items();
+        total += take_unit(problem, ranges, unit, parts, strips, scale, begins, ends);
     }
-    Ok(total)
+    total
 }
 
-// Adds the uses of a unit's first least alternative, and answers its priced cost.
+// Adds the runs of a unit's first least alternative, and answers its priced cost.
 fn take_unit(
-    alloc: Global,
     problem: &Problem,
     ranges: &Ranges,
     unit: u32,
-    strips: &mut StripPrices,
+    parts: &[u128],
+    strips: &StripPrices,
     scale: u64,
-    loads: &mut [u32],
-) -> Result<u128, Memory>
+    begins: &mut [u32],
+    ends: &mut [u32],
+) -> u128
     requires ranges { AreRanges problem.now ranges.now }
     requires unit { unit < unit_count problem.now }
-    requires priced { (prices : List Price) × IsPricedBy problem.now prices strips.old }
-    requires sums { length strips.old ≡ resource_count problem.now + 1 }
+    requires parts { AreCosts problem.now strips.now unit parts.now }
+    requires priced { (prices : List Price) × IsPricedBy problem.now prices strips.now }
     requires scale { scale < SCALE_BOUND }
-    requires count { length loads.old ≡ resource_count problem.now }
-    requires room { HasRoom loads.old (λ _. MOST_USES) }
-    ensures cost { IfOk result (λ cost. (prices : List Price) →
-        IsPricedBy problem.now prices strips.old →
-        cost ≡ unit_least problem.now ranges.now prices scale unit) }
-    ensures loads { IfOk result (λ _. (prices : List Price) →
-        IsPricedBy problem.now prices strips.old →
-        GrowsBy loads.old loads.new (λ r. alt_uses problem.now unit
-        (least_alt problem.now ranges.now prices scale unit) r)) }
-    ensures few { IfOk result (λ _. (r : ℕ) → r < length loads.old → slice_index loads.new r
-        ≤ slice_index loads.old r + MOST_USES) }
-    ensures small { IfOk result (λ cost. cost < 2 ^ 101) }
-    ensures same { strips.new ≡ strips.old }
+    requires begins { length begins.old ≡ resource_count problem.now + 1 }
+    requires ends { length ends.old ≡ resource_count problem.now + 1 }
+    ensures cost { (prices : List Price) → IsPricedBy problem.now prices strips.now →
+        result ≡ unit_least problem.now ranges.now prices scale unit }
+    ensures runs { (prices : List Price) → IsPricedBy problem.now prices strips.now →
+        AddEnds begins.old ends.old begins.new ends.new (λ r. alt_uses problem.now unit
+        (least_alt problem.now ranges.now prices scale unit) r) }
+    ensures few { (prices : List Price) → IsPricedBy problem.now prices strips.now → (r : ℕ) →
+        alt_uses problem.now unit (least_alt problem.now ranges.now prices scale unit) r
+        ≤ MOST_USES }
+    ensures small { result < 2 ^ 101 }
 {
-    let least = strips.first_least(alloc, problem, ranges, unit, scale)?;
-    problem.add_uses(unit, least.alt, loads);
-    Ok(least.cost)
+    let least = strips.first_by(problem, ranges, unit, parts, scale);
+    let _alts = problem.unit_alts(unit);
+    add_alt(problem, unit, least.alt, begins, ends);
+    least.cost
 }
 
 // The prices after a step of this length: each rises or falls by so much for each use above or below the limit, and stays

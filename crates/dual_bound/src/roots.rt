@@ -9,6 +9,7 @@ ghost use Rattle.dual_bound.specs.Kept.{KeepPassed};
 
 use crate::kept::{kept_problem, kept_ranks, spread_prices};
 use crate::points::{Best, better, evaluate, first_best, move_prices, start, vector_in};
+use crate::same::same_parts;
 use choice_problem::{PRICED_SCALE, Problem, ROOT_STEPS, Ranges, Vector, price_vectors};
 use slot_text::Memory;
 use std::alloc::Global;
@@ -84,12 +85,13 @@ fn best_prices(alloc: Global, problem: &Problem, ranges: &Ranges) -> Result<Best
         best.prices.items best.bound) }
 {
     price_vectors();
-    let mut here = start(alloc, problem, ranges, PRICED_SCALE)?;
+    let same = same_parts(alloc, problem)?;
+    let mut here = start(alloc, problem, &same, ranges, PRICED_SCALE)?;
     let mut best = first_best(alloc, &here)?;
     for step in 0..ROOT_STEPS {
         let length = step_length(step);
         let prices = move_prices(alloc, problem, &here.prices, &here.loads, length)?;
-        here = evaluate(alloc, problem, ranges, prices, PRICED_SCALE)?;
+        here = evaluate(alloc, problem, &same, ranges, prices, PRICED_SCALE)?;
         best = better(alloc, best, &here)?;
     }
     Ok(best)
