@@ -1,5 +1,5 @@
 mod WorthLemmas
 mod TableLemmas
 mod BoundLemmas
-mod KnownLemmas
 mod TotalLemmas
+mod FewLemmas

@@ -1,5 +1,5 @@
 -- Strips that are kept with their prices.
-use Rattle.std.specs.Prelude.{◌≡◌, ℕ, ◌<◌, List, length, slice_index_or}
+use Rattle.std.specs.Prelude.{◌≡◌, ℕ, ◌<◌, ◌^◌, List, length, slice_index_or}
 use Rattle.price_table.specs.declared.strips.Known.{Known}
 use Rattle.price_table.specs.Strips.{strip_cost}
 
@@ -10,8 +10,8 @@ no_strip = record { strip = record { first = 0; width = 0; gap = 0; times = 0 };
 abbrev pub known_at : List Known → ℕ → Known
 known_at known i = slice_index_or known i no_strip
 
--- 65,536 strips, each with its price by the sums
+-- strips, each with its price by the sums
 pub record AreKnown (sums : List ℕ) (known : List Known) : Type 0 where
-  pub count : length known ≡ 65536
-  pub each : (i : ℕ) → i < 65536 →
+  pub each : (i : ℕ) → i < length known →
       (known_at known i).price ≡ strip_cost sums (known_at known i).strip
+  pub small : (i : ℕ) → i < length known → (known_at known i).price < 2 ^ 96

@@ -3,3 +3,4 @@ pub mod Strips
 pub mod Totals
 pub mod Loops
 pub mod Known
+pub mod Few

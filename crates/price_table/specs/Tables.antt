@@ -36,6 +36,11 @@ pub record PricesUnit (p : ProblemView) (prices : List Price) (u : ℕ)
   pub uses : (a : ℕ) → a < alt_count p u → uses_price (chooser_at p u).alts parts a
       ≡ priced prices (λ r. alt_uses p u a r)
 
+-- the same for each unit
+pub record ArePriced (p : ProblemView) (prices : List Price) (units : List (List ℕ)) : Type 0 where
+  pub count : length units ≡ unit_count p
+  pub each : (u : ℕ) → u < unit_count p → PricesUnit p prices u (slice_index_or units u [])
+
 -- the table's vector is one for the problem, and all uses and the limits are priced at it
 pub record IsTableFor (p : ProblemView) (t : TableView) : Type 0 where
   pub vector : IsVector p t.prices

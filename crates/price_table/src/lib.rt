@@ -1,12 +1,14 @@
 //! Price tables and the exact Lagrangian bound by them (Geoffrion 1974, "Lagrangean relaxation for integer programming").
 //! Who checks a proof of others stands on this crate and on nothing that searches.
 //!
-//! A table prices the parts of each unit once, so that an alternative costs two look-ups. A bound takes one step an
-//! alternative in range; kept totals take as many for the one unit whose range changes.
+//! A table prices the parts of each unit once, so that an alternative costs two look-ups: by the prices alone where they
+//! are few, else by sums over all resources. A bound takes one step an alternative in range; kept totals take as many for
+//! the one unit whose range changes.
 #![tactic(auto)]
 
 mod bounds;
 mod closing;
+mod few;
 mod strips;
 mod tables;
 mod totals;

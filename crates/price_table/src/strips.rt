@@ -15,7 +15,7 @@ use std::marker::Model;
 // What each part of a unit costs.
 #[derive(Drop)]
 pub(crate) struct UnitPrices {
-    parts: Vec<u128>,
+    pub(crate) parts: Vec<u128>,
 }
 
 impl Model for UnitPrices {
@@ -35,7 +35,10 @@ impl UnitPrices {
 }
 
 // How many strips are kept with their prices.
-const PLACES: usize = 65_536;
+pub(crate) const PLACES: usize = 65_536;
+
+// So few strips that what they cost together fits 128 bits.
+const MOST_SUMMED: usize = 4_294_967_296;
 
 // A strip, and what it costs.
 #[derive(Clone, Copy)]
@@ -46,7 +49,7 @@ pub(crate) struct Known {
 
 /// The prices of strips, at one price for each resource: the sums of the prices before each resource, and some strips of
 /// several runs that were priced by them, since the strips of many units are the same. Contracts see the sums. 8 bytes a
-/// resource and 2 MB.
+/// resource, and 2 MB from the first strip of several runs on.
 #[derive(Drop)]
 pub struct StripPrices {
     sums: Vec<u64>,
@@ -73,7 +76,7 @@ impl StripPrices {
     ghost use Rattle.choice_problem.specs.Problems.{unit_count, alt_count, part_count, resource_count, chooser_at, part_at};
     ghost use Rattle.choice_problem.specs.Bounds.{AreRanges};
     ghost use Rattle.price_table.specs.Tables.{PricesUnit};
-    ghost use Rattle.price_table.specs.Strips.{ArePrices, AreSums, AreSumsOf, IsPricedBy, strip_cost, capped_cost};
+    ghost use Rattle.price_table.specs.Strips.{ArePrices, AreSums, AreSumsOf, IsPricedBy, strip_cost, part_cost, capped_cost};
     ghost use Rattle.price_table.specs.Strips.{least_alt, unit_least};
 
     /// The sums of these prices, one below 2^40 for each resource, and no strip priced yet: one step a resource.
@@ -82,18 +85,11 @@ impl StripPrices {
         ensures sums { IfOk result (λ sums. AreSums prices.now sums) }
         ensures few { IfOk result (λ _. resource_count problem.now ≤ MOST_RESOURCES) }
     {
-        let none = Known {
-            strip: Strip {
-                first: 0,
-                width: 0,
-                gap: 0,
-                times: 0,
-            },
-            price: 0,
-        };
-        let known = vec![in alloc; none; PLACES]?;
         let sums = sums_of(alloc, problem, prices)?;
-        Ok(StripPrices { sums, known })
+        Ok(StripPrices {
+            sums,
+            known: Vec::new(alloc),
+        })
     }
 
     // What each part of a unit costs.
@@ -187,8 +183,38 @@ impl StripPrices {
         ensures cost { result ≡ capped_cost self.old part.now }
         ensures same { self.new ≡ self.old }
     {
+        let strips = part.strips();
+        if strips.len() < MOST_SUMMED {
+            self.sum(strips)
+        } else {
+            self.capped_sum(strips)
+        }
+    }
+
+    // What strips cost together, so few that the sum fits.
+    fn sum(&mut self, strips: &[Strip]) -> u128
+        requires some { 0 < length self.old }
+        requires there { IsPartInRange (length self.old - 1) strips.now }
+        requires few { length strips.now < 2 ^ 32 }
+        ensures cost { result ≡ part_cost self.old strips.now }
+        ensures same { self.new ≡ self.old }
+    {
+        let mut total = 0;
+        for strip in strips {
+            total += self.strip(strip);
+        }
+        total
+    }
+
+    // What strips cost together, within 128 bits.
+    fn capped_sum(&mut self, strips: &[Strip]) -> u128
+        requires some { 0 < length self.old }
+        requires there { IsPartInRange (length self.old - 1) strips.now }
+        ensures cost { result ≡ capped_cost self.old strips.now }
+        ensures same { self.new ≡ self.old }
+    {
         let mut total: u128 = 0;
-        for strip in part.strips() {
+        for strip in strips {
             total = total.saturating_add(self.strip(strip));
         }
         total
@@ -199,12 +225,30 @@ impl StripPrices {
         requires some { 0 < length self.old }
         requires there { IsStripInRange (length self.old - 1) strip.now }
         ensures cost { result ≡ strip_cost self.old strip.now }
+        ensures small { result < 2 ^ 96 }
         ensures same { self.new ≡ self.old }
     {
         if strip.times <= 1 {
+            strip_price(&self.sums, strip)
+        } else {
+            self.several(strip)
+        }
+    }
+
+    // What a strip costs that may be kept. It stays apart from the loops over strips, most of which have one run.
+    #[inline(never)]
+    fn several(&mut self, strip: &Strip) -> u128
+        requires some { 0 < length self.old }
+        requires there { IsStripInRange (length self.old - 1) strip.now }
+        ensures cost { result ≡ strip_cost self.old strip.now }
+        ensures small { result < 2 ^ 96 }
+        ensures same { self.new ≡ self.old }
+    {
+        self.make_places();
+        let place = place_of(strip);
+        if place >= self.known.len() {
             return strip_price(&self.sums, strip);
         }
-        let place = place_of(strip);
         let known = self.known[place];
         if known.strip == *strip {
             return known.price;
@@ -215,6 +259,24 @@ impl StripPrices {
             price,
         };
         price
+    }
+
+    // Makes the places of strips, where there are none and memory allows it: strips are priced without them too.
+    fn make_places(&mut self)
+        ensures same { self.new ≡ self.old }
+    {
+        if self.known.is_empty() {
+            let none = Known {
+                strip: Strip {
+                    first: 0,
+                    width: 0,
+                    gap: 0,
+                    times: 0,
+                },
+                price: 0,
+            };
+            let _made = self.known.resize(PLACES, none);
+        }
     }
 }
 
@@ -263,7 +325,8 @@ fn add_up(numbers: &[u64], sums: &mut [u64])
 fn strip_price(sums: &[u64], strip: &Strip) -> u128
     requires some { 0 < length sums.now }
     requires there { IsStripInRange (length sums.now - 1) strip.now }
-    ensures { result ≡ strip_cost sums.now strip.now }
+    ensures cost { result ≡ strip_cost sums.now strip.now }
+    ensures small { result < 2 ^ 96 }
 {
     let mut total = 0;
     for i in 0..strip.times {

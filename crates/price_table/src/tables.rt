@@ -1,11 +1,14 @@
 //! Price tables.
 
-ghost use Rattle.std.specs.Prelude.{◌≡◌, ℕ, ◌<◌, ◌^◌, IfOk, length, slice_index};
+ghost use Rattle.std.specs.Prelude.{◌≡◌, ℕ, ◌<◌, ◌≤◌, ◌^◌, IfOk, length, slice_index};
+ghost use Rattle.choice_problem.specs.declared.problems.TheConstants.{MOST_RESOURCES};
 ghost use Rattle.choice_problem.specs.Problems.{resource_count};
 ghost use Rattle.choice_problem.specs.Bounds.{IsVector};
-ghost use Rattle.price_table.specs.Tables.{IsTableFor};
+ghost use Rattle.price_table.specs.declared.few.TheConstants.{MOST_FEW};
+ghost use Rattle.price_table.specs.Tables.{ArePriced, IsTableFor};
 ghost use Rattle.price_table.specs.Strips.{IsSpread, AreSumsOf};
 
+use crate::few::{are_few, looked_up};
 use crate::strips::{StripPrices, UnitPrices};
 use choice_problem::{Problem, Vector, priced_limits};
 use slot_text::Memory;
@@ -57,19 +60,21 @@ impl PriceTable {
     }
 }
 
-/// The table of a vector for a problem: in time of one step a strip of each part, and one a run of each strip that is
-/// priced: strips that differ, and those that take turns in one of 65,536 places. Memory of 16 bytes a resource and 2 MB
-/// while it is made.
+/// The table of a vector for a problem, in the faster of two ways. A vector of few prices for the problem's strips, at most
+/// 4,096, takes one step a strip of each part and one for each price between a strip's first resource and its end, and no
+/// memory beside the table. Else it takes one step a resource and a strip of each part, and one a run of each strip that is
+/// priced: strips that differ, and those that take turns in one of 65,536 places. Memory is then 16 bytes a resource and
+/// 2 MB while it is made.
 pub fn price_table(alloc: Global, problem: &Problem, vector: &Vector) -> Result<PriceTable, Memory>
     requires { IsVector problem.now vector.now }
     ensures vector { IfOk result (λ table. table.prices ≡ vector.now) }
     ensures valid { IfOk result (λ table. IsTableFor problem.now table) }
 {
-    let mut strips = strip_prices(alloc, problem, vector)?;
-    let mut units = Vec::new(alloc);
-    for unit in 0..problem.units() {
-        units.push(strips.unit(alloc, problem, unit)?)?;
-    }
+    let units = if are_few(problem, vector) {
+        units_looked_up(alloc, problem, vector)?
+    } else {
+        units_by_sums(alloc, problem, vector)?
+    };
     let limits = priced_limits(problem, vector);
     let vector = Vector::new(Vec::from_slice(alloc, vector.items())?);
     Ok(PriceTable {
@@ -77,6 +82,41 @@ pub fn price_table(alloc: Global, problem: &Problem, vector: &Vector) -> Result<
         units,
         limits,
     })
+}
+
+// What the parts of each unit cost, by each price between a strip's first resource and its end.
+fn units_looked_up(
+    alloc: Global,
+    problem: &Problem,
+    vector: &Vector,
+) -> Result<Vec<UnitPrices>, Memory>
+    requires vector { IsVector problem.now vector.now }
+    requires few { length vector.now ≤ MOST_FEW }
+    requires resources { resource_count problem.now ≤ MOST_RESOURCES }
+    ensures { IfOk result (λ units. ArePriced problem.now vector.now units.items) }
+{
+    let mut units = Vec::new(alloc);
+    for unit in 0..problem.units() {
+        units.push(looked_up(alloc, problem, vector.items(), unit)?)?;
+    }
+    Ok(units)
+}
+
+// What the parts of each unit cost, by sums over all resources.
+fn units_by_sums(
+    alloc: Global,
+    problem: &Problem,
+    vector: &Vector,
+) -> Result<Vec<UnitPrices>, Memory>
+    requires { IsVector problem.now vector.now }
+    ensures { IfOk result (λ units. ArePriced problem.now vector.now units.items) }
+{
+    let mut strips = strip_prices(alloc, problem, vector)?;
+    let mut units = Vec::new(alloc);
+    for unit in 0..problem.units() {
+        units.push(strips.unit(alloc, problem, unit)?)?;
+    }
+    Ok(units)
 }
 
 // The prices of strips at the vector.

@@ -3,7 +3,7 @@ use Rattle.std.specs.Prelude.{slice_index_or}
 use Rattle.choice_problem.specs.Problems.{resource_count}
 use Rattle.price_table.specs.Tables.{PricesUnit}
 use Rattle.price_table.specs.Strips.{AreSumsOf}
-use Rattle.price_table.proofs.tables.price_table.Given as goal
+use Rattle.price_table.proofs.tables.units_by_sums.Given as goal
 
 abbrev pub invariant-loop-unit : goal.invariant-loop-unit
 invariant-loop-unit l = record {
