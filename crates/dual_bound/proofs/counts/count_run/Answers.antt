@@ -1,4 +1,4 @@
-use Rattle.std.proofs.Common.{◌≡◌, ◌+◌, ◌<◌, ◌≤◌, ◌^◌, ◌-◌, min, subst, arith, length}
+use Rattle.std.proofs.Common.{◌≡◌, ◌+◌, ◌<◌, ◌^◌, ◌-◌, min, subst, arith, length}
 use Rattle.std.specs.Prelude.{slice_index}
 use Rattle.choice_problem.specs.Loops.{run_uses}
 use Rattle.dual_bound.specs.Kept.{AreAtLeast}

@@ -1,9 +1,9 @@
-use Rattle.std.proofs.Common.{◌≡◌, ◌<◌, ◌≤◌, ℕ, ◌∙◌, List, [], length, arith, inl, inr, sym, true, false}
+use Rattle.std.proofs.Common.{◌≡◌, ◌<◌, ◌≤◌, ℕ, ◌∙◌, List, [], length, arith, inl, inr, sym}
 use Rattle.std.specs.Prelude.{slice_index_or}
 use Rattle.std.proofs.lemmas.Bool.{cases_lt, false≢true}
 use Rattle.std.proofs.lemmas.List.{get_or_default}
 use Rattle.choice_problem.specs.declared.strips.Strip.{Strip}
-use Rattle.choice_problem.specs.Strips.{part_uses, IsPartInRange}
+use Rattle.choice_problem.specs.Strips.{part_uses}
 use Rattle.dual_bound.specs.Covers.{cover_uses}
 use Rattle.dual_bound.proofs.covers.cover_of.Goals as goal
 use Rattle.dual_bound.proofs.covers.cover_of.Goals.{then-marks-place+in_ok-hold_part, else-marks-place}

@@ -1,6 +1,5 @@
-use Rattle.std.proofs.Common.{◌≡◌, ℕ, ◌<◌, ◌∙◌, refl, sym, List, length}
+use Rattle.std.proofs.Common.{◌≡◌, ◌<◌, ◌∙◌, refl, sym, List, length}
 use Rattle.std.proofs.lemmas.List.{get_or_default}
-use Rattle.choice_problem.specs.declared.strips.Strip.{Strip}
 use Rattle.dual_bound.specs.declared.covers.Held.{Held}
 use Rattle.dual_bound.specs.Covers.{LiesIn, CanHold, held_at}
 use Rattle.dual_bound.proofs.CoverLemmas.{none, LiesIn-range, held-wider, cover-wider, range-wider}
