@@ -5,3 +5,4 @@ mod KeptLemmas
 mod CountLemmas
 mod PassableLemmas
 mod EndLemmas
+mod CoverLemmas

@@ -89,20 +89,6 @@ AreAtLeast counts numbers = (r : ℕ) → r < length counts →
 abbrev pub AreRaised : List ℕ → List ℕ → Type 0
 AreRaised old new = (r : ℕ) → r < length old → slice_index old r ≤ slice_index new r
 
--- counts above a base by these uses of part `number`, with the last part that used each resource; where that is at least
--- part `from`, the count is above the base by one
-pub record AreCounted (from number : ℕ) (base uses : ℕ → ℕ) (counts last : List ℕ) : Type 0 where
-  pub there : length last ≡ length counts
-  pub ordered : from ≤ number
-  pub counted : AreAtLeast counts (λ r. base r + uses r)
-  pub marked : (r : ℕ) → r < length counts → 0 < uses r → slice_index last r ≡ number
-  pub once : (r : ℕ) → r < length counts → from ≤ slice_index last r →
-      min (base r + 1) (2 ^ 32 - 1) ≤ slice_index counts r
-
--- each resource was last used by a part of a lower number
-abbrev pub AreBelow : ℕ → List ℕ → Type 0
-AreBelow number last = (r : ℕ) → r < length last → slice_index last r < number
-
 -- the part that an alternative names first, or second
 abbrev pub named_part : Bool → Alt → Option ℕ
 named_part false alt = alt.one

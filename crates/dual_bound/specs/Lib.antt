@@ -3,3 +3,4 @@ pub mod Loops
 pub mod Kept
 pub mod Same
 pub mod Ends
+pub mod Covers

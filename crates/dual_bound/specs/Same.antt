@@ -1,7 +1,7 @@
 -- Parts of a problem with the same strips, and what parts cost.
 use Rattle.std.specs.Prelude.{◌≡◌, ℕ, ◌<◌, List, [], length, slice_index, slice_index_or}
 use Rattle.choice_problem.specs.declared.strips.Strip.{Strip}
-use Rattle.choice_problem.specs.Problems.{ProblemView, unit_count, part_count, chooser_at, part_at}
+use Rattle.choice_problem.specs.Problems.{ProblemView, part_count, chooser_at, part_at}
 use Rattle.price_table.specs.Strips.{capped_cost}
 use Rattle.dual_bound.specs.declared.same.PartOf.{PartOf}
 

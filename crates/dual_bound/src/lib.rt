@@ -6,6 +6,7 @@
 #![tactic(auto)]
 
 mod counts;
+mod covers;
 mod floors;
 mod kept;
 mod loads;

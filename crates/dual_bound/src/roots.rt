@@ -27,9 +27,10 @@ pub fn root_vector(alloc: Global, problem: &Problem) -> Result<Vector, Memory>
 /// step raises or lowers each resource's price by its length for each use above or below the limit, never under 0; the
 /// lengths halve from 16384 with every eight steps. All prices stay below 2^40.
 ///
-/// Where at most a quarter of the resources can be passed, the steps run on these alone: a step then costs some steps a run
-/// of the strips that uses one of them. Else it costs a price table and a bound of the problem, and the memory is some 60
-/// bytes a resource.
+/// Where at most a quarter of the resources can be passed, the run is on these alone. A step prices each strip, of parts with
+/// the same strips those of one alone; looks at each alternative in range; takes two steps a run of each unit's least
+/// alternative; and some a resource. The memory is some 60 bytes a resource, 16 bytes a run of the strips that uses one
+/// of those that can be passed, and 2 MB.
 pub fn node_vector(alloc: Global, problem: &Problem, ranges: &Ranges) -> Result<Vector, Memory>
     requires { AreRanges problem.now ranges.now }
     ensures node { IfOk result (λ vector. IsNodeVector problem.now ranges.now vector) }

@@ -18,7 +18,6 @@ loop-unit-preserved c =
     omega (arith, sum_below-more unit (λ u. alt_uses p u (x u) r), c.loop-unit.invariant.counted x h r within, grown) in
     record {
       counted = each;
-      below = λ r l. omega (arith, c.in_ok-count_unit.ensures.below r l);
     }
 
 pub returns : goal.returns

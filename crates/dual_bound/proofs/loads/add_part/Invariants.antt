@@ -1,4 +1,4 @@
-use Rattle.std.proofs.Common.{◌≡◌, ℕ, ◌+◌, ◌<◌, ◌^◌, take}
+use Rattle.std.proofs.Common.{ℕ, ◌+◌, ◌<◌, ◌^◌, take}
 use Rattle.choice_problem.specs.Strips.{part_uses}
 use Rattle.dual_bound.specs.Ends.{AreEnds}
 use Rattle.dual_bound.proofs.loads.add_part.Given as goal

@@ -1,6 +1,5 @@
-use Rattle.std.proofs.Common.{◌≡◌, ℕ, ◌<◌, ◌≤◌, subst}
-use Rattle.choice_problem.specs.Problems.{alt_count, alt_uses}
-use Rattle.price_table.specs.Strips.{least_alt}
+use Rattle.std.proofs.Common.{◌≤◌, subst}
+use Rattle.choice_problem.specs.Problems.{alt_uses}
 use Rattle.dual_bound.specs.Ends.{AddEnds}
 use Rattle.dual_bound.proofs.points.take_unit.Goals as goal
 

@@ -1,6 +1,5 @@
 use Rattle.std.proofs.Common.{◌≡◌, ℕ, ◌<◌, length}
 use Rattle.std.specs.Prelude.{slice_index_or}
-use Rattle.choice_problem.specs.declared.strips.Strip.{Strip}
 use Rattle.dual_bound.proofs.same.are_equal.Given as goal
 
 abbrev pub invariant-loop-place : goal.invariant-loop-place
