@@ -1,12 +1,12 @@
 -- Units in a loop over stages. Contracts of private functions alone cite them.
-use Rattle.std.specs.Prelude.{◌≡◌, ℕ, ◌-◌, ◌<◌, ◌≤◌, ◌==◌, if◌then◌else◌, List, ◌∷◌, ◌++◌, length, All, drop, slice_index, slice_index_or, ℤ, pos}
+use Rattle.std.specs.Prelude.{◌≡◌, ℕ, ◌-◌, ◌<◌, ◌≤◌, List, ◌∷◌, ◌++◌, length, All, drop, slice_index_or, ℤ, pos}
 use Rattle.std.specs.List.{AllZip}
 use Rattle.season_days.specs.declared.declaration.Declaration.{Declaration}
 use Rattle.season_days.specs.declared.declaration.TheConstants.{HIGHEST_NIGHT_LIMIT}
 use Rattle.series_model.specs.Units.{UnitFits}
 use Rattle.series_model.specs.declared.state.UnitState.{UnitState}
 use Rattle.series_model.specs.Stages.{after_allotment, stage_times, stage_units, share_of}
-use Rattle.capacity_windows.specs.Windows.{capacity_of, declared_resources, window_limit}
+use Rattle.capacity_windows.specs.Windows.{capacity_of, declared_resources}
 use Rattle.choice_problem.specs.Problems.{ChooserView, ArePartsInRange}
 use Rattle.wasg_stages.specs.StageProblems.{IsChooserOf}
 
@@ -21,22 +21,25 @@ Advances d stage state numbers after taken =
     after_allotment stage (state ∷ rest) (stage_times d stage (state ∷ rest) numbers)
     ≡ after ∷ after_allotment stage rest (stage_times d stage rest (drop taken numbers))
 
--- what a stage may use of what is left
-abbrev pub share_at : ℕ → ℕ → ℕ → ℕ
-share_at share stage left = if stage == 3 then share_of share left else left
+-- each limit, if it is from 0 to the highest, is lower by the uses of its resource, and at least 0
+abbrev pub LowersBy : List ℤ → List ℤ → (ℕ → ℕ) → Type 0
+LowersBy old new uses =
+    (r n : ℕ) → r < length old → n ≤ HIGHEST_NIGHT_LIMIT → slice_index_or old r (pos 0) ≡ pos n →
+    slice_index_or new r (pos 0) ≡ pos (n - uses r)
 
--- the first n limits are those of a stage, where resources have these loads; the others are still the
--- declared ones
-pub record AreLimits (d : Declaration) (stage : ℕ) (loads : List ℕ) (limits : List ℤ)
-    (n : ℕ) : Type 0 where
-  pub each : (r : ℕ) → r < n →
-      slice_index_or limits r (pos 0)
-      ≡ pos (share_at d.share stage (window_limit (capacity_of d) r - slice_index loads r))
-  pub few : (r : ℕ) → r < n →
-      share_at d.share stage (window_limit (capacity_of d) r - slice_index loads r)
-      ≤ HIGHEST_NIGHT_LIMIT
-  pub others : (r : ℕ) → n ≤ r → r < length limits →
-      slice_index_or limits r (pos 0) ≡ pos (window_limit (capacity_of d) r)
+-- these are the limits of resources, none of them above the highest
+abbrev pub AreSmall : List ℤ → (ℕ → ℕ) → Type 0
+AreSmall limits limit =
+    (r : ℕ) → r < length limits →
+    (slice_index_or limits r (pos 0) ≡ pos (limit r)) × (limit r ≤ HIGHEST_NIGHT_LIMIT)
+
+-- the first so many limits are shares of the old ones, and the others are still these
+pub record AreShares (share : ℕ) (old new : List ℤ) (count : ℕ) : Type 0 where
+  pub shared : (r n : ℕ) → r < count → n ≤ HIGHEST_NIGHT_LIMIT →
+      slice_index_or old r (pos 0) ≡ pos n →
+      slice_index_or new r (pos 0) ≡ pos (share_of share n)
+  pub others : (r : ℕ) → count ≤ r →
+      slice_index_or new r (pos 0) ≡ slice_index_or old r (pos 0)
 
 -- the unit first in line is added where it is one of the stage's
 abbrev pub AddsDue : Declaration → ℕ → UnitState → List ChooserView → List ChooserView → Type 0

@@ -1,20 +1,20 @@
 //! What the resources may still hold in a stage.
 
-ghost use Rattle.std.specs.Prelude.{◌≡◌, ◌+◌, ◌*◌, ◌-◌, ◌<◌, ◌≤◌, ◌≤ℤ◌, ℕ, true, List, All, length, slice_index, slice_index_or, OnOk, IfOk, pos};
+ghost use Rattle.std.specs.Prelude.{◌≡◌, ◌+◌, ◌*◌, ◌-◌, ◌<◌, ◌≤◌, ◌≤ℤ◌, ℕ, All, length, slice_index_or, OnOk, IfOk, pos};
 ghost use Rattle.season_days.specs.Seasons.{date_count};
 ghost use Rattle.season_days.specs.declared.declaration.TheConstants.{HIGHEST_NIGHT_LIMIT, HIGHEST_SHARE};
-ghost use Rattle.season_days.specs.declared.season.TheConstants.{MOST_DATES};
 ghost use Rattle.capacity_windows.specs.Windows.{capacity_of, declared_resources, window_limit, window_load};
-ghost use Rattle.choice_problem.specs.declared.problems.TheConstants.{MOST_UNITS, MOST_USES};
-ghost use Rattle.choice_problem.specs.Counts.{GrowsBy, HasRoom};
+ghost use Rattle.choice_problem.specs.declared.problems.TheConstants.{MOST_UNITS};
+ghost use Rattle.choice_problem.specs.Strips.{strip_uses, part_uses, IsStripInRange, IsPartInRange};
+ghost use Rattle.choice_problem.specs.Loops.{run_uses};
 ghost use Rattle.series_model.specs.Units.{UnitFits};
 ghost use Rattle.series_model.specs.Movements.{stop_load, movements_of};
-ghost use Rattle.series_model.specs.Stages.{movements_once_given, movements_given, limit_left, share_of, stage_limit};
-ghost use Rattle.wasg_stages.specs.Steps.{share_at, AreLimits};
-ghost use Rattle.season_days.specs.declared.declaration.Declaration.{Declaration as DeclarationValue};
+ghost use Rattle.series_model.specs.Stages.{movements_once_given, movements_given, share_of, stage_limit};
+ghost use Rattle.wasg_stages.specs.Steps.{LowersBy, AreSmall, AreShares};
 ghost use Rattle.series_model.specs.declared.state.UnitState.{UnitState as UnitStateValue};
 
 use capacity_windows::Windows;
+use choice_problem::{Part, Strip};
 use scr_reader::Stop;
 use season_days::{Declaration, Kind, MINUTES_OF_DAY, Period};
 use series_model::laws::movement_loads;
@@ -22,24 +22,60 @@ use series_model::{Times, Unit, UnitState};
 use slot_text::Memory;
 use std::alloc::Global;
 
-// Counts the movements of a stop at a minute, if the line has the stop.
-fn add_stop(
+// One less than a limit, or 0.
+fn one_less(limit: i64) -> i64
+    ensures { (n : ℕ) → limit ≡ pos n → result ≡ pos (n - 1) }
+{
+    if limit > 0 { limit - 1 } else { limit }
+}
+
+// Takes one from each limit from one place to another, down to 0.
+fn lower_run(limits: &mut [i64], start: usize, end: usize)
+    requires ordered { start ≤ end }
+    requires there { end ≤ length limits.old }
+    ensures { LowersBy limits.old limits.new (λ r. run_uses start end r) }
+{
+    for at in start..end {
+        limits[at] = one_less(limits[at]);
+    }
+}
+
+// Takes the uses of a strip from the limits.
+fn lower_strip(limits: &mut [i64], strip: &Strip)
+    requires there { IsStripInRange (length limits.old) strip.now }
+    ensures { LowersBy limits.old limits.new (λ r. strip_uses strip.now r) }
+{
+    for i in 0..strip.times {
+        let (start, end) = strip.run(i);
+        lower_run(limits, start as usize, end as usize);
+    }
+}
+
+// Takes the uses of a part from the limits: one step a use.
+fn lower_part(limits: &mut [i64], part: &Part)
+    requires there { IsPartInRange (length limits.old) part.now }
+    ensures { LowersBy limits.old limits.new (λ r. part_uses part.now r) }
+{
+    for strip in part.strips() {
+        lower_strip(limits, strip);
+    }
+}
+
+// Takes the movements of a stop at a minute, if the line has the stop.
+fn lower_stop(
     alloc: Global,
     windows: &Windows,
     period: Period,
     kind: Kind,
     stop: Option<Stop>,
     minute: u32,
-    counts: &mut [u32],
+    limits: &mut [i64],
 ) -> Result<(), Memory>
     requires first { period.first.0 < date_count windows.now.season }
     requires last { period.last.0 < date_count windows.now.season }
-    requires counts { length counts.old ≡ declared_resources windows.now }
-    requires room { HasRoom counts.old (λ _. MOST_DATES) }
-    ensures grows { OnOk result
-        (GrowsBy counts.old counts.new (λ r. stop_load windows.now kind stop minute period r)) }
-    ensures few { OnOk result ((r : ℕ) →
-        stop_load windows.now kind stop minute period r ≤ MOST_DATES) }
+    requires limits { length limits.old ≡ declared_resources windows.now }
+    ensures { OnOk result
+        (LowersBy limits.old limits.new (λ r. stop_load windows.now kind stop minute period r)) }
 {
     match stop {
         Some(_) => {
@@ -50,52 +86,48 @@ fn add_stop(
                 minute / MINUTES_OF_DAY,
                 period,
             )?;
-            part.add_uses(counts);
+            lower_part(limits, &part);
             Ok(())
         }
         None => Ok(()),
     }
 }
 
-// Counts the movements of a line at times.
-fn add_times(
+// Takes the movements of a line at times.
+fn lower_times(
     alloc: Global,
     windows: &Windows,
     unit: &Unit,
     times: Times,
-    counts: &mut [u32],
+    limits: &mut [i64],
 ) -> Result<(), Memory>
     requires unit { UnitFits windows.now.season unit.now }
-    requires counts { length counts.old ≡ declared_resources windows.now }
-    requires room { HasRoom counts.old (λ _. MOST_USES) }
-    ensures grows { OnOk result
-        (GrowsBy counts.old counts.new
+    requires limits { length limits.old ≡ declared_resources windows.now }
+    ensures { OnOk result
+        (LowersBy limits.old limits.new
         (λ r. window_load windows.now (movements_of windows.now.season unit.now times) r)) }
-    ensures few { OnOk result ((r : ℕ) →
-        window_load windows.now (movements_of windows.now.season unit.now times) r
-        ≤ MOST_USES) }
 {
     match times {
         Times::At { arrival, departure } => {
             movement_loads();
             let line = unit.request;
-            add_stop(
+            lower_stop(
                 alloc,
                 windows,
                 line.period,
                 Kind::Arr,
                 line.arrival,
                 arrival,
-                counts,
+                limits,
             )?;
-            add_stop(
+            lower_stop(
                 alloc,
                 windows,
                 line.period,
                 Kind::Dep,
                 line.departure,
                 departure,
-                counts,
+                limits,
             )?;
             Ok(())
         }
@@ -103,119 +135,97 @@ fn add_times(
     }
 }
 
-// Counts the movements that a unit was given.
-fn add_given(
+// Takes the movements that a unit was given.
+fn lower_given(
     alloc: Global,
     windows: &Windows,
     unit: &Unit,
     given: Option<Times>,
-    counts: &mut [u32],
+    limits: &mut [i64],
 ) -> Result<(), Memory>
     requires unit { UnitFits windows.now.season unit.now }
-    requires counts { length counts.old ≡ declared_resources windows.now }
-    requires room { HasRoom counts.old (λ _. MOST_USES) }
-    ensures grows { OnOk result
-        (GrowsBy counts.old counts.new
+    requires limits { length limits.old ≡ declared_resources windows.now }
+    ensures { OnOk result
+        (LowersBy limits.old limits.new
         (λ r. window_load windows.now (movements_once_given windows.now.season unit.now given) r)) }
-    ensures few { OnOk result ((r : ℕ) →
-        window_load windows.now (movements_once_given windows.now.season unit.now given) r
-        ≤ MOST_USES) }
 {
     match given {
-        Some(times) => add_times(alloc, windows, unit, times, counts),
+        Some(times) => lower_times(alloc, windows, unit, times, limits),
         None => Ok(()),
     }
 }
 
-// Counts the movements that all units were given.
-fn add_all(
+// Takes the movements that all units were given.
+fn lower_all(
     alloc: Global,
     windows: &Windows,
     states: &[UnitState],
-    counts: &mut [u32],
+    limits: &mut [i64],
 ) -> Result<(), Memory>
     requires units { All (λ (state : UnitStateValue).
         UnitFits windows.now.season state.unit) states.now }
-    requires few { length states.now ≤ MOST_UNITS }
-    requires counts { length counts.old ≡ declared_resources windows.now }
-    requires empty { (r : ℕ) → r < length counts.old → slice_index counts.old r ≡ 0 }
-    ensures loads { OnOk result ((r : ℕ) → r < length counts.old →
-        slice_index counts.new r
-        ≡ window_load windows.now (movements_given windows.now.season states.now) r) }
+    requires limits { length limits.old ≡ declared_resources windows.now }
+    ensures { OnOk result
+        (LowersBy limits.old limits.new
+        (λ r. window_load windows.now (movements_given windows.now.season states.now) r)) }
 {
     for state in states {
-        add_given(alloc, windows, &state.unit, state.given, counts)?;
+        lower_given(alloc, windows, &state.unit, state.given, limits)?;
     }
     Ok(())
 }
 
-// The movements that all units were given, resource by resource.
-fn loads_given(alloc: Global, windows: &Windows, states: &[UnitState]) -> Result<Vec<u32>, Memory>
-    requires units { All (λ (state : UnitStateValue).
-        UnitFits windows.now.season state.unit) states.now }
-    requires few { length states.now ≤ MOST_UNITS }
-    ensures count { IfOk result (λ loads. length loads.items ≡ declared_resources windows.now) }
-    ensures loads { IfOk result (λ loads. (r : ℕ) → r < declared_resources windows.now →
-        slice_index loads.items r
-        ≡ window_load windows.now (movements_given windows.now.season states.now) r) }
-{
-    let mut loads = vec![in alloc; 0; windows.resources() as usize]?;
-    add_all(alloc, windows, states, &mut loads)?;
-    Ok(loads)
-}
-
-// What a stage may use of a resource with this limit and this load.
-fn stage_share(declaration: &Declaration, stage: u32, limit: i64, load: u32) -> u32
+// The share of new entrants of what is left of a limit.
+fn entrants_share(declaration: &Declaration, left: i64) -> u32
     requires share { declaration.now.share ≤ HIGHEST_SHARE }
-    requires some { pos 0 ≤ℤ limit }
-    requires few { limit ≤ℤ pos HIGHEST_NIGHT_LIMIT }
-    ensures value { (n : ℕ) → limit ≡ pos n →
-        result ≡ share_at declaration.now.share stage (n - load) }
+    requires some { pos 0 ≤ℤ left }
+    requires few { left ≤ℤ pos HIGHEST_NIGHT_LIMIT }
+    ensures value { (n : ℕ) → left ≡ pos n → result ≡ share_of declaration.now.share n }
     ensures few { result ≤ HIGHEST_NIGHT_LIMIT }
 {
-    let left = (limit as u32).saturating_sub(load);
-    if stage == 3 {
-        (left * declaration.share + 99) / 100
-    } else {
-        left
-    }
+    (left as u32 * declaration.share + 99) / 100
 }
 
-// Takes these loads from the declared limits, and in stage 3 leaves the share of new entrants.
-fn leave_shares(declaration: &Declaration, stage: u32, loads: &[u32], limits: &mut [i64])
+// Leaves of each limit the share of new entrants.
+fn leave_shares(declaration: &Declaration, limits: &mut [i64])
     requires share { declaration.now.share ≤ HIGHEST_SHARE }
-    requires loads { length loads.now ≡ length limits.old }
-    requires declared { (r : ℕ) → r < length limits.old →
-        slice_index_or limits.old r (pos 0) ≡ pos (window_limit (capacity_of declaration.now) r) }
-    requires few { (r : ℕ) → window_limit (capacity_of declaration.now) r ≤ HIGHEST_NIGHT_LIMIT }
-    ensures { AreLimits declaration.now stage loads.now limits.new (length limits.old) }
+    requires limits { (limit : ℕ → ℕ) × AreSmall limits.old limit }
+    ensures { AreShares declaration.now.share limits.old limits.new (length limits.old) }
 {
     for at in 0..limits.len() {
-        let limit = stage_share(declaration, stage, limits[at], loads[at]);
+        let limit = entrants_share(declaration, limits[at]);
         limits[at] = i64::from(limit);
     }
 }
 
-// Whether a stage may use each declared limit whole: it takes no share, and no unit was given
-// anything.
-fn is_whole(stage: u32, states: &[UnitState]) -> bool
-    ensures { result ≡ true → (d : DeclarationValue) (r : ℕ) →
-        stage_limit d stage states.now r ≡ window_limit (capacity_of d) r }
+// Makes the declared limits those of a stage.
+fn lower_limits(
+    alloc: Global,
+    declaration: &Declaration,
+    windows: &Windows,
+    stage: u32,
+    states: &[UnitState],
+    limits: &mut [i64],
+) -> Result<(), Memory>
+    requires share { declaration.now.share ≤ HIGHEST_SHARE }
+    requires windows { windows.now ≡ capacity_of declaration.now }
+    requires units { All (λ (state : UnitStateValue).
+        UnitFits windows.now.season state.unit) states.now }
+    requires limits { length limits.old ≡ declared_resources windows.now }
+    requires declared { AreSmall limits.old (window_limit windows.now) }
+    ensures { OnOk result (AreSmall limits.new (stage_limit declaration.now stage states.now)) }
 {
-    if stage == 3 {
-        return false;
+    lower_all(alloc, windows, states, limits)?;
+    if stage != 3 {
+        return Ok(());
     }
-    for state in states {
-        if state.given.is_some() {
-            return false;
-        }
-    }
-    true
+    leave_shares(declaration, limits);
+    Ok(())
 }
 
 /// The limits of a stage: of each resource its declared limit, less the movements that units were
-/// given, and in stage 3 the share of new entrants of that. They are written over the declared ones;
-/// beside them there is a count of movements for each resource, once a unit was given something.
+/// given, and in stage 3 the share of new entrants of that. They are written over the declared
+/// ones, and no other number is kept for a resource.
 pub(crate) fn stage_limits(
     alloc: Global,
     declaration: &Declaration,
@@ -236,10 +246,6 @@ pub(crate) fn stage_limits(
         stage_limit declaration.now stage states.now r ≤ HIGHEST_NIGHT_LIMIT) }
 {
     let mut limits = windows.limits(alloc)?;
-    if is_whole(stage, states) {
-        return Ok(limits);
-    }
-    let loads = loads_given(alloc, windows, states)?;
-    leave_shares(declaration, stage, &loads, &mut limits);
+    lower_limits(alloc, declaration, windows, stage, states, &mut limits)?;
     Ok(limits)
 }

@@ -26,10 +26,7 @@ impl Minutes {
             slice_index_or minutes.parts.items i None ≡ None) }
     {
         let first = MINUTES_OF_DAY * u32::from(nights);
-        let mut parts = Vec::new(alloc);
-        for _ in 0..MINUTES_OF_DAY {
-            parts.push(None)?;
-        }
+        let parts = vec![in alloc; None; MINUTES_OF_DAY as usize]?;
         Ok(Minutes { first, parts })
     }
 

@@ -107,9 +107,10 @@ pub fn after_stage(
 /// that.
 ///
 /// The time is that of listing the alternatives of the stage's units, one step for each resource and
-/// capacity line, and one for each resource that a movement which was given uses: those are counted
-/// once a stage, which costs about what one alternative of each given unit does in its problem. A
-/// part is kept once for each minute at which a movement of the unit may be.
+/// capacity line, and one for each resource that a movement which was given uses: those are taken
+/// from the limits once a stage, which costs about what one alternative of each given unit does in
+/// its problem. A part is kept once for each minute at which a movement of the unit may be. Of
+/// resources the limits alone are kept, eight bytes each.
 pub fn problem_after(
     alloc: Global,
     submission: &Submission,
