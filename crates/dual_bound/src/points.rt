@@ -216,7 +216,7 @@ fn take_unit(
         ≤ MOST_USES }
     ensures small { result < 2 ^ 101 }
 {
-    let least = strips.first_by(problem, ranges, unit, parts, scale);
+    let least = strips.first_least(problem, ranges, unit, parts, scale);
     let _alts = problem.unit_alts(unit);
     add_alt(problem, unit, least.alt, begins, ends);
     least.cost

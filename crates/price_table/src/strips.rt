@@ -115,40 +115,9 @@ impl StripPrices {
         Ok(UnitPrices { parts })
     }
 
-    /// The first alternative of a unit's range that is least by `scale` times its cost and its uses at their prices, and
-    /// that sum: one step an alternative in range and a strip of the unit's parts, and one a run of each strip that is
-    /// priced.
+    /// The first alternative of a unit's range that is least by `scale` times its cost and what its parts cost at these sums,
+    /// and that least: one step an alternative in range.
     pub fn first_least(
-        &mut self,
-        alloc: Global,
-        problem: &Problem,
-        ranges: &Ranges,
-        unit: u32,
-        scale: u64,
-    ) -> Result<Least, Memory>
-        requires ranges { AreRanges problem.now ranges.now }
-        requires unit { unit < unit_count problem.now }
-        requires priced { (prices : List Price) × IsPricedBy problem.now prices self.old }
-        requires sums { length self.old ≡ resource_count problem.now + 1 }
-        requires scale { scale < SCALE_BOUND }
-        ensures alt { IfOk result (λ least. (prices : List Price) →
-            IsPricedBy problem.now prices self.old →
-            least.alt ≡ least_alt problem.now ranges.now prices scale unit) }
-        ensures cost { IfOk result (λ least. (prices : List Price) →
-            IsPricedBy problem.now prices self.old →
-            least.cost ≡ unit_least problem.now ranges.now prices scale unit) }
-        ensures there { IfOk result (λ least. least.alt < alt_count problem.now unit) }
-        ensures small { IfOk result (λ least. least.cost < 2 ^ 101) }
-        ensures same { self.new ≡ self.old }
-    {
-        let (low, high) = (ranges.low(unit), ranges.high(unit));
-        let prices = self.unit(alloc, problem, unit)?;
-        let alts = problem.unit_alts(unit);
-        Ok(first_least(alts, low, high, prices.items(), scale))
-    }
-
-    /// What `first_least` answers for a unit whose parts cost so much at these sums: one step an alternative in range.
-    pub fn first_by(
         &self,
         problem: &Problem,
         ranges: &Ranges,
