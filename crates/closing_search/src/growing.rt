@@ -81,7 +81,7 @@ fn solve(
 ) -> Result<End, Memory> {
     let work = &mut state.work;
     let ended = relaxation.solve_by(alloc, task.program, work, NODE_PIVOTS, enough)?;
-    state.spend(task.program, ended.pivots);
+    state.spend(task.program, ended);
     Ok(ended.end)
 }
 

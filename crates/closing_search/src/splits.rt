@@ -284,7 +284,7 @@ fn part_gain(
     let value = open.relaxation.value();
     let work = &mut state.work;
     let ended = part.solve_by(alloc, task.program, work, LOOK_PIVOTS, enough)?;
-    state.spend(task.program, ended.pivots);
+    state.spend(task.program, ended);
     let most = if enough < value + MOST_GAIN {
         enough - value
     } else {

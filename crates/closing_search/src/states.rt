@@ -6,7 +6,7 @@ use crate::pricings::{Pricing, closing};
 use crate::rules::Rule;
 use choice_problem::{Choice, Problem, Vector, cost_of, fits};
 use reduced_problem::Reduced;
-use relaxed_problem::{Program, Relaxation, Work};
+use relaxed_problem::{Ended, Program, Relaxation, Work};
 use slot_text::Memory;
 use std::alloc::Global;
 use std::num::nearest_i64_to_f64;
@@ -141,11 +141,18 @@ impl State {
         }
     }
 
-    // Counts the steps of pivots over a program, and of what is done once for all of them.
-    pub(crate) fn spend(&mut self, program: &Program<'_>, pivots: u32) {
-        let each = (program.columns().len() as u64).saturating_add(STEPS_APART);
-        let times = u64::from(pivots).saturating_add(STARTING);
-        self.steps = self.steps.saturating_sub(each.saturating_mul(times));
+    // Counts the steps of a solution over a program: of its pivots, of what is done once for all of them, and of changes of
+    // keys, each of which takes one for each unit and for each alternative of one.
+    pub(crate) fn spend(&mut self, program: &Program<'_>, ended: Ended) {
+        let alternatives = program.columns().len() as u64;
+        let units = u64::from(program.units());
+        let times = u64::from(ended.pivots).saturating_add(STARTING);
+        let pivots = alternatives
+            .saturating_add(STEPS_APART)
+            .saturating_mul(times);
+        let change = units.saturating_add(alternatives / units.max(1));
+        let changes = change.saturating_mul(u64::from(ended.changes));
+        self.steps = self.steps.saturating_sub(pivots.saturating_add(changes));
     }
 
     // Closes an entry.

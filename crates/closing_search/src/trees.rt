@@ -13,7 +13,7 @@ use std::alloc::Global;
 pub(crate) const MOST_NODES: u32 = 20_000;
 
 // The most steps of the relaxations of all trees; how many trees are tried.
-const TREE_STEPS: u64 = 3_000_000_000;
+const TREE_STEPS: u64 = 2_000_000_000;
 
 const MOST_TREES: u32 = 4;
 

@@ -90,15 +90,15 @@ impl Relaxation {
         direction: &[f64],
         violation: f64,
     ) -> Result<Entering, Memory> {
-        work.stops.clear();
-        work.flips.clear();
+        work.breakpoints.clear();
+        work.new_keys.clear();
         let mut last = self.first_slack(direction);
         for unit in 0..program.units() {
             if is_set(&work.touched, unit as usize) {
                 self.look_at_unit(program, work, unit, &mut last)?;
             }
         }
-        self.last_stop(program, work, last, violation)
+        self.past_breakpoints(program, work, last, violation)
     }
 
     // The slack that comes to its bound first.
@@ -132,26 +132,26 @@ impl Relaxation {
             cost: 0.0,
             step: 0.0,
         };
-        let stop = self.first_of(program, work, unit, none, *last);
+        let breakpoint = self.first_of(program, work, unit, none, *last);
         if value_at(&work.counts, unit as usize) > 0.0 {
-            *last = stop;
+            *last = breakpoint;
             Ok(())
         } else {
-            self.add_stop(program, work, unit, stop)
+            self.add_breakpoint(program, work, unit, breakpoint)
         }
     }
 
-    // Notes where a unit comes to its bound, if it does.
-    fn add_stop(
+    // Adds the breakpoint of a unit, if it has one.
+    fn add_breakpoint(
         &self,
         program: &Program<'_>,
         work: &mut Work,
         unit: u32,
-        stop: Entering,
+        breakpoint: Entering,
     ) -> Result<(), Memory> {
-        if let Entry::Alternative(place) = stop.entry {
+        if let Entry::Alternative(place) = breakpoint.entry {
             if program.column(place).unit == unit {
-                work.stops.push(stop)?;
+                work.breakpoints.push(breakpoint)?;
             }
         }
         Ok(())
@@ -198,8 +198,8 @@ impl Relaxation {
         }
     }
 
-    // What enters where something ends the way at the latest. Takes the stops before it in their order.
-    fn last_stop(
+    // What enters, where this comes to its bound at the latest. The breakpoints before it are taken in their order.
+    fn past_breakpoints(
         &self,
         program: &Program<'_>,
         work: &mut Work,
@@ -208,20 +208,20 @@ impl Relaxation {
     ) -> Result<Entering, Memory> {
         let mut left = violation;
         for _ in 0..program.columns().len() {
-            let (at, stop) = first_stop(&work.stops, last);
-            left -= size_of_number(stop.pivot);
-            match stop.entry {
-                Entry::Alternative(place) if at < work.stops.len() && left > PASSED => {
-                    self.pass(program, work, at, place, last)?;
+            let (at, breakpoint) = first_breakpoint(&work.breakpoints, last);
+            left -= size_of_number(breakpoint.pivot);
+            match breakpoint.entry {
+                Entry::Alternative(place) if at < work.breakpoints.len() && left > PASSED => {
+                    self.take_breakpoint(program, work, at, place, last)?;
                 }
-                _ => return Ok(stop),
+                _ => return Ok(breakpoint),
             }
         }
         Ok(last)
     }
 
-    // Passes a stop: its alternative is the key from then on.
-    fn pass(
+    // Takes a breakpoint: its alternative is the key from then on.
+    fn take_breakpoint(
         &self,
         program: &Program<'_>,
         work: &mut Work,
@@ -229,9 +229,9 @@ impl Relaxation {
         place: u32,
         last: Entering,
     ) -> Result<(), Memory> {
-        work.flips.push(place)?;
-        if at < work.stops.len() {
-            let _stop = work.stops.swap_remove(at);
+        work.new_keys.push(place)?;
+        if at < work.breakpoints.len() {
+            let _breakpoint = work.breakpoints.swap_remove(at);
         }
         let unit = program.column(place).unit;
         let base = Base {
@@ -239,12 +239,12 @@ impl Relaxation {
             step: value_at(&work.steps, place as usize),
         };
         let next = self.first_of(program, work, unit, base, last);
-        self.add_stop(program, work, unit, next)
+        self.add_breakpoint(program, work, unit, next)
     }
 
     // Makes the alternatives the keys of their units that came to their bounds on the way.
-    pub(crate) fn take_flips(&mut self, program: &Program<'_>, work: &Work) {
-        for place in &work.flips {
+    pub(crate) fn take_new_keys(&mut self, program: &Program<'_>, work: &Work) {
+        for place in &work.new_keys {
             self.take_key(program, *place);
         }
     }
@@ -260,12 +260,12 @@ impl Relaxation {
     }
 }
 
-// What comes to its bound first, and its place among the stops, or past them where that is something else.
-fn first_stop(stops: &[Entering], other: Entering) -> (usize, Entering) {
+// What comes to its bound first, and its place among the breakpoints, or past them where that is something else.
+fn first_breakpoint(breakpoints: &[Entering], other: Entering) -> (usize, Entering) {
     let mut first = other;
-    let mut found = stops.len();
-    for (at, stop) in stops.iter().enumerate() {
-        if first.offer(*stop) {
+    let mut found = breakpoints.len();
+    for (at, breakpoint) in breakpoints.iter().enumerate() {
+        if first.offer(*breakpoint) {
             found = at;
         }
     }

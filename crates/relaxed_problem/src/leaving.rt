@@ -76,13 +76,18 @@ pub struct Work {
     sums: Vec<f64>,
     // For each unit the number of its basic alternatives.
     pub(crate) counts: Vec<f64>,
-    // For the touched units without basic alternatives the one that comes to its bound first.
-    pub(crate) stops: Vec<Entering>,
-    // The alternatives that become keys, in the order in which they come to their bounds.
-    pub(crate) flips: Vec<u32>,
+    // For each touched unit without basic alternatives the alternative that comes to its bound first, and where.
+    pub(crate) breakpoints: Vec<Entering>,
+    // The alternatives that become keys in this pivot, in the order in which they come to their bounds.
+    pub(crate) new_keys: Vec<u32>,
 }
 
 impl Work {
+    // How many units changed their keys in the last pivot, each change counted.
+    pub(crate) fn changes(&self) -> u32 {
+        u32::try_from(self.new_keys.len()).unwrap_or(u32::MAX)
+    }
+
     /// Numbers for a program.
     pub fn new(alloc: Global, program: &Program<'_>) -> Result<Work, Memory> {
         let units = program.units() as usize;
@@ -93,8 +98,8 @@ impl Work {
             loads: vec![in alloc; 0.0; program.limits().len()]?,
             sums: vec![in alloc; 0.0; units]?,
             counts: vec![in alloc; 0.0; units]?,
-            stops: Vec::new(alloc),
-            flips: Vec::new(alloc),
+            breakpoints: Vec::new(alloc),
+            new_keys: Vec::new(alloc),
         })
     }
 

@@ -162,8 +162,8 @@ impl<'a> Program<'a> {
         (first as usize, end as usize)
     }
 
-    // How many units there are.
-    pub(crate) fn units(&self) -> u32 {
+    /// How many units there are.
+    pub fn units(&self) -> u32 {
         u32::try_from(self.firsts.len())
             .unwrap_or(u32::MAX)
             .saturating_sub(1)
@@ -306,17 +306,9 @@ fn limits_of(alloc: Global, reduced: &Reduced) -> Result<Vec<f64>, Memory> {
 
 // How often a class is used where these are the uses of a part, by rising class.
 fn uses_in(uses: &[ClassUse], class: u32) -> f64 {
-    let (mut low, mut high) = (0, uses.len());
-    for _ in 0..uses.len() {
-        if low >= high {
-            break;
-        }
-        let middle = low + (high - low) / 2;
-        match uses.get(middle) {
-            Some(entry) if entry.class == class => return f64::from(entry.uses),
-            Some(entry) if entry.class < class => low = middle.saturating_add(1),
-            _ => high = middle,
-        }
+    let place = uses.partition_point(|entry| entry.class < class);
+    match uses.get(place) {
+        Some(entry) if entry.class == class => f64::from(entry.uses),
+        _ => 0.0,
     }
-    0.0
 }

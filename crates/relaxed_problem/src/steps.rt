@@ -25,20 +25,22 @@ pub enum End {
     Spent,
 }
 
-/// How a solution of a relaxation ended, and how many pivots it took.
+/// How a solution of a relaxation ended, and what it took.
 #[derive(Clone, Copy, Debug)]
 pub struct Ended {
     /// How it ended.
     pub end: End,
     /// How many pivots were made.
     pub pivots: u32,
+    /// How many units changed their keys in these, each change counted.
+    pub changes: u32,
 }
 
 impl Relaxation {
     /// Goes on from the basis that there is, until the relaxation is solved or its value, with changed costs, is above
-    /// `stop_above`, by at most so many pivots. A pivot takes a step for each alternative of the units whose prices move,
-    /// each use of the basic alternatives, and some ten for each entry of the inverse; and for each unit whose key changes
-    /// on the way, a step for each of those units, and for each use and alternative of that one.
+    /// `stop_above`, by at most so many pivots. A pivot takes a step for each part and each alternative of the units whose
+    /// prices move, each use of the basic alternatives, and some ten for each entry of the inverse; and for each change of a
+    /// key in it, a step for each unit with a breakpoint, and for each use and alternative of the unit that changes.
     pub fn solve(
         &mut self,
         alloc: Global,
@@ -64,9 +66,16 @@ impl Relaxation {
     ) -> Result<Ended, Memory>
         ensures { IfOk result (λ ended. ended.pivots ≤ most_pivots) }
     {
+        let mut changes: u32 = 0;
         for pivots in 0..most_pivots {
-            if let Some(end) = self.advance(alloc, program, work, stop_above)? {
-                return Ok(Ended { end, pivots });
+            let advanced = self.advance(alloc, program, work, stop_above)?;
+            changes = changes.saturating_add(work.changes());
+            if let Some(end) = advanced {
+                return Ok(Ended {
+                    end,
+                    pivots,
+                    changes,
+                });
             }
         }
         let end = if self.value > stop_above {
@@ -77,6 +86,7 @@ impl Relaxation {
         Ok(Ended {
             end,
             pivots: most_pivots,
+            changes,
         })
     }
 
@@ -88,6 +98,7 @@ impl Relaxation {
         work: &mut Work,
         stop_above: f64,
     ) -> Result<Option<End>, Memory> {
+        work.new_keys.clear();
         if self.value > stop_above {
             return Ok(Some(End::Above));
         }
@@ -208,7 +219,7 @@ impl Relaxation {
                 self.value += entering.length * leaving.violation;
                 self.move_prices(&direction, leaving.place, entering.length);
                 self.move_costs(program, work, entering.length);
-                self.take_flips(program, work);
+                self.take_new_keys(program, work);
                 None
             }
         };
