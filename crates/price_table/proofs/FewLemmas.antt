@@ -17,7 +17,7 @@ use Rattle.choice_problem.specs.Problems.{ProblemView, ChooserView, IsChooser, r
 use Rattle.choice_problem.specs.Bounds.{price_at, priced, IsVector}
 use Rattle.finite_sums.proofs.SumLemmas.{count_below-none}
 use Rattle.price_table.specs.Tables.{named_price, PricesUnit}
-use Rattle.price_table.specs.Few.{AreFew, strip_priced, capped_priced}
+use Rattle.price_table.specs.Few.{AreFewPrices, strip_priced, capped_priced}
 use Rattle.price_table.proofs.TableLemmas.{priced-le}
 
 -- prices by rising resource: those of resources below one come first
@@ -125,7 +125,7 @@ pub strip-before : (prices : List Price) (s : Strip) (i : ℕ) → ((k : ℕ) �
 strip-before prices s i h = priced-first prices i (λ r. strip_uses s r) (λ k l. strip_uses-before s (price_at prices k).resource (h k l))
 
 -- where a price is of a resource from the strip's end on, it and those after it count for nothing
-pub strip-after : (prices : List Price) (s : Strip) (i : ℕ) → AreFew prices → run_start s (s.times - 1) + s.width ≤ (price_at prices i).resource →
+pub strip-after : (prices : List Price) (s : Strip) (i : ℕ) → AreFewPrices prices → run_start s (s.times - 1) + s.width ≤ (price_at prices i).resource →
     priced (take i prices) (λ r. strip_uses s r) ≡ strip_priced prices s
 strip-after prices s i h past = priced-rest prices i (λ r. strip_uses s r) (λ k l m. strip_uses-after s (price_at prices k).resource (omega (arith, above k l m)))
   where
@@ -153,8 +153,8 @@ pub capped_priced-more : (prices : List Price) (strips : List Strip) (i : ℕ) (
 capped_priced-more prices strips i d l = omega (arith, sum_by_more (λ s. strip_priced prices s) strips i d l)
 
 -- a vector of few prices
-pub AreFew-of : (p : ProblemView) (prices : List Price) → IsVector p prices → length prices ≤ 4096 → AreFew prices
-AreFew-of p prices v few = record {
+pub AreFewPrices-of : (p : ProblemView) (prices : List Price) → IsVector p prices → length prices ≤ 4096 → AreFewPrices prices
+AreFewPrices-of p prices v few = record {
   few = few;
   rising = v.rising;
   positive = λ k d l. (v.each k d l).positive;

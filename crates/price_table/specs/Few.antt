@@ -6,8 +6,8 @@ use Rattle.choice_problem.specs.Strips.{strip_uses}
 use Rattle.choice_problem.specs.Bounds.{priced}
 use Rattle.price_table.specs.declared.few.TheConstants.{MOST_FEW}
 
--- at most 4,096 prices from 1 to 2 ^ 40 - 1, by rising resource
-pub record AreFew (prices : List Price) : Type 0 where
+-- at most 4,096 prices, each from 1 to 2 ^ 40 - 1, by rising resource
+pub record AreFewPrices (prices : List Price) : Type 0 where
   pub few : length prices ≤ MOST_FEW
   pub rising : AllPairs (λ e f. e.resource < f.resource) prices
   pub positive : All (λ e. pos 1 ≤ℤ e.price) prices

@@ -6,7 +6,7 @@ ghost use Rattle.choice_problem.specs.Strips.{strip_uses};
 ghost use Rattle.choice_problem.specs.Problems.{unit_count, resource_count};
 ghost use Rattle.choice_problem.specs.Bounds.{IsVector, price_at};
 ghost use Rattle.price_table.specs.Tables.{PricesUnit};
-ghost use Rattle.price_table.specs.Few.{AreFew, strip_priced, capped_priced};
+ghost use Rattle.price_table.specs.Few.{AreFewPrices, strip_priced, capped_priced};
 
 use crate::strips::{PLACES, UnitPrices};
 use choice_problem::{Part, Price, Problem, Strip, Vector};
@@ -16,11 +16,12 @@ use std::alloc::Global;
 // The most prices that are looked up.
 const MOST_FEW: usize = 4096;
 
-// How many prices are looked up in the time that sums take for one resource, or for one place of a strip that is kept: less
-// than was measured, where a price counts once for each strip, though most lie outside it.
+// So many prices of strips for each resource, and for each place of a strip that is kept, are looked up. Where most prices
+// lie outside a strip, as in seasons, that takes less time than sums over all resources; where all lie between the strip's
+// first resource and its end, up to four times as much.
 const LOOKED_UP: u64 = 16;
 
-// Whether the vector has so few prices that to look them up for each strip takes less time than sums over all resources.
+// Whether the vector has so few prices that they are looked up for each strip.
 pub(crate) fn are_few(problem: &Problem, vector: &Vector) -> bool
     ensures few { IsTrue result → length vector.now ≤ MOST_FEW }
     ensures resources { resource_count problem.now ≤ MOST_RESOURCES }
@@ -60,7 +61,7 @@ pub(crate) fn looked_up(
 ) -> Result<UnitPrices, Memory>
     requires unit { unit < unit_count problem.now }
     requires vector { IsVector problem.now prices.now }
-    requires few { AreFew prices.now }
+    requires few { AreFewPrices prices.now }
     requires resources { resource_count problem.now ≤ MOST_RESOURCES }
     ensures { IfOk result (λ parts. PricesUnit problem.now prices.now unit parts) }
 {
@@ -73,7 +74,7 @@ pub(crate) fn looked_up(
 
 // What a part costs, within 128 bits. Parts that an alternative names stay far below.
 fn part_price(prices: &[Price], part: &Part) -> u128
-    requires { AreFew prices.now }
+    requires { AreFewPrices prices.now }
     ensures { result ≡ capped_priced prices.now part.now }
 {
     let mut total: u128 = 0;
@@ -88,7 +89,7 @@ fn part_price(prices: &[Price], part: &Part) -> u128
 
 // What a strip costs: of the prices of resources from its first one on, those before its end.
 fn strip_price(prices: &[Price], strip: &Strip) -> u128
-    requires { AreFew prices.now }
+    requires { AreFewPrices prices.now }
     ensures { result ≡ strip_priced prices.now strip.now }
 {
     let (_, end) = strip.run(strip.times.saturating_sub(1));

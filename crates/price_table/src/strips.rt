@@ -49,7 +49,7 @@ pub(crate) struct Known {
 
 /// The prices of strips, at one price for each resource: the sums of the prices before each resource, and some strips of
 /// several runs that were priced by them, since the strips of many units are the same. Contracts see the sums. 8 bytes a
-/// resource, and 2 MB from the first strip of several runs on.
+/// resource, and 2 MB from the first strip of several runs on; where there is no memory for these, each strip is priced anew.
 #[derive(Drop)]
 pub struct StripPrices {
     sums: Vec<u64>,

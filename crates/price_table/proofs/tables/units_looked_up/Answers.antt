@@ -1,11 +1,11 @@
 use Rattle.std.proofs.Common.{◌≡◌, ◌++◌, ◌∷◌, [], inl, inr, arith, length}
 use Rattle.std.proofs.lemmas.Bool.{cases_lt}
 use Rattle.std.proofs.lemmas.List.{length-append, get_or_append_left, get_or_push}
-use Rattle.price_table.proofs.FewLemmas.{AreFew-of}
+use Rattle.price_table.proofs.FewLemmas.{AreFewPrices-of}
 use Rattle.price_table.proofs.tables.units_looked_up.Goals as goal
 
 pub looked_up-requires-clause-few : goal.looked_up-requires-clause-few
-looked_up-requires-clause-few c = rw c.items.ensures (AreFew-of c.args.problem.now c.args.vector.now c.requires.vector c.requires.few)
+looked_up-requires-clause-few c = rw c.items.ensures (AreFewPrices-of c.args.problem.now c.args.vector.now c.requires.vector c.requires.few)
 
 pub loop-unit-preserved : goal.loop-unit-preserved
 loop-unit-preserved c =
