@@ -1,10 +1,10 @@
 -- Strips that hold others.
-use Rattle.std.proofs.Common.{◌≡◌, ℕ, ◌+◌, ◌-◌, ◌*◌, ◌<◌, ◌≤◌, arith, List, [], ◌∷◌, ◌++◌, length, set, inl, inr, Bool, true, false}
+use Rattle.std.proofs.Common.{◌≡◌, ℕ, ◌+◌, ◌-◌, ◌*◌, ◌<◌, ◌≤◌, arith, List, length, set, inl, inr, Bool, true, false}
 use Rattle.std.specs.Prelude.{if◌then◌else◌, nat_eq, nat_le, nat_lt, ◌&&◌}
 use Rattle.std.proofs.lemmas.Grind.{common_steps}
-use Rattle.std.proofs.lemmas.Bool.{cases_lt, cases_eq}
-use Rattle.std.proofs.lemmas.List.{get_or-set_same, get_or-set_other, length-set, length-append, get_or_append_left, get_or_push}
-use Rattle.std.proofs.lemmas.List.Sums.{sum_by-set, sum_by_push, sum_by-le-sum_by}
+use Rattle.std.proofs.lemmas.Bool.{cases_eq}
+use Rattle.std.proofs.lemmas.List.{get_or-set_same, get_or-set_other, length-set}
+use Rattle.std.proofs.lemmas.List.Sums.{sum_by-set, sum_by-le-sum_by}
 use Rattle.finite_sums.proofs.SumLemmas.{sum_below-le}
 use Rattle.choice_problem.specs.declared.strips.Strip.{Strip}
 use Rattle.choice_problem.specs.Strips.{run_start, is_in_run, strip_uses, IsStripInRange}
@@ -66,17 +66,4 @@ pub range-wider : (resources k : ℕ) (cover : List Held) (new : Held) → k < l
 range-wider resources k cover new l s h = λ j m. elim (cases_eq j k) [
   | inl e ↦ rw (e, get_or-set_same cover k new none l) s
   | inr o ↦ rw (get_or-set_other cover k j new none o) (h j (rw (length-set cover k new) at m))
-]
-
--- a strip is held by itself
-pub held-push : (cover : List Held) (part r : ℕ) (new : Held) → new.part ≡ part → held_uses part cover r + strip_uses new.strip r ≤ held_uses part (cover ++ new ∷ []) r
-held-push cover part r new e = omega (arith, sum_by_push (λ (h : Held). if nat_eq h.part part then strip_uses h.strip r else 0) cover new, own part r new e)
-
-pub cover-push : (cover : List Held) (r : ℕ) (new : Held) → cover_uses cover r ≤ cover_uses (cover ++ new ∷ []) r
-cover-push cover r new = omega (arith, sum_by_push (λ (h : Held). strip_uses h.strip r) cover new)
-
-pub range-push : (resources : ℕ) (cover : List Held) (new : Held) → IsStripInRange resources new.strip → AreHeldIn resources cover → AreHeldIn resources (cover ++ new ∷ [])
-range-push resources cover new s h = λ j m. elim (cases_lt j (length cover)) [
-  | inl below ↦ rw (get_or_append_left cover (new ∷ []) none j below) (h j below)
-  | inr last ↦ let e : length cover ≡ j = omega (arith, m, last, length-append cover (new ∷ [])) in rw (get_or_push cover new none j e) s
 ]

@@ -38,15 +38,6 @@ before_run a b r l = grind (arith, common_steps)
 after_run : (a b r : ℕ) → b ≤ r → run_uses a b r ≡ 0
 after_run a b r l = grind (arith, common_steps)
 
-no_run : (a b r : ℕ) → b ≤ a → run_uses a b r ≡ 0
-no_run a b r l = elim (cases_lt r a) [
-  | inl before ↦ before_run a b r before
-  | inr from ↦ after_run a b r (omega (arith, from, l))
-]
-
-pub AreEnds-none : (n start end : ℕ) (uses : ℕ → ℕ) (begins ends : List ℕ) → end ≤ start → AreEnds n uses begins ends → AreEnds n (λ r. uses r + run_uses start end r) begins ends
-AreEnds-none n start end uses begins ends l h = AreEnds-same n uses (λ r. uses r + run_uses start end r) begins ends (λ r. omega (arith, no_run start end r l)) h
-
 -- one run more
 pub AreEnds-run : (n start end b e : ℕ) (uses : ℕ → ℕ) (begins ends : List ℕ) → start < end → end ≤ n →
     b ≡ min (slice_index begins start + 1) (2 ^ 32 - 1) → e ≡ min (slice_index ends end + 1) (2 ^ 32 - 1) →

@@ -6,17 +6,17 @@ use Rattle.price_table.specs.Strips.{capped_cost}
 use Rattle.dual_bound.specs.declared.same.PartOf.{PartOf}
 
 -- the strips of a part
-abbrev pub strips_of : ProblemView → PartOf → List Strip
-strips_of p part = part_at (chooser_at p part.unit) part.number
+abbrev pub strips_at : ProblemView → PartOf → List Strip
+strips_at p part = part_at (chooser_at p part.unit) part.number
 
 -- one of some parts
-abbrev pub part_of : List PartOf → ℕ → PartOf
-part_of parts n = slice_index_or parts n (record { unit = 0; number = 0 })
+abbrev pub same_part_at : List PartOf → ℕ → PartOf
+same_part_at parts n = slice_index_or parts n (record { unit = 0; number = 0 })
 
 -- for each part of unit u a part with the same strips
 pub record AreSameParts (p : ProblemView) (u : ℕ) (parts : List PartOf) : Type 0 where
   pub count : length parts ≡ part_count p u
-  pub each : (n : ℕ) → n < part_count p u → strips_of p (part_of parts n) ≡ part_at (chooser_at p u) n
+  pub each : (n : ℕ) → n < part_count p u → strips_at p (same_part_at parts n) ≡ part_at (chooser_at p u) n
 
 -- the same for each of the first n units
 pub record AreSameTo (p : ProblemView) (n : ℕ) (units : List (List PartOf)) : Type 0 where

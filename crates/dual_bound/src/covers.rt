@@ -1,4 +1,7 @@
 //! Strips that together use each resource at least as often as each of some parts.
+//!
+//! A chain of strips at nearby times may be held by one that is wider than its gap. Its runs then overlap, and a resource in
+//! two of them counts twice, even if each part uses it once: the uses are then too high, never too low.
 
 ghost use Rattle.std.specs.Prelude.{◌≡◌, ℕ, ◌+◌, ◌^◌, ◌<◌, ◌≤◌, IfOk, IsTrue, [], false, true, length, slice_index_or, All};
 ghost use Rattle.std.specs.Option.{ForSome};

@@ -8,7 +8,7 @@ ghost use Rattle.choice_problem.specs.Problems.{unit_count, alt_count};
 ghost use Rattle.choice_problem.specs.Bounds.{AreRanges, Closes, priced_cost};
 ghost use Rattle.choice_problem.specs.Trees.{LeafHolds};
 ghost use Rattle.price_table.specs.Tables.{IsTableFor, vectors_of};
-ghost use Rattle.dual_bound.specs.Stated.{IsStatedFloor, IsFloorBy, scale_at, zero_floor, rounded_up, priced_floor};
+ghost use Rattle.dual_bound.specs.Stated.{IsStatedFloor, scale_at, zero_floor, rounded_up, priced_floor};
 
 use choice_problem::{PRICED_SCALE, Problem, Ranges};
 use price_table::{PriceTable, bound};

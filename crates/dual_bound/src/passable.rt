@@ -10,8 +10,10 @@ use slot_text::Memory;
 use std::alloc::Global;
 
 /// Resources of a problem by rising number, such that no other one is ever used above its limit, whatever alternatives the
-/// units take: of a season's resources a few of a hundred. Some steps a strip of each part; one a use of strips that cover the
-/// parts of a unit, which those at nearby times share; and one a resource. For that time 4 bytes a resource.
+/// units take: of a season's resources a few of a hundred. For each strip of a part at most one step a strip of those that
+/// cover the parts of its unit, which parts at nearby times share; one a use of the covering strips; and some a part, an
+/// alternative and a resource. For that time 4 bytes a resource, and for one unit at a time 24 bytes a covering strip and
+/// two flags a part.
 pub fn passable_resources(alloc: Global, problem: &Problem) -> Result<Vec<u32>, Memory>
     ensures { IfOk result (λ list. ListPassable problem.now list.items) }
 {

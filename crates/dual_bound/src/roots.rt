@@ -27,10 +27,16 @@ pub fn root_vector(alloc: Global, problem: &Problem) -> Result<Vector, Memory>
 /// step raises or lowers each resource's price by its length for each use above or below the limit, never under 0; the
 /// lengths halve from 16384 with every eight steps. All prices stay below 2^40.
 ///
-/// Where at most a quarter of the resources can be passed, the run is on these alone. A step prices each strip, of parts with
-/// the same strips those of one alone; looks at each alternative in range; takes two steps a run of each unit's least
-/// alternative; and some a resource. The memory is some 60 bytes a resource, 16 bytes a run of the strips that uses one
-/// of those that can be passed, and 2 MB.
+/// Where the `passable_resources` are at most a quarter of all, the prices move on these alone, by a copy of the units that
+/// uses no others. Finding them takes the time of `passable_resources`; the copy takes one step a run of the strips and one
+/// an alternative. It has the parts, the alternatives, and a strip of 16 bytes a run that uses one of these resources.
+/// Else the prices move on all resources, by the problem itself.
+///
+/// Finding parts with the same strips takes two steps a strip. A subgradient step then mostly takes one step for a part with
+/// the same strips as one of an earlier unit; for any other part one a strip, and one a run of a strip of several runs
+/// that is not priced yet; one for an alternative in range; two for a run of each unit's first least alternative; and
+/// some for a resource on which prices move. The memory is some 60 bytes a resource on which prices move, 12 a resource
+/// of all, 24 a part and 50 a unit, and half a MB, or 2 MB where a strip has several runs.
 pub fn node_vector(alloc: Global, problem: &Problem, ranges: &Ranges) -> Result<Vector, Memory>
     requires { AreRanges problem.now ranges.now }
     ensures node { IfOk result (λ vector. IsNodeVector problem.now ranges.now vector) }
@@ -41,7 +47,7 @@ pub fn node_vector(alloc: Global, problem: &Problem, ranges: &Ranges) -> Result<
     vector_in(alloc, problem, &best.prices)
 }
 
-// The best prices of the run: by the kept resources alone, where they are at most a quarter of all.
+// The best prices after the steps: by the kept resources alone, where they are at most a quarter of all.
 fn best_by_ranks(
     alloc: Global,
     problem: &Problem,
@@ -61,7 +67,7 @@ fn best_by_ranks(
     }
 }
 
-// The best prices of the run on all resources, by the run on the kept ones.
+// The best prices after the steps on all resources, by the steps on the kept ones.
 fn best_on_kept(
     alloc: Global,
     problem: &Problem,

@@ -1,9 +1,9 @@
-//! Parts of a problem with the same strips: they cost the same, so one of them is priced.
+//! Parts of a problem with the same strips: they cost the same, so mostly one of them is priced.
 
-ghost use Rattle.std.specs.Prelude.{◌≡◌, ◌+◌, ◌<◌, ◌≤◌, IfOk, IsTrue, length};
+ghost use Rattle.std.specs.Prelude.{◌≡◌, ◌+◌, ◌<◌, IfOk, IsTrue, length};
 ghost use Rattle.choice_problem.specs.Problems.{unit_count, part_count, resource_count};
 ghost use Rattle.price_table.specs.Strips.{capped_cost};
-ghost use Rattle.dual_bound.specs.Same.{AreSameParts, AreSameTo, AreCosts, AreCostsTo, strips_of};
+ghost use Rattle.dual_bound.specs.Same.{AreSameParts, AreSameTo, AreCosts, AreCostsTo, strips_at};
 
 use choice_problem::{Problem, Strip};
 use price_table::StripPrices;
@@ -63,11 +63,12 @@ impl PartCosts {
     }
 }
 
-// Among how many parts, which others take the place of, an earlier one is looked for.
+// How many places for parts there are, by a hash of their strips. Each holds a part with the same strips as the last one
+// whose strips have that hash.
 const PLACES: usize = 65_536;
 
-// For each part of all units a part with the same strips, an earlier one where one is found: two steps a strip, and 8 bytes
-// a part.
+// For each part of all units a part with the same strips, an earlier one where one is found: two steps a strip, 8 bytes a
+// part, and 8 a place for that time.
 pub(crate) fn same_parts(alloc: Global, problem: &Problem) -> Result<Vec<SameParts>, Memory>
     ensures { IfOk result (λ units. AreSameTo problem.now (unit_count problem.now) units.items) }
 {
@@ -97,11 +98,11 @@ fn same_in_unit(
     Ok(SameParts { parts })
 }
 
-// A part with the same strips: the last one of its place, or itself, which is the last one then.
+// A part with the same strips: the one at its place, or itself, which takes that place then.
 fn same_part(problem: &Problem, part: PartOf, last: &mut [PartOf]) -> PartOf
     requires unit { part.unit < unit_count problem.now }
     requires number { part.number < part_count problem.now part.unit }
-    ensures { strips_of problem.now result ≡ strips_of problem.now part }
+    ensures { strips_at problem.now result ≡ strips_at problem.now part }
 {
     let place = place_of(problem.part(part.unit, part.number).strips());
     if place < last.len() {
@@ -118,7 +119,7 @@ fn same_part(problem: &Problem, part: PartOf, last: &mut [PartOf]) -> PartOf
 fn is_same(problem: &Problem, part: PartOf, other: PartOf) -> bool
     requires unit { part.unit < unit_count problem.now }
     requires number { part.number < part_count problem.now part.unit }
-    ensures { IsTrue result → strips_of problem.now other ≡ strips_of problem.now part }
+    ensures { IsTrue result → strips_at problem.now other ≡ strips_at problem.now part }
 {
     if other.unit >= problem.units() || other.number >= problem.parts(other.unit) {
         return false;
@@ -142,7 +143,7 @@ fn are_equal(one: &[Strip], other: &[Strip]) -> bool
     true
 }
 
-// The place of a part with these strips: the high bits of a sum of products that mixes their numbers.
+// The place of a part with these strips, their hash: the high bits of a sum of products that mixes their numbers.
 fn place_of(strips: &[Strip]) -> usize {
     let mut mixed: u32 = 0;
     for strip in strips {
@@ -218,10 +219,10 @@ fn part_cost(
 ) -> u128
     requires unit { part.unit < unit_count problem.now }
     requires number { part.number < part_count problem.now part.unit }
-    requires same { strips_of problem.now other ≡ strips_of problem.now part }
+    requires same { strips_at problem.now other ≡ strips_at problem.now part }
     requires earlier { AreCostsTo problem.now strips.old part.unit earlier.now }
     requires sums { length strips.old ≡ resource_count problem.now + 1 }
-    ensures cost { result ≡ capped_cost strips.old (strips_of problem.now part) }
+    ensures cost { result ≡ capped_cost strips.old (strips_at problem.now part) }
     ensures same { strips.new ≡ strips.old }
 {
     if other.unit < part.unit {
