@@ -1,6 +1,6 @@
 //! What the resources may still hold in a stage.
 
-ghost use Rattle.std.specs.Prelude.{◌≡◌, ◌+◌, ◌*◌, ◌-◌, ◌<◌, ◌≤◌, ◌≤ℤ◌, ℕ, All, length, slice_index_or, OnOk, IfOk, pos};
+ghost use Rattle.std.specs.Prelude.{◌≡◌, ◌-◌, ◌<◌, ◌≤◌, ◌≤ℤ◌, ℕ, All, length, slice_index_or, OnOk, IfOk, pos};
 ghost use Rattle.season_days.specs.Seasons.{date_count};
 ghost use Rattle.season_days.specs.declared.declaration.TheConstants.{HIGHEST_NIGHT_LIMIT, HIGHEST_SHARE};
 ghost use Rattle.capacity_windows.specs.Windows.{capacity_of, declared_resources, window_limit, window_load};

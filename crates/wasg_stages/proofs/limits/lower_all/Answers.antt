@@ -1,4 +1,4 @@
-use Rattle.std.proofs.Common.{◌≡◌, ◌<◌, ◌≤◌, ◌∙◌, ap, arith, length, rules, List, take}
+use Rattle.std.proofs.Common.{◌≡◌, ◌<◌, ◌≤◌, ◌∙◌, ap, length, rules, List}
 use Rattle.std.proofs.lemmas.List.{take_all}
 use Rattle.capacity_windows.specs.Windows.{window_load}
 use Rattle.series_model.specs.declared.state.UnitState.{UnitState}

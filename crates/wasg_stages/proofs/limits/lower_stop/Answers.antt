@@ -1,4 +1,4 @@
-use Rattle.std.proofs.Common.{◌≡◌, ◌∙◌, sym, subst}
+use Rattle.std.proofs.Common.{◌≡◌, sym, subst}
 use Rattle.std.specs.Prelude.{Option}
 use Rattle.scr_reader.specs.declared.line.Stop.{Stop}
 use Rattle.choice_problem.specs.Strips.{part_uses}

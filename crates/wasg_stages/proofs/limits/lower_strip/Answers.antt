@@ -1,9 +1,6 @@
-use Rattle.std.proofs.Common.{◌≡◌, ◌∙◌, refl, sym, ap, arith, length, List, ℕ, rules}
-use Rattle.std.specs.Prelude.{nat_le, nat_lt, ◌&&◌, if◌then◌else◌}
+use Rattle.std.proofs.Common.{◌≡◌, ◌∙◌, length, rules}
 use Rattle.finite_sums.specs.Sums.{count_below}
-use Rattle.choice_problem.specs.Loops.{run_uses}
-use Rattle.choice_problem.specs.Strips.{is_in_run, strip_uses}
-use Rattle.wasg_stages.specs.Steps.{LowersBy}
+use Rattle.choice_problem.specs.Strips.{is_in_run}
 use Rattle.wasg_stages.proofs.LoadLemmas.{lowers-on, run-more, until-end}
 use Rattle.wasg_stages.proofs.limits.lower_strip.Goals as goal
 
