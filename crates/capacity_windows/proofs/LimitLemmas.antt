@@ -1,5 +1,5 @@
 -- Limits by their numbers: one more, those of a line's windows, and the night quota's.
-use Rattle.std.proofs.Common.{◌≡◌, ℕ, ◌+◌, ◌-◌, ◌*◌, ◌/◌, ◌%◌, ◌<◌, ◌≤◌, Bool, true, false, ap, sym, ◌∙◌, refl, arith, inl, inr, List, [], ◌∷◌, ◌++◌, Some, length, get_or, ℤ, pos, subst}
+use Rattle.std.proofs.Common.{◌≡◌, ℕ, ◌+◌, ◌-◌, ◌*◌, ◌/◌, ◌%◌, ◌<◌, ◌≤◌, true, false, ap, sym, ◌∙◌, refl, arith, inl, inr, List, [], ◌∷◌, ◌++◌, Some, length, get_or, ℤ, pos}
 use Rattle.std.specs.Prelude.{slice_get, sum_by, All, Option, None, nat_lt, ◌==◌, if◌then◌else◌}
 use Rattle.std.specs.Option.{ForSome}
 use Rattle.std.proofs.Math.ListN.{get_or-append}

@@ -14,8 +14,8 @@ use std::alloc::Global;
 
 impl Windows {
     /// The limits of all resources in the order of their numbers, as problems of choice take them:
-    /// what `limit` says of each, in one step, where `limit` looks through the capacity lines. They
-    /// are allotted once, eight bytes each. The one fault is want of memory.
+    /// what `limit` says of each, in one step, where `limit` looks through the capacity lines. The
+    /// memory is taken once, eight bytes each. The one fault is want of memory.
     pub fn limits(&self, alloc: Global) -> Result<Vec<i64>, Memory>
         ensures count { IfOk result (λ limits. length limits.items ≡ declared_resources self.now) }
         ensures each { IfOk result (λ limits. (r : ℕ) → r < declared_resources self.now →

@@ -1,6 +1,6 @@
 -- Least loads of resources that are kept while the ranges change.
-use Rattle.std.proofs.Common.{◌≡◌, ◌⊎◌, ℕ, ◌+◌, ◌-◌, ◌*◌, ◌<◌, ◌≤◌, refl, sym, ◌∙◌, ap, subst, arith, List, length, get_or, set, inl, inr}
-use Rattle.std.specs.Prelude.{All, drop, Option, Some, None, IfSome, slice_set}
+use Rattle.std.proofs.Common.{◌≡◌, ◌⊎◌, ℕ, ◌+◌, ◌*◌, ◌<◌, ◌≤◌, sym, ◌∙◌, ap, subst, arith, List, length, get_or, set, inl, inr}
+use Rattle.std.specs.Prelude.{Option, Some, None, IfSome, slice_set}
 use Rattle.std.specs.List.{Contains}
 use Rattle.std.proofs.lemmas.Bool.{cases_lt}
 use Rattle.std.proofs.lemmas.List.{get_or-set_same, get_or-set_other, length-set}

@@ -1,5 +1,5 @@
 -- What is kept from node to node.
-use Rattle.std.proofs.Common.{◌≡◌, ℕ, ◌<◌, refl, sym, ◌∙◌, ap, subst, arith, List, [], ◌∷◌, length, length-append, ◌≤◌}
+use Rattle.std.proofs.Common.{◌≡◌, ℕ, ◌<◌, refl, sym, ap, subst, arith, List, [], ◌∷◌, length, length-append, ◌≤◌}
 use Rattle.std.specs.Prelude.{All, drop}
 use Rattle.std.specs.List.{Contains}
 use Rattle.choice_problem.specs.declared.vectors.Price.{Price}

@@ -1,6 +1,6 @@
 -- Least loads of resources that are kept while the ranges change. Contracts of private functions alone
 -- cite this.
-use Rattle.std.specs.Prelude.{◌≡◌, ℕ, ◌<◌, ◌≤◌, List, length, drop, All, Option, None, IfSome, slice_index, slice_index_or}
+use Rattle.std.specs.Prelude.{◌≡◌, ℕ, ◌<◌, ◌≤◌, List, length, drop, Option, None, IfSome, slice_index, slice_index_or}
 use Rattle.choice_problem.specs.declared.problems.TheConstants.{MOST_UNITS, MOST_USES}
 use Rattle.finite_sums.specs.Sums.{least_within}
 use Rattle.choice_problem.specs.Problems.{ProblemView, unit_count, resource_count, alt_uses}

@@ -6,7 +6,7 @@ use Rattle.cert_checker.specs.declared.loads.Loads.{Loads}
 use Rattle.cert_checker.specs.Kept.{AgreeBut}
 use Rattle.cert_checker.specs.KeptLoads.{AreKeptLoads}
 
--- a place for each of these resources, with its least load in these ranges once that was found
+-- for each of these resources its least load in these ranges, once that was found
 pub record AreWholeLoads (p : ProblemView) (whole : List (ℕ × ℕ)) (named : List ℕ)
     (known : List (Option ℕ)) : Type 0 where
   pub count : length known ≡ length named

@@ -55,9 +55,9 @@ pub fn check_stage(
 /// is at most 2^21 units' ranges and least uses, 24 MiB; where another resource has the place of
 /// this one, the node costs one step for each unit that a split above or before it names, and one an
 /// alternative in range that uses the resource. Places are for resources that nodes name, each once,
-/// and before the walk these are sorted; where no node names one, nothing is made for resources.
-/// Beside the problem and these there are the tables, a copy of the ranges for each vector that is
-/// named, a few numbers a node, and one number a resource while a stage's choice is summed up.
+/// and before the walk these are sorted. Beside the problem and these there are the tables and what
+/// `price_table` takes while it makes one, a copy of the ranges for each vector that is named, a few
+/// numbers a node, and one number a resource while a stage's choice is summed up.
 /// Nothing recurses on the depth of a tree.
 pub fn check(alloc: Global, submission: &Submission, cert: &Certificate) -> Result<Verdict, Memory>
     requires { IsPrintable cert.now }

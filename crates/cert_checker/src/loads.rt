@@ -12,7 +12,7 @@ ghost use Rattle.cert_checker.specs.Marked.{AreOnce};
 
 use crate::kept_loads::{KeptLoad, empty_places, has_other, renewed};
 use crate::marked::Marked;
-use crate::named::{named_resources, place_of};
+use crate::named::{named_resources, rank_of};
 use choice_problem::{Node, Problem, Ranges, least_uses};
 use slot_text::Memory;
 use std::alloc::Global;
@@ -29,8 +29,8 @@ pub(crate) struct Loads {
     pub(crate) kept: Vec<Option<KeptLoad>>,
 }
 
-/// Loads before any change, for a walk of these nodes: a few numbers for each resource that one of
-/// them names, and for each unit.
+/// Loads before any change, for a walk of these nodes: a few numbers for each unit and each resource
+/// that one of the nodes names, and one for each of these nodes that names another than the one before.
 pub(crate) fn first_loads(alloc: Global, problem: &Problem, nodes: &[Node]) -> Result<Loads, Memory>
     ensures { IfOk result (λ loads. IsLoadState problem.now (whole_of problem.now) [] loads) }
 {
@@ -187,8 +187,8 @@ fn load_kept(
     Ok(u128::from(load))
 }
 
-// The least load of a resource, by what is kept of it, where its place has no other. A node of the
-// walk names a resource that has a place, or shares one.
+// The least load of a resource, by what is kept of it, where its place has no other. Each resource
+// that a node of the walk names has a rank; one without a rank would only cost more.
 fn load_of(
     alloc: Global,
     problem: &Problem,
@@ -205,7 +205,7 @@ fn load_of(
         (λ load. IsLoadState problem.now ranges.now changes.now loads.new) }
     ensures load { IfOk result (λ load. load ≡ least_load problem.now ranges.now resource) }
 {
-    let Some(at) = place_of(&loads.named, resource) else {
+    let Some(at) = rank_of(&loads.named, resource) else {
         return Ok(u128::from(least_load(problem, ranges, resource)));
     };
     let place = at % loads.kept.len();

@@ -24,8 +24,8 @@ pub(crate) fn named_resources(alloc: Global, nodes: &[Node]) -> Result<Vec<u32>,
     Ok(named)
 }
 
-/// The place of a resource among some in rising order: as many steps as these can be halved.
-pub(crate) fn place_of(named: &[u32], resource: u32) -> Option<usize>
+/// The rank of a resource among some in rising order, from 0: as many steps as these can be halved.
+pub(crate) fn rank_of(named: &[u32], resource: u32) -> Option<usize>
     ensures there { IfSome result (λ at. at < length named.now) }
     ensures resource { IfSome result (λ at. slice_index named.now at ≡ resource) }
 {

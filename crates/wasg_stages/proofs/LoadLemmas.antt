@@ -23,7 +23,7 @@ use Rattle.finite_sums.proofs.SumLemmas.{sum_below-more}
 use Rattle.choice_problem.specs.declared.strips.Strip.{Strip}
 use Rattle.choice_problem.specs.Strips.{run_start, is_in_run}
 use Rattle.choice_problem.specs.Loops.{run_uses}
-use Rattle.wasg_stages.specs.Steps.{LowersBy, AreSmall, AreShares}
+use Rattle.wasg_stages.specs.Steps.{LowersBy, AreLimitsOf, AreShares}
 use Rattle.wasg_stages.proofs.ZipLemmas.{window_load-append}
 use Rattle.wasg_stages.proofs.PartLemmas.{LoadsOfStops}
 
@@ -65,11 +65,6 @@ load-more c states i r lt =
     ∙ ap (λ (m : List Movement). window_load c (movements_given c.season (take i states)) r + window_load c m r) (append-nil (given_movements c.season (get_or states i no_state)))
 
 -- ---- limits that are lowered
-
-pub lowers-none : (limits : List ℤ) (uses : ℕ → ℕ) → ((r : ℕ) → uses r ≡ 0) → LowersBy limits limits uses
-lowers-none limits uses none r n lt few is =
-    let same : n ≡ n - uses r = omega (arith, none r) in
-    is ∙ ap pos same
 
 pub lowers-on : (old mid new : List ℤ) (one two all : ℕ → ℕ) → length mid ≡ length old → LowersBy old mid one → LowersBy mid new two → ((r : ℕ) → all r ≡ one r + two r) → LowersBy old new all
 lowers-on old mid new one two all long first second sum r n lt few is =
@@ -141,8 +136,8 @@ shares-on share old now at z lt long are value = record {
 }
 
 -- what is left of the declared limits
-pub left-small : (d : Declaration) (states : List UnitState) (c : Capacity) (old new : List ℤ) → c ≡ capacity_of d → length new ≡ length old → AreSmall old (window_limit c) →
-    LowersBy old new (λ r. window_load c (movements_given c.season states) r) → AreSmall new (limit_left d states)
+pub left-small : (d : Declaration) (states : List UnitState) (c : Capacity) (old new : List ℤ) → c ≡ capacity_of d → length new ≡ length old → AreLimitsOf old (window_limit c) →
+    LowersBy old new (λ r. window_load c (movements_given c.season states) r) → AreLimitsOf new (limit_left d states)
 left-small d states c old new is long declared lowered r lt =
     let before : r < length old = omega (arith, lt, long) in
     let one = declared r before in
@@ -150,7 +145,7 @@ left-small d states c old new is long declared lowered r lt =
     ap (λ (k : Capacity). window_limit k r - window_load k (movements_given k.season states) r) is in
     (lowered r (window_limit c r) before one.1 one.0 ∙ ap pos same, omega (arith, same, one.1))
 
-pub stage-other : (d : Declaration) (stage : ℕ) (states : List UnitState) (new : List ℤ) → (stage ≡ 3 → ⊥) → AreSmall new (limit_left d states) → AreSmall new (stage_limit d stage states)
+pub stage-other : (d : Declaration) (stage : ℕ) (states : List UnitState) (new : List ℤ) → (stage ≡ 3 → ⊥) → AreLimitsOf new (limit_left d states) → AreLimitsOf new (stage_limit d stage states)
 stage-other d stage states new other left r lt =
     let same : stage_limit d stage states r ≡ limit_left d states r =
     ap (λ (b : Bool). if b then share_of d.share (limit_left d states r) else limit_left d states r) (ne_eqb stage 3 other) in
@@ -161,8 +156,8 @@ share-small share n le few =
     let most : n * share ≤ n * 100 = mul-le n share n 100 (omega arith) (omega (arith, le)) in
     omega (arith, most, few)
 
-pub stage-third : (d : Declaration) (stage : ℕ) (states : List UnitState) (mid new : List ℤ) → stage ≡ 3 → d.share ≤ HIGHEST_SHARE → length new ≡ length mid → AreSmall mid (limit_left d states) → AreShares d.share mid new (length mid) →
-    AreSmall new (stage_limit d stage states)
+pub stage-third : (d : Declaration) (stage : ℕ) (states : List UnitState) (mid new : List ℤ) → stage ≡ 3 → d.share ≤ HIGHEST_SHARE → length new ≡ length mid → AreLimitsOf mid (limit_left d states) → AreShares d.share mid new (length mid) →
+    AreLimitsOf new (stage_limit d stage states)
 stage-third d stage states mid new third share long left shares r lt =
     let before : r < length mid = omega (arith, lt, long) in
     let one = left r before in

@@ -28,8 +28,8 @@ LowersBy old new uses =
     slice_index_or new r (pos 0) ≡ pos (n - uses r)
 
 -- these are the limits of resources, none of them above the highest
-abbrev pub AreSmall : List ℤ → (ℕ → ℕ) → Type 0
-AreSmall limits limit =
+abbrev pub AreLimitsOf : List ℤ → (ℕ → ℕ) → Type 0
+AreLimitsOf limits limit =
     (r : ℕ) → r < length limits →
     (slice_index_or limits r (pos 0) ≡ pos (limit r)) × (limit r ≤ HIGHEST_NIGHT_LIMIT)
 

@@ -10,7 +10,7 @@ ghost use Rattle.choice_problem.specs.Loops.{run_uses};
 ghost use Rattle.series_model.specs.Units.{UnitFits};
 ghost use Rattle.series_model.specs.Movements.{stop_load, movements_of};
 ghost use Rattle.series_model.specs.Stages.{movements_once_given, movements_given, share_of, stage_limit};
-ghost use Rattle.wasg_stages.specs.Steps.{LowersBy, AreSmall, AreShares};
+ghost use Rattle.wasg_stages.specs.Steps.{LowersBy, AreLimitsOf, AreShares};
 ghost use Rattle.series_model.specs.declared.state.UnitState.{UnitState as UnitStateValue};
 
 use capacity_windows::Windows;
@@ -189,7 +189,7 @@ fn entrants_share(declaration: &Declaration, left: i64) -> u32
 // Leaves of each limit the share of new entrants.
 fn leave_shares(declaration: &Declaration, limits: &mut [i64])
     requires share { declaration.now.share ≤ HIGHEST_SHARE }
-    requires limits { (limit : ℕ → ℕ) × AreSmall limits.old limit }
+    requires limits { (limit : ℕ → ℕ) × AreLimitsOf limits.old limit }
     ensures { AreShares declaration.now.share limits.old limits.new (length limits.old) }
 {
     for at in 0..limits.len() {
@@ -212,8 +212,8 @@ fn lower_limits(
     requires units { All (λ (state : UnitStateValue).
         UnitFits windows.now.season state.unit) states.now }
     requires limits { length limits.old ≡ declared_resources windows.now }
-    requires declared { AreSmall limits.old (window_limit windows.now) }
-    ensures { OnOk result (AreSmall limits.new (stage_limit declaration.now stage states.now)) }
+    requires declared { AreLimitsOf limits.old (window_limit windows.now) }
+    ensures { OnOk result (AreLimitsOf limits.new (stage_limit declaration.now stage states.now)) }
 {
     lower_all(alloc, windows, states, limits)?;
     if stage != 3 {

@@ -1,8 +1,4 @@
-use Rattle.std.proofs.Common.{◌≡◌, ◌+◌, ◌*◌, ℕ, ap, ◌∙◌, length, List, get_or}
-use Rattle.std.specs.Prelude.{take, sum_by}
-use Rattle.std.proofs.lemmas.Option.{slice_get-get_or}
-use Rattle.season_days.specs.declared.declaration.Rule.{Rule}
-use Rattle.capacity_windows.specs.Windows.{starts_of, windows_of, resource_at}
+use Rattle.std.proofs.Common.{length}
 use Rattle.capacity_windows.proofs.NumberLemmas.{placed_at}
 use Rattle.capacity_windows.proofs.LimitLemmas.{limit_small}
 use Rattle.capacity_windows.proofs.windows.Windows.limits.Goals as goal

@@ -1,8 +1,7 @@
-use Rattle.std.proofs.Common.{◌≡◌, ◌+◌, ◌<◌, ◌≤◌, ℕ, refl, ap, sym, ◌∙◌, arith, length, pos, get_or, List, ℤ, rules}
+use Rattle.std.proofs.Common.{◌≡◌, ◌+◌, refl, ap, sym, ◌∙◌, arith, length, pos, rules}
 use Rattle.std.proofs.lemmas.Int.{ints, to_z-of_z}
 use mir.Syntax.{w64}
 use mir.Val.{SFits}
-use Rattle.capacity_windows.specs.Windows.{window_limit}
 use Rattle.capacity_windows.proofs.LimitLemmas.{equal_limits}
 use Rattle.capacity_windows.proofs.windows.Windows.push_day.Goals as goal
 

@@ -1,4 +1,4 @@
-use Rattle.std.proofs.Common.{◌≡◌, ◌+◌, ◌*◌, ℕ, ap, ◌∙◌, sym, arith, length, pos, refl}
+use Rattle.std.proofs.Common.{◌≡◌, ◌+◌, ◌*◌, ℕ, ap, ◌∙◌, sym, arith, length, refl}
 use Rattle.capacity_windows.specs.Windows.{starts_of}
 use Rattle.capacity_windows.proofs.LimitLemmas.{day_limits}
 use Rattle.capacity_windows.proofs.windows.Windows.push_rule.Goals as goal
