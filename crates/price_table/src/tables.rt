@@ -62,9 +62,9 @@ impl PriceTable {
 
 /// The table of a vector for a problem, in one of two ways, by how many prices and strips there are. A vector of few prices,
 /// at most 4,096, takes up to 12 steps a strip of each part and one for each price between a strip's first resource and its
-/// end, and no memory beside the table. Else it takes one step a resource and a strip of each part, and one a run of each strip that is
-/// priced: strips that differ, and those that take turns in one of 65,536 places. Memory is then 16 bytes a resource and
-/// 2 MB while it is made.
+/// end, and no memory beside the table. Else it takes one step a resource and a strip of each part, and one a run of each
+/// strip that is priced: strips that differ, and those that take turns in one of 65,536 places. Memory is then 16 bytes a
+/// resource and 2 MB while it is made.
 pub fn price_table(alloc: Global, problem: &Problem, vector: &Vector) -> Result<PriceTable, Memory>
     requires { IsVector problem.now vector.now }
     ensures vector { IfOk result (λ table. table.prices ≡ vector.now) }
