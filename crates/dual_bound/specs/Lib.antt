@@ -4,3 +4,4 @@ pub mod Kept
 pub mod Same
 pub mod Ends
 pub mod Covers
+pub mod Classes

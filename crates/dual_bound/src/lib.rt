@@ -6,6 +6,7 @@
 //! say.
 #![tactic(auto)]
 
+mod classes;
 mod counts;
 mod covers;
 mod floors;
@@ -13,6 +14,7 @@ mod kept;
 mod loads;
 mod passable;
 mod points;
+mod refine;
 mod roots;
 mod same;
 

@@ -5,7 +5,9 @@ ghost use Rattle.choice_problem.specs.declared.closing.TheConstants.{PRICED_SCAL
 ghost use Rattle.choice_problem.specs.declared.problems.TheConstants.{MOST_UNITS, MOST_USES};
 ghost use Rattle.choice_problem.specs.declared.vectors.Price.{Price};
 ghost use Rattle.choice_problem.specs.Problems.{ProblemView, unit_count, resource_count, alt_uses, limit_of};
+ghost use Rattle.choice_problem.specs.declared.vectors.TheConstants.{ROOT_STEPS};
 ghost use Rattle.choice_problem.specs.Bounds.{AreRanges, IsVector, priced, least_total};
+ghost use Rattle.choice_problem.specs.Roots.{step_length};
 ghost use Rattle.price_table.specs.Strips.{ArePrices, IsPricedBy, least_alt, unit_least};
 ghost use Rattle.dual_bound.specs.Ends.{AreEnds, AddEnds};
 ghost use Rattle.dual_bound.specs.Same.{AreSameTo, AreCosts, AreCostsTo};
@@ -13,7 +15,7 @@ ghost use Rattle.dual_bound.specs.Loops.{IsPoint, AreMoved, IsAfter, IsGreatestU
 
 use crate::loads::{add_alt, loads_of};
 use crate::same::{PartCosts, SameParts, part_costs};
-use choice_problem::{HIGHEST_PRICE, Price, Problem, Ranges, Vector, price_vectors};
+use choice_problem::{HIGHEST_PRICE, Price, Problem, ROOT_STEPS, Ranges, Vector, price_vectors};
 use price_table::StripPrices;
 use slot_text::Memory;
 use std::alloc::Global;
@@ -50,11 +52,12 @@ pub(crate) fn first_best(alloc: Global, here: &Point) -> Result<Best, Memory>
 
 // The best prices, or those of a point whose bound is greater.
 pub(crate) fn better(alloc: Global, best: Best, here: &Point) -> Result<Best, Memory>
-    ensures greatest { IfOk result (λ better. (p : ProblemView) (ranges : List (ℕ × ℕ)) (n : ℕ) →
-        IsPoint p ranges PRICED_SCALE here.now.prices.items here.now.loads.items here.now.bound →
-        IsAfter p ranges (n + 1) here.now.prices.items →
-        IsGreatestUpTo p ranges n best.prices.items best.bound →
-        IsGreatestUpTo p ranges (n + 1) better.prices.items better.bound) }
+    ensures greatest { IfOk result (λ better. (p : ProblemView) (ranges : List (ℕ × ℕ)) (n : ℕ)
+        (spread : List ℕ → List ℕ) → IsPoint p ranges PRICED_SCALE
+        (spread here.now.prices.items) (spread here.now.loads.items) here.now.bound →
+        IsAfter p ranges (n + 1) (spread here.now.prices.items) →
+        IsGreatestUpTo p ranges n (spread best.prices.items) best.bound →
+        IsGreatestUpTo p ranges (n + 1) (spread better.prices.items) better.bound) }
     ensures prices { IfOk result (λ better. (p : ProblemView) → ArePrices p best.prices.items →
         ArePrices p here.now.prices.items →
         ArePrices p better.prices.items) }
@@ -220,6 +223,14 @@ fn take_unit(
     let _alts = problem.unit_alts(unit);
     add_alt(problem, unit, least.alt, begins, ends);
     least.cost
+}
+
+// How far a step moves a price for each use above or below the limit.
+pub(crate) fn step_length(step: u32) -> u64
+    requires { step < ROOT_STEPS }
+    ensures { result ≡ step_length step }
+{
+    16384 >> (step / 8)
 }
 
 // The prices after a step of this length: each rises or falls by so much for each use above or below the limit, and stays

@@ -1,15 +1,21 @@
 //! The vectors that a problem determines: subgradient runs of 64 steps.
 
-ghost use Rattle.std.specs.Prelude.{◌≡◌, ◌/◌, ◌^◌, ◌<◌, IfOk};
+ghost use Rattle.std.specs.Prelude.{◌≡◌, ◌/◌, IfOk, IfSome};
 ghost use Rattle.choice_problem.specs.declared.vectors.TheConstants.{ROOT_STEPS};
 ghost use Rattle.choice_problem.specs.Bounds.{AreRanges, IsVector};
-ghost use Rattle.choice_problem.specs.Roots.{IsNodeVector, IsRootVector, step_length};
+ghost use Rattle.choice_problem.specs.Problems.{unit_count};
+ghost use Rattle.choice_problem.specs.Roots.{IsNodeVector, IsRootVector};
 ghost use Rattle.dual_bound.specs.Loops.{IsGreatestUpTo};
 ghost use Rattle.dual_bound.specs.Kept.{KeepPassed};
+ghost use Rattle.dual_bound.specs.Same.{AreSameTo};
 
+use crate::classes::{best_on_classes, classes_by, first_ranks, sizes_of, spread_classes};
 use crate::kept::{kept_problem, kept_ranks, spread_prices};
-use crate::points::{Best, better, evaluate, first_best, move_prices, start, vector_in};
-use crate::same::same_parts;
+use crate::points::{
+    Best, better, evaluate, first_best, move_prices, start, step_length, vector_in,
+};
+use crate::refine::equal_resources;
+use crate::same::{SameParts, same_parts};
 use choice_problem::{PRICED_SCALE, Problem, ROOT_STEPS, Ranges, Vector, price_vectors};
 use slot_text::Memory;
 use std::alloc::Global;
@@ -85,29 +91,64 @@ fn best_on_kept(
     Ok(best)
 }
 
-// Of the prices after 0 to 64 steps, the first with the greatest bound.
+// Of the prices after 0 to 64 steps, the first with the greatest bound: by classes of equal resources, or by each resource
+// where the prices of a class together are too great for one.
 fn best_prices(alloc: Global, problem: &Problem, ranges: &Ranges) -> Result<Best, Memory>
     requires { AreRanges problem.now ranges.now }
     ensures { IfOk result (λ best. IsGreatestUpTo problem.now ranges.now ROOT_STEPS
         best.prices.items best.bound) }
 {
-    price_vectors();
     let same = same_parts(alloc, problem)?;
-    let mut here = start(alloc, problem, &same, ranges, PRICED_SCALE)?;
+    match best_by_classes(alloc, problem, &same, ranges)? {
+        Some(best) => Ok(best),
+        None => best_on_each(alloc, problem, &same, ranges),
+    }
+}
+
+// The same by classes of equal resources.
+fn best_by_classes(
+    alloc: Global,
+    problem: &Problem,
+    same: &[SameParts],
+    ranges: &Ranges,
+) -> Result<Option<Best>, Memory>
+    requires same { AreSameTo problem.now (unit_count problem.now) same.now }
+    requires ranges { AreRanges problem.now ranges.now }
+    ensures { IfOk result (λ found. IfSome found (λ best. IsGreatestUpTo problem.now ranges.now
+        ROOT_STEPS best.prices.items best.bound)) }
+{
+    let firsts = equal_resources(alloc, problem, same)?;
+    let ranks = first_ranks(alloc, &firsts)?;
+    let classes = classes_by(alloc, &firsts, &ranks)?;
+    let grouped = kept_problem(alloc, problem, &ranks)?;
+    let sizes = sizes_of(alloc, &classes, grouped.resources())?;
+    let Some(mut best) = best_on_classes(alloc, &grouped, &sizes, ranges)? else {
+        return Ok(None);
+    };
+    best.prices = spread_classes(alloc, &classes, &best.prices)?;
+    Ok(Some(best))
+}
+
+// The same by each resource.
+fn best_on_each(
+    alloc: Global,
+    problem: &Problem,
+    same: &[SameParts],
+    ranges: &Ranges,
+) -> Result<Best, Memory>
+    requires same { AreSameTo problem.now (unit_count problem.now) same.now }
+    requires ranges { AreRanges problem.now ranges.now }
+    ensures { IfOk result (λ best. IsGreatestUpTo problem.now ranges.now ROOT_STEPS
+        best.prices.items best.bound) }
+{
+    price_vectors();
+    let mut here = start(alloc, problem, same, ranges, PRICED_SCALE)?;
     let mut best = first_best(alloc, &here)?;
     for step in 0..ROOT_STEPS {
         let length = step_length(step);
         let prices = move_prices(alloc, problem, &here.prices, &here.loads, length)?;
-        here = evaluate(alloc, problem, &same, ranges, prices, PRICED_SCALE)?;
+        here = evaluate(alloc, problem, same, ranges, prices, PRICED_SCALE)?;
         best = better(alloc, best, &here)?;
     }
     Ok(best)
-}
-
-// How far a step moves a price for each use above or below the limit.
-fn step_length(step: u32) -> u64
-    requires { step < ROOT_STEPS }
-    ensures { result ≡ step_length step }
-{
-    16384 >> (step / 8)
 }

@@ -34,7 +34,7 @@ impl Model for SameParts {
 }
 
 impl SameParts {
-    fn items(&self) -> &[PartOf]
+    pub(crate) fn items(&self) -> &[PartOf]
         ensures { result.now ≡ self.now }
     {
         &self.parts

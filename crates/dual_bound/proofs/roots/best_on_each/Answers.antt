@@ -2,7 +2,7 @@ use Rattle.std.proofs.Common.{◌≡◌, ◌+◌, arith}
 use Rattle.choice_problem.specs.Roots.{step_length}
 use Rattle.dual_bound.specs.Loops.{IsAfter, AreMoved}
 use Rattle.dual_bound.proofs.StepLemmas.{moved_is, IsGreatestUpTo-start}
-use Rattle.dual_bound.proofs.roots.best_prices.Goals as goal
+use Rattle.dual_bound.proofs.roots.best_on_each.Goals as goal
 
 pub loop-step-init : goal.loop-step-init
 loop-step-init c =

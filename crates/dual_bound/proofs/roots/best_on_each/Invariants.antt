@@ -1,5 +1,5 @@
 use Rattle.dual_bound.specs.Loops.{IsPoint, IsAfter, IsGreatestUpTo}
-use Rattle.dual_bound.proofs.roots.best_prices.Given as goal
+use Rattle.dual_bound.proofs.roots.best_on_each.Given as goal
 
 abbrev pub invariant-loop-step : goal.invariant-loop-step
 invariant-loop-step l = record {
