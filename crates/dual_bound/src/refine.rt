@@ -25,10 +25,11 @@ pub(crate) struct Split {
 }
 
 // How many numbers of classes there may be for each resource before the classes are numbered anew.
-const NUMBERS_A_RESOURCE: usize = 4;
+const NUMBERS_A_RESOURCE: usize = 2;
 
-// For each resource the first equal one. For each part that is not the same as an earlier one some steps a use, and some a
-// resource in all; 8 bytes a resource, and for that time at most 80 a resource beside those of one unit's uses.
+// For each resource the first equal one: some steps for each use by a part, but for those with the same strips as one of an
+// earlier unit, and some a resource. 4 bytes a resource, and for that time some 60 a resource and 16 for each class that
+// the uses of one unit make.
 pub(crate) fn equal_resources(
     alloc: Global,
     problem: &Problem,

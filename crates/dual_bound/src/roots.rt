@@ -38,11 +38,16 @@ pub fn root_vector(alloc: Global, problem: &Problem) -> Result<Vector, Memory>
 /// an alternative. It has the parts, the alternatives, and a strip of 16 bytes a run that uses one of these resources.
 /// Else the prices move on all resources, by the problem itself.
 ///
-/// Finding parts with the same strips takes two steps a strip. A subgradient step then mostly takes one step for a part with
-/// the same strips as one of an earlier unit; for any other part one a strip, and one a run of a strip of several runs
-/// that is not priced yet; one for an alternative in range; two for a run of each unit's first least alternative; and
-/// some for a resource on which prices move. The memory is some 60 bytes a resource on which prices move, 12 a resource
-/// of all, 24 a part and 50 a unit, and half a MB, or 2 MB where a strip has several runs.
+/// Of these resources, those with the same limit that each part uses equally often have the same price after each step: the
+/// prices move on such classes, by another such copy, which uses one resource of each. Finding the classes takes two steps
+/// a strip, some a use by a part, but for parts with the same strips as one of an earlier unit, and some a resource. Where
+/// the prices of all resources of a class come to 2^40 together, the prices move on each resource instead.
+///
+/// A subgradient step then mostly takes one step for a part with the same strips as one of an earlier unit; for any other
+/// part one a strip, and one a run of a strip of several runs that is not priced yet; one for an alternative in range; two
+/// for a run of each unit's first least alternative; and some for a class. The memory is at most some 150 bytes for a
+/// resource of the first copy, 12 a resource of all, 24 a part and 50 a unit, and half a MB, or 2 MB where a strip has
+/// several runs.
 pub fn node_vector(alloc: Global, problem: &Problem, ranges: &Ranges) -> Result<Vector, Memory>
     requires { AreRanges problem.now ranges.now }
     ensures node { IfOk result (λ vector. IsNodeVector problem.now ranges.now vector) }

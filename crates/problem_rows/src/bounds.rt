@@ -83,7 +83,8 @@ impl Case for JudgedCase {
 }
 
 // A window at half past six; three units that exclude each other, at the root and on both sides of a split; two units by
-// their limits; four units; a problem of nothing.
+// their limits; four units; a problem of nothing; six resources in four classes, of which two are used alike but for their
+// limits; 20,000 resources in one class, whose prices together come above 2^40.
 const VECTORS: &str = "window 1 | | root = 1 of 32768 | 30720 30 by 1
 window 210 | | root = 210 of 32768 | 6451200 6300 by 1
 three | | node = 3 of 10240 | 30720 30 by 1
@@ -94,7 +95,9 @@ two; L 0 0 | | node = 0 49152 1 32768 | 16384 16 by 1
 two; L 5 5 | | node = | 0 0 by 0
 four | | node = 0 30720 1 29696 2 26624 | 35840 35 by 1
 four | 0 1 0 2 1 3 0 3 | node = 0 30976 1 29952 2 26880 | 35584 35 by 1
-L | | node = | 0 0 by 0";
+L | | node = | 0 0 by 0
+P 0 1 4 2; A 0 0 -; A 30 - -; U; P 0 2 2 3; P 2 2 0 2; A 0 0 -; A 10 1 -; A 40 - -; U; P 0 6 0 1; A 0 0 -; A 50 - -; U; L 1 1 2 3 1 1 | | root = 0 16384 2 15360 4 16384 | 56320 55 by 1
+P 0 20000 0 400; A 5 0 -; U; M 20000 0 | | root = 20000 of 104448000 | 835584000005120 816000000005 by 1";
 
 #[test]
 fn vectors_of_small_problems(rt: HostRuntime) -> Result<(), Fail> {

@@ -13,7 +13,7 @@ use std::test::Fail;
 
 // Clauses are divided by `;`. `P` is a part: of each strip the first resource, the width, the gap and the times. `A` is an
 // alternative: its cost and the numbers of two parts. `U` ends a unit, whose parts and alternatives stand before it. `L` has
-// the limits.
+// the limits, `M` their number and one limit for all.
 
 // Three units of which each two exclude each other: each uses two of three resources with limit 1, or pays 20.
 const THREE: &str =
@@ -89,6 +89,7 @@ impl Draft {
             "P" => self.parts.push(Part::new(strips(alloc, &numbers)?))?,
             "A" => self.alts.push(alt(&numbers))?,
             "L" => self.limits = limits(alloc, &numbers)?,
+            "M" => self.limits = even_limits(alloc, &numbers)?,
             "U" => self.end_unit(alloc)?,
             "" => {}
             _ => return Err("clause".into()),
@@ -146,6 +147,12 @@ pub(crate) fn limits(alloc: Global, numbers: &[i128]) -> Result<Vec<i64>, Fail> 
     for place in 0..numbers.len() {
         limits.push(long_at(numbers, place))?;
     }
+    Ok(limits)
+}
+
+// So many limits, all the same.
+fn even_limits(alloc: Global, numbers: &[i128]) -> Result<Vec<i64>, Fail> {
+    let limits = vec![in alloc; long_at(numbers, 1); small_at(numbers, 0) as usize]?;
     Ok(limits)
 }
 
