@@ -12,7 +12,7 @@ use Rattle.choice_problem.specs.declared.vectors.Price.{Price}
 use Rattle.choice_problem.specs.Problems.{ProblemView, unit_count, resource_count, limit_of, alt_cost, alt_uses}
 use Rattle.choice_problem.specs.Bounds.{bound_of, least_total, priced, priced_cost, low_of, high_of}
 use Rattle.price_table.specs.Strips.{ArePrices, least_alt, unit_least}
-use Rattle.dual_bound.specs.Loops.{IsPoint, AreMoved, vector_in, least_alt_load}
+use Rattle.dual_bound.specs.Loops.{IsPoint, AreMoved, IsAfter, vector_in, least_alt_load}
 use Rattle.dual_bound.specs.Classes.{AreGrouped, AreWeighted, by_classes}
 use Rattle.dual_bound.proofs.StepLemmas.{priced-vector_of}
 
@@ -76,6 +76,13 @@ module _ (p k : ProblemView) (classes sizes : List ℕ) (h : AreGrouped p k clas
   ArePrices-by numbers a = record {
     count = count-by numbers;
     small = λ r l. omega (arith, at-by numbers r l, a.small (slice_index classes r) (h.there r l));
+  }
+
+  pub IsAfter-free : (ranges : List (ℕ × ℕ)) (numbers : List ℕ) → ((c : ℕ) → c < resource_count k → slice_index numbers c ≡ 0) →
+      IsAfter p ranges 0 (by_classes classes numbers)
+  IsAfter-free ranges numbers free = record {
+    prices_are = λ r l. at-by numbers r l ∙ free (slice_index classes r) (h.there r l);
+    top = λ r l. omega (arith, at-by numbers r l, free (slice_index classes r) (h.there r l));
   }
 
   -- a step moves the prices of resources as it moves those of their classes
