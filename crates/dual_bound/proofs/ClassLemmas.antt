@@ -1,5 +1,5 @@
 -- Subgradient runs on classes of equal resources are those on all resources.
-use Rattle.std.proofs.Common.{◌≡◌, ℕ, zero, suc, ◌+◌, ◌-◌, ◌*◌, ◌<◌, ◌≤◌, refl, sym, ◌∙◌, ap, arith, List, length, pos, inl, inr, Bool}
+use Rattle.std.proofs.Common.{◌≡◌, ℕ, zero, suc, ◌+◌, ◌*◌, ◌<◌, ◌≤◌, refl, sym, ◌∙◌, ap, arith, List, length, pos, inl, inr, Bool}
 use Rattle.std.specs.Prelude.{slice_index, ℤ, ◌-ℤ◌, nat_eq, if◌then◌else◌}
 use Rattle.std.proofs.lemmas.Grind.{common_steps}
 use Rattle.std.proofs.Math.Path.{fun_ext}
@@ -109,14 +109,14 @@ module _ (p k : ProblemView) (classes sizes : List ℕ) (h : AreGrouped p k clas
         priced-vector_of count (λ c. slice_index weighted c) others
         ∙ sum_below-same count (λ c. slice_index weighted c * others c) (λ c. count_below n (λ r. nat_eq (slice_index classes r) c) * f c)
         (λ c l.
-            ap (λ v. v * others c) (w.each c (omega (arith, l, a.count)))
-            ∙ mul_assoc (slice_index sizes c) (slice_index prices c) (others c)
-            ∙ ap (λ v. v * f c) (h.sizes_are c l))
+        ap (λ v. v * others c) (w.each c (omega (arith, l, a.count)))
+        ∙ mul_assoc (slice_index sizes c) (slice_index prices c) (others c)
+        ∙ ap (λ v. v * f c) (h.sizes_are c l))
         ∙ sym (sum-counted n count (λ r. slice_index classes r) f (λ r l. h.there r l))
         ∙ sum_below-same n (λ r. f (slice_index classes r)) (λ r. slice_index (by_classes classes prices) r * uses r)
         (λ r l.
-            ap (λ v. v * others (slice_index classes r)) (sym (at-by prices r l))
-            ∙ ap (λ v. slice_index (by_classes classes prices) r * v) (e r l))
+        ap (λ v. v * others (slice_index classes r)) (sym (at-by prices r l))
+        ∙ ap (λ v. slice_index (by_classes classes prices) r * v) (e r l))
         ∙ sym (priced-vector_of n (λ r. slice_index (by_classes classes prices) r) uses)
 
     same_cost : (u b : ℕ) → priced_cost k grouped 1024 u b ≡ priced_cost p spread 1024 u b
