@@ -26,13 +26,13 @@ loop-step-preserved c =
     let step = c.loop-step.step in
     let before = c.loop-step.here in
     let moved : AreMoved p before.prices.items before.loads.items (step_length step) c.in_ok-prices.prices.items =
-    rw (c.deref-in-loop-step.ensures.value, c.deref-in-loop-step-2.ensures.value, c.step_length-length.ensures) at c.in_ok-prices.ensures.moved in
+    rw (c.deref.ensures.value, c.deref-in-loop-step.ensures.value, c.step_length-length.ensures) at c.in_ok-prices.ensures.moved in
     let after : IsAfter p ranges (step + 1) c.in_ok-here-2.here.prices.items =
     rw c.in_ok-here-2.ensures.same (moved_is p ranges step before.prices.items before.loads.items c.in_ok-prices.prices.items before.bound c.loop-step-test.true (c.price_vectors.ensures.steps (step + 1) (omega (arith, c.loop-step-test.true))) c.loop-step.invariant.here moved c.loop-step.invariant.after) in
     record {
       here = c.in_ok-here-2.ensures.point;
       after = after;
-      best = c.in_ok-best-2.ensures.greatest p ranges step c.in_ok-here-2.ensures.point after c.loop-step.invariant.best;
+      best = c.in_ok-best-2.ensures.greatest p ranges step (λ numbers. numbers) c.in_ok-here-2.ensures.point after c.loop-step.invariant.best;
     }
 
 pub returns : goal.returns
