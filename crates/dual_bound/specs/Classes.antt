@@ -55,19 +55,19 @@ IsMade class part other old new =
 abbrev pub part_order : ℕ → ℕ → ℕ
 part_order u k = u * 2 ^ 32 + k + 1
 
--- for each resource one of its class, itself for just one of them
+-- for each resource the first one of its class
 pub record AreFirstsIn (classes firsts : List ℕ) : Type 0 where
   pub count : length firsts ≡ length classes
-  pub there : (r : ℕ) → r < length classes → slice_index firsts r < length classes
+  pub low : (r : ℕ) → r < length classes → slice_index firsts r ≤ r
   pub same : (r : ℕ) → r < length classes →
       slice_index classes (slice_index firsts r) ≡ slice_index classes r
   pub one : (r : ℕ) → r < length classes →
       slice_index firsts (slice_index firsts r) ≡ slice_index firsts r
 
--- for each resource of the problem an equal one, itself for some
+-- for each resource of the problem the first one that is equal to it, as far as was found
 pub record AreFirsts (p : ProblemView) (firsts : List ℕ) : Type 0 where
   pub count : length firsts ≡ resource_count p
-  pub there : (r : ℕ) → r < resource_count p → slice_index firsts r < resource_count p
+  pub low : (r : ℕ) → r < resource_count p → slice_index firsts r ≤ r
   pub one : (r : ℕ) → r < resource_count p →
       slice_index firsts (slice_index firsts r) ≡ slice_index firsts r
   pub limits : (r : ℕ) → r < resource_count p → limit_of p (slice_index firsts r) ≡ limit_of p r
@@ -101,3 +101,19 @@ pub record AreWeighted (numbers sizes weighted : List ℕ) : Type 0 where
   pub each : (c : ℕ) → c < length numbers →
       slice_index weighted c ≡ slice_index sizes c * slice_index numbers c
   pub small : (c : ℕ) → c < length numbers → slice_index weighted c < 2 ^ 40
+
+-- where a resource stands in a list
+pub record IsListedIn (list : List ℕ) (r : ℕ) : Type 0 where
+  pub place : ℕ
+  pub there : place < length list
+  pub is : slice_index list place ≡ r
+
+-- those of the first n of a list of resources by rising number that are their own first ones
+pub record AreFirstOnes (firsts list : List ℕ) (n : ℕ) (ones : List ℕ) : Type 0 where
+  pub rising : ((i j : ℕ) → i < j → j < length list → slice_index list i < slice_index list j) →
+      (i j : ℕ) → i < j → j < length ones → slice_index ones i < slice_index ones j
+  pub place : ℕ → ℕ
+  pub from : (i : ℕ) → i < length ones → place i < n
+  pub is : (i : ℕ) → i < length ones → slice_index ones i ≡ slice_index list (place i)
+  pub all : (i : ℕ) → i < n → slice_index firsts (slice_index list i) ≡ slice_index list i →
+      IsListedIn ones (slice_index list i)

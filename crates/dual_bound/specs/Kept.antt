@@ -1,5 +1,5 @@
 -- Problems on some of the resources of another one: those that its units can pass.
-use Rattle.std.specs.Prelude.{◌≡◌, ℕ, ◌+◌, ◌<◌, ◌≤◌, ◌^◌, ◌-◌, min, List, length, slice_index, slice_index_or, nat_lt, if◌then◌else◌, Bool, true, false, Option, Some}
+use Rattle.std.specs.Prelude.{◌≡◌, ℕ, ◌+◌, ◌<◌, ◌≤◌, ◌^◌, ◌-◌, ◌⊎◌, min, List, length, slice_index, slice_index_or, nat_lt, if◌then◌else◌, Bool, true, false, Option, Some}
 use Rattle.choice_problem.specs.declared.strips.Strip.{Strip}
 use Rattle.choice_problem.specs.declared.problems.Alt.{Alt}
 use Rattle.finite_sums.specs.Sums.{sum_below}
@@ -33,12 +33,21 @@ pub record KeepPassed (p : ProblemView) (ranks : List ℕ) : Type 0 where
   pub rest : (r : ℕ) → r < resource_count p → slice_index ranks (r + 1) ≤ slice_index ranks r →
       IsNeverPassed p r
 
--- resources of the problem by rising number, beside which no resource can be passed
+-- a lower resource is listed that has the same limit and that each alternative uses equally often
+pub record HasListedEqual (p : ProblemView) (list : List ℕ) (r : ℕ) : Type 0 where
+  pub place : ℕ
+  pub there : place < length list
+  pub lower : slice_index list place < r
+  pub limit : limit_of p (slice_index list place) ≡ limit_of p r
+  pub uses : (u a : ℕ) → alt_uses p u a (slice_index list place) ≡ alt_uses p u a r
+
+-- resources of the problem by rising number; each other one cannot be passed, or has a lower equal one among them
 pub record ListPassable (p : ProblemView) (list : List ℕ) : Type 0 where
   pub rising : (i j : ℕ) → i < j → j < length list → slice_index list i < slice_index list j
   pub there : (i : ℕ) → i < length list → slice_index list i < resource_count p
   pub rest : (r : ℕ) → r < resource_count p →
-      ((i : ℕ) → i < length list → slice_index list i ≡ r → ⊥) → IsNeverPassed p r
+      ((i : ℕ) → i < length list → slice_index list i ≡ r → ⊥) →
+      IsNeverPassed p r ⊎ HasListedEqual p list r
 
 -- of the first n resources those whose counts are above their limits
 pub record AreAbove (p : ProblemView) (counts : List ℕ) (n : ℕ) (list : List ℕ) : Type 0 where
