@@ -1,6 +1,6 @@
 //! The problem on classes of equal resources: each class is one resource of it, which stands for as many as the class has.
 
-ghost use Rattle.std.specs.Prelude.{◌≡◌, ℕ, ◌<◌, ◌≤◌, IfOk, IfSome, List, length, slice_index, nat_eq};
+ghost use Rattle.std.specs.Prelude.{◌≡◌, ℕ, ◌+◌, ◌<◌, ◌≤◌, IfOk, IfSome, List, length, slice_index, nat_eq};
 ghost use Rattle.choice_problem.specs.declared.closing.TheConstants.{PRICED_SCALE};
 ghost use Rattle.choice_problem.specs.declared.vectors.TheConstants.{ROOT_STEPS};
 ghost use Rattle.choice_problem.specs.declared.problems.TheConstants.{MOST_RESOURCES};
