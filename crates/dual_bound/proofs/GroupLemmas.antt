@@ -8,7 +8,6 @@ use Rattle.choice_problem.specs.declared.strips.Strip.{Strip}
 use Rattle.finite_sums.specs.Sums.{count_below}
 use Rattle.choice_problem.specs.Strips.{part_uses}
 use Rattle.choice_problem.specs.Problems.{ProblemView, ChooserView, chooser_at, alt_at, named_uses, chooser_uses, unit_count, part_count, resource_count, limit_of, alt_uses}
-use Rattle.choice_problem.specs.Bounds.{AreRanges}
 use Rattle.dual_bound.specs.Kept.{AreRanks, IsKept, IsOnKept, kept_count}
 use Rattle.dual_bound.specs.Classes.{AreFirsts, AreGrouped}
 use Rattle.dual_bound.proofs.RankLemmas.{rank-le}
@@ -34,14 +33,6 @@ uses-first p firsts u a r f m = elim (cases_lt u (unit_count p)) [
       let none = get_or_past p.units u (record { parts = []; alts = [] }) past in
       ap (λ (c : ChooserView). chooser_uses c a (slice_index firsts r)) none ∙ sym (ap (λ (c : ChooserView). chooser_uses c a r) none)
 ]
-
--- the ranges of a problem are those of the problem on its kept resources
-pub AreRanges-kept : (p k : ProblemView) (ranks : List ℕ) (ranges : List (ℕ × ℕ)) → IsOnKept p ranks k → AreRanges p ranges → AreRanges k ranges
-AreRanges-kept p k ranks ranges o a = record {
-  count = a.count ∙ sym o.units;
-  ordered = λ u l. a.ordered u (omega (arith, l, o.units));
-  there = λ u l. rw (same_alts p k ranks o u) (a.there u (omega (arith, l, o.units)));
-}
 
 -- equal resources, and ranks at which the first of each class is kept
 module _ (p k : ProblemView) (firsts ranks classes : List ℕ) (f : AreFirsts p firsts) (h : AreRanks (resource_count p) ranks)
