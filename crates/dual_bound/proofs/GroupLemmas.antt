@@ -1,5 +1,5 @@
 -- The problem on the first resources of classes of equal ones has the classes as its resources.
-use Rattle.std.proofs.Common.{◌≡◌, ℕ, ◌+◌, ◌<◌, ◌≤◌, refl, sym, ◌∙◌, ap, arith, List, [], length, inl, inr, Option, Some, None}
+use Rattle.std.proofs.Common.{◌≡◌, ℕ, ◌+◌, ◌<◌, refl, sym, ◌∙◌, ap, arith, List, [], length, inl, inr, Option, Some, None}
 use Rattle.std.specs.Prelude.{slice_index, nat_eq}
 use Rattle.std.proofs.lemmas.Bool.{cases_lt}
 use Rattle.std.proofs.lemmas.List.{get_or_past}
@@ -8,7 +8,7 @@ use Rattle.choice_problem.specs.declared.strips.Strip.{Strip}
 use Rattle.finite_sums.specs.Sums.{count_below}
 use Rattle.choice_problem.specs.Strips.{part_uses}
 use Rattle.choice_problem.specs.Problems.{ProblemView, ChooserView, chooser_at, alt_at, named_uses, chooser_uses, unit_count, part_count, resource_count, limit_of, alt_uses}
-use Rattle.dual_bound.specs.Kept.{AreRanks, IsKept, IsOnKept, kept_count}
+use Rattle.dual_bound.specs.Kept.{AreRanks, IsKept, IsOnKept}
 use Rattle.dual_bound.specs.Classes.{AreFirsts, AreGrouped}
 use Rattle.dual_bound.proofs.RankLemmas.{rank-le}
 use Rattle.dual_bound.proofs.KeptLemmas.{same_alts, same_cost, same_uses}

@@ -1,9 +1,8 @@
-use Rattle.std.proofs.Common.{◌≡◌, ℕ, ◌<◌, ◌∙◌, ap, sym, subst, arith, List, length}
+use Rattle.std.proofs.Common.{◌≡◌, ℕ, ◌<◌, ◌∙◌, arith, length}
 use Rattle.std.specs.Prelude.{slice_index}
 use Rattle.choice_problem.specs.Problems.{resource_count}
 use Rattle.dual_bound.specs.Kept.{IsKept, IsOnKept}
 use Rattle.dual_bound.specs.Classes.{AreFirsts, AreGrouped, by_classes}
-use Rattle.dual_bound.specs.Loops.{IsGreatestUpTo}
 use Rattle.dual_bound.proofs.GroupLemmas.{AreGrouped-is, class-there}
 use Rattle.dual_bound.proofs.roots.best_by_classes.Goals as goal
 
