@@ -60,11 +60,11 @@ price_in-rest ranks prices r b = none (slice_index ranks r) (slice_index ranks (
     none a b' v l = grind (arith, common_steps)
 
 -- a problem p, and the problem k on its kept resources
-module _ (p k : ProblemView) (ranks : List ℕ) (h : KeepPassed p ranks) (o : IsOnKept p ranks k) where
+module _ (p k : ProblemView) (ranks : List ℕ) (o : IsOnKept p ranks k) where
   abbrev no_chooser : ChooserView
   no_chooser = record { parts = []; alts = [] }
 
-  same_alts : (u : ℕ) → (chooser_at k u).alts ≡ (chooser_at p u).alts
+  pub same_alts : (u : ℕ) → (chooser_at k u).alts ≡ (chooser_at p u).alts
   same_alts u = elim (cases_lt u (unit_count p)) [
     | inl l ↦ (o.each u l).alts
     | inr past ↦
@@ -72,7 +72,7 @@ module _ (p k : ProblemView) (ranks : List ℕ) (h : KeepPassed p ranks) (o : Is
         ∙ sym (ap (λ (m : ChooserView). m.alts) (get_or_past p.units u no_chooser past))
   ]
 
-  same_cost : (u a : ℕ) → alt_cost k u a ≡ alt_cost p u a
+  pub same_cost : (u a : ℕ) → alt_cost k u a ≡ alt_cost p u a
   same_cost u a = ap (λ (alts : List Alt). (alt_at (record { parts = []; alts = alts }) a).cost) (same_alts u)
 
   same_named : (u : ℕ) (named : Option ℕ) (r : ℕ) → u < unit_count p → r < resource_count p → IsKept ranks r →
@@ -85,7 +85,7 @@ module _ (p k : ProblemView) (ranks : List ℕ) (h : KeepPassed p ranks) (o : Is
         ∙ sym (ap (λ (strips : List Strip). part_uses strips r) (get_or_past (chooser_at p u).parts n [] past))
   ]
 
-  same_uses : (u a r : ℕ) → r < resource_count p → IsKept ranks r → alt_uses k u a (slice_index ranks r) ≡ alt_uses p u a r
+  pub same_uses : (u a r : ℕ) → r < resource_count p → IsKept ranks r → alt_uses k u a (slice_index ranks r) ≡ alt_uses p u a r
   same_uses u a r m b = elim (cases_lt u (unit_count p)) [
     | inl l ↦
         ap (λ (alts : List Alt). named_uses (chooser_at k u) (alt_at (record { parts = []; alts = alts }) a).one (slice_index ranks r) + named_uses (chooser_at k u) (alt_at (record { parts = []; alts = alts }) a).two (slice_index ranks r)) (same_alts u)
@@ -96,6 +96,8 @@ module _ (p k : ProblemView) (ranks : List ℕ) (h : KeepPassed p ranks) (o : Is
         ∙ sym (ap (λ (m : ChooserView). chooser_uses m a r) (get_or_past p.units u no_chooser past))
   ]
 
+-- the same, where no resource that is not kept can be passed
+module _ (p k : ProblemView) (ranks : List ℕ) (h : KeepPassed p ranks) (o : IsOnKept p ranks k) where
   -- uses at prices that are 0 off the kept resources
   same_priced : (f g uses others : ℕ → ℕ) → Spreads (resource_count p) ranks f g →
       ((r : ℕ) → r < resource_count p → IsKept ranks r → uses r ≡ others (slice_index ranks r)) →
@@ -114,8 +116,8 @@ module _ (p k : ProblemView) (ranks : List ℕ) (h : KeepPassed p ranks) (o : Is
   same_priced_cost : (f g : ℕ → ℕ) (u a : ℕ) → Spreads (resource_count p) ranks f g →
       priced_cost p (vector_of (resource_count p) f) 1024 u a ≡ priced_cost k (vector_of (resource_count k) g) 1024 u a
   same_priced_cost f g u a s =
-      ap (λ v. 1024 * v + priced (vector_of (resource_count p) f) (λ r. alt_uses p u a r)) (sym (same_cost u a))
-      ∙ ap (λ v. 1024 * alt_cost k u a + v) (same_priced f g (λ r. alt_uses p u a r) (λ j. alt_uses k u a j) s (λ r l b. sym (same_uses u a r l b)))
+      ap (λ v. 1024 * v + priced (vector_of (resource_count p) f) (λ r. alt_uses p u a r)) (sym (same_cost p k ranks o u a))
+      ∙ ap (λ v. 1024 * alt_cost k u a + v) (same_priced f g (λ r. alt_uses p u a r) (λ j. alt_uses k u a j) s (λ r l b. sym (same_uses p k ranks o u a r l b)))
 
   same_priced_alt : (ranges : List (ℕ × ℕ)) (f g : ℕ → ℕ) (u : ℕ) → Spreads (resource_count p) ranks f g → priced_alt p ranges f u ≡ priced_alt k ranges g u
   same_priced_alt ranges f g u s =
@@ -126,7 +128,7 @@ module _ (p k : ProblemView) (ranks : List ℕ) (h : KeepPassed p ranks) (o : Is
       priced_load p ranges f r ≡ priced_load k ranges g (slice_index ranks r)
   same_load ranges f g r s l b =
       sum_below-same (unit_count p) (λ u. alt_uses p u (priced_alt p ranges f u) r) (λ u. alt_uses k u (priced_alt k ranges g u) (slice_index ranks r))
-      (λ u m. ap (λ a. alt_uses p u a r) (same_priced_alt ranges f g u s) ∙ sym (same_uses u (priced_alt k ranges g u) r l b))
+      (λ u m. ap (λ a. alt_uses p u a r) (same_priced_alt ranges f g u s) ∙ sym (same_uses p k ranks o u (priced_alt k ranges g u) r l b))
       ∙ ap (λ n. sum_below n (λ u. alt_uses k u (priced_alt k ranges g u) (slice_index ranks r))) (sym o.units)
 
   low_load : (ranges : List (ℕ × ℕ)) (f : ℕ → ℕ) (r : ℕ) → AreRanges p ranges → r < resource_count p → slice_index ranks (r + 1) ≤ slice_index ranks r →

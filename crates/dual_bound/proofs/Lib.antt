@@ -2,6 +2,7 @@ mod StepLemmas
 mod FloorLemmas
 mod RankLemmas
 mod KeptLemmas
+mod GroupLemmas
 mod CountLemmas
 mod PassableLemmas
 mod EndLemmas

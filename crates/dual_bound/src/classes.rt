@@ -1,6 +1,6 @@
 //! The problem on classes of equal resources: each class is one resource of it, which stands for as many as the class has.
 
-ghost use Rattle.std.specs.Prelude.{◌≡◌, ℕ, ◌<◌, ◌≤◌, IfOk, IfSome, List, length, slice_index, nat_eq};
+ghost use Rattle.std.specs.Prelude.{◌≡◌, ℕ, ◌+◌, ◌<◌, ◌≤◌, IfOk, IfSome, List, length, slice_index, nat_eq};
 ghost use Rattle.choice_problem.specs.declared.closing.TheConstants.{PRICED_SCALE};
 ghost use Rattle.choice_problem.specs.declared.vectors.TheConstants.{ROOT_STEPS};
 ghost use Rattle.choice_problem.specs.declared.problems.TheConstants.{MOST_RESOURCES};
@@ -20,29 +20,34 @@ use slot_text::Memory;
 use std::alloc::Global;
 
 // For each resource, and for the end, how many lower ones are the first of their class.
-pub(crate) fn first_ranks(alloc: Global, firsts: &[u32]) -> Result<Vec<u32>, Memory>
-    requires { length firsts.now ≤ MOST_RESOURCES }
-    ensures ranks { IfOk result (λ ranks. AreRanks (length firsts.now) ranks.items) }
-    ensures kept { IfOk result (λ ranks. (r : ℕ) → r < length firsts.now →
+pub(crate) fn first_ranks(
+    alloc: Global,
+    problem: &Problem,
+    firsts: &[u32],
+) -> Result<Vec<u32>, Memory>
+    requires { length firsts.now ≡ resource_count problem.now }
+    ensures ranks { IfOk result (λ ranks. AreRanks (resource_count problem.now) ranks.items) }
+    ensures kept { IfOk result (λ ranks. (r : ℕ) → r < resource_count problem.now →
         slice_index firsts.now r ≡ r → IsKept ranks.items r) }
+    ensures few { IfOk result (λ _. resource_count problem.now ≤ MOST_RESOURCES) }
 {
     let mut ranks = Vec::with_capacity(alloc, firsts.len() + 1)?;
     let mut rank = 0;
     ranks.push(rank)?;
-    for at in 0..firsts.len() {
-        rank = rank_after(rank, firsts[at], at);
+    for resource in 0..problem.resources() {
+        rank = rank_after(rank, firsts[resource as usize], resource);
         ranks.push(rank)?;
     }
     Ok(ranks)
 }
 
-fn rank_after(rank: u32, first: u32, at: usize) -> u32
+fn rank_after(rank: u32, first: u32, resource: u32) -> u32
     requires { rank ≤ MOST_RESOURCES }
     ensures from { rank ≤ result }
     ensures to { result ≤ rank + 1 }
-    ensures kept { first ≡ at → result ≡ rank + 1 }
+    ensures kept { first ≡ resource → result ≡ rank + 1 }
 {
-    if first as usize == at { rank + 1 } else { rank }
+    if first == resource { rank + 1 } else { rank }
 }
 
 // The class of each resource.

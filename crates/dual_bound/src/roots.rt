@@ -123,7 +123,7 @@ fn best_by_classes(
         ROOT_STEPS best.prices.items best.bound)) }
 {
     let firsts = equal_resources(alloc, problem, same)?;
-    let ranks = first_ranks(alloc, &firsts)?;
+    let ranks = first_ranks(alloc, problem, &firsts)?;
     let classes = classes_by(alloc, &firsts, &ranks)?;
     let grouped = kept_problem(alloc, problem, &ranks)?;
     let sizes = sizes_of(alloc, &classes, grouped.resources())?;
