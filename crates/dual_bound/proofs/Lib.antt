@@ -6,3 +6,4 @@ mod CountLemmas
 mod PassableLemmas
 mod EndLemmas
 mod CoverLemmas
+mod RefineLemmas

@@ -9,7 +9,7 @@ ghost use Rattle.choice_problem.specs.Strips.{strip_uses, part_uses, IsStripInRa
 ghost use Rattle.choice_problem.specs.Loops.{run_uses};
 ghost use Rattle.choice_problem.specs.Problems.{unit_count, part_count, resource_count, chooser_at, part_at, limit_of};
 ghost use Rattle.dual_bound.specs.Same.{AreSameTo, AreSameParts, strips_at};
-ghost use Rattle.dual_bound.specs.Classes.{IsByClass, IsUnitByClass, AreClasses, AreSplit, IsBySplit, IsMade, AreFirstsIn, AreFirsts, part_order};
+ghost use Rattle.dual_bound.specs.Classes.{IsByClass, IsUnitByClass, AreClasses, AreSplit, AreSplitBy, IsMade, AreFirstsIn, AreFirsts, part_order};
 
 use crate::same::{PartOf, SameParts};
 use choice_problem::{Problem, Strip};
@@ -137,15 +137,8 @@ fn split_by_strips(
 ) -> Result<(), Memory>
     requires within { IsPartInRange (length classes.old) strips.now }
     requires split { AreSplit part (length classes.old) classes.old splits.old.items }
-    ensures split { IfOk result (λ _. AreSplit part (length classes.old) classes.new splits.new.items) }
-    ensures more { IfOk result (λ _. length splits.old.items ≤ length splits.new.items) }
-    ensures kept { IfOk result (λ _. (f : ℕ → ℕ) →
-        IsBySplit part 0 (length classes.old) classes.old splits.old.items f →
-        IsBySplit part 0 (length classes.old) classes.new splits.new.items f) }
-    ensures used { IfOk result (λ _. (f : ℕ → ℕ) →
-        IsBySplit part 1 (length classes.old) classes.old splits.old.items f →
-        IsBySplit part 1 (length classes.old) classes.new splits.new.items
-        (λ r. f r + part_uses strips.now r)) }
+    ensures { IfOk result (λ _. AreSplitBy part (length classes.old)
+        classes.old splits.old.items classes.new splits.new.items (λ r. part_uses strips.now r)) }
 {
     for strip in strips {
         split_by_strip(strip, part, classes, splits)?;
@@ -162,15 +155,8 @@ fn split_by_strip(
 ) -> Result<(), Memory>
     requires within { IsStripInRange (length classes.old) strip.now }
     requires split { AreSplit part (length classes.old) classes.old splits.old.items }
-    ensures split { IfOk result (λ _. AreSplit part (length classes.old) classes.new splits.new.items) }
-    ensures more { IfOk result (λ _. length splits.old.items ≤ length splits.new.items) }
-    ensures kept { IfOk result (λ _. (f : ℕ → ℕ) →
-        IsBySplit part 0 (length classes.old) classes.old splits.old.items f →
-        IsBySplit part 0 (length classes.old) classes.new splits.new.items f) }
-    ensures used { IfOk result (λ _. (f : ℕ → ℕ) →
-        IsBySplit part 1 (length classes.old) classes.old splits.old.items f →
-        IsBySplit part 1 (length classes.old) classes.new splits.new.items
-        (λ r. f r + strip_uses strip.now r)) }
+    ensures { IfOk result (λ _. AreSplitBy part (length classes.old)
+        classes.old splits.old.items classes.new splits.new.items (λ r. strip_uses strip.now r)) }
 {
     for run in 0..strip.times {
         let (start, end) = strip.run(run);
@@ -190,15 +176,8 @@ fn split_by_run(
     requires ordered { start ≤ end }
     requires within { end ≤ length classes.old }
     requires split { AreSplit part (length classes.old) classes.old splits.old.items }
-    ensures split { IfOk result (λ _. AreSplit part (length classes.old) classes.new splits.new.items) }
-    ensures more { IfOk result (λ _. length splits.old.items ≤ length splits.new.items) }
-    ensures kept { IfOk result (λ _. (f : ℕ → ℕ) →
-        IsBySplit part 0 (length classes.old) classes.old splits.old.items f →
-        IsBySplit part 0 (length classes.old) classes.new splits.new.items f) }
-    ensures used { IfOk result (λ _. (f : ℕ → ℕ) →
-        IsBySplit part 1 (length classes.old) classes.old splits.old.items f →
-        IsBySplit part 1 (length classes.old) classes.new splits.new.items
-        (λ r. f r + run_uses start end r)) }
+    ensures { IfOk result (λ _. AreSplitBy part (length classes.old)
+        classes.old splits.old.items classes.new splits.new.items (λ r. run_uses start end r)) }
 {
     for at in start..end {
         classes[at] = used_once_more(classes[at], part, splits)?;
@@ -208,9 +187,8 @@ fn split_by_run(
 
 // The class of those resources of a class that a part uses once more; a new one with the first of them.
 fn used_once_more(class: u32, part: u64, splits: &mut Vec<Split>) -> Result<u32, Memory>
-    requires there { class < length splits.old.items }
-    ensures there { IfOk result (λ other. other < length splits.new.items) }
-    ensures made { IfOk result (λ other. IsMade class part other splits.old.items splits.new.items) }
+    requires { class < length splits.old.items }
+    ensures { IfOk result (λ other. IsMade class part other splits.old.items splits.new.items) }
 {
     let split = splits[class as usize];
     if split.part == part {
