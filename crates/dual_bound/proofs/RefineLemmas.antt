@@ -197,3 +197,38 @@ AreSplitBy-run part n start class other at classes splits classes' old new from 
     grown : IsMade class part other old new → length old ≤ length new
     grown (inl a) = rw a.2 (omega arith)
     grown (inr a) = rw a.2 (omega (arith, length-new old class part other))
+
+-- classes that a part is to split
+pub AreSplit-classes : (next n : ℕ) (classes : List ℕ) (splits : List Split) → 0 < next → AreClasses next n classes splits → AreSplit next n classes splits
+AreSplit-classes next n classes splits some h = record {
+  some = some;
+  count = h.count;
+  there = h.there;
+  past = λ c l. omega (arith, h.past c l);
+  to = λ c l e. absurd (omega (arith, h.past c l, e));
+}
+
+-- classes that a part has split
+pub AreClasses-split : (part n : ℕ) (classes : List ℕ) (splits : List Split) → AreSplit part n classes splits → AreClasses (part + 1) n classes splits
+AreClasses-split part n classes splits h = record { count = h.count; there = h.there; past = λ c l. omega (arith, h.past c l) }
+
+pub AreClasses-later : (next after n : ℕ) (classes : List ℕ) (splits : List Split) → next ≤ after → AreClasses next n classes splits → AreClasses after n classes splits
+AreClasses-later next after n classes splits later h = record { count = h.count; there = h.there; past = λ c l. omega (arith, h.past c l, later) }
+
+IsBySplit-class : (next more n : ℕ) (classes : List ℕ) (splits : List Split) (f : ℕ → ℕ) → AreClasses next n classes splits → IsByClass n classes f →
+    IsBySplit next more n classes splits f
+IsBySplit-class next more n classes splits f h b = record { by_class = b.by_class; each = b.each; made = λ c l e. absurd (omega (arith, h.past c l, e)) }
+
+-- what all resources of a class shared before a part split them, they share still
+pub IsByClass-kept : (next n : ℕ) (classes : List ℕ) (splits : List Split) (classes' : List ℕ) (splits' : List Split) (uses f : ℕ → ℕ) → AreClasses next n classes splits →
+    AreSplitBy next n classes splits classes' splits' uses → IsByClass n classes f → IsByClass n classes' f
+IsByClass-kept next n classes splits classes' splits' uses f h s b =
+    let k = s.shared 0 f (IsBySplit-class next 0 n classes splits f h b) in
+    record { by_class = k.by_class; each = λ r l. omega (arith, k.each r l) }
+
+-- all resources of a class share the uses of a part that has split them
+pub IsByClass-used : (next n : ℕ) (classes : List ℕ) (splits : List Split) (classes' : List ℕ) (splits' : List Split) (uses : ℕ → ℕ) → AreClasses next n classes splits →
+    AreSplitBy next n classes splits classes' splits' uses → IsByClass n classes' uses
+IsByClass-used next n classes splits classes' splits' uses h s =
+    let k = s.shared 1 (λ _. 0) (IsBySplit-class next 1 n classes splits (λ _. 0) h (record { by_class = λ _. 0; each = λ r l. refl })) in
+    record { by_class = k.by_class; each = λ r l. omega (arith, k.each r l) }

@@ -4,7 +4,7 @@
 //! (partition refinement: Paige and Tarjan 1987, "Three partition refinement algorithms", SIAM Journal on Computing 16).
 
 ghost use Rattle.std.specs.Prelude.{◌≡◌, ℕ, ◌+◌, ◌*◌, ◌^◌, ◌<◌, ◌≤◌, IfOk, length, slice_index};
-ghost use Rattle.choice_problem.specs.declared.problems.TheConstants.{MOST_RESOURCES};
+ghost use Rattle.choice_problem.specs.declared.problems.TheConstants.{MOST_UNITS, MOST_RESOURCES};
 ghost use Rattle.choice_problem.specs.Strips.{strip_uses, part_uses, IsStripInRange, IsPartInRange};
 ghost use Rattle.choice_problem.specs.Loops.{run_uses};
 ghost use Rattle.choice_problem.specs.Problems.{unit_count, part_count, resource_count, chooser_at, part_at, limit_of};
@@ -75,10 +75,13 @@ fn split_by_unit(
     splits: &mut Vec<Split>,
 ) -> Result<(), Memory>
     requires unit { unit < unit_count problem.now }
+    requires few { unit < MOST_UNITS }
     requires same { AreSameParts problem.now unit same.now }
-    requires classes { AreClasses (part_order unit 0) (resource_count problem.now) classes.old splits.old.items }
+    requires classes { AreClasses (part_order unit 0) (resource_count problem.now)
+        classes.old splits.old.items }
     requires earlier { (v : ℕ) → v < unit → IsUnitByClass problem.now v classes.old }
-    ensures classes { IfOk result (λ _. AreClasses (part_order (unit + 1) 0) (resource_count problem.now) classes.new splits.new.items) }
+    ensures classes { IfOk result (λ _. AreClasses (part_order (unit + 1) 0)
+        (resource_count problem.now) classes.new splits.new.items) }
     ensures more { IfOk result (λ _. length splits.old.items ≤ length splits.new.items) }
     ensures kept { IfOk result (λ _. (f : ℕ → ℕ) →
         IsByClass (resource_count problem.now) classes.old f →
@@ -101,11 +104,14 @@ fn split_by_part(
     splits: &mut Vec<Split>,
 ) -> Result<(), Memory>
     requires unit { part.unit < unit_count problem.now }
+    requires few { part.unit < MOST_UNITS }
     requires number { part.number < part_count problem.now part.unit }
     requires same { strips_at problem.now other ≡ strips_at problem.now part }
-    requires classes { AreClasses (part_order part.unit part.number) (resource_count problem.now) classes.old splits.old.items }
+    requires classes { AreClasses (part_order part.unit part.number) (resource_count problem.now)
+        classes.old splits.old.items }
     requires earlier { (v : ℕ) → v < part.unit → IsUnitByClass problem.now v classes.old }
-    ensures classes { IfOk result (λ _. AreClasses (part_order part.unit part.number + 1) (resource_count problem.now) classes.new splits.new.items) }
+    ensures classes { IfOk result (λ _. AreClasses (part_order part.unit (part.number + 1))
+        (resource_count problem.now) classes.new splits.new.items) }
     ensures more { IfOk result (λ _. length splits.old.items ≤ length splits.new.items) }
     ensures kept { IfOk result (λ _. (f : ℕ → ℕ) →
         IsByClass (resource_count problem.now) classes.old f →
@@ -123,6 +129,7 @@ fn split_by_part(
 
 // The number of a part, above those of the parts before it.
 fn part_order(part: PartOf) -> u64
+    requires { part.unit < MOST_UNITS }
     ensures { result ≡ part_order part.unit part.number }
 {
     (u64::from(part.unit) << 32) + u64::from(part.number) + 1
