@@ -232,3 +232,4 @@ pub IsByClass-used : (next n : ℕ) (classes : List ℕ) (splits : List Split) (
 IsByClass-used next n classes splits classes' splits' uses h s =
     let k = s.shared 1 (λ _. 0) (IsBySplit-class next 1 n classes splits (λ _. 0) h (record { by_class = λ _. 0; each = λ r l. refl })) in
     record { by_class = k.by_class; each = λ r l. omega (arith, k.each r l) }
+

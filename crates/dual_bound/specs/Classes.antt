@@ -65,6 +65,13 @@ IsMade class part other old new =
 abbrev pub part_order : ℕ → ℕ → ℕ
 part_order u k = u * 2 ^ 32 + k + 1
 
+-- a place with the number at a place: a known earlier one, or that place, which is known from then on
+abbrev pub IsFirstWith : List ℕ → ℕ → List ℕ → List ℕ → ℕ → Type 0
+IsFirstWith numbers at known known' first =
+    ((first < at) × (slice_index numbers first ≡ slice_index numbers at)
+    × (first ≡ slice_index known (slice_index numbers at)) × (known' ≡ known))
+    ⊎ ((first ≡ at) × (known' ≡ slice_set known (slice_index numbers at) at))
+
 -- for each resource one of its class, itself for just one of them
 pub record AreFirstsIn (classes firsts : List ℕ) : Type 0 where
   pub count : length firsts ≡ length classes

@@ -9,7 +9,7 @@ ghost use Rattle.choice_problem.specs.Strips.{strip_uses, part_uses, IsStripInRa
 ghost use Rattle.choice_problem.specs.Loops.{run_uses};
 ghost use Rattle.choice_problem.specs.Problems.{unit_count, part_count, resource_count, chooser_at, part_at, limit_of};
 ghost use Rattle.dual_bound.specs.Same.{AreSameTo, AreSameParts, strips_at};
-ghost use Rattle.dual_bound.specs.Classes.{IsByClass, IsUnitByClass, AreClasses, AreSplit, AreSplitBy, IsMade, AreFirstsIn, AreFirsts, part_order};
+ghost use Rattle.dual_bound.specs.Classes.{IsByClass, IsUnitByClass, AreClasses, AreSplit, AreSplitBy, IsMade, IsFirstWith, AreFirstsIn, AreFirsts, part_order};
 
 use crate::same::{PartOf, SameParts};
 use choice_problem::{Problem, Strip};
@@ -43,12 +43,29 @@ pub(crate) fn equal_resources(
     for unit in 0..problem.units() {
         let parts = same[unit as usize].items();
         split_by_unit(problem, unit, parts, &mut classes, &mut splits)?;
-        if splits.len() / NUMBERS_A_RESOURCE > resources {
-            classes = firsts_in(alloc, &classes)?;
-            splits.truncate(resources);
-        }
+        classes = numbered(alloc, classes, &mut splits)?;
     }
     firsts_in(alloc, &classes)
+}
+
+// The classes, numbered anew by their first resources where there are many numbers of classes.
+fn numbered(alloc: Global, classes: Vec<u32>, splits: &mut Vec<Split>) -> Result<Vec<u32>, Memory>
+    requires few { length classes.items ≤ MOST_RESOURCES }
+    requires enough { length classes.items ≤ length splits.old.items }
+    ensures classes { IfOk result (λ numbered. (next : ℕ) →
+        AreClasses next (length classes.items) classes.items splits.old.items →
+        AreClasses next (length classes.items) numbered.items splits.new.items) }
+    ensures enough { IfOk result (λ _. length classes.items ≤ length splits.new.items) }
+    ensures kept { IfOk result (λ numbered. (f : ℕ → ℕ) →
+        IsByClass (length classes.items) classes.items f →
+        IsByClass (length classes.items) numbered.items f) }
+{
+    if splits.len() / NUMBERS_A_RESOURCE <= classes.len() {
+        return Ok(classes);
+    }
+    let firsts = firsts_in(alloc, &classes)?;
+    splits.truncate(classes.len());
+    Ok(firsts)
 }
 
 // For each resource the first one with the same limit.
@@ -238,6 +255,7 @@ fn first_with(numbers: &[u32], at: usize, known: &mut [u32]) -> u32
     requires at { at < length numbers.now }
     requires few { length numbers.now ≤ MOST_RESOURCES }
     requires known { slice_index numbers.now at < length known.old }
+    ensures { IsFirstWith numbers.now at known.old known.new result }
 {
     let number = numbers[at];
     let first = known[number as usize];
