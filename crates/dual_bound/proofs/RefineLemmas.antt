@@ -1,12 +1,12 @@
 -- Classes of equal resources, split by the uses of parts.
-use Rattle.std.proofs.Common.{◌≡◌, ℕ, ◌+◌, ◌*◌, ◌^◌, ◌<◌, ◌≤◌, refl, sym, ◌∙◌, ap, subst, arith, List, [], ◌∷◌, ◌++◌, length, set, inl, inr}
+use Rattle.std.proofs.Common.{◌≡◌, ℕ, ◌+◌, ◌*◌, ◌^◌, ◌<◌, ◌≤◌, max, refl, sym, ◌∙◌, ap, subst, arith, List, [], ◌∷◌, ◌++◌, length, set, inl, inr}
 use Rattle.std.specs.Prelude.{slice_index, nat_eq, if◌then◌else◌}
 use Rattle.std.proofs.lemmas.Grind.{common_steps}
 use Rattle.std.proofs.lemmas.Bool.{cases_lt, cases_eq}
 use Rattle.std.proofs.lemmas.List.{get_or-set_same, get_or-set_other, length-set, get_or_append_left, get_or_push, length-append}
 use Rattle.choice_problem.specs.Loops.{run_uses}
 use Rattle.dual_bound.specs.declared.refine.Split.{Split}
-use Rattle.dual_bound.specs.Classes.{IsByClass, AreClasses, AreSplit, IsBySplit, AreSplitBy, IsMade, split_at}
+use Rattle.dual_bound.specs.Classes.{IsByClass, AreClasses, AreSplit, IsBySplit, AreSplitBy, IsMade, IsFirstWith, AreFirstsIn, split_at}
 
 abbrev none : Split
 none = record { part = 0; class = 0 }
@@ -233,3 +233,106 @@ IsByClass-used next n classes splits classes' splits' uses h s =
     let k = s.shared 1 (λ _. 0) (IsBySplit-class next 1 n classes splits (λ _. 0) h (record { by_class = λ _. 0; each = λ r l. refl })) in
     record { by_class = k.by_class; each = λ r l. omega (arith, k.each r l) }
 
+
+-- the first places with a number up to a place, where those are known that are the first with a number
+pub record AreKnown (numbers : List ℕ) (at : ℕ) (known firsts : List ℕ) : Type 0 where
+  pub count : length firsts ≡ at
+  pub first : (r : ℕ) → r < at → slice_index firsts r ≤ r
+  pub same : (r : ℕ) → r < at → slice_index numbers (slice_index firsts r) ≡ slice_index numbers r
+  pub one : (r : ℕ) → r < at → slice_index firsts (slice_index firsts r) ≡ slice_index firsts r
+  pub past : (c : ℕ) → c < length known → slice_index known c < max at 1
+  pub fixed : (c : ℕ) → c < length known → slice_index known c < at → slice_index firsts (slice_index known c) ≡ slice_index known c
+
+pub AreKnown-start : (numbers known : List ℕ) → ((c : ℕ) → c < length known → slice_index known c ≡ 0) → AreKnown numbers 0 known []
+AreKnown-start numbers known zeros = record {
+  count = refl;
+  first = λ r l. absurd (omega (arith, l));
+  same = λ r l. absurd (omega (arith, l));
+  one = λ r l. absurd (omega (arith, l));
+  past = λ c l. omega (arith, zeros c l);
+  fixed = λ c l b. absurd (omega (arith, b));
+}
+
+pub AreKnown-more : (numbers : List ℕ) (at first : ℕ) (known known' firsts : List ℕ) → slice_index numbers at < length known → IsFirstWith numbers at known known' first →
+    AreKnown numbers at known firsts → AreKnown numbers (at + 1) known' (firsts ++ first ∷ [])
+AreKnown-more numbers at first known known' firsts there w h = record {
+  count = omega (arith, length-append firsts (first ∷ []), h.count);
+  first = λ r l. elim (cases_lt r at) [
+    | inl below ↦ rw (old r below) (h.first r below)
+    | inr last ↦ let e : at ≡ r = omega arith in rw (← e, new) low
+  ];
+  same = λ r l. elim (cases_lt r at) [
+    | inl below ↦ rw (old r below) (h.same r below)
+    | inr last ↦ let e : at ≡ r = omega arith in rw (← e, new) (same w)
+  ];
+  one = λ r l. elim (cases_lt r at) [
+    | inl below ↦ rw (old r below, old (slice_index firsts r) (omega (arith, h.first r below, below))) (h.one r below)
+    | inr last ↦ let e : at ≡ r = omega arith in rw (← e, new) one
+  ];
+  past = past w;
+  fixed = fixed w;
+}
+  where
+    next : List ℕ
+    next = firsts ++ first ∷ []
+
+    new : slice_index (firsts ++ first ∷ []) at ≡ first
+    new = get_or_push firsts first 0 at h.count
+
+    old : (r : ℕ) → r < at → slice_index (firsts ++ first ∷ []) r ≡ slice_index firsts r
+    old r l = get_or_append_left firsts (first ∷ []) 0 r (rw h.count l)
+
+    lows : IsFirstWith numbers at known known' first → first ≤ at
+    lows (inl a) = omega (arith, a.0)
+    lows (inr a) = omega (arith, a.0)
+
+    low : first ≤ at
+    low = lows w
+
+    same : IsFirstWith numbers at known known' first → slice_index numbers first ≡ slice_index numbers at
+    same (inl a) = a.1
+    same (inr a) = rw a.0 refl
+
+    ones : IsFirstWith numbers at known known' first → slice_index (firsts ++ first ∷ []) first ≡ first
+    ones (inl a) = old first a.0 ∙ rw a.2 (h.fixed (slice_index numbers at) there (rw (← a.2) a.0))
+    ones (inr a) = get_or_push firsts first 0 first (h.count ∙ sym a.0)
+
+    one : slice_index (firsts ++ first ∷ []) first ≡ first
+    one = ones w
+
+    past : IsFirstWith numbers at known known' first → (c : ℕ) → c < length known' → slice_index known' c < max (at + 1) 1
+    past (inl a) c l = let k : c < length known = rw a.3 at l in rw a.3 (omega (arith, h.past c k))
+    past (inr a) c l =
+        let k : c < length known = omega (arith, rw a.1 at l, length-set known (slice_index numbers at) at) in
+        rw a.1 (elim (cases_eq c (slice_index numbers at)) [
+          | inl e ↦ rw (e, get_or-set_same known (slice_index numbers at) at 0 there) (omega arith)
+          | inr o ↦ rw (get_or-set_other known (slice_index numbers at) c at 0 o) (omega (arith, h.past c k))
+        ])
+
+    fixed : IsFirstWith numbers at known known' first → (c : ℕ) → c < length known' → slice_index known' c < at + 1 →
+        slice_index (firsts ++ first ∷ []) (slice_index known' c) ≡ slice_index known' c
+    fixed (inl a) c l b =
+        let k : c < length known = rw a.3 at l in
+        rw a.3 (elim (cases_lt (slice_index known c) at) [
+          | inl below ↦ old (slice_index known c) below ∙ h.fixed c k below
+          | inr from ↦ absurd (omega (arith, h.past c k, a.0, from))
+        ])
+    fixed (inr a) c l b =
+        let k : c < length known = omega (arith, rw a.1 at l, length-set known (slice_index numbers at) at) in
+        rw a.1 (elim (cases_eq c (slice_index numbers at)) [
+          | inl e ↦ rw (e, get_or-set_same known (slice_index numbers at) at 0 there) (new ∙ a.0)
+          | inr o ↦ rw (get_or-set_other known (slice_index numbers at) c at 0 o) (elim (cases_lt (slice_index known c) at) [
+            | inl below ↦ old (slice_index known c) below ∙ h.fixed c k below
+            | inr from ↦ let e : slice_index known c ≡ at = omega (arith, h.past c k, from) in rw (e, new) a.0
+          ])
+        ])
+
+-- what the resources of a class share, their first ones share
+pub IsByClass-firsts : (classes firsts : List ℕ) (n : ℕ) (f : ℕ → ℕ) → length classes ≡ n → AreFirstsIn classes firsts → IsByClass n classes f → IsByClass n firsts f
+IsByClass-firsts classes firsts n f e a b = record { by_class = λ c. b.by_class (slice_index classes c); each = λ r l. b.each r l ∙ ap b.by_class (sym (a.same r (rw e l))) }
+
+-- the first resource of a class has what the resources share
+pub IsByClass-first : (classes firsts : List ℕ) (n : ℕ) (f : ℕ → ℕ) → length classes ≡ n → AreFirstsIn classes firsts → IsByClass n classes f → (r : ℕ) → r < n →
+    f (slice_index firsts r) ≡ f r
+IsByClass-first classes firsts n f e a b r l =
+    b.each (slice_index firsts r) (rw e at (a.there r (rw e l))) ∙ ap b.by_class (a.same r (rw e l)) ∙ sym (b.each r l)

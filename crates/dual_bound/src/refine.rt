@@ -232,9 +232,20 @@ fn firsts_in(alloc: Global, numbers: &[u32]) -> Result<Vec<u32>, Memory>
     ensures { IfOk result (λ firsts. AreFirstsIn numbers.now firsts.items) }
 {
     let mut known = vec![in alloc; 0; count_of(numbers)]?;
+    known_firsts(alloc, numbers, &mut known)
+}
+
+// For each place the first one with the same number, where for each number a place is known that is 0 at first.
+fn known_firsts(alloc: Global, numbers: &[u32], known: &mut [u32]) -> Result<Vec<u32>, Memory>
+    requires few { length numbers.now ≤ MOST_RESOURCES }
+    requires known { (r : ℕ) → r < length numbers.now →
+        slice_index numbers.now r < length known.old }
+    requires zeros { (c : ℕ) → c < length known.old → slice_index known.old c ≡ 0 }
+    ensures { IfOk result (λ firsts. AreFirstsIn numbers.now firsts.items) }
+{
     let mut firsts = Vec::with_capacity(alloc, numbers.len())?;
     for at in 0..numbers.len() {
-        firsts.push(first_with(numbers, at, &mut known))?;
+        firsts.push(first_with(numbers, at, known))?;
     }
     Ok(firsts)
 }
