@@ -1,5 +1,5 @@
 -- Classes of equal resources, split by the uses of parts.
-use Rattle.std.proofs.Common.{◌≡◌, ℕ, ◌+◌, ◌*◌, ◌^◌, ◌<◌, ◌≤◌, max, refl, sym, ◌∙◌, ap, subst, arith, List, [], ◌∷◌, ◌++◌, length, set, inl, inr}
+use Rattle.std.proofs.Common.{◌≡◌, ℕ, ◌+◌, ◌*◌, ◌<◌, ◌≤◌, max, refl, sym, ◌∙◌, ap, subst, arith, List, [], ◌∷◌, ◌++◌, length, set, inl, inr}
 use Rattle.std.specs.Prelude.{slice_index, nat_eq, if◌then◌else◌}
 use Rattle.std.proofs.lemmas.Grind.{common_steps}
 use Rattle.std.proofs.lemmas.Bool.{cases_lt, cases_eq}
@@ -22,15 +22,6 @@ AreSplitBy-start part n classes splits uses s e = record {
   split = s;
   more = omega arith;
   shared = λ more f h. IsBySplit-same part more n classes splits f (λ r. f r + more * uses r) (λ r l. rw (e r) (omega arith)) h;
-}
-
--- the same uses
-pub AreSplitBy-same : (part n : ℕ) (classes : List ℕ) (splits : List Split) (classes' : List ℕ) (splits' : List Split) (uses others : ℕ → ℕ) →
-    ((r : ℕ) → others r ≡ uses r) → AreSplitBy part n classes splits classes' splits' uses → AreSplitBy part n classes splits classes' splits' others
-AreSplitBy-same part n classes splits classes' splits' uses others e h = record {
-  split = h.split;
-  more = h.more;
-  shared = λ more f b. IsBySplit-same part more n classes' splits' (λ r. f r + more * uses r) (λ r. f r + more * others r) (λ r l. rw (e r) refl) (h.shared more f b);
 }
 
 -- two splits by uses of a part, one after the other
@@ -233,7 +224,6 @@ IsByClass-used next n classes splits classes' splits' uses h s =
     let k = s.shared 1 (λ _. 0) (IsBySplit-class next 1 n classes splits (λ _. 0) h (record { by_class = λ _. 0; each = λ r l. refl })) in
     record { by_class = k.by_class; each = λ r l. omega (arith, k.each r l) }
 
-
 -- the first places with a number up to a place, where those are known that are the first with a number
 pub record AreKnown (numbers : List ℕ) (at : ℕ) (known firsts : List ℕ) : Type 0 where
   pub count : length firsts ≡ at
@@ -273,9 +263,6 @@ AreKnown-more numbers at first known known' firsts there w h = record {
   fixed = fixed w;
 }
   where
-    next : List ℕ
-    next = firsts ++ first ∷ []
-
     new : slice_index (firsts ++ first ∷ []) at ≡ first
     new = get_or_push firsts first 0 at h.count
 

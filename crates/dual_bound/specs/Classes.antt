@@ -44,8 +44,8 @@ pub record IsBySplit (part more n : ℕ) (classes : List ℕ) (splits : List Spl
   pub made : (c : ℕ) → c < length splits → (split_at splits c).part ≡ part →
       by_class (split_at splits c).class ≡ by_class c + more
 
--- the part of a number has split classes by these uses: what all resources of a class shared, they share with the uses,
--- each counted so often
+-- the part of a number has split classes by these uses: what all resources of a class shared, they share with these uses
+-- added, each so many times
 pub record AreSplitBy (part n : ℕ) (classes : List ℕ) (splits : List Split) (classes' : List ℕ)
     (splits' : List Split) (uses : ℕ → ℕ) : Type 0 where
   pub split : AreSplit part n classes' splits'

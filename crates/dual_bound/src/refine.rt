@@ -3,11 +3,11 @@
 //! At first those with the same limit are one class. Then each part splits the classes, by how often it uses their resources
 //! (partition refinement: Paige and Tarjan 1987, "Three partition refinement algorithms", SIAM Journal on Computing 16).
 
-ghost use Rattle.std.specs.Prelude.{◌≡◌, ℕ, ◌+◌, ◌*◌, ◌^◌, ◌<◌, ◌≤◌, IfOk, length, slice_index};
+ghost use Rattle.std.specs.Prelude.{◌≡◌, ℕ, ◌+◌, ◌<◌, ◌≤◌, IfOk, length, slice_index};
 ghost use Rattle.choice_problem.specs.declared.problems.TheConstants.{MOST_UNITS, MOST_RESOURCES};
 ghost use Rattle.choice_problem.specs.Strips.{strip_uses, part_uses, IsStripInRange, IsPartInRange};
 ghost use Rattle.choice_problem.specs.Loops.{run_uses};
-ghost use Rattle.choice_problem.specs.Problems.{unit_count, part_count, resource_count, chooser_at, part_at, limit_of};
+ghost use Rattle.choice_problem.specs.Problems.{unit_count, part_count, resource_count, limit_of};
 ghost use Rattle.dual_bound.specs.Same.{AreSameTo, AreSameParts, strips_at};
 ghost use Rattle.dual_bound.specs.Classes.{IsByClass, IsUnitByClass, AreClasses, AreSplit, AreSplitBy, IsMade, IsFirstWith, AreFirstsIn, AreFirsts, part_order};
 

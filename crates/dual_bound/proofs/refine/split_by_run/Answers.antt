@@ -1,4 +1,4 @@
-use Rattle.std.proofs.Common.{◌≡◌, ◌<◌, length, subst, arith, refl}
+use Rattle.std.proofs.Common.{◌≡◌, length, subst, arith, refl}
 use Rattle.std.specs.Prelude.{slice_index}
 use Rattle.choice_problem.specs.Loops.{run_uses}
 use Rattle.dual_bound.specs.Classes.{AreSplitBy}

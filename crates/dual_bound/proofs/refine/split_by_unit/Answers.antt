@@ -1,7 +1,7 @@
-use Rattle.std.proofs.Common.{◌≡◌, ℕ, ◌<◌, inl, inr, subst, arith}
+use Rattle.std.proofs.Common.{◌≡◌, inl, inr, subst, arith}
 use Rattle.std.proofs.lemmas.Bool.{cases_lt}
 use Rattle.choice_problem.specs.Strips.{part_uses}
-use Rattle.choice_problem.specs.Problems.{chooser_at, part_at, part_count, resource_count}
+use Rattle.choice_problem.specs.Problems.{chooser_at, part_at, resource_count}
 use Rattle.dual_bound.specs.Classes.{IsByClass}
 use Rattle.dual_bound.proofs.refine.split_by_unit.Goals as goal
 
