@@ -38,12 +38,15 @@ uses-first p firsts u a r f m = elim (cases_lt u (unit_count p)) [
 module _ (p k : ProblemView) (firsts ranks classes : List ℕ) (f : AreFirsts p firsts) (h : AreRanks (resource_count p) ranks)
     (kept : (r : ℕ) → r < resource_count p → slice_index firsts r ≡ r → IsKept ranks r) (o : IsOnKept p ranks k)
     (each : (r : ℕ) → r < resource_count p → slice_index classes r ≡ slice_index ranks (slice_index firsts r)) where
+  first-there : (r : ℕ) → r < resource_count p → slice_index firsts r < resource_count p
+  first-there r l = omega (arith, f.low r l, l)
+
   first-kept : (r : ℕ) → r < resource_count p → IsKept ranks (slice_index firsts r)
-  first-kept r l = kept (slice_index firsts r) (f.there r l) (f.one r l)
+  first-kept r l = kept (slice_index firsts r) (first-there r l) (f.one r l)
 
   pub class-there : (r : ℕ) → r < resource_count p → slice_index classes r < resource_count k
   class-there r l =
-      let there : slice_index firsts r < resource_count p = f.there r l in
+      let there : slice_index firsts r < resource_count p = first-there r l in
       omega (arith, each r l, first-kept r l, o.resources, rank-le (resource_count p) ranks (slice_index firsts r + 1) (resource_count p) h (omega (arith, there)) (omega arith))
 
   pub AreGrouped-is : (sizes : List ℕ) → length classes ≡ resource_count p → length sizes ≡ resource_count k →
@@ -59,7 +62,7 @@ module _ (p k : ProblemView) (firsts ranks classes : List ℕ) (f : AreFirsts p 
     costs = λ u a. same_cost p k ranks o u a;
     uses = λ u a r l.
         ap (λ c. alt_uses k u a c) (each r l)
-        ∙ same_uses p k ranks o u a (slice_index firsts r) (f.there r l) (first-kept r l)
+        ∙ same_uses p k ranks o u a (slice_index firsts r) (first-there r l) (first-kept r l)
         ∙ uses-first p firsts u a r f l;
-    limits = λ r l. ap (λ c. limit_of k c) (each r l) ∙ o.limits (slice_index firsts r) (f.there r l) (first-kept r l) ∙ f.limits r l;
+    limits = λ r l. ap (λ c. limit_of k c) (each r l) ∙ o.limits (slice_index firsts r) (first-there r l) (first-kept r l) ∙ f.limits r l;
   }

@@ -8,3 +8,4 @@ mod PassableLemmas
 mod EndLemmas
 mod CoverLemmas
 mod ClassLemmas
+mod RefineLemmas

@@ -28,6 +28,7 @@ pub record AreClasses (next n : ℕ) (classes : List ℕ) (splits : List Split) 
 
 -- the same while the part of a number splits them
 pub record AreSplit (part n : ℕ) (classes : List ℕ) (splits : List Split) : Type 0 where
+  pub some : 0 < part
   pub count : length classes ≡ n
   pub there : (r : ℕ) → r < n → slice_index classes r < length splits
   pub past : (c : ℕ) → c < length splits → (split_at splits c).part ≤ part
@@ -43,6 +44,15 @@ pub record IsBySplit (part more n : ℕ) (classes : List ℕ) (splits : List Spl
   pub made : (c : ℕ) → c < length splits → (split_at splits c).part ≡ part →
       by_class (split_at splits c).class ≡ by_class c + more
 
+-- the part of a number has split classes by these uses: what all resources of a class shared, they share with these uses
+-- added, each so many times
+pub record AreSplitBy (part n : ℕ) (classes : List ℕ) (splits : List Split) (classes' : List ℕ)
+    (splits' : List Split) (uses : ℕ → ℕ) : Type 0 where
+  pub split : AreSplit part n classes' splits'
+  pub more : length splits ≤ length splits'
+  pub shared : (more : ℕ) (f : ℕ → ℕ) → IsBySplit part more n classes splits f →
+      IsBySplit part more n classes' splits' (λ r. f r + more * uses r)
+
 -- the class of those of a class that a part uses once more: the one that it has made of that class, or a new one
 abbrev pub IsMade : ℕ → ℕ → ℕ → List Split → List Split → Type 0
 IsMade class part other old new =
@@ -54,6 +64,13 @@ IsMade class part other old new =
 -- the number of a part, above those of the parts before it
 abbrev pub part_order : ℕ → ℕ → ℕ
 part_order u k = u * 2 ^ 32 + k + 1
+
+-- a place with the number at a place: a known earlier one, or that place, which is known from then on
+abbrev pub IsFirstWith : List ℕ → ℕ → List ℕ → List ℕ → ℕ → Type 0
+IsFirstWith numbers at known known' first =
+    ((first < at) × (slice_index numbers first ≡ slice_index numbers at)
+    × (first ≡ slice_index known (slice_index numbers at)) × (known' ≡ known))
+    ⊎ ((first ≡ at) × (known' ≡ slice_set known (slice_index numbers at) at))
 
 -- for each resource the first one of its class
 pub record AreFirstsIn (classes firsts : List ℕ) : Type 0 where

@@ -3,13 +3,13 @@
 //! At first those with the same limit are one class. Then each part splits the classes, by how often it uses their resources
 //! (partition refinement: Paige and Tarjan 1987, "Three partition refinement algorithms", SIAM Journal on Computing 16).
 
-ghost use Rattle.std.specs.Prelude.{◌≡◌, ℕ, ◌+◌, ◌*◌, ◌^◌, ◌<◌, ◌≤◌, IfOk, length, slice_index};
-ghost use Rattle.choice_problem.specs.declared.problems.TheConstants.{MOST_RESOURCES};
+ghost use Rattle.std.specs.Prelude.{◌≡◌, ℕ, ◌+◌, ◌<◌, ◌≤◌, IfOk, length, slice_index};
+ghost use Rattle.choice_problem.specs.declared.problems.TheConstants.{MOST_UNITS, MOST_RESOURCES};
 ghost use Rattle.choice_problem.specs.Strips.{strip_uses, part_uses, IsStripInRange, IsPartInRange};
 ghost use Rattle.choice_problem.specs.Loops.{run_uses};
-ghost use Rattle.choice_problem.specs.Problems.{unit_count, part_count, resource_count, chooser_at, part_at, limit_of};
+ghost use Rattle.choice_problem.specs.Problems.{unit_count, part_count, resource_count, limit_of};
 ghost use Rattle.dual_bound.specs.Same.{AreSameTo, AreSameParts, strips_at};
-ghost use Rattle.dual_bound.specs.Classes.{IsByClass, IsUnitByClass, AreClasses, AreSplit, IsBySplit, IsMade, AreFirstsIn, AreFirsts, part_order};
+ghost use Rattle.dual_bound.specs.Classes.{IsByClass, IsUnitByClass, AreClasses, AreSplit, AreSplitBy, IsMade, IsFirstWith, AreFirstsIn, AreFirsts, part_order};
 
 use crate::same::{PartOf, SameParts};
 use choice_problem::{Problem, Strip};
@@ -44,12 +44,29 @@ pub(crate) fn equal_resources(
     for unit in 0..problem.units() {
         let parts = same[unit as usize].items();
         split_by_unit(problem, unit, parts, &mut classes, &mut splits)?;
-        if splits.len() / NUMBERS_A_RESOURCE > resources {
-            classes = firsts_in(alloc, &classes)?;
-            splits.truncate(resources);
-        }
+        classes = numbered(alloc, classes, &mut splits)?;
     }
     firsts_in(alloc, &classes)
+}
+
+// The classes, numbered anew by their first resources where there are many numbers of classes.
+fn numbered(alloc: Global, classes: Vec<u32>, splits: &mut Vec<Split>) -> Result<Vec<u32>, Memory>
+    requires few { length classes.items ≤ MOST_RESOURCES }
+    requires enough { length classes.items ≤ length splits.old.items }
+    ensures classes { IfOk result (λ numbered. (next : ℕ) →
+        AreClasses next (length classes.items) classes.items splits.old.items →
+        AreClasses next (length classes.items) numbered.items splits.new.items) }
+    ensures enough { IfOk result (λ _. length classes.items ≤ length splits.new.items) }
+    ensures kept { IfOk result (λ numbered. (f : ℕ → ℕ) →
+        IsByClass (length classes.items) classes.items f →
+        IsByClass (length classes.items) numbered.items f) }
+{
+    if splits.len() / NUMBERS_A_RESOURCE <= classes.len() {
+        return Ok(classes);
+    }
+    let firsts = firsts_in(alloc, &classes)?;
+    splits.truncate(classes.len());
+    Ok(firsts)
 }
 
 // For each resource the first one with the same limit.
@@ -76,10 +93,13 @@ fn split_by_unit(
     splits: &mut Vec<Split>,
 ) -> Result<(), Memory>
     requires unit { unit < unit_count problem.now }
+    requires few { unit < MOST_UNITS }
     requires same { AreSameParts problem.now unit same.now }
-    requires classes { AreClasses (part_order unit 0) (resource_count problem.now) classes.old splits.old.items }
+    requires classes { AreClasses (part_order unit 0) (resource_count problem.now)
+        classes.old splits.old.items }
     requires earlier { (v : ℕ) → v < unit → IsUnitByClass problem.now v classes.old }
-    ensures classes { IfOk result (λ _. AreClasses (part_order (unit + 1) 0) (resource_count problem.now) classes.new splits.new.items) }
+    ensures classes { IfOk result (λ _. AreClasses (part_order (unit + 1) 0)
+        (resource_count problem.now) classes.new splits.new.items) }
     ensures more { IfOk result (λ _. length splits.old.items ≤ length splits.new.items) }
     ensures kept { IfOk result (λ _. (f : ℕ → ℕ) →
         IsByClass (resource_count problem.now) classes.old f →
@@ -102,11 +122,14 @@ fn split_by_part(
     splits: &mut Vec<Split>,
 ) -> Result<(), Memory>
     requires unit { part.unit < unit_count problem.now }
+    requires few { part.unit < MOST_UNITS }
     requires number { part.number < part_count problem.now part.unit }
     requires same { strips_at problem.now other ≡ strips_at problem.now part }
-    requires classes { AreClasses (part_order part.unit part.number) (resource_count problem.now) classes.old splits.old.items }
+    requires classes { AreClasses (part_order part.unit part.number) (resource_count problem.now)
+        classes.old splits.old.items }
     requires earlier { (v : ℕ) → v < part.unit → IsUnitByClass problem.now v classes.old }
-    ensures classes { IfOk result (λ _. AreClasses (part_order part.unit part.number + 1) (resource_count problem.now) classes.new splits.new.items) }
+    ensures classes { IfOk result (λ _. AreClasses (part_order part.unit (part.number + 1))
+        (resource_count problem.now) classes.new splits.new.items) }
     ensures more { IfOk result (λ _. length splits.old.items ≤ length splits.new.items) }
     ensures kept { IfOk result (λ _. (f : ℕ → ℕ) →
         IsByClass (resource_count problem.now) classes.old f →
@@ -124,6 +147,7 @@ fn split_by_part(
 
 // The number of a part, above those of the parts before it.
 fn part_order(part: PartOf) -> u64
+    requires { part.unit < MOST_UNITS }
     ensures { result ≡ part_order part.unit part.number }
 {
     (u64::from(part.unit) << 32) + u64::from(part.number) + 1
@@ -138,15 +162,8 @@ fn split_by_strips(
 ) -> Result<(), Memory>
     requires within { IsPartInRange (length classes.old) strips.now }
     requires split { AreSplit part (length classes.old) classes.old splits.old.items }
-    ensures split { IfOk result (λ _. AreSplit part (length classes.old) classes.new splits.new.items) }
-    ensures more { IfOk result (λ _. length splits.old.items ≤ length splits.new.items) }
-    ensures kept { IfOk result (λ _. (f : ℕ → ℕ) →
-        IsBySplit part 0 (length classes.old) classes.old splits.old.items f →
-        IsBySplit part 0 (length classes.old) classes.new splits.new.items f) }
-    ensures used { IfOk result (λ _. (f : ℕ → ℕ) →
-        IsBySplit part 1 (length classes.old) classes.old splits.old.items f →
-        IsBySplit part 1 (length classes.old) classes.new splits.new.items
-        (λ r. f r + part_uses strips.now r)) }
+    ensures { IfOk result (λ _. AreSplitBy part (length classes.old)
+        classes.old splits.old.items classes.new splits.new.items (λ r. part_uses strips.now r)) }
 {
     for strip in strips {
         split_by_strip(strip, part, classes, splits)?;
@@ -163,15 +180,8 @@ fn split_by_strip(
 ) -> Result<(), Memory>
     requires within { IsStripInRange (length classes.old) strip.now }
     requires split { AreSplit part (length classes.old) classes.old splits.old.items }
-    ensures split { IfOk result (λ _. AreSplit part (length classes.old) classes.new splits.new.items) }
-    ensures more { IfOk result (λ _. length splits.old.items ≤ length splits.new.items) }
-    ensures kept { IfOk result (λ _. (f : ℕ → ℕ) →
-        IsBySplit part 0 (length classes.old) classes.old splits.old.items f →
-        IsBySplit part 0 (length classes.old) classes.new splits.new.items f) }
-    ensures used { IfOk result (λ _. (f : ℕ → ℕ) →
-        IsBySplit part 1 (length classes.old) classes.old splits.old.items f →
-        IsBySplit part 1 (length classes.old) classes.new splits.new.items
-        (λ r. f r + strip_uses strip.now r)) }
+    ensures { IfOk result (λ _. AreSplitBy part (length classes.old)
+        classes.old splits.old.items classes.new splits.new.items (λ r. strip_uses strip.now r)) }
 {
     for run in 0..strip.times {
         let (start, end) = strip.run(run);
@@ -191,15 +201,8 @@ fn split_by_run(
     requires ordered { start ≤ end }
     requires within { end ≤ length classes.old }
     requires split { AreSplit part (length classes.old) classes.old splits.old.items }
-    ensures split { IfOk result (λ _. AreSplit part (length classes.old) classes.new splits.new.items) }
-    ensures more { IfOk result (λ _. length splits.old.items ≤ length splits.new.items) }
-    ensures kept { IfOk result (λ _. (f : ℕ → ℕ) →
-        IsBySplit part 0 (length classes.old) classes.old splits.old.items f →
-        IsBySplit part 0 (length classes.old) classes.new splits.new.items f) }
-    ensures used { IfOk result (λ _. (f : ℕ → ℕ) →
-        IsBySplit part 1 (length classes.old) classes.old splits.old.items f →
-        IsBySplit part 1 (length classes.old) classes.new splits.new.items
-        (λ r. f r + run_uses start end r)) }
+    ensures { IfOk result (λ _. AreSplitBy part (length classes.old)
+        classes.old splits.old.items classes.new splits.new.items (λ r. run_uses start end r)) }
 {
     for at in start..end {
         classes[at] = used_once_more(classes[at], part, splits)?;
@@ -209,9 +212,8 @@ fn split_by_run(
 
 // The class of those resources of a class that a part uses once more; a new one with the first of them.
 fn used_once_more(class: u32, part: u64, splits: &mut Vec<Split>) -> Result<u32, Memory>
-    requires there { class < length splits.old.items }
-    ensures there { IfOk result (λ other. other < length splits.new.items) }
-    ensures made { IfOk result (λ other. IsMade class part other splits.old.items splits.new.items) }
+    requires { class < length splits.old.items }
+    ensures { IfOk result (λ other. IsMade class part other splits.old.items splits.new.items) }
 {
     let split = splits[class as usize];
     if split.part == part {
@@ -231,9 +233,20 @@ fn firsts_in(alloc: Global, numbers: &[u32]) -> Result<Vec<u32>, Memory>
     ensures { IfOk result (λ firsts. AreFirstsIn numbers.now firsts.items) }
 {
     let mut known = vec![in alloc; 0; count_of(numbers)]?;
+    known_firsts(alloc, numbers, &mut known)
+}
+
+// For each place the first one with the same number, where for each number a place is known that is 0 at first.
+fn known_firsts(alloc: Global, numbers: &[u32], known: &mut [u32]) -> Result<Vec<u32>, Memory>
+    requires few { length numbers.now ≤ MOST_RESOURCES }
+    requires known { (r : ℕ) → r < length numbers.now →
+        slice_index numbers.now r < length known.old }
+    requires zeros { (c : ℕ) → c < length known.old → slice_index known.old c ≡ 0 }
+    ensures { IfOk result (λ firsts. AreFirstsIn numbers.now firsts.items) }
+{
     let mut firsts = Vec::with_capacity(alloc, numbers.len())?;
     for at in 0..numbers.len() {
-        firsts.push(first_with(numbers, at, &mut known))?;
+        firsts.push(first_with(numbers, at, known))?;
     }
     Ok(firsts)
 }
@@ -254,6 +267,7 @@ fn first_with(numbers: &[u32], at: usize, known: &mut [u32]) -> u32
     requires at { at < length numbers.now }
     requires few { length numbers.now ≤ MOST_RESOURCES }
     requires known { slice_index numbers.now at < length known.old }
+    ensures { IsFirstWith numbers.now at known.old known.new result }
 {
     let number = numbers[at];
     let first = known[number as usize];
