@@ -14,16 +14,16 @@ use Rattle.dual_bound.specs.Kept.{AreAtLeast, AreRaised, MarkNamed}
 pub AreAtLeast-same : (counts : List ℕ) (uses others : ℕ → ℕ) → ((r : ℕ) → uses r ≡ others r) → AreAtLeast counts uses → AreAtLeast counts others
 AreAtLeast-same counts uses others e h = subst (λ f. AreAtLeast counts f) (fun_ext e) h
 
-run_uses-none : (start r : ℕ) → run_uses start start r ≡ 0
+pub run_uses-none : (start r : ℕ) → run_uses start start r ≡ 0
 run_uses-none start r = grind (arith, common_steps)
 
-run_uses-last : (start at : ℕ) → start ≤ at → run_uses start (at + 1) at ≡ 1
+pub run_uses-last : (start at : ℕ) → start ≤ at → run_uses start (at + 1) at ≡ 1
 run_uses-last start at l = grind (arith, common_steps)
 
-run_uses-past : (start at : ℕ) → run_uses start at at ≡ 0
+pub run_uses-past : (start at : ℕ) → run_uses start at at ≡ 0
 run_uses-past start at = grind (arith, common_steps)
 
-run_uses-other : (start at r : ℕ) → (r ≡ at → ⊥) → run_uses start (at + 1) r ≡ run_uses start at r
+pub run_uses-other : (start at r : ℕ) → (r ≡ at → ⊥) → run_uses start (at + 1) r ≡ run_uses start at r
 run_uses-other start at r o = grind (arith, common_steps)
 
 pub AreAtLeast-start : (start : ℕ) (uses : ℕ → ℕ) (counts : List ℕ) → AreAtLeast counts uses → AreAtLeast counts (λ r. uses r + run_uses start start r)

@@ -24,7 +24,7 @@ named-first p firsts u (Some n) r f l m = elim (cases_lt n (part_count p u)) [
       ap (λ (strips : List Strip). part_uses strips (slice_index firsts r)) none ∙ sym (ap (λ (strips : List Strip). part_uses strips r) none)
 ]
 
-uses-first : (p : ProblemView) (firsts : List ℕ) (u a r : ℕ) → AreFirsts p firsts → r < resource_count p → alt_uses p u a (slice_index firsts r) ≡ alt_uses p u a r
+pub uses-first : (p : ProblemView) (firsts : List ℕ) (u a r : ℕ) → AreFirsts p firsts → r < resource_count p → alt_uses p u a (slice_index firsts r) ≡ alt_uses p u a r
 uses-first p firsts u a r f m = elim (cases_lt u (unit_count p)) [
   | inl l ↦
       ap (λ n. n + named_uses (chooser_at p u) (alt_at (chooser_at p u) a).two (slice_index firsts r)) (named-first p firsts u (alt_at (chooser_at p u) a).one r f l m)

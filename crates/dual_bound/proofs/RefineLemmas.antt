@@ -7,6 +7,7 @@ use Rattle.std.proofs.lemmas.List.{get_or-set_same, get_or-set_other, length-set
 use Rattle.choice_problem.specs.Loops.{run_uses}
 use Rattle.dual_bound.specs.declared.refine.Split.{Split}
 use Rattle.dual_bound.specs.Classes.{IsByClass, AreClasses, AreSplit, IsBySplit, AreSplitBy, IsMade, IsFirstWith, AreFirstsIn, split_at}
+use Rattle.dual_bound.proofs.CountLemmas.{run_uses-none, run_uses-last, run_uses-past, run_uses-other}
 
 abbrev none : Split
 none = record { part = 0; class = 0 }
@@ -154,18 +155,6 @@ IsBySplit-made part more n class other at classes old new f g l e (inr m) h here
 
     kept : (x : ℕ) → x < length old → by_class x ≡ b.by_class x
     kept x k = made-old x (length old) (b.by_class class + more) b.by_class k
-
-run_uses-none : (start r : ℕ) → run_uses start start r ≡ 0
-run_uses-none start r = grind (arith, common_steps)
-
-run_uses-last : (start at : ℕ) → start ≤ at → run_uses start (at + 1) at ≡ 1
-run_uses-last start at l = grind (arith, common_steps)
-
-run_uses-past : (start at : ℕ) → run_uses start at at ≡ 0
-run_uses-past start at = grind (arith, common_steps)
-
-run_uses-other : (start at r : ℕ) → (r ≡ at → ⊥) → run_uses start (at + 1) r ≡ run_uses start at r
-run_uses-other start at r o = grind (arith, common_steps)
 
 -- a run that begins
 pub AreSplitBy-run_start : (part n start : ℕ) (classes : List ℕ) (splits : List Split) → AreSplit part n classes splits →

@@ -119,10 +119,10 @@ pub record AreWeighted (numbers sizes weighted : List ℕ) : Type 0 where
       slice_index weighted c ≡ slice_index sizes c * slice_index numbers c
   pub small : (c : ℕ) → c < length numbers → slice_index weighted c < 2 ^ 40
 
--- where a resource stands in a list
-pub record IsListedIn (list : List ℕ) (r : ℕ) : Type 0 where
+-- where a resource stands among the first n of a list
+pub record IsAmong (list : List ℕ) (n r : ℕ) : Type 0 where
   pub place : ℕ
-  pub there : place < length list
+  pub there : place < n
   pub is : slice_index list place ≡ r
 
 -- those of the first n of a list of resources by rising number that are their own first ones
@@ -133,4 +133,4 @@ pub record AreFirstOnes (firsts list : List ℕ) (n : ℕ) (ones : List ℕ) : T
   pub from : (i : ℕ) → i < length ones → place i < n
   pub is : (i : ℕ) → i < length ones → slice_index ones i ≡ slice_index list (place i)
   pub all : (i : ℕ) → i < n → slice_index firsts (slice_index list i) ≡ slice_index list i →
-      IsListedIn ones (slice_index list i)
+      IsAmong ones (length ones) (slice_index list i)

@@ -15,5 +15,5 @@ returns-clause-limits c =
       each = λ r l.
           let there : r < length limits = rw (c.loop-resource.invariant.count, all) l in
           let h = rw c.deref.ensures.value at a in
-          sym (each r l) ∙ sym (h.same r there) ∙ each (slice_index classes.items r) (rw (c.loop-resource.invariant.count, all) at (h.there r there));
+          sym (each r l) ∙ sym (h.same r there) ∙ each (slice_index classes.items r) (omega (arith, h.low r there, l));
     }) c.firsts_in.ensures
