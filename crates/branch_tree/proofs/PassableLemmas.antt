@@ -1,8 +1,10 @@
--- The first of all resources above its limit is the first of those that can be passed.
+-- The first of all resources above its limit is the first of those that a walk lists.
 use Rattle.std.proofs.Common.{◌≡◌, ℕ, zero, suc, refl, ◌<◌, ◌≤◌, sym, ◌∙◌, ap, arith, inl, inr, ◌⊎◌, List, length}
 use Rattle.std.specs.Prelude.{slice_index}
 use Rattle.std.proofs.lemmas.Bool.{cases_lt, cases_eq}
-use Rattle.finite_sums.proofs.SumLemmas.{sum_below-le, least_within-le}
+use Rattle.std.proofs.Math.Path.{fun_ext}
+use Rattle.finite_sums.specs.Sums.{least_within}
+use Rattle.finite_sums.proofs.SumLemmas.{sum_below-le, sum_below-same, least_within-le}
 use Rattle.choice_problem.specs.Problems.{ProblemView, unit_count, resource_count, alt_uses, limit_of}
 use Rattle.choice_problem.specs.Choices.{IsChoice, Fits, IsFirstPassed, load_of}
 use Rattle.choice_problem.specs.Bounds.{AreRanges, IsOver, least_load, low_of, high_of}
@@ -29,30 +31,55 @@ listed list (suc n) r = elim (listed list n r) [
   ]
 ]
 
--- counts that are within the limits of all resources that cannot be passed
-module _ (p : ProblemView) (counts : ℕ → ℕ) (list : List ℕ) (h : ListPassable p list)
-    (low : (r : ℕ) → r < resource_count p → ((i : ℕ) → i < length list → slice_index list i ≡ r → ⊥) → counts r ≤ limit_of p r) where
+-- a lower resource is listed that has the same count and the same limit
+record HasListedSame (p : ProblemView) (counts : ℕ → ℕ) (list : List ℕ) (r : ℕ) : Type 0 where
+  place : ℕ
+  there : place < length list
+  lower : slice_index list place < r
+  limit : limit_of p (slice_index list place) ≡ limit_of p r
+  count : counts (slice_index list place) ≡ counts r
+
+-- each resource that is not listed is within its limit, or has a lower one of the same count and limit in the list
+abbrev AreOthersLow : ProblemView → (ℕ → ℕ) → List ℕ → Type 0
+AreOthersLow p counts list = (r : ℕ) → r < resource_count p → ((i : ℕ) → i < length list → slice_index list i ≡ r → ⊥) →
+    (counts r ≤ limit_of p r) ⊎ HasListedSame p counts list r
+
+-- counts of which those of the listed resources tell whether others are above their limits
+module _ (p : ProblemView) (counts : ℕ → ℕ) (list : List ℕ) (h : ListPassable p list) (low : AreOthersLow p counts list) where
+  listed-below : (r place : ℕ) → IsFirstListed p counts list r → place < length list → slice_index list place < r →
+      counts (slice_index list place) ≤ limit_of p (slice_index list place)
+  listed-below r place f there l = elim (cases_lt place f.place) [
+    | inl before ↦ f.first place before
+    | inr after ↦ elim (cases_eq f.place place) [
+      | inl same ↦ absurd (omega (arith, l, f.is, ap (λ k. slice_index list k) same))
+      | inr other ↦ absurd (omega (arith, l, f.is, h.rising f.place place (omega (arith, after, other)) there))
+    ]
+  ]
+
   below-first : (r q : ℕ) → IsFirstListed p counts list r → q < r → counts q ≤ limit_of p q
   below-first r q f l = elim (listed list (length list) q) [
-    | inl found ↦ elim (cases_lt found.place f.place) [
-      | inl before ↦ let c : counts (slice_index list found.place) ≤ limit_of p (slice_index list found.place) = f.first found.place before in rw found.is at c
-      | inr after ↦ elim (cases_eq f.place found.place) [
-        | inl same ↦ absurd (omega (arith, l, f.is, found.is, ap (λ k. slice_index list k) same))
-        | inr other ↦ absurd (omega (arith, l, f.is, found.is, h.rising f.place found.place (omega (arith, after, other)) found.there))
-      ]
+    | inl found ↦
+        let c : counts (slice_index list found.place) ≤ limit_of p (slice_index list found.place) =
+        listed-below r found.place f found.there (omega (arith, l, found.is)) in
+        rw found.is at c
+    | inr none ↦ elim (low q (omega (arith, l, f.is, h.there f.place f.there)) none) [
+      | inl within ↦ within
+      | inr same ↦ omega (arith, same.limit, same.count, listed-below r same.place f same.there (omega (arith, l, same.lower)))
     ]
-    | inr none ↦ low q (omega (arith, l, f.is, h.there f.place f.there)) none
   ]
 
   all-within : AreWithinListed p counts list (length list) → (r : ℕ) → r < resource_count p → counts r ≤ limit_of p r
   all-within w r l = elim (listed list (length list) r) [
     | inl found ↦ let c : counts (slice_index list found.place) ≤ limit_of p (slice_index list found.place) = w found.place found.there in rw found.is at c
-    | inr none ↦ low r l none
+    | inr none ↦ elim (low r l none) [
+      | inl within ↦ within
+      | inr same ↦ omega (arith, same.limit, same.count, w same.place same.there)
+    ]
   ]
 
 -- counts that stand by places, beside the limits
 module _ (p : ProblemView) (load : ℕ → ℕ) (list : List ℕ) (h : ListPassable p list)
-    (low : (r : ℕ) → r < resource_count p → ((i : ℕ) → i < length list → slice_index list i ≡ r → ⊥) → load r ≤ limit_of p r)
+    (low : AreOthersLow p load list)
     (counts limits : List ℕ) (a : (i : ℕ) → i < length list → slice_index counts i ≡ load (slice_index list i)) (b : AreLimitsAt p list limits) where
   within-listed : (n : ℕ) → n ≤ length list → AreWithinPlaces counts limits n → AreWithinListed p load list n
   within-listed n few w = λ i l. omega (arith, w i l, a i (omega (arith, l, few)), b i (omega (arith, l, few)))
@@ -77,12 +104,25 @@ module _ (p : ProblemView) (ranges : List (ℕ × ℕ)) (list : List ℕ) (v : A
   abbrev least_at : ℕ → ℕ
   least_at r = least_load p ranges r
 
-  least-low : (r : ℕ) → r < resource_count p → ((i : ℕ) → i < length list → slice_index list i ≡ r → ⊥) → least_at r ≤ limit_of p r
-  least-low r l none =
-      let most = h.rest r l none (λ u. low_of ranges u) (λ u m. omega (arith, v.ordered u m, v.there u m)) in
-      let fewer = sum_below-le (unit_count p) (λ u. least_uses p ranges u r) (λ u. alt_uses p u (low_of ranges u) r)
-      (λ u m. least_within-le (low_of ranges u) (high_of ranges u) (low_of ranges u) (λ b. alt_uses p u b r) (omega arith) (v.ordered u m)) in
-      omega (arith, most, fewer)
+  least-same : (q r : ℕ) → ((u a : ℕ) → alt_uses p u a q ≡ alt_uses p u a r) → least_at q ≡ least_at r
+  least-same q r same = sum_below-same (unit_count p) (λ u. least_uses p ranges u q) (λ u. least_uses p ranges u r)
+      (λ u _. ap (λ f. least_within (low_of ranges u) (high_of ranges u) f) (fun_ext (same u)))
+
+  least-low : AreOthersLow p (λ r. least_at r) list
+  least-low r l none = elim (h.rest r l none) [
+    | inl never ↦
+        let most = never (λ u. low_of ranges u) (λ u m. omega (arith, v.ordered u m, v.there u m)) in
+        let fewer = sum_below-le (unit_count p) (λ u. least_uses p ranges u r) (λ u. alt_uses p u (low_of ranges u) r)
+        (λ u m. least_within-le (low_of ranges u) (high_of ranges u) (low_of ranges u) (λ b. alt_uses p u b r) (omega arith) (v.ordered u m)) in
+        inl (omega (arith, most, fewer))
+    | inr equal ↦ inr (record {
+      place = equal.place;
+      there = equal.there;
+      lower = equal.lower;
+      limit = equal.limit;
+      count = least-same (slice_index list equal.place) r equal.uses;
+    })
+  ]
 
   module _ (least limits : List ℕ) (a : AreLeast p ranges list least) (b : AreLimitsAt p list limits) where
     pub first_place-IsFirstOver : (place : ℕ) → place < length list → slice_index limits place < slice_index least place →
@@ -98,8 +138,21 @@ module _ (p : ProblemView) (ranges : List (ℕ × ℕ)) (list : List ℕ) (v : A
 
 -- loads of a choice
 module _ (p : ProblemView) (x list : List ℕ) (c : IsChoice p x) (h : ListPassable p list) where
-  loads-low : (r : ℕ) → r < resource_count p → ((i : ℕ) → i < length list → slice_index list i ≡ r → ⊥) → load_of p x r ≤ limit_of p r
-  loads-low r l none = omega (arith, h.rest r l none (λ u. slice_index x u) c.there)
+  loads-same : (q r : ℕ) → ((u a : ℕ) → alt_uses p u a q ≡ alt_uses p u a r) → load_of p x q ≡ load_of p x r
+  loads-same q r same = sum_below-same (unit_count p) (λ u. alt_uses p u (slice_index x u) q) (λ u. alt_uses p u (slice_index x u) r)
+      (λ u _. same u (slice_index x u))
+
+  loads-low : AreOthersLow p (λ r. load_of p x r) list
+  loads-low r l none = elim (h.rest r l none) [
+    | inl never ↦ inl (never (λ u. slice_index x u) c.there)
+    | inr equal ↦ inr (record {
+      place = equal.place;
+      there = equal.there;
+      lower = equal.lower;
+      limit = equal.limit;
+      count = loads-same (slice_index list equal.place) r equal.uses;
+    })
+  ]
 
   module _ (loads limits : List ℕ) (a : AreLoadsAt p x list loads) (b : AreLimitsAt p list limits) where
     pub first_place-IsFirstPassed : (place : ℕ) → place < length list → slice_index limits place < slice_index loads place →

@@ -26,12 +26,14 @@ use std::marker::Model;
 use window_counts::{Counts, add_choice};
 
 /// Ranges of a problem, with what a visit asks of them: each unit's first cheapest alternative, what these together
-/// cost, and the resources that can be passed, with what they use of each and its least load, and what each unit adds to
-/// these. Where a range changes, what changes with it is counted anew, and nothing else. Contracts see the problem and the
-/// ranges.
+/// cost, and the listed resources, with what they use of each and its least load, and what each unit adds to these. Where
+/// a range changes, what changes with it is counted anew, and nothing else. Contracts see the problem and the ranges.
 ///
-/// Memory: 4 bytes a resource (8 while it is made), 20 bytes a resource that can be passed, and for each unit up to 76 bytes
-/// and 8 a use that the first alternative in its range has of those.
+/// The listed resources are those that `dual_bound::passable_resources` lists: the resources that can be passed, but of
+/// equal ones perhaps the first alone. So the lowest of all resources that are above their limits is a listed one.
+///
+/// Memory: 4 bytes a resource (8 while it is made), 20 bytes a listed resource, and for each unit up to 76 bytes and 8 a
+/// use that the first alternative in its range has of those. `of` takes, before this, what listing the resources takes.
 #[derive(Drop)]
 pub struct Walk<'a> {
     problem: &'a Problem,
@@ -74,10 +76,10 @@ impl<'a> Walk<'a> {
     ghost use Rattle.branch_tree.specs.Visits.{IsVisit, ClosesBy, NeedsPrices};
 
     /// The walk at these ranges. A unit takes a step an alternative in range, and, for each part that these name, some steps
-    /// a run and a use of a resource that can be passed; it ends early where nothing is left that all of them use. This
-    /// counts on alternatives that name the same first part standing together, and on their second parts being those of the
-    /// next such row, or these and others in front: else the second parts of a row are listed anew. Beside this it takes
-    /// some steps a use of each part, and a resource.
+    /// a run and a use of a listed resource; it ends early where nothing is left that all of them use. This counts on
+    /// alternatives that name the same first part standing together, and on their second parts being those of the next such
+    /// row, or these and others in front: else the second parts of a row are listed anew. Beside this it takes the steps of
+    /// listing the resources, some a use of each unit's first cheapest alternative, and some a resource.
     pub fn of(alloc: Global, problem: &'a Problem, ranges: Ranges) -> Result<Walk<'a>, Memory>
         requires { AreRanges problem.now ranges }
         ensures problem { IfOk result (λ walk. walk.problem ≡ problem.now) }
@@ -103,7 +105,7 @@ impl<'a> Walk<'a> {
         Walk::over(alloc, self.problem, ranges, passable, ranks, limits)
     }
 
-    // The walk at these ranges, with the resources that can be passed, and the ranks and limits of these.
+    // The walk at these ranges, with the listed resources, and the ranks and limits of these.
     fn over(
         alloc: Global,
         problem: &'a Problem,
@@ -175,7 +177,7 @@ impl<'a> Walk<'a> {
     }
 
     /// Visits the walk's ranges with further vectors, whose tables these are, from number 2 on: at most 63. `problem` is
-    /// the one of `of`. One step a resource that can be passed, and one an alternative in range for each vector with prices.
+    /// the one of `of`. One step a listed resource, and one an alternative in range for each vector with prices.
     pub fn visit_with(
         &self,
         alloc: Global,
@@ -199,7 +201,7 @@ impl<'a> Walk<'a> {
 
     /// The leaf that closes the walk's ranges without prices, and so at each visit, whatever the vectors are: of the lowest
     /// resource whose least load is above its limit, or of vector 0. Where there is none, `visit_priced` gives the visit's
-    /// answer: the root vector is wanted only there. `problem` is the one of `of`. One step a resource that can be passed.
+    /// answer: the root vector is wanted only there. `problem` is the one of `of`. One step a listed resource.
     pub fn unpriced_leaf(&self, problem: &Problem, seen: Option<u64>) -> Option<Node>
         requires problem { problem.now ≡ self.now.problem }
         ensures some { IfSome result (λ leaf. (root : List Price) (further : List (List Price)) →
@@ -223,7 +225,7 @@ impl<'a> Walk<'a> {
     }
 
     /// The answer of `visit_with` where `unpriced_leaf` has none: one step an alternative in range for each vector with
-    /// prices, and one a resource that can be passed where none of them closes.
+    /// prices, and one a listed resource where none of them closes.
     pub fn visit_priced(
         &self,
         alloc: Global,
@@ -254,8 +256,8 @@ impl<'a> Walk<'a> {
     }
 
     /// The answer of `visit_with` by totals that are kept for the vectors at scale 1024, those of the root vector first,
-    /// while the walk's ranges change: one step a resource that can be passed and a vector, and none an alternative. Both
-    /// tables are those for which the totals are.
+    /// while the walk's ranges change: one step a listed resource and a vector, and none an alternative. Both tables are
+    /// those for which the totals are.
     pub fn visit_kept(
         &self,
         alloc: Global,
