@@ -21,7 +21,7 @@ use std::alloc::Global;
 ///
 /// Of a season's resources these are a few of a hundred. Where they are more than a quarter of all, equal ones are looked
 /// for: some steps for each use by a part, but for parts with the same strips as one of an earlier unit, and for that time
-/// some 60 bytes a resource and 8 a part.
+/// at most some 100 bytes a resource and 8 a part.
 pub fn passable_resources(alloc: Global, problem: &Problem) -> Result<Vec<u32>, Memory>
     ensures { IfOk result (λ list. ListPassable problem.now list.items) }
 {

@@ -28,8 +28,8 @@ pub(crate) struct Split {
 const NUMBERS_A_RESOURCE: usize = 2;
 
 // For each resource the first equal one: some steps for each use by a part, but for those with the same strips as one of an
-// earlier unit, and some a resource. 4 bytes a resource, and for that time some 60 a resource and 16 for each class that
-// the uses of one unit make.
+// earlier unit, and some a resource. 4 bytes a resource, and for that time at most some 100 a resource, 16 for each class
+// that the uses of one unit make, and 4 for each number up to the highest limit.
 pub(crate) fn equal_resources(
     alloc: Global,
     problem: &Problem,

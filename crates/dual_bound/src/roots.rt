@@ -46,8 +46,7 @@ pub fn root_vector(alloc: Global, problem: &Problem) -> Result<Vector, Memory>
 /// A subgradient step then mostly takes one step for a part with the same strips as one of an earlier unit; for any other
 /// part one a strip, and one a run of a strip of several runs that is not priced yet; one for an alternative in range; two
 /// for a run of each unit's first least alternative; and some for a class. The memory is at most some 150 bytes for a
-/// resource of the first copy, 12 a resource of all, 24 a part and 50 a unit, and half a MB, or 2 MB where a strip has
-/// several runs.
+/// resource of the first copy, 12 a resource of all, 24 a part and 50 a unit, and at most 6 MB beside.
 pub fn node_vector(alloc: Global, problem: &Problem, ranges: &Ranges) -> Result<Vector, Memory>
     requires { AreRanges problem.now ranges.now }
     ensures node { IfOk result (λ vector. IsNodeVector problem.now ranges.now vector) }
