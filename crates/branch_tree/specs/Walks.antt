@@ -54,8 +54,8 @@ pub record IsKept (p : ProblemView) (ranges : List (ℕ × ℕ)) (alts : List �
   pub zeros_count : length zeros ≡ length listed
   pub zeros_are : AreZero zeros
 
--- the same, where each resource that can be passed is listed or equal to a lower listed one, with the ranks and limits of
--- the listed resources, and what each unit uses of them whatever it takes of its range
+-- the same, where each resource that can be passed is listed or equal to a lower listed one, with the ranks and
+-- limits of the listed resources, and what each unit uses of them whatever it takes of its range
 pub record IsKeptWith (p : ProblemView) (ranges : List (ℕ × ℕ)) (alts : List ℕ) (cost : ℕ)
     (loads least zeros passable ranks limits : List ℕ) (lists : List (List ℕ)) : Type 0 where
   pub kept : IsKept p ranges alts cost loads least zeros passable

@@ -6,7 +6,7 @@ use Rattle.std.proofs.lemmas.Bool.{cases_lt, cases_eq}
 use Rattle.std.proofs.lemmas.List.{get_or-set_same, get_or-set_other, length-set, get_or_append_left, get_or_push, length-append}
 use Rattle.choice_problem.specs.Loops.{run_uses}
 use Rattle.dual_bound.specs.declared.refine.Split.{Split}
-use Rattle.dual_bound.specs.Classes.{IsByClass, AreClasses, AreSplit, IsBySplit, AreSplitBy, IsMade, IsFirstWith, AreFirstsIn, split_at}
+use Rattle.dual_bound.specs.Classes.{IsByClass, AreClasses, AreSplit, IsBySplit, AreSplitBy, IsSplitOff, IsFirstWith, AreFirstsIn, split_at}
 use Rattle.dual_bound.proofs.CountLemmas.{run_uses-none, run_uses-last, run_uses-past, run_uses-other}
 
 abbrev none : Split
@@ -78,7 +78,7 @@ new-each P splits class part other b one last old c l = elim (cases_eq c class) 
 ]
 
 -- the classes after a use more of the resource at a place
-AreSplit-made : (part n class other at : ℕ) (classes : List ℕ) (old new : List Split) → at < n → class ≡ slice_index classes at → IsMade class part other old new →
+AreSplit-made : (part n class other at : ℕ) (classes : List ℕ) (old new : List Split) → at < n → class ≡ slice_index classes at → IsSplitOff class part other old new →
     AreSplit part n classes old → AreSplit part n (set classes at other) new
 AreSplit-made part n class other at classes old new l e (inl m) h = rw m.2 (record {
   some = h.some;
@@ -114,7 +114,7 @@ made-old x k v g l = grind (arith, common_steps)
 
 -- what all resources of a class share after a use more of the resource at a place
 IsBySplit-made : (part more n class other at : ℕ) (classes : List ℕ) (old new : List Split) (f g : ℕ → ℕ) → at < n → class ≡ slice_index classes at →
-    IsMade class part other old new → AreSplit part n classes old → g at ≡ f at + more → ((r : ℕ) → (r ≡ at → ⊥) → g r ≡ f r) →
+    IsSplitOff class part other old new → AreSplit part n classes old → g at ≡ f at + more → ((r : ℕ) → (r ≡ at → ⊥) → g r ≡ f r) →
     IsBySplit part more n classes old f → IsBySplit part more n (set classes at other) new g
 IsBySplit-made part more n class other at classes old new f g l e (inl m) h here rest b = rw m.2 (record {
   by_class = b.by_class;
@@ -163,7 +163,7 @@ AreSplitBy-run_start part n start classes splits s = AreSplitBy-start part n cla
 
 -- a run with a use more
 pub AreSplitBy-run : (part n start class other at : ℕ) (classes : List ℕ) (splits : List Split) (classes' : List ℕ) (old new : List Split) → start ≤ at → at < n →
-    class ≡ slice_index classes' at → IsMade class part other old new → AreSplitBy part n classes splits classes' old (λ r. run_uses start at r) →
+    class ≡ slice_index classes' at → IsSplitOff class part other old new → AreSplitBy part n classes splits classes' old (λ r. run_uses start at r) →
     AreSplitBy part n classes splits (set classes' at other) new (λ r. run_uses start (at + 1) r)
 AreSplitBy-run part n start class other at classes splits classes' old new from l e m h = record {
   split = AreSplit-made part n class other at classes' old new l e m h.split;
@@ -174,7 +174,7 @@ AreSplitBy-run part n start class other at classes splits classes' old new from 
       (h.shared more f b);
 }
   where
-    grown : IsMade class part other old new → length old ≤ length new
+    grown : IsSplitOff class part other old new → length old ≤ length new
     grown (inl a) = rw a.2 (omega arith)
     grown (inr a) = rw a.2 (omega (arith, length-new old class part other))
 

@@ -6,7 +6,7 @@ use Rattle.choice_problem.specs.Problems.{ProblemView, unit_count, part_count, r
 use Rattle.choice_problem.specs.Problems.{alt_count, alt_cost, alt_uses}
 use Rattle.dual_bound.specs.declared.refine.Split.{Split}
 
--- a number of each of the first n resources that all resources of a class share, where each has the number of its class
+-- the first n resources have numbers that all resources of a class share, where each is in the class that the list tells
 pub record IsByClass (n : ℕ) (classes : List ℕ) (f : ℕ → ℕ) : Type 0 where
   pub by_class : ℕ → ℕ
   pub each : (r : ℕ) → r < n → f r ≡ by_class (slice_index classes r)
@@ -35,8 +35,8 @@ pub record AreSplit (part n : ℕ) (classes : List ℕ) (splits : List Split) : 
   pub to : (c : ℕ) → c < length splits → (split_at splits c).part ≡ part →
       (split_at splits c).class < length splits
 
--- a number that all resources of a class share, and that is so much greater in the class that the part of a number has
--- made of a class
+-- the resources have numbers that all resources of a class share; a class that this part has split off another one has a
+-- number that is so much greater
 pub record IsBySplit (part more n : ℕ) (classes : List ℕ) (splits : List Split)
     (f : ℕ → ℕ) : Type 0 where
   pub by_class : ℕ → ℕ
@@ -44,18 +44,19 @@ pub record IsBySplit (part more n : ℕ) (classes : List ℕ) (splits : List Spl
   pub made : (c : ℕ) → c < length splits → (split_at splits c).part ≡ part →
       by_class (split_at splits c).class ≡ by_class c + more
 
--- the part of a number has split classes by these uses: what all resources of a class shared, they share with these uses
--- added, each so many times
+-- this part, with these uses, has split the classes: numbers that the resources of a class shared are still shared when
+-- each resource's uses are added, some times each
 pub record AreSplitBy (part n : ℕ) (classes : List ℕ) (splits : List Split) (classes' : List ℕ)
     (splits' : List Split) (uses : ℕ → ℕ) : Type 0 where
   pub split : AreSplit part n classes' splits'
   pub more : length splits ≤ length splits'
-  pub shared : (more : ℕ) (f : ℕ → ℕ) → IsBySplit part more n classes splits f →
-      IsBySplit part more n classes' splits' (λ r. f r + more * uses r)
+  pub shared : (times : ℕ) (f : ℕ → ℕ) → IsBySplit part times n classes splits f →
+      IsBySplit part times n classes' splits' (λ r. f r + times * uses r)
 
--- the class of those of a class that a part uses once more: the one that it has made of that class, or a new one
-abbrev pub IsMade : ℕ → ℕ → ℕ → List Split → List Split → Type 0
-IsMade class part other old new =
+-- the class of those resources of a class that a part uses once more: the one that it has split off that class, or a new
+-- one
+abbrev pub IsSplitOff : ℕ → ℕ → ℕ → List Split → List Split → Type 0
+IsSplitOff class part other old new =
     (((split_at old class).part ≡ part) × (other ≡ (split_at old class).class) × (new ≡ old))
     ⊎ ((((split_at old class).part ≡ part) → ⊥) × (other ≡ length old)
     × (new ≡ slice_set old class (record { part = part; class = other })
@@ -72,7 +73,7 @@ IsFirstWith numbers at known known' first =
     × (first ≡ slice_index known (slice_index numbers at)) × (known' ≡ known))
     ⊎ ((first ≡ at) × (known' ≡ slice_set known (slice_index numbers at) at))
 
--- for each resource the first one of its class
+-- for each resource one of its class that is not above it and stands for itself: the first one, as far as it was known
 pub record AreFirstsIn (classes firsts : List ℕ) : Type 0 where
   pub count : length firsts ≡ length classes
   pub low : (r : ℕ) → r < length classes → slice_index firsts r ≤ r
@@ -81,7 +82,7 @@ pub record AreFirstsIn (classes firsts : List ℕ) : Type 0 where
   pub one : (r : ℕ) → r < length classes →
       slice_index firsts (slice_index firsts r) ≡ slice_index firsts r
 
--- for each resource of the problem the first one that is equal to it, as far as was found
+-- for each resource of the problem an equal one that is not above it and stands for itself
 pub record AreFirsts (p : ProblemView) (firsts : List ℕ) : Type 0 where
   pub count : length firsts ≡ resource_count p
   pub low : (r : ℕ) → r < resource_count p → slice_index firsts r ≤ r

@@ -1,4 +1,5 @@
--- Problems on some of the resources of another one: those that its units can pass.
+-- Problems on some of the resources of another one: those that its units can pass, or the first of each class of equal
+-- ones.
 use Rattle.std.specs.Prelude.{◌≡◌, ℕ, ◌+◌, ◌<◌, ◌≤◌, ◌^◌, ◌-◌, ◌⊎◌, min, List, length, slice_index, slice_index_or, nat_lt, if◌then◌else◌, Bool, true, false, Option, Some}
 use Rattle.choice_problem.specs.declared.strips.Strip.{Strip}
 use Rattle.choice_problem.specs.declared.problems.Alt.{Alt}

@@ -13,7 +13,7 @@ ghost use Rattle.dual_bound.specs.Same.{AreSameTo};
 ghost use Rattle.dual_bound.specs.Loops.{IsPoint, IsGreatestUpTo};
 ghost use Rattle.dual_bound.specs.Classes.{AreGrouped, AreWeighted, by_classes};
 
-use crate::points::{Best, Point, better, evaluate, first_best, move_prices, step_length};
+use crate::points::{Best, HIGHEST, Point, better, evaluate, first_best, move_prices, step_length};
 use crate::same::{SameParts, same_parts};
 use choice_problem::{PRICED_SCALE, Problem, ROOT_STEPS, Ranges, price_vectors};
 use slot_text::Memory;
@@ -51,7 +51,7 @@ fn rank_after(rank: u32, first: u32, resource: u32) -> u32
 }
 
 // The class of each resource.
-pub(crate) fn classes_by(alloc: Global, firsts: &[u32], ranks: &[u32]) -> Result<Vec<u32>, Memory>
+pub(crate) fn classes_of(alloc: Global, firsts: &[u32], ranks: &[u32]) -> Result<Vec<u32>, Memory>
     requires { (r : ℕ) → r < length firsts.now → slice_index firsts.now r < length ranks.now }
     ensures count { IfOk result (λ classes. length classes.items ≡ length firsts.now) }
     ensures each { IfOk result (λ classes. (r : ℕ) → r < length firsts.now →
@@ -79,7 +79,7 @@ pub(crate) fn sizes_of(alloc: Global, classes: &[u32], count: u32) -> Result<Vec
     Ok(sizes)
 }
 
-// The prices of classes, each as often as the class has resources, where these are prices.
+// The prices of classes times their sizes; none where one comes to 2^40.
 fn weighted(alloc: Global, prices: &[u64], sizes: &[u32]) -> Result<Option<Vec<u64>>, Memory>
     requires { length sizes.now ≡ length prices.now }
     ensures { IfOk result (λ found. IfSome found (λ weighted.
@@ -88,7 +88,7 @@ fn weighted(alloc: Global, prices: &[u64], sizes: &[u32]) -> Result<Option<Vec<u
     let mut weighted = Vec::with_capacity(alloc, prices.len())?;
     for class in 0..prices.len() {
         let price = prices[class].saturating_mul(u64::from(sizes[class]));
-        if price >= 1 << 40 {
+        if price > HIGHEST {
             return Ok(None);
         }
         weighted.push(price)?;
@@ -96,9 +96,9 @@ fn weighted(alloc: Global, prices: &[u64], sizes: &[u32]) -> Result<Option<Vec<u
     Ok(Some(weighted))
 }
 
-// Of the prices of classes after 0 to 64 steps, the first with the greatest bound; none where the prices of all resources of a
-// class together are too great for a price.
-pub(crate) fn best_on_classes(
+// Of the prices of classes after 0 to 64 steps, the first with the greatest bound; none where the prices of all resources
+// of a class together come to 2^40.
+pub(crate) fn best_class_prices(
     alloc: Global,
     grouped: &Problem,
     sizes: &[u32],
@@ -115,8 +115,8 @@ pub(crate) fn best_on_classes(
 {
     price_vectors();
     let same = same_parts(alloc, grouped)?;
-    let none = vec![in alloc; 0; grouped.resources() as usize]?;
-    let Some(mut here) = class_point(alloc, grouped, sizes, &same, ranges, none)? else {
+    let zeros = vec![in alloc; 0; grouped.resources() as usize]?;
+    let Some(mut here) = class_point(alloc, grouped, sizes, &same, ranges, zeros)? else {
         return Ok(None);
     };
     let mut best = first_best(alloc, &here)?;
@@ -132,7 +132,8 @@ pub(crate) fn best_on_classes(
     Ok(Some(best))
 }
 
-// The point of prices of classes, where they are prices too as often as the classes have resources.
+// The point of prices of classes, with the loads and the bound at the prices times the sizes; none where such a product
+// comes to 2^40.
 fn class_point(
     alloc: Global,
     grouped: &Problem,

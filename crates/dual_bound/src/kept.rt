@@ -1,4 +1,5 @@
-//! The problem on those resources of a problem that its units can pass.
+//! The problem on some of the resources of a problem: those that its units can pass, or the first of each class of equal
+//! ones.
 
 ghost use Rattle.std.specs.Prelude.{◌≡◌, ◌+◌, ◌^◌, ◌<◌, ◌≤◌, ℕ, IfOk, [], length, slice_index, slice_index_or, pos, ◌≤ℤ◌, All};
 ghost use Rattle.choice_problem.specs.declared.problems.TheConstants.{HIGHEST_LIMIT, MOST_RESOURCES, MOST_UNITS};

@@ -19,9 +19,10 @@ use std::alloc::Global;
 /// its unit, which parts at nearby times share; one a use of the covering strips; and some a part, an alternative and a
 /// resource. For that time 4 bytes a resource, and for one unit at a time 24 bytes a covering strip and two flags a part.
 ///
-/// Of a season's resources these are a few of a hundred. Where they are more than a quarter of all, equal ones are looked
-/// for: some steps for each use by a part, but for parts with the same strips as one of an earlier unit, and for that time
-/// at most some 100 bytes a resource and 8 a part.
+/// Of a season's resources a few of a hundred can be passed. Where more than a quarter can, equal ones are looked for: two
+/// steps a strip, some for each use by a part, but for parts with the same strips as one of an earlier unit, and some a
+/// resource; for that time at most some 100 bytes a resource, 8 a part, 24 a unit, 50 for each class that the uses of one
+/// unit make, and 5 MB.
 pub fn passable_resources(alloc: Global, problem: &Problem) -> Result<Vec<u32>, Memory>
     ensures { IfOk result (λ list. ListPassable problem.now list.items) }
 {

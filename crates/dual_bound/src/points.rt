@@ -1,4 +1,4 @@
-//! Points of subgradient runs: prices of all resources, and the bound there.
+//! Points of subgradient runs: prices of all resources, or of classes of equal ones, and the bound there.
 
 ghost use Rattle.std.specs.Prelude.{◌≡◌, ℕ, ◌+◌, ◌*◌, ◌^◌, ◌<◌, ◌≤◌, IfOk, List, length, slice_index, pos, ◌-ℤ◌};
 ghost use Rattle.choice_problem.specs.declared.closing.TheConstants.{PRICED_SCALE, SCALE_BOUND};
@@ -23,8 +23,8 @@ use std::alloc::Global;
 // The highest price, as a number.
 pub(crate) const HIGHEST: u64 = HIGHEST_PRICE as u64;
 
-// Prices of all resources, how often each unit's first least alternative at these prices uses a resource, all units
-// together, and the bound.
+// Prices of all resources, or of classes of equal ones; how often each unit's first least alternative at these prices uses
+// one, all units together; and the bound, where the price of a class counts as often as it has resources.
 #[derive(Drop)]
 pub(crate) struct Point {
     pub(crate) prices: Vec<u64>,
@@ -32,7 +32,7 @@ pub(crate) struct Point {
     pub(crate) bound: i128,
 }
 
-// Prices of all resources, and the bound there.
+// Prices of all resources, or of classes, and the bound there.
 #[derive(Drop)]
 pub(crate) struct Best {
     pub(crate) prices: Vec<u64>,

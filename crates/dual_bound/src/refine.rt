@@ -9,7 +9,7 @@ ghost use Rattle.choice_problem.specs.Strips.{strip_uses, part_uses, IsStripInRa
 ghost use Rattle.choice_problem.specs.Loops.{run_uses};
 ghost use Rattle.choice_problem.specs.Problems.{unit_count, part_count, resource_count, limit_of};
 ghost use Rattle.dual_bound.specs.Same.{AreSameTo, AreSameParts, strips_at};
-ghost use Rattle.dual_bound.specs.Classes.{IsByClass, IsUnitByClass, AreClasses, AreSplit, AreSplitBy, IsMade, IsFirstWith, AreFirstsIn, AreFirsts, part_order};
+ghost use Rattle.dual_bound.specs.Classes.{IsByClass, IsUnitByClass, AreClasses, AreSplit, AreSplitBy, IsSplitOff, IsFirstWith, AreFirstsIn, AreFirsts, part_order};
 
 use crate::same::{PartOf, SameParts};
 use choice_problem::{Problem, Strip};
@@ -27,9 +27,10 @@ pub(crate) struct Split {
 // How many numbers of classes there may be for each resource before the classes are numbered anew.
 const NUMBERS_A_RESOURCE: usize = 2;
 
-// For each resource the first equal one: some steps for each use by a part, but for those with the same strips as one of an
-// earlier unit, and some a resource. 4 bytes a resource, and for that time at most some 100 a resource, 16 for each class
-// that the uses of one unit make, and 4 for each number up to the highest limit.
+// For each resource an equal one, the first that was found: some steps for each use by a part, also by one that no
+// alternative names, but for those with the same strips as one of an earlier unit, and some a resource. 4 bytes a resource,
+// and for that time at most some 100 a resource, 50 for each class that the uses of one unit make, and 4 for each number
+// up to the highest limit.
 pub(crate) fn equal_resources(
     alloc: Global,
     problem: &Problem,
@@ -213,7 +214,7 @@ fn split_by_run(
 // The class of those resources of a class that a part uses once more; a new one with the first of them.
 fn used_once_more(class: u32, part: u64, splits: &mut Vec<Split>) -> Result<u32, Memory>
     requires { class < length splits.old.items }
-    ensures { IfOk result (λ other. IsMade class part other splits.old.items splits.new.items) }
+    ensures { IfOk result (λ other. IsSplitOff class part other splits.old.items splits.new.items) }
 {
     let split = splits[class as usize];
     if split.part == part {

@@ -9,7 +9,7 @@ ghost use Rattle.dual_bound.specs.Loops.{IsGreatestUpTo};
 ghost use Rattle.dual_bound.specs.Kept.{KeepPassed};
 ghost use Rattle.dual_bound.specs.Same.{AreSameTo};
 
-use crate::classes::{best_on_classes, classes_by, first_ranks, sizes_of, spread_classes};
+use crate::classes::{best_class_prices, classes_of, first_ranks, sizes_of, spread_classes};
 use crate::kept::{kept_problem, kept_ranks, spread_prices};
 use crate::points::{
     Best, better, evaluate, first_best, move_prices, start, step_length, vector_in,
@@ -33,20 +33,22 @@ pub fn root_vector(alloc: Global, problem: &Problem) -> Result<Vector, Memory>
 /// step raises or lowers each resource's price by its length for each use above or below the limit, never under 0; the
 /// lengths halve from 16384 with every eight steps. All prices stay below 2^40.
 ///
-/// Where the `passable_resources` are at most a quarter of all, the prices move on these alone, by a copy of the units that
-/// uses no others. Finding them takes the time of `passable_resources`; the copy takes one step a run of the strips and one
-/// an alternative. It has the parts, the alternatives, and a strip of 16 bytes a run that uses one of these resources.
-/// Else the prices move on all resources, by the problem itself.
+/// Where at most a quarter of all resources can be passed, as far as the count tells with which `passable_resources` begins,
+/// the prices move on these alone, by a copy of the units that uses no others. Finding them takes the time of that count;
+/// the copy takes one step a run of the strips and one an alternative. It has the parts, the alternatives, and a strip of
+/// 16 bytes a run that uses one of these resources. Else the prices move on all resources.
 ///
-/// Of these resources, those with the same limit that each part uses equally often have the same price after each step: the
-/// prices move on such classes, by another such copy, which uses one resource of each. Finding the classes takes two steps
-/// a strip, some a use by a part, but for parts with the same strips as one of an earlier unit, and some a resource. Where
-/// the prices of all resources of a class come to 2^40 together, the prices move on each resource instead.
+/// Of the resources on which prices move, those with the same limit that each part uses equally often have the same price
+/// after each step: the prices move on such classes, by another such copy, which uses one resource of each. Finding the
+/// classes takes two steps a strip, some for each use by a part, also by one that no alternative names, but for parts with
+/// the same strips as one of an earlier unit, and some a resource. Where the prices of all resources of a class come to
+/// 2^40 together, the steps begin again, on each resource.
 ///
 /// A subgradient step then mostly takes one step for a part with the same strips as one of an earlier unit; for any other
 /// part one a strip, and one a run of a strip of several runs that is not priced yet; one for an alternative in range; two
-/// for a run of each unit's first least alternative; and some for a class. The memory is at most some 150 bytes for a
-/// resource of the first copy, 12 a resource of all, 24 a part and 50 a unit, and at most 6 MB beside.
+/// for a run of each unit's first least alternative; and some for a class, or for a resource where prices move on each.
+/// The memory beside the copies is at most some 150 bytes a resource on which prices move, 12 a resource of all, 32 a part,
+/// 75 a unit, 50 for each class that the uses of one unit make, and 6 MB.
 pub fn node_vector(alloc: Global, problem: &Problem, ranges: &Ranges) -> Result<Vector, Memory>
     requires { AreRanges problem.now ranges.now }
     ensures node { IfOk result (λ vector. IsNodeVector problem.now ranges.now vector) }
@@ -123,10 +125,10 @@ fn best_by_classes(
 {
     let firsts = equal_resources(alloc, problem, same)?;
     let ranks = first_ranks(alloc, problem, &firsts)?;
-    let classes = classes_by(alloc, &firsts, &ranks)?;
+    let classes = classes_of(alloc, &firsts, &ranks)?;
     let grouped = kept_problem(alloc, problem, &ranks)?;
     let sizes = sizes_of(alloc, &classes, grouped.resources())?;
-    let Some(mut best) = best_on_classes(alloc, &grouped, &sizes, ranges)? else {
+    let Some(mut best) = best_class_prices(alloc, &grouped, &sizes, ranges)? else {
         return Ok(None);
     };
     best.prices = spread_classes(alloc, &classes, &best.prices)?;

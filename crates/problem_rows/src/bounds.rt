@@ -83,8 +83,9 @@ impl Case for JudgedCase {
 }
 
 // A window at half past six; three units that exclude each other, at the root and on both sides of a split; two units by
-// their limits; four units; a problem of nothing; six resources in four classes, of which two are used alike but for their
-// limits; 20,000 resources in one class, whose prices together come above 2^40.
+// their limits; four units; a problem of nothing; six resources in four classes, two of which are used alike and have other
+// limits; 20,000 resources in one class, whose prices together pass 2^40 at the ninth step, so that the steps begin again on
+// each resource.
 const VECTORS: &str = "window 1 | | root = 1 of 32768 | 30720 30 by 1
 window 210 | | root = 210 of 32768 | 6451200 6300 by 1
 three | | node = 3 of 10240 | 30720 30 by 1

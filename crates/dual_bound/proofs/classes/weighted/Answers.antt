@@ -10,7 +10,7 @@ loop-class-preserved c =
     let items = c.loop-class.weighted.items in
     let class = c.loop-class.class in
     let price = c.saturating_mul-price.result in
-    let small : price < 2 ^ 40 = omega (arith, c.if-price.false) in
+    let small : price < 2 ^ 40 = omega (arith, c.if-price-gt-HIGHEST.false) in
     let times : price ≡ slice_index c.args.prices.now class * c.from.result = omega (arith, c.saturating_mul-price.ensures, small) in
     let value : price ≡ slice_index c.args.sizes.now class * slice_index c.args.prices.now class =
     times

@@ -8,7 +8,7 @@ use Rattle.dual_bound.specs.Loops.{IsPoint, IsAfter, AreMoved}
 use Rattle.dual_bound.specs.Classes.{AreGrouped, by_classes}
 use Rattle.dual_bound.proofs.StepLemmas.{moved_is, IsGreatestUpTo-start}
 use Rattle.dual_bound.proofs.ClassLemmas.{IsAfter-free, AreMoved-by}
-use Rattle.dual_bound.proofs.classes.best_on_classes.Goals as goal
+use Rattle.dual_bound.proofs.classes.best_class_prices.Goals as goal
 
 pub loop-step-init : goal.loop-step-init
 loop-step-init c =
@@ -16,9 +16,9 @@ loop-step-init c =
     let sizes = c.args.sizes.now in
     let ranges = c.args.ranges.now in
     let here = c.in-Some.here in
-    let none = c.in_ok-none.none.items in
-    let same : here.prices.items ≡ none = rw c.in-Some.is at c.in_ok-here.ensures.same in
-    let zeros : none ≡ replicate (resource_count k) 0 = rw c.resources.ensures.count at (c.in_ok-none.ensures.items_if_clones_equal (λ y e. e)) in
+    let start = c.in_ok-zeros.zeros.items in
+    let same : here.prices.items ≡ start = rw c.in-Some.is at c.in_ok-here.ensures.same in
+    let zeros : start ≡ replicate (resource_count k) 0 = rw c.resources.ensures.count at (c.in_ok-zeros.ensures.items_if_clones_equal (λ y e. e)) in
     let free : (class : ℕ) → class < resource_count k → slice_index here.prices.items class ≡ 0 = λ class l. rw (same, zeros) (get_or-replicate (resource_count k) class 0 0 l) in
     let prices : ArePrices k here.prices.items = record {
       count = rw (same, zeros) (length-replicate (resource_count k) 0);

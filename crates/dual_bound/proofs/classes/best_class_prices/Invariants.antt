@@ -3,7 +3,7 @@ use Rattle.choice_problem.specs.Problems.{ProblemView, resource_count}
 use Rattle.price_table.specs.Strips.{ArePrices}
 use Rattle.dual_bound.specs.Loops.{IsPoint, IsAfter, IsGreatestUpTo}
 use Rattle.dual_bound.specs.Classes.{AreGrouped, by_classes}
-use Rattle.dual_bound.proofs.classes.best_on_classes.Given as goal
+use Rattle.dual_bound.proofs.classes.best_class_prices.Given as goal
 
 abbrev pub invariant-loop-step : goal.invariant-loop-step
 invariant-loop-step l = record {
