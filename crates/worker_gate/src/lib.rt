@@ -1,3 +1,6 @@
+//! The gate of workers: points at which a test may hold a worker of a search or of a session.
+#![tactic(auto)]
+
 /// Points at which a test may hold a worker. Workers on several threads share one gate.
 pub trait Gate: Sync {
     /// The worker is about to visit a node of a search tree.
