@@ -8,3 +8,4 @@ mod UsesLemmas
 mod RangeLemmas
 mod FewLemmas
 mod LimitLemmas
+mod OnceLemmas

@@ -1,5 +1,5 @@
 -- Limits by their numbers: one more, those of a line's windows, and the night quota's.
-use Rattle.std.proofs.Common.{◌≡◌, ℕ, ◌+◌, ◌-◌, ◌*◌, ◌/◌, ◌%◌, ◌<◌, ◌≤◌, true, false, ap, sym, ◌∙◌, refl, arith, inl, inr, List, [], ◌∷◌, ◌++◌, Some, length, get_or, ℤ, pos}
+use Rattle.std.proofs.Common.{◌≡◌, ℕ, ◌+◌, ◌-◌, ◌*◌, ◌/◌, ◌%◌, ◌<◌, ◌≤◌, true, false, ap, sym, ◌∙◌, refl, arith, inl, inr, List, [], ◌∷◌, ◌++◌, Some, length, get_or}
 use Rattle.std.specs.Prelude.{slice_get, sum_by, All, Option, None, nat_lt, ◌==◌, if◌then◌else◌}
 use Rattle.std.specs.Option.{ForSome}
 use Rattle.std.proofs.Math.ListN.{get_or-append}
@@ -17,33 +17,33 @@ use Rattle.capacity_windows.specs.declared.resource.Resource.TheVariants.{Window
 use Rattle.capacity_windows.proofs.NumberLemmas.{quota_at}
 
 -- one limit more
-pub next_limit : (c : Capacity) (limits : List ℤ) (limit : ℤ) → AreLimits c limits → pos (window_limit c (length limits)) ≡ limit → AreLimits c (limits ++ limit ∷ [])
+pub next_limit : (c : Capacity) (limits : List ℕ) (limit : ℕ) → AreLimits c limits → window_limit c (length limits) ≡ limit → AreLimits c (limits ++ limit ∷ [])
 next_limit c limits limit are is r lt =
     let more = limits ++ limit ∷ [] in
     let long : length more ≡ length limits + 1 = length-append limits (limit ∷ []) in
-    let at : slice_get more r ≡ Some (get_or more r (pos 0)) = slice_get-get_or more r (pos 0) lt in
+    let at : slice_get more r ≡ Some (get_or more r 0) = slice_get-get_or more r 0 lt in
     elim (cases_lt r (length limits)) [
       | inl before ↦
           at
-          ∙ ap Some (get_or-append limits (limit ∷ []) (pos 0) r before ∙ get_or_from_slice_get limits r (pos (window_limit c r)) (pos 0) (are r before))
+          ∙ ap Some (get_or-append limits (limit ∷ []) 0 r before ∙ get_or_from_slice_get limits r (window_limit c r) 0 (are r before))
       | inr past ↦
           let last : r ≡ length limits = omega (arith, long, lt, past) in
           at
-          ∙ ap Some (ap (λ (k : ℕ). get_or more k (pos 0)) last ∙ get_or-append_seam limits limit [] (pos 0) ∙ sym is ∙ ap (λ (k : ℕ). pos (window_limit c k)) (sym last))
+          ∙ ap Some (ap (λ (k : ℕ). get_or more k 0) last ∙ get_or-append_seam limits limit [] 0 ∙ sym is ∙ ap (λ (k : ℕ). window_limit c k) (sym last))
     ]
 
 -- some equal limits more
-pub equal_limits : (c : Capacity) (old new : List ℤ) (n : ℕ) (limit : ℤ) → AreLimits c old → length new ≡ length old + n →
-    ((k : ℕ) (d : ℤ) → k < length old + n → k < length old → get_or new k d ≡ get_or old k d) → ((k : ℕ) (d : ℤ) → length old ≤ k → k < length old + n → get_or new k d ≡ limit) →
-    ((start : ℕ) → start < n → pos (window_limit c (length old + start)) ≡ limit) → AreLimits c new
+pub equal_limits : (c : Capacity) (old new : List ℕ) (n limit : ℕ) → AreLimits c old → length new ≡ length old + n →
+    ((k d : ℕ) → k < length old + n → k < length old → get_or new k d ≡ get_or old k d) → ((k d : ℕ) → length old ≤ k → k < length old + n → get_or new k d ≡ limit) →
+    ((start : ℕ) → start < n → window_limit c (length old + start) ≡ limit) → AreLimits c new
 equal_limits c old new n limit are long same more is r lt =
-    slice_get-get_or new r (pos 0) lt
+    slice_get-get_or new r 0 lt
     ∙ ap Some (elim (cases_lt r (length old)) [
       | inl before ↦
-          same r (pos 0) (omega (arith, before)) before ∙ get_or_from_slice_get old r (pos (window_limit c r)) (pos 0) (are r before)
+          same r 0 (omega (arith, before)) before ∙ get_or_from_slice_get old r (window_limit c r) 0 (are r before)
       | inr past ↦
           let at : length old + (r - length old) ≡ r = omega (arith, past) in
-          more r (pos 0) past (omega (arith, lt, long)) ∙ sym (is (r - length old) (omega (arith, lt, long, past))) ∙ ap (λ (k : ℕ). pos (window_limit c k)) at
+          more r 0 past (omega (arith, lt, long)) ∙ sym (is (r - length old) (omega (arith, lt, long, past))) ∙ ap (λ (k : ℕ). window_limit c k) at
     ])
 
 -- the limits of a line's windows on a day, where the windows are numbered day by day

@@ -1,6 +1,6 @@
 -- Facts that `Windows` keeps and that its private calls hand on: contracts of private functions
 -- alone cite them.
-use Rattle.std.specs.Prelude.{◌≡◌, ℕ, ◌<◌, ◌≤◌, List, length, Some, slice_get, ℤ, pos}
+use Rattle.std.specs.Prelude.{◌≡◌, ℕ, ◌<◌, ◌≤◌, List, length, Some, slice_get}
 use Rattle.season_days.specs.Seasons.{date_count}
 use Rattle.season_days.specs.declared.season.TheConstants.{MOST_DATES}
 use Rattle.season_days.specs.declared.declaration.TheConstants.{MINUTES_OF_DAY, HIGHEST_WINDOW_LIMIT, HIGHEST_NIGHT_LIMIT}
@@ -24,6 +24,5 @@ IsResource c (Quota night) = night.limit ≤ HIGHEST_NIGHT_LIMIT
 IsResource c Nothing = Unit {0}
 
 -- the limits of the first resources, by their numbers
-abbrev pub AreLimits : Capacity → List ℤ → Type 0
-AreLimits c limits =
-    (r : ℕ) → r < length limits → slice_get limits r ≡ Some (pos (window_limit c r))
+abbrev pub AreLimits : Capacity → List ℕ → Type 0
+AreLimits c limits = (r : ℕ) → r < length limits → slice_get limits r ≡ Some (window_limit c r)

@@ -3,7 +3,7 @@
 //! day and those of the day before. A band takes one strip where the line and the dates of the stop
 //! are daily, and else at most one for each weekday.
 
-ghost use Rattle.std.specs.Prelude.{◌≡◌, ◌+◌, ◌*◌, ◌<◌, ◌≤◌, ℕ, IfOk, OnOk, All, [], length};
+ghost use Rattle.std.specs.Prelude.{◌≡◌, ◌+◌, ◌*◌, ◌<◌, ◌≤◌, ℕ, IfOk, OnOk, All, [], length, sum_by};
 ghost use Rattle.choice_problem.specs.Strips.{part_uses, IsPartInRange};
 ghost use Rattle.season_days.specs.Seasons.{date_count};
 ghost use Rattle.season_days.specs.declared.declaration.Kind.{Kind};
@@ -33,7 +33,8 @@ impl Windows {
     /// dates.
     ///
     /// The part uses one resource at most 217 times, so an alternative of two such parts at most
-    /// 434 times. A capacity line that holds the kind takes one strip for its windows of the
+    /// 434 times, and a window at most once, since it is at most a day long: the night quota alone
+    /// can be used more often. A capacity line that holds the kind takes one strip for its windows of the
     /// movement's day and one for those of the day before where all weekdays are in its set and in
     /// the period's, and else up to seven for each; any other line takes none, and the night quota
     /// one. So a daily stop under 16 daily lines takes at most 33 strips, however many dates it
@@ -56,6 +57,8 @@ impl Windows {
         ensures range { IfOk result (λ part. IsPartInRange (declared_resources self.now) part) }
         ensures few_uses { IfOk result
             (λ part. (r : ℕ) → part_uses part r ≤ MOST_DATES) }
+        ensures once { IfOk result (λ part. (r : ℕ) →
+            r < sum_by (windows_of self.now) self.now.rules → part_uses part r ≤ 1) }
         ensures few { IfOk result (λ part. length part ≤ most_strips self.now kind period) }
         ensures few_ever { IfOk result (λ part. length part ≤ 14 * length self.now.rules + 1) }
     {

@@ -6,7 +6,6 @@
 mod buffer;
 mod cabinet;
 mod failures;
-mod gate;
 pub mod laws;
 mod log;
 mod memory_cabinet;
@@ -18,7 +17,6 @@ mod slots;
 
 pub use cabinet::{Cabinet, CabinetFault};
 pub use failures::Failure;
-pub use gate::{Gate, RealGate};
 pub use memory_cabinet::MemoryCabinet;
 pub use memory_sink::MemorySink;
 pub use real_cabinet::RealCabinet;

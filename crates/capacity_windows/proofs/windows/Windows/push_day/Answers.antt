@@ -1,7 +1,4 @@
-use Rattle.std.proofs.Common.{◌≡◌, ◌+◌, refl, ap, sym, ◌∙◌, arith, length, pos, rules}
-use Rattle.std.proofs.lemmas.Int.{ints, to_z-of_z}
-use mir.Syntax.{w64}
-use mir.Val.{SFits}
+use Rattle.std.proofs.Common.{◌≡◌, ◌+◌, refl, arith, length, rules}
 use Rattle.capacity_windows.proofs.LimitLemmas.{equal_limits}
 use Rattle.capacity_windows.proofs.windows.Windows.push_day.Goals as goal
 
@@ -12,8 +9,7 @@ returns-clause-limits c =
     let starts = c.args.starts in
     let by = c.in_ok-resize.ensures.by_index in
     let long : length new ≡ length old + starts = search rules in
-    let fits : SFits w64 c.from.result = omega (arith, ints, c.from.ensures) in
     equal_limits c.args.self.now old new starts _ c.requires.before long
     (λ k d all lt. by.0 k d (omega (arith, all, c.len.ensures)) (omega (arith, lt, c.len.ensures)))
     (λ k d le lt. by.1 k d refl (omega (arith, le, c.len.ensures)) (omega (arith, lt, c.len.ensures)))
-    (λ start lt. ap pos (c.requires.same start lt) ∙ sym c.from.ensures ∙ sym (to_z-of_z w64 c.from.result fits))
+    c.requires.same

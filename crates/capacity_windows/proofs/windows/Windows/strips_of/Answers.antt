@@ -6,6 +6,7 @@ use Rattle.capacity_windows.specs.Windows.{window_load, stop_movements, declared
 use Rattle.capacity_windows.proofs.NumberLemmas.{room_for}
 use Rattle.capacity_windows.proofs.RangeLemmas.{in_range, load_past}
 use Rattle.capacity_windows.proofs.RestLemmas.{rest_step, rest_none}
+use Rattle.capacity_windows.proofs.OnceLemmas.{once}
 use Rattle.capacity_windows.proofs.FewLemmas.{few_listed, few_more, few_in_all, few_ever}
 use Rattle.capacity_windows.proofs.windows.Windows.strips_of.Goals as goal
 
@@ -47,3 +48,9 @@ pub returns-clause-few_ever : goal.returns-clause-few_ever
 returns-clause-few_ever c =
     let few : length c.new.result ≤ most_strips c.args.self.now c.args.kind c.args.period = returns-clause-few c in
     omega (arith, few, few_ever c.args.self.now c.args.kind c.args.period)
+
+pub returns-clause-once : goal.returns-clause-once
+returns-clause-once c = λ r lt.
+    let self = c.args.self.now in
+    let uses : part_uses c.new.result r ≡ window_load self (stop_movements self c.args.kind c.args.minute c.args.later c.args.period) r = returns-clause-uses c r in
+    omega (arith, uses, once self c.args.kind c.args.minute c.args.later c.args.period self.rules r c.rules-rule-items.ensures.limits.rules lt)
