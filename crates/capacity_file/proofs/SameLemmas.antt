@@ -21,7 +21,8 @@ use Rattle.capacity_file.specs.declared.entry.Entry.TheVariants.{Airport, Season
 use Rattle.capacity_file.specs.declared.entry.Word.{Word}
 use Rattle.capacity_file.specs.declared.entry.Word.TheVariants.{Airport as airport_word, Season as season_word, Step as step_word, Flex as flex_word, Ground as ground_word, Share as share_word, Refuse as refuse_word, Night as night_word, Cap as cap_word}
 
--- the law of the spellings: a text names one time of the day, one set of weekdays and one kind of movements
+-- the law of the spellings: a text names one time of the day, one set of weekdays and one kind of
+-- movements
 pub record OneValue : Type 0 where
   pub time : (a b : ℕ) → a < 1440 → b < 1440 → time_text a ≡ time_text b → a ≡ b
   pub days : (text : List ℕ) (a b : ℕ) → IsDays text a → IsDays text b → a ≡ b

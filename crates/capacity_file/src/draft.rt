@@ -1,3 +1,5 @@
+//! What the lines read so far have stated.
+
 ghost use Rattle.std.specs.Prelude.{◌≡◌, ℕ, ◌+◌, ◌<◌, ◌^◌, ◌↔◌, suc, List, ◌∷◌, drop, IsTrue, MatchResult, ◌⊎◌};
 ghost use Rattle.capacity_file.specs.Readings.{Collected};
 ghost use Rattle.capacity_file.specs.Singles.{HasSingle, Sets, AddsEntry};

@@ -1,3 +1,5 @@
+//! The values of one line, by its word.
+
 ghost use Rattle.std.specs.Prelude.{◌≡◌, ℕ, ◌≤◌, ◌↔◌, IsTrue};
 ghost use Rattle.slot_text.specs.Fields.{fields_of};
 ghost use Rattle.capacity_file.specs.Readings.{IsValueOf, IsEntryOf, IsEntry};

@@ -1,3 +1,5 @@
+//! The words of lines, and what a line states.
+
 use season_days::{Night, Rule, Season};
 use slot_text::Station;
 

@@ -1,3 +1,5 @@
+//! Why a text is no capacity file, and what each cause prints.
+
 ghost use Rattle.std.specs.Prelude.{◌≡◌, Some};
 ghost use Rattle.capacity_file.specs.Texts.{cap_word_text, cap_limit_text, cap_fault_text};
 ghost use Rattle.capacity_file.specs.declared.fault.CapFault.TheVariants.{Memory};
@@ -61,8 +63,8 @@ impl fmt::Display for CapLimit {
     }
 }
 
-/// Why a text is no capacity file: the first cause, in the order of `BadLine` and `Twice` by their lines, `Missing`,
-/// `BadLine` of a FLEX that is no multiple of the STEP, and `OverLimit`.
+/// Why a text is no capacity file: the first cause, in the order of `BadLine` and `Twice` by their
+/// lines, `Missing`, `BadLine` of a FLEX that is no multiple of the STEP, and `OverLimit`.
 #[derive(Clone, Copy, Debug, PartialEq, Eq)]
 pub enum CapFault {
     /// The line, counted from 1, has no known word, not its word's number of fields, a value that

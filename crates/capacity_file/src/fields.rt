@@ -1,3 +1,5 @@
+//! The fields of a line behind its word: one, three or six.
+
 ghost use Rattle.std.specs.Prelude.{◌≡◌, ℕ, List, [], ◌∷◌, MatchOption};
 ghost use Rattle.slot_text.specs.Fields.{fields_of};
 

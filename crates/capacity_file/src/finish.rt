@@ -1,3 +1,5 @@
+//! The declaration that all lines make: what it must have, and its limits as a whole.
+
 ghost use Rattle.std.specs.Prelude.{◌≡◌, ℕ, ◌<◌, List, length, Some, MatchResult, MatchOption, All};
 ghost use Rattle.std.specs.Option.{ForSome};
 ghost use Rattle.slot_text.specs.Reads.{AnswersBy};

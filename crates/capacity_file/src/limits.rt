@@ -1,3 +1,5 @@
+//! The greatest flexibility, and the usual share of new entrants.
+
 /// The most minutes by which a time may be moved to either side.
 pub const MOST_FLEX: u64 = 120;
 

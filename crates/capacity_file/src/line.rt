@@ -1,3 +1,5 @@
+//! One line by itself.
+
 ghost use Rattle.capacity_file.specs.Readings.{IsLineReading};
 
 use crate::entries::read_entry;

@@ -1,3 +1,5 @@
+//! The whole file, line by line.
+
 ghost use Rattle.std.specs.Prelude.{◌≡◌, ◌⊎◌, ℕ, ◌<◌, ◌^◌, length, Ok, Err, IfOk, IfErr, MatchResult};
 ghost use Rattle.slot_text.specs.Lines.{lines_of};
 ghost use Rattle.slot_text.specs.Reads.{GivesOr};

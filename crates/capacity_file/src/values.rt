@@ -1,3 +1,5 @@
+//! Single values: numbers, minutes of the day, and steps.
+
 ghost use Rattle.std.specs.Prelude.{◌≡◌, ◌<◌, ◌≤◌, ℕ, List, IfSome, Some};
 ghost use Rattle.std.specs.Fmt.{decimal};
 ghost use Rattle.season_days.specs.declared.declaration.TheConstants.{MINUTES_OF_DAY};

@@ -1,3 +1,5 @@
+//! Which word a field is.
+
 ghost use Rattle.std.specs.Prelude.{◌≡◌, MatchOption};
 ghost use Rattle.capacity_file.specs.Words.{word_text};
 ghost use Rattle.capacity_file.specs.declared.entry.Word.{Word as WordValue};

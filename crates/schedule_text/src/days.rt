@@ -1,3 +1,5 @@
+//! Days of operation: as seven places, or as rising digits.
+
 ghost use Rattle.std.specs.Prelude.{◌≡◌, ◌<◌, ◌≤◌, ◌↔◌, ◌++◌, [], ℕ, List, IfSome, IsSomeAnd, IsTrue, Some, length, slice_index_or};
 ghost use Rattle.schedule_text.specs.Days.{IsDays, days_text, place_of_day, rising_text, rising_digit};
 ghost use Rattle.schedule_text.specs.Bits.{bit_of_place, digit_bit, digit_bits};

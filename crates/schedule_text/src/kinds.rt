@@ -1,3 +1,5 @@
+//! The words of the kinds of movements.
+
 ghost use Rattle.std.specs.Prelude.{◌≡◌, MatchOption};
 ghost use Rattle.season_days.specs.declared.declaration.Kind.{Kind as KindValue};
 ghost use Rattle.schedule_text.specs.Kinds.{kind_text};

@@ -1,3 +1,5 @@
+//! Times of the day, and numbers of two digits.
+
 ghost use Rattle.std.specs.Prelude.{◌≡◌, ◌<◌, ℕ, IfSome, Some};
 ghost use Rattle.season_days.specs.declared.declaration.TheConstants.{MINUTES_OF_DAY};
 ghost use Rattle.schedule_text.specs.Times.{two_digits, time_text};

@@ -1,8 +1,8 @@
 -- Counts over the dates of a held period: those of the asked one and of the parts of the cut
 -- together.
-use Rattle.std.proofs.Common.{◌≡◌, ℕ, zero, suc, ◌+◌, ◌*◌, ◌<◌, ◌≤◌, Bool, true, false, cond, eqb, nat_lt, List, [], ◌∷◌, length, filter, refl, sym, ap, subst, ◌∙◌, arith, inl, inr, ◌⊎◌, Option, Some, None, count_by}
+use Rattle.std.proofs.Common.{◌≡◌, ℕ, zero, suc, ◌+◌, ◌*◌, ◌<◌, ◌≤◌, Bool, true, false, cond, eqb, List, [], ◌∷◌, filter, refl, sym, subst, ◌∙◌, arith, inl, inr, Option, Some, None, count_by}
 use Rattle.std.specs.Prelude.{Contains}
-use Rattle.std.proofs.lemmas.Bool.{eqb-true, eq-eqb, cases_Bool, ltb-true, ltb-false}
+use Rattle.std.proofs.lemmas.Bool.{eqb-true, eq-eqb}
 use Rattle.std.proofs.lemmas.List.Elements.{Contains-append_right}
 use Rattle.std.proofs.lemmas.Map.Made.{Contains-tail}
 use Rattle.std.proofs.lemmas.List.Sums.{sum_by-cons}
@@ -13,7 +13,7 @@ use Rattle.season_days.specs.Term.{Term}
 use Rattle.season_days.specs.Seasons.{is_on, days_from, dates_of}
 use Rattle.season_days.specs.Periods.{HasAllDates, part_before, part_between, part_after, part_dates, if_dated, cut_of}
 use Rattle.season_days.specs.declared.day.Period.{Period}
-use Rattle.season_days.proofs.CutLemmas.{cut_before, cut_between, cut_after, in_dates, in_or_not, dated_same}
+use Rattle.season_days.proofs.CutLemmas.{cases_from, cut_before, cut_between, cut_after, in_dates, in_or_not, dated_same}
 
 -- ---- how often a number is in a list
 
@@ -119,9 +119,6 @@ cut_rises season part = subst (λ (xs : List ℕ). RisesFrom 0 xs) (sym (dated_s
 four : (h a b m f : ℕ) (p : Bool) → h ≡ a + (b + (m + f)) → h * cond p 1 0 ≡ a * cond p 1 0 + (b * cond p 1 0 + (m * cond p 1 0 + f * cond p 1 0))
 four h a b m f true e = omega (arith, e)
 four h a b m f false e = omega arith
-
-cases_from : (a b : ℕ) → (a ≤ b) ⊎ (b < a)
-cases_from a b = elim (cases_Bool (nat_lt b a)) [ inl lt ↦ inr (ltb-true b a lt) | inr ge ↦ inl (ltb-false b a ge) ]
 
 -- how often each of the lists has a day
 module _ (season : Term) (held asked : Period) (ordered : asked.first.0 ≤ asked.last.0) (all : HasAllDates season held asked) where

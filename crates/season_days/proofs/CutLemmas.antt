@@ -21,7 +21,7 @@ date_in season period day is = kept_in (is_on season period.days) period.first.0
 pub in_dates : (season : Term) (period : Period) (day : ℕ) → Contains (dates_of season period) day → IsDateBy season period day
 in_dates season period day has = let is = in_kept (is_on season period.days) period.first.0 (period.last.0 + 1 - period.first.0) day has in (is.0, omega (arith, is.0, is.1), is.2)
 
-cases_from : (a b : ℕ) → (a ≤ b) ⊎ (b < a)
+pub cases_from : (a b : ℕ) → (a ≤ b) ⊎ (b < a)
 cases_from a b =
     elim (cases_Bool (ltb b a)) [
       | inl below ↦ inr (ltb-true _ _ below)

@@ -1,6 +1,6 @@
 -- Periods beside one another: their common dates, and what is left of one where the dates of
 -- another are taken out.
-use Rattle.std.specs.Prelude.{◌≡◌, ◌≢◌, ◌⊎◌, ℕ, ◌==◌, ◌+◌, ◌-◌, ◌<◌, ◌≤◌, Bool, min, max, nat_lt, if◌then◌else◌, bit_and, bit_xor, List, [], ◌∷◌, All, Contains, Option, Some, None}
+use Rattle.std.specs.Prelude.{◌≢◌, ◌⊎◌, ℕ, ◌==◌, ◌+◌, ◌-◌, ◌<◌, ◌≤◌, Bool, min, max, nat_lt, if◌then◌else◌, bit_and, bit_xor, List, [], ◌∷◌, All, Contains, Option, Some, None}
 use Rattle.std.specs.List.{list_any, list_all, cons_option}
 use Rattle.season_days.specs.Term.{Term}
 use Rattle.season_days.specs.Seasons.{dates_of}
