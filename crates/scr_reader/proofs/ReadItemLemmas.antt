@@ -13,7 +13,7 @@ use Rattle.scr_reader.specs.declared.line.Item.{Item}
 use Rattle.scr_reader.specs.declared.line.Item.TheVariants.{One, Pair, Query}
 use Rattle.scr_reader.specs.declared.rows.Reading.{Reading}
 use Rattle.scr_reader.specs.Rows.{Row, remark, entry, question, IsRow}
-use Rattle.scr_reader.specs.Readings.{row_read, IsRowReading}
+use Rattle.scr_reader.specs.Private.Readings.{row_read, IsRowReading}
 use Rattle.scr_reader.specs.Messages.{AsksChange}
 use Rattle.scr_reader.specs.Printed.{flight_text, line_text, item_lines, item_text, ItemFits}
 use Rattle.scr_reader.specs.Again.{IsFitItem, IsItemText}
