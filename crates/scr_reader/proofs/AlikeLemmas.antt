@@ -1,5 +1,5 @@
 -- Runs of lines are the lines of messages.
-use Rattle.std.proofs.Common.{◌≡◌, ◌≢◌, ℕ, ◌+◌, ◌≤◌, true, false, List, [], ◌∷◌, length, map, refl, sym, ap, subst, ◌∙◌, inl, inr}
+use Rattle.std.proofs.Common.{◌≡◌, ℕ, ◌+◌, true, false, List, [], ◌∷◌, length, map, refl, sym, ap, subst, ◌∙◌, inl, inr}
 use Rattle.std.specs.Prelude.{All, ◌↔◌}
 use Rattle.std.proofs.lemmas.Bool.{cases_Bool, or_from, or_parts}
 use Rattle.std.proofs.lemmas.List.Elements.{All-cons, All-nil}
@@ -7,7 +7,7 @@ use Rattle.slot_text.specs.Lines.{lines_of}
 use Rattle.slot_text.specs.Fields.{is_blank_line}
 use Rattle.scr_reader.specs.Cuts.{some_passes}
 use Rattle.scr_reader.specs.Messages.{Run, run_from, begins_in_run, onto_run, runs_of, runs_in, IsMessage, IsMessageFault, IsFaultOfFirst, FirstIs, ReadsMessage, HasMessageFault}
-use Rattle.scr_reader.specs.Places.{StandsAt, StandAt}
+use Rattle.scr_reader.specs.Places.{StandAt}
 use Rattle.scr_reader.specs.Streams.{AreOfMessage, HoldsMessage, onto_message, messages_in, run_lines, piece_lines, messages_at_end}
 use Rattle.scr_reader.specs.declared.message.Message.{Message}
 use Rattle.scr_reader.specs.declared.message.Piece.{Piece}

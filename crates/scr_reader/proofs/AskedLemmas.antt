@@ -1,4 +1,5 @@
--- What is read of a message is what an airline can say: codes that it has, pairs, and a header in its ranges.
+-- What is read of a message is what an airline can say: codes that it has, pairs, and a header in
+-- its ranges.
 use Rattle.std.proofs.Common.{◌≡◌, ◌≢◌, ◌∙◌, ℕ, ◌+◌, Bool, true, false, List, [], ◌∷◌, length, take, Option, Some, None, refl, sym, subst}
 use Rattle.std.specs.Prelude.{◌==◌, ◌||◌, if◌then◌else◌, IsSomeAnd, slice_get, All}
 use Rattle.std.proofs.lemmas.Option.{none-some, same_Some}

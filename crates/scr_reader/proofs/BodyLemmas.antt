@@ -5,9 +5,9 @@ use Rattle.std.proofs.lemmas.Bool.{both_ways}
 use Rattle.season_days.specs.Term.{Term}
 use Rattle.slot_text.specs.declared.lines.TheConstants.{LONGEST_LINE}
 use Rattle.scr_reader.specs.Rows.{Row, remark, entry, question, is_remark, is_question, line_fields, IsRow, IsRowOrNone, AreRows, IsBadField}
-use Rattle.scr_reader.specs.Readings.{row_read, IsRowReading, AreReadings}
+use Rattle.scr_reader.specs.Private.Readings.{row_read, IsRowReading, AreReadings}
 use Rattle.scr_reader.specs.Messages.{IsShort, LineIsPaired, IsGoodRow, AreGood, IsLineFault, IsBodyFault}
-use Rattle.scr_reader.specs.Pairing.{rows_read, IsGoodReading, HasFaultAt, AreGoodReadings, IsFirstAt}
+use Rattle.scr_reader.specs.Private.Pairing.{rows_read, IsGoodReading, HasFaultAt, AreGoodReadings, IsFirstAt}
 use Rattle.scr_reader.specs.declared.line.Line.{Line}
 use Rattle.scr_reader.specs.declared.rows.Reading.{Reading}
 use Rattle.scr_reader.specs.declared.rows.Reading.TheVariants.{Remark, LongRemark, TooLong as OverLong, Bad, Entry, Question}

@@ -4,7 +4,7 @@ use Rattle.std.specs.Prelude.{slice_get}
 use Rattle.std.proofs.lemmas.List.{length-map, length-take-le, map-append, take_at, take_all, take_more_set, append-nil}
 use Rattle.std.proofs.Common.{append_assoc}
 use Rattle.slot_text.specs.Fields.{field_at, fields_of}
-use Rattle.scr_reader.specs.Texts.{text_in, empty_fields}
+use Rattle.scr_reader.specs.Private.Texts.{text_in, empty_fields}
 
 read_at : (items : List (Bor (List ℕ))) (count k : ℕ) (d : Bor (List ℕ)) → k < count → k < length items → Some (get_or items k d).now ≡ slice_get (map text_in (take count items)) k
 read_at [] count k d lt within = absurd (omega arith)

@@ -1,5 +1,5 @@
 -- A list cut behind its last element that passes a test, and one element more.
-use Rattle.std.proofs.Common.{◌≡◌, ◌⊎◌, Bool, true, false, ◌||◌, List, [], ◌∷◌, ◌++◌, refl, sym, ap, ◌∙◌, inl, inr}
+use Rattle.std.proofs.Common.{◌≡◌, ◌⊎◌, Bool, true, false, ◌||◌, List, [], ◌∷◌, ◌++◌, refl, ap, inl, inr}
 use Rattle.std.proofs.lemmas.Bool.{cases_Bool, or_right, or_from, or_parts}
 use Rattle.scr_reader.specs.Cuts.{some_passes, up_to_last, after_last}
 

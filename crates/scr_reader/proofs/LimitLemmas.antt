@@ -1,6 +1,6 @@
 -- A message that has broken a limit stays broken, and those before it stay the same.
-use Rattle.std.proofs.Common.{◌≡◌, ◌⊎◌, ℕ, ◌+◌, ◌<◌, ◌≤◌, Bool, true, false, ◌||◌, ◌&&◌, not, eqb, ltb, List, [], ◌∷◌, ◌++◌, length, refl, sym, ap, ◌∙◌, append_assoc, append-nil, length-append, inl, inr, arith}
-use Rattle.std.proofs.lemmas.Bool.{cases_Bool, or_from, or_parts, or_cases, or_left, or_right, and_parts, eqb-true, ltb-true, lt-ltb}
+use Rattle.std.proofs.Common.{◌≡◌, ◌⊎◌, ℕ, ◌≤◌, Bool, true, false, ◌||◌, ◌&&◌, not, eqb, ltb, List, [], ◌∷◌, ◌++◌, length, refl, sym, ap, ◌∙◌, append_assoc, append-nil, length-append, inl, inr, arith}
+use Rattle.std.proofs.lemmas.Bool.{cases_Bool, or_parts, or_cases, or_left, or_right, and_parts, eqb-true, ltb-true, lt-ltb}
 use Rattle.slot_text.specs.Fields.{is_blank, is_blank_line}
 use Rattle.scr_reader.specs.Cuts.{some_passes}
 use Rattle.scr_reader.specs.Streams.{is_lf, without_last_cr, open_bytes, open_lines, complete_messages, is_too_long, breaks_limit, is_broken, before_break, served_messages, one_message, message_under_way}

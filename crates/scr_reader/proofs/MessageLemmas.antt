@@ -1,13 +1,13 @@
 -- What a run of lines is, from its header and the readings of its other lines.
 use Rattle.std.proofs.Common.{◌≡◌, ◌⊎◌, ℕ, zero, suc, ◌+◌, ◌-◌, ◌<◌, ◌≤◌, List, [], ◌∷◌, length, drop, Some, Bor, refl, sym, ap, subst, ◌∙◌, arith, inl, inr}
 use Rattle.std.specs.Prelude.{Option, Result, Ok, Err, IsErrAnd, IsSomeAnd, slice_get, if◌then◌else◌}
-use Rattle.scr_reader.specs.Decided.{Decides, OnlyMessage, OnlyFault}
+use Rattle.scr_reader.specs.Private.Decided.{Decides, OnlyMessage, OnlyFault}
 use Rattle.std.proofs.lemmas.Bool.{cases_Bool}
 use Rattle.season_days.specs.Term.{Term}
-use Rattle.scr_reader.specs.Texts.{texts_in}
+use Rattle.scr_reader.specs.Private.Texts.{texts_in}
 use Rattle.scr_reader.specs.Rows.{Row, AreRows}
-use Rattle.scr_reader.specs.Readings.{AreReadings}
-use Rattle.scr_reader.specs.Pairing.{rows_read, AreGoodReadings, IsFirstAt}
+use Rattle.scr_reader.specs.Private.Readings.{AreReadings}
+use Rattle.scr_reader.specs.Private.Pairing.{rows_read, AreGoodReadings, IsFirstAt}
 use Rattle.scr_reader.specs.Messages.{Run, run_from, HeaderPart, title, address, parts_from_season, has_address, header_parts, header_length, season_place, header_of, body_of, PartSays, HeaderAgrees, IsHeaderFault, AreGood, IsBodyFault, items_of, IsMessage, IsMessageFault}
 use Rattle.scr_reader.specs.declared.header.Header.{Header}
 use Rattle.scr_reader.specs.declared.message.Message.{Message}

@@ -1,12 +1,11 @@
 -- The lines that a message and its fault name.
-use Rattle.std.proofs.Common.{◌≡◌, ◌⊎◌, ℕ, zero, suc, ◌+◌, ◌<◌, ◌≤◌, true, false, List, [], ◌∷◌, length, drop, Some, None, refl, sym, ap, ◌∙◌, arith, inl, inr, length-drop}
+use Rattle.std.proofs.Common.{◌≡◌, ◌⊎◌, ℕ, zero, suc, ◌+◌, ◌<◌, ◌≤◌, List, [], ◌∷◌, length, Some, None, ap, ◌∙◌, arith, inl, inr, length-drop}
 use Rattle.std.specs.Prelude.{Option, IsSomeAnd, slice_get, if◌then◌else◌}
 use Rattle.std.proofs.lemmas.Bool.{cases_Bool}
 use Rattle.season_days.specs.Term.{Term}
 use Rattle.scr_reader.specs.Rows.{Row}
 use Rattle.scr_reader.specs.Faults.{fault_line}
-use Rattle.scr_reader.specs.Messages.{run_from, HeaderPart, has_address, header_parts, header_length, body_of, PartSays, IsPartFault, IsHeaderFault, IsLineFault, IsBodyFault, IsFaultBelow, IsMessage, IsMessageFault}
-use Rattle.scr_reader.specs.declared.header.Header.{Header}
+use Rattle.scr_reader.specs.Messages.{run_from, HeaderPart, has_address, header_parts, header_length, body_of, IsPartFault, IsHeaderFault, IsLineFault, IsBodyFault, IsMessage, IsMessageFault}
 use Rattle.scr_reader.specs.declared.message.Message.{Message}
 use Rattle.scr_reader.specs.declared.fault.ScrFault.{ScrFault}
 use Rattle.scr_reader.specs.declared.fault.ScrFault.TheVariants.{BadLine, BadHeader, Unpaired, TooLong, Memory}

@@ -8,7 +8,7 @@ use Rattle.slot_text.specs.Stations.{IsStation}
 use Rattle.slot_text.specs.declared.station.Station.{Station}
 use Rattle.scr_reader.specs.Bytes.{is_digit}
 use Rattle.scr_reader.specs.Parts.{IsNights, StationsFit, stations_text}
-use Rattle.scr_reader.specs.FieldForms.{leading_nights, after_nights}
+use Rattle.scr_reader.specs.Private.FieldForms.{leading_nights, after_nights}
 
 -- ---- nights
 

@@ -1,4 +1,5 @@
--- The first nine fields decide, a line that agrees has no faulty field, and there is one first faulty field.
+-- The first nine fields decide, a line that agrees has no faulty field, and there is one first
+-- faulty field.
 use Rattle.std.proofs.Common.{◌≡◌, ℕ, zero, suc, ◌-◌, ◌<◌, ◌≤◌, List, [], ◌∷◌, length, take, refl, sym, ap, subst, ◌∙◌, arith, inl, inr}
 use Rattle.std.proofs.lemmas.List.{length-take}
 use Rattle.season_days.specs.Term.{Term}

@@ -19,7 +19,7 @@ use Rattle.scr_reader.specs.declared.line.Flight.{Flight}
 use Rattle.scr_reader.specs.Bytes.{is_letter, three_digits}
 use Rattle.scr_reader.specs.Parts.{flight_number_of, suffix_text, IsFlight, month_text, date_text, SpellsDay, IsPeriod, IsSeats, StationsFit, stations_text, IsArrivalGroup, IsNights, IsDepartureGroup}
 use Rattle.scr_reader.specs.Shapes.{IsCodeAlone, IsCodeAndFlight, IsLaterGroup}
-use Rattle.scr_reader.specs.FieldForms.{leading_nights, after_nights}
+use Rattle.scr_reader.specs.Private.FieldForms.{leading_nights, after_nights}
 use Rattle.scr_reader.proofs.PartLemmas.{by_airline, same_number, no_letter_last}
 use Rattle.scr_reader.proofs.CleanLemmas.{stations_long}
 use Rattle.scr_reader.proofs.DayLemmas.{in_range, by_five, by_ten, five_or_ten, halves}

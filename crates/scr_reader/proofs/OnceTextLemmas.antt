@@ -33,7 +33,7 @@ question_once : (fields : List (List ℕ)) (a b : Flight) → IsQuestion fields 
 question_once [] a b x y = absurd x
 question_once (text ∷ fields) a b x y = asked_once text a b x.0 y.0
 
-row_once : OneTime → OneSet → (season : Term) (line : List ℕ) (a b : Row) → IsRow season line a → IsRow season line b → a ≡ b
+pub row_once : OneTime → OneSet → (season : Term) (line : List ℕ) (a b : Row) → IsRow season line a → IsRow season line b → a ≡ b
 row_once times sets season line remark remark x y = refl
 row_once times sets season line remark (entry b) x y = absurd (both_ways (is_remark line) y.0.read x)
 row_once times sets season line remark (question b) x y = absurd (both_ways (is_remark line) y.0.read x)

@@ -3,9 +3,9 @@ use Rattle.std.proofs.Common.{◌≡◌, ◌≢◌, ℕ, zero, suc, ◌+◌, ◌
 use Rattle.std.specs.Prelude.{Option, IsSomeAnd, MatchOption}
 use Rattle.std.proofs.lemmas.List.{append-nil}
 use Rattle.scr_reader.specs.Rows.{Row, remark, entry, question}
-use Rattle.scr_reader.specs.Readings.{row_read}
+use Rattle.scr_reader.specs.Private.Readings.{row_read}
 use Rattle.scr_reader.specs.Messages.{next_row, LineIsPaired, RowAsksChange, AsksChange, line_item, pair_item, row_item, place, items_of}
-use Rattle.scr_reader.specs.Pairing.{rows_read, entry_of, Follows, IsGoodReading, HasFaultAt, AreGoodReadings, IsFirstAt}
+use Rattle.scr_reader.specs.Private.Pairing.{rows_read, entry_of, Follows, IsGoodReading, HasFaultAt, AreGoodReadings, IsFirstAt}
 use Rattle.scr_reader.specs.declared.line.Line.{Line}
 use Rattle.scr_reader.specs.declared.line.Item.{Item}
 use Rattle.scr_reader.specs.declared.line.Code.{Code}

@@ -13,7 +13,7 @@ use Rattle.scr_reader.specs.declared.line.Item.{Item}
 use Rattle.scr_reader.specs.declared.line.Item.TheVariants.{One, Pair, Query}
 use Rattle.scr_reader.specs.declared.rows.Reading.{Reading}
 use Rattle.scr_reader.specs.Rows.{Row, remark, entry, question, IsRow}
-use Rattle.scr_reader.specs.Readings.{row_read, IsRowReading}
+use Rattle.scr_reader.specs.Private.Readings.{row_read, IsRowReading}
 use Rattle.scr_reader.specs.Messages.{AsksChange}
 use Rattle.scr_reader.specs.Printed.{flight_text, line_text, item_lines, item_text, ItemFits}
 use Rattle.scr_reader.specs.Again.{IsFitItem, IsItemText}
@@ -21,6 +21,8 @@ use Rattle.scr_reader.proofs.CleanLemmas.{clean_flight}
 use Rattle.scr_reader.proofs.PrintLemmas.{NamedDays, printed_question}
 use Rattle.scr_reader.proofs.LineLemmas.{full_line, clean_is_line}
 use Rattle.scr_reader.proofs.AgainLemmas.{AllFull, lines_again, line_row, asked_change, asked_request}
+use Rattle.scr_reader.proofs.OncePartLemmas.{OneTime, OneSet}
+use Rattle.scr_reader.proofs.OnceTextLemmas.{row_once}
 
 -- ---- the lines of the text
 
@@ -127,3 +129,52 @@ pub entry_read : (season : Term) (text start first rest : List ℕ) (item : Item
     → Some (entry line) ≡ Some (first_row item) → ((l : List ℕ) (more : List (List ℕ)) → lines_of rest ≡ l ∷ more → IsSomeAnd next (λ t. t ≡ l)) → OneGives line r → PairGives season line next r → r ≡ Some item
 entry_read season text start first rest item line next r law is begins taken read follows one pair =
     entry_makes season item first (lines_of rest) line next r law is.fit (taken_lines season text start first rest item is begins taken) read follows one pair
+
+-- ---- one item
+
+-- the row of the second line, where there is one
+abbrev second_row : Item → List Row
+second_row (One line) = []
+second_row (Pair changed asking) = entry asking ∷ []
+second_row (Query flight) = []
+
+abbrev AreRowsOf : Term → List (List ℕ) → List Row → Type 0
+AreRowsOf season [] [] = Unit {0}
+AreRowsOf season [] (row ∷ rows) = ⊥
+AreRowsOf season (line ∷ lines) [] = ⊥
+AreRowsOf season (line ∷ lines) (row ∷ rows) = IsRow season line row × AreRowsOf season lines rows
+
+rows_once : OneTime → OneSet → (season : Term) (lines : List (List ℕ)) (a b : List Row) → AreRowsOf season lines a → AreRowsOf season lines b → a ≡ b
+rows_once times sets season [] [] [] x y = refl
+rows_once times sets season [] [] (r ∷ b) x y = absurd y
+rows_once times sets season [] (r ∷ a) b x y = absurd x
+rows_once times sets season (line ∷ lines) [] b x y = absurd x
+rows_once times sets season (line ∷ lines) (r ∷ a) [] x y = absurd y
+rows_once times sets season (line ∷ lines) (r ∷ a) (s ∷ b) x y =
+    ap (λ (t : Row). t ∷ a) (row_once times sets season line r s x.0 y.0) ∙ ap (λ (t : List Row). s ∷ t) (rows_once times sets season lines a b x.1 y.1)
+
+item_rows : (season : Term) (item : Item) → NamedDays season → IsFitItem season item → AreRowsOf season (item_lines season item) (first_row item ∷ second_row item)
+item_rows season (One line) law fit = (line_row season line law fit.asked.0 fit.fits, tt)
+item_rows season (Pair changed asking) law fit =
+    (line_row season changed law (asked_change changed.code fit.asked.0) fit.fits.0, (line_row season asking law (asked_request asking.code fit.asked.1.request) fit.fits.1, tt))
+item_rows season (Query flight) law fit = (printed_question season flight fit.fits, tt)
+
+item_of_rows : (a b : Item) → first_row a ∷ second_row a ≡ first_row b ∷ second_row b → a ≡ b
+item_of_rows (One a) (One b) e = ap (λ (l : Line). One l) (let f : a ≡ b = cc in f)
+item_of_rows (One a) (Pair c d) e = absurd cc
+item_of_rows (One a) (Query f) e = absurd cc
+item_of_rows (Pair a b) (One c) e = absurd cc
+item_of_rows (Pair a b) (Pair c d) e =
+    let f : a ≡ c = cc in
+    let g : b ≡ d = cc in
+    ap (λ (l : Line). Pair l b) f ∙ ap (λ (l : Line). Pair c l) g
+item_of_rows (Pair a b) (Query f) e = absurd cc
+item_of_rows (Query f) (One a) e = absurd cc
+item_of_rows (Query f) (Pair a b) e = absurd cc
+item_of_rows (Query f) (Query g) e = ap (λ (x : Flight). Query x) (let h : f ≡ g = cc in h)
+
+pub item_once : OneTime → OneSet → (season : Term) (text : List ℕ) (a b : Item) → NamedDays season → IsItemText season text a → IsItemText season text b → a ≡ b
+item_once times sets season text a b law x y =
+    let lines : item_lines season a ≡ item_lines season b = sym (text_lines season text a x) ∙ text_lines season text b y in
+    let rows = subst (λ (ls : List (List ℕ)). AreRowsOf season ls (first_row a ∷ second_row a)) lines (item_rows season a law x.fit) in
+    item_of_rows a b (rows_once times sets season (item_lines season b) (first_row a ∷ second_row a) (first_row b ∷ second_row b) rows (item_rows season b law y.fit))

@@ -7,7 +7,7 @@ use Rattle.scr_reader.specs.declared.line.Line.{Line}
 use Rattle.scr_reader.specs.declared.line.Flight.{Flight}
 use Rattle.scr_reader.specs.Shapes.{IsLine, IsFaultyField}
 use Rattle.scr_reader.specs.Rows.{Row, remark, entry, question, is_remark, is_question, line_fields, IsRow, IsQuestion, IsFaultyQuestion}
-use Rattle.scr_reader.specs.Readings.{IsRowReading, row_read}
+use Rattle.scr_reader.specs.Private.Readings.{IsRowReading, row_read}
 use Rattle.scr_reader.specs.declared.rows.Reading.TheVariants.{Remark, LongRemark, TooLong, Bad, Entry, Question}
 use Rattle.scr_reader.proofs.NineLemmas.{line_whole, line_cut, faulty_whole, same_asks, question_whole, question_cut, faulty_question_whole, faulty_no_line, faulty_no_question}
 

@@ -5,8 +5,8 @@ use Rattle.std.proofs.lemmas.List.{take_more, map-append, append-nil}
 use Rattle.slot_text.specs.Lines.{lines_of}
 use Rattle.season_days.specs.Term.{Term}
 use Rattle.slot_text.specs.Fields.{is_blank_line}
-use Rattle.scr_reader.specs.Texts.{text_in, texts_in}
-use Rattle.scr_reader.specs.Readings.{IsRowReading, AreReadings}
+use Rattle.scr_reader.specs.Private.Texts.{text_in, texts_in}
+use Rattle.scr_reader.specs.Private.Readings.{IsRowReading, AreReadings}
 use Rattle.scr_reader.specs.Messages.{run_from, begins_in_run, onto_run, runs_of, front_length}
 use Rattle.scr_reader.specs.declared.rows.Reading.{Reading}
 

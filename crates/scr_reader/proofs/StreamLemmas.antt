@@ -1,11 +1,11 @@
 -- What one more byte does to the messages that are complete and to what is under way.
-use Rattle.std.proofs.Common.{◌≡◌, ◌⊎◌, ℕ, Bool, true, false, ◌||◌, not, eqb, List, [], ◌∷◌, ◌++◌, refl, sym, ap, ◌∙◌, append_assoc, append-nil, inl, inr}
-use Rattle.std.proofs.lemmas.Bool.{cases_Bool, or_from, eqb-true}
+use Rattle.std.proofs.Common.{◌≡◌, ℕ, true, false, List, [], ◌∷◌, ◌++◌, refl, sym, ap, ◌∙◌, append_assoc, append-nil, inl, inr}
+use Rattle.std.proofs.lemmas.Bool.{cases_Bool, eqb-true}
 use Rattle.slot_text.specs.Lines.{lines_of}
 use Rattle.slot_text.specs.Fields.{is_blank_line}
 use Rattle.scr_reader.specs.Cuts.{some_passes, up_to_last, after_last}
 use Rattle.scr_reader.specs.Streams.{is_lf, without_last_cr, messages_in, whole_lines, open_bytes, open_lines, complete_messages, messages_so_far, one_message, message_under_way}
-use Rattle.scr_reader.proofs.LastLemmas.{some-snoc, some-more, some-append, up_to-snoc, up_to-more, after-snoc, after-more, parts, none-left}
+use Rattle.scr_reader.proofs.LastLemmas.{some-more, up_to-snoc, up_to-more, after-snoc, after-more, parts, none-left}
 use Rattle.scr_reader.proofs.StreamLineLemmas.{lines_behind, line_ends, line_open, one_line, without_cr_behind, without_cr_clean}
 use Rattle.scr_reader.proofs.StreamMessageLemmas.{messages_behind, message_of, message_before}
 

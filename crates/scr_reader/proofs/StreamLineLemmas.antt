@@ -1,9 +1,9 @@
 -- Lines of a text that is cut behind its last LF.
-use Rattle.std.proofs.Common.{◌≡◌, ◌⊎◌, ℕ, Bool, true, false, ◌||◌, ◌&&◌, eqb, List, [], ◌∷◌, ◌++◌, refl, sym, ap, ◌∙◌, append_assoc, inl, inr, arith}
-use Rattle.std.proofs.lemmas.Bool.{cases_Bool, or_parts, or_from, and_right, eqb-true, ne_eqb}
+use Rattle.std.proofs.Common.{◌≡◌, ℕ, false, ◌&&◌, eqb, List, [], ◌∷◌, ◌++◌, refl, ap, ◌∙◌, inl, inr}
+use Rattle.std.proofs.lemmas.Bool.{cases_Bool, or_parts, or_from, and_right, eqb-true}
 use Rattle.slot_text.specs.Lines.{starts_with_lf, onto_first, lines_of}
-use Rattle.scr_reader.specs.Cuts.{some_passes, up_to_last, after_last}
-use Rattle.scr_reader.specs.Streams.{is_lf, without_last_cr, whole_lines, open_bytes}
+use Rattle.scr_reader.specs.Cuts.{some_passes, up_to_last}
+use Rattle.scr_reader.specs.Streams.{is_lf, without_last_cr, whole_lines}
 use Rattle.scr_reader.proofs.LastLemmas.{up_to-end}
 
 starts_alike : (front back : List ℕ) → starts_with_lf ((front ++ 10 ∷ []) ++ back) ≡ starts_with_lf (front ++ 10 ∷ [])

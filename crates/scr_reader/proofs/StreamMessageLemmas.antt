@@ -1,8 +1,8 @@
 -- Messages of lines that are cut behind the last empty one.
-use Rattle.std.proofs.Common.{◌≡◌, ◌⊎◌, ℕ, Bool, true, false, ◌||◌, not, List, [], ◌∷◌, ◌++◌, refl, sym, ap, ◌∙◌, append_assoc, inl, inr}
+use Rattle.std.proofs.Common.{◌≡◌, ℕ, true, false, List, [], ◌∷◌, ◌++◌, refl, ap, ◌∙◌, inl, inr}
 use Rattle.std.proofs.lemmas.Bool.{cases_Bool, or_parts}
 use Rattle.slot_text.specs.Fields.{is_blank_line}
-use Rattle.scr_reader.specs.Cuts.{some_passes, up_to_last, after_last}
+use Rattle.scr_reader.specs.Cuts.{some_passes, up_to_last}
 use Rattle.scr_reader.specs.Messages.{begins_in_run}
 use Rattle.scr_reader.specs.Streams.{onto_message, messages_in, one_message}
 use Rattle.scr_reader.proofs.LastLemmas.{up_to-end}

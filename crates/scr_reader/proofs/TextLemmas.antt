@@ -6,9 +6,9 @@ use Rattle.std.proofs.lemmas.Bool.{cases_Bool}
 use Rattle.std.specs.Prelude.{◌==◌, ◌&&◌}
 use Rattle.slot_text.specs.Lines.{lines_of, onto_first, starts_with_lf}
 use Rattle.slot_text.specs.Fields.{is_blank_line}
-use Rattle.scr_reader.specs.Texts.{text_in, texts_in}
+use Rattle.scr_reader.specs.Private.Texts.{text_in, texts_in}
 use Rattle.scr_reader.specs.Messages.{Run, run_from, runs_of, front_length, IsMessage, IsMessageFault, AreMessages, IsFirstFault, FirstIs, IsFaultOfFirst}
-use Rattle.scr_reader.specs.Decided.{Decides, OnlyMessage, OnlyFault, Advances, Stops, BeginsFull}
+use Rattle.scr_reader.specs.Private.Decided.{Decides, OnlyMessage, OnlyFault, Advances, Stops, BeginsFull}
 use Rattle.scr_reader.specs.declared.message.Message.{Message}
 use Rattle.scr_reader.specs.declared.fault.ScrFault.{ScrFault}
 use Rattle.scr_reader.specs.declared.fault.ScrFault.TheVariants.{BadHeader}

@@ -1,14 +1,9 @@
 pub mod Bytes
-pub mod Texts
 pub mod Parts
 pub mod Shapes
-pub mod FieldForms
 pub mod Rows
 pub mod Messages
 pub mod Places
-pub mod Readings
-pub mod Pairing
-pub mod Decided
 pub mod Printed
 pub mod Faults
 pub mod Again
@@ -16,3 +11,4 @@ pub mod Rising
 pub mod Strays
 pub mod Cuts
 pub mod Streams
+pub mod Private

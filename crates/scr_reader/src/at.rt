@@ -1,3 +1,5 @@
+//! What the field of a number says, or its number.
+
 ghost use Rattle.std.specs.Prelude.{◌≡◌, ◌≢◌, ◌∷◌, [], List, ℕ, IfOk, IfErr, Ok, IsOkAnd, IfSome, Some, IsSome, None, true, Option};
 ghost use Rattle.schedule_text.specs.Days.{IsDays};
 ghost use Rattle.scr_reader.specs.Bytes.{is_letter};

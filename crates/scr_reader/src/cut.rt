@@ -1,3 +1,5 @@
+//! Where the messages of a text stand.
+
 ghost use Rattle.std.specs.Prelude.{◌≡◌, ◌+◌, ◌<◌, ◌≤◌, ◌^◌, IfOk, length, drop};
 ghost use Rattle.slot_text.specs.Lines.{after_line, lines_of};
 ghost use Rattle.scr_reader.specs.Messages.{runs_in, front_length};

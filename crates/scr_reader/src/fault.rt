@@ -1,3 +1,5 @@
+//! Why a text is no message.
+
 ghost use Rattle.std.specs.Prelude.{◌≡◌, Some};
 ghost use Rattle.scr_reader.specs.Faults.{scr_fault_text, fault_line};
 ghost use Rattle.scr_reader.specs.declared.fault.ScrFault.TheVariants.{Memory};

@@ -1,8 +1,10 @@
+//! The fields of a line, cut once.
+
 ghost use Rattle.std.specs.Prelude.{◌≡◌, ◌≤◌, ◌++◌, [], ◌∷◌, take};
 ghost use Rattle.std.specs.Option.{option_copied};
 ghost use Rattle.slot_text.specs.Fields.{fields_of, field_at};
 ghost use Rattle.scr_reader.specs.Rows.{line_fields};
-ghost use Rattle.scr_reader.specs.Texts.{empty_fields};
+ghost use Rattle.scr_reader.specs.Private.Texts.{empty_fields};
 
 use slot_text::split_field;
 use std::marker::Model;
@@ -19,7 +21,7 @@ pub(crate) struct Fields<'a> {
 
 impl<'a> Model for Fields<'a> {
     ghost use Rattle.std.specs.Prelude.{List, ℕ, ◌≤◌, map, take};
-    ghost use Rattle.scr_reader.specs.Texts.{text_in};
+    ghost use Rattle.scr_reader.specs.Private.Texts.{text_in};
 
     ghost Value = { List (List ℕ) };
 

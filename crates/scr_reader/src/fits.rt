@@ -1,3 +1,5 @@
+//! Whether a line and an item have a printed spelling.
+
 ghost use Rattle.std.specs.Prelude.{◌↔◌, ◌+◌, ◌*◌, ◌<◌, ◌≤◌, IsTrue};
 ghost use Rattle.slot_text.specs.Stations.{IsStation};
 ghost use Rattle.scr_reader.specs.Parts.{AirlineFits, SuffixFits, StationsFit, ThreeLettersOrDigits};

@@ -1,7 +1,9 @@
+//! Fields of seats, stations, times and services.
+
 ghost use Rattle.std.specs.Prelude.{◌≡◌, ◌<◌, ◌≤◌, ◌++◌, ◌∷◌, [], ℕ, List, IfSome, Some, IsSomeAnd, Option, true};
 ghost use Rattle.scr_reader.specs.Bytes.{is_letter, three_digits};
 ghost use Rattle.scr_reader.specs.Parts.{ThreeLettersOrDigits, StationsFit, stations_text, IsSeats, IsArrivalGroup, IsDepartureGroup, IsNights};
-ghost use Rattle.scr_reader.specs.FieldForms.{leading_nights, after_nights};
+ghost use Rattle.scr_reader.specs.Private.FieldForms.{leading_nights, after_nights};
 ghost use Rattle.slot_text.specs.declared.station.Station.{Station as StationValue};
 
 use crate::bytes::{is_letter_byte, is_letter_or_digit_byte, read_three_digits};

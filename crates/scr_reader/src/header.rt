@@ -1,3 +1,5 @@
+//! The lines of a header.
+
 ghost use Rattle.std.specs.Prelude.{◌≡◌, ◌∷◌, ◌≤◌, ◌<◌, ◌+◌, ◌^◌, ℕ, IfOk, IfErr, IfSome, Some, IsSomeAnd, IsTrue, Option, map, length, slice_get, codes, pos};
 ghost use Rattle.std.specs.Option.{option_copied};
 ghost use Rattle.season_days.specs.Seasons.{season_text};
@@ -8,7 +10,7 @@ ghost use Rattle.slot_text.specs.declared.station.Station.{Station as StationVal
 ghost use Rattle.scr_reader.specs.declared.header.Header.{Header as HeaderValue};
 ghost use Rattle.scr_reader.specs.Parts.{date_text, IsDayOfMonth};
 ghost use Rattle.scr_reader.specs.Rows.{trimmed};
-ghost use Rattle.scr_reader.specs.Texts.{texts_in};
+ghost use Rattle.scr_reader.specs.Private.Texts.{texts_in};
 ghost use Rattle.scr_reader.specs.Messages.{parts_from_season, IsShort, has_address, header_parts, header_length, season_place, HeaderAgrees, IsMissingOrLong, IsPartFault, IsHeaderFault, title, address, season_name, date_name, airport_name};
 
 use crate::fault::ScrFault;

@@ -1,3 +1,5 @@
+//! An item, read from its printed spelling.
+
 ghost use Rattle.std.specs.Prelude.{◌≡◌, ◌≢◌, ◌<◌, IfOk, IfSome, IsSomeAnd, Some};
 ghost use Rattle.std.specs.Option.{option_copied};
 ghost use Rattle.scr_reader.specs.Rows.{entry, IsRow};

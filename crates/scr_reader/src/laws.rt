@@ -16,7 +16,7 @@ ghost use Rattle.scr_reader.specs.Streams.{AreOfMessage, HoldsMessage, messages_
 ghost use Rattle.scr_reader.specs.declared.print.TheConstants.{LONGEST_PRINTED_LINE, LONGEST_PRINTED_ITEM};
 ghost use Rattle.scr_reader.specs.declared.line.Item.{Item as ItemValue};
 ghost use Rattle.scr_reader.specs.declared.message.Piece.{Piece as PieceValue};
-ghost use Rattle.scr_reader.specs.Again.{IsAirlineMessage, IsReadAgain, messages_text, AreReadAgain};
+ghost use Rattle.scr_reader.specs.Again.{IsAirlineMessage, IsItemText, IsReadAgain, messages_text, AreReadAgain};
 ghost use Rattle.scr_reader.specs.Rising.{all_named_lines};
 ghost use Rattle.scr_reader.specs.declared.line.Code.{Code as CodeValue};
 ghost use Rattle.scr_reader.specs.declared.line.Line.{Line as LineValue};
@@ -120,6 +120,15 @@ pub fn printed_items()
     ensures first { (season : Term) (item : ItemValue) → ItemFits season item →
         (b : ℕ) × (rest : List ℕ) × (item_text season item ≡ b ∷ rest) × (is_letter b ≡ true) }
 {}
+
+/// A text is the printed one of one item at most.
+pub fn one_item()
+    ensures { (season : Term) (text : List ℕ) (a b : ItemValue) → season.year < 100 →
+        IsItemText season text a → IsItemText season text b → a ≡ b }
+{
+    one_value();
+    named_days();
+}
 
 /// Lines of one message are one run. So a text with such lines is read as the message of all its
 /// lines, counted from 1, or has the fault of these.

@@ -1,3 +1,5 @@
+//! What data lines and queries say.
+
 use season_days::Period;
 use slot_text::Station;
 

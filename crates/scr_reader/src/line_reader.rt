@@ -1,6 +1,8 @@
+//! The line, or the query, that the fields of a line spell.
+
 ghost use Rattle.std.specs.Prelude.{◌≡◌, IfOk, IfErr, IfSome, Some, true};
 ghost use Rattle.scr_reader.specs.Shapes.{shape_of, IsLine, IsFaultyField};
-ghost use Rattle.scr_reader.specs.FieldForms.{shape_named};
+ghost use Rattle.scr_reader.specs.Private.FieldForms.{shape_named};
 ghost use Rattle.scr_reader.specs.Rows.{is_question, IsAskedFlight, IsQuestion, IsFaultyQuestion};
 ghost use Rattle.scr_reader.specs.declared.line.Line.{Line as LineValue};
 ghost use Rattle.scr_reader.specs.declared.line.Flight.{Flight as FlightValue};

@@ -1,3 +1,5 @@
+//! Messages as values.
+
 use crate::header::Header;
 use crate::line::Item;
 use season_days::Season;

@@ -1,8 +1,10 @@
+//! Items from the lines below a header, and the lines that are not paired.
+
 ghost use Rattle.std.specs.Prelude.{◌≡◌, ◌⊎◌, ◌↔◌, ◌+◌, ◌++◌, ◌∷◌, ◌<◌, ◌^◌, [], List, IfOk, IfErr, OnOk, IsTrue, MatchOption, Option, length};
 ghost use Rattle.scr_reader.specs.Rows.{Row};
-ghost use Rattle.scr_reader.specs.Readings.{row_read};
+ghost use Rattle.scr_reader.specs.Private.Readings.{row_read};
 ghost use Rattle.scr_reader.specs.Messages.{next_row, AsksChange, LineIsPaired, line_item, row_item, place, items_of};
-ghost use Rattle.scr_reader.specs.Pairing.{rows_read, entry_of, Follows, IsGoodReading, HasFaultAt, AreGoodReadings, IsFirstAt};
+ghost use Rattle.scr_reader.specs.Private.Pairing.{rows_read, entry_of, Follows, IsGoodReading, HasFaultAt, AreGoodReadings, IsFirstAt};
 ghost use Rattle.scr_reader.specs.declared.fault.ScrFault.TheVariants.{Memory as NoMemory};
 ghost use Rattle.scr_reader.specs.declared.line.Code.TheVariants.{C, R, L};
 

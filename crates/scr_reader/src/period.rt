@@ -1,3 +1,5 @@
+//! Dates and periods.
+
 ghost use Rattle.std.specs.Prelude.{◌≡◌, ◌≢◌, ◌<◌, ◌≤◌, ℕ, IfSome, Some, IsSomeAnd, [], ◌++◌};
 ghost use Rattle.schedule_text.specs.Days.{IsDays};
 ghost use Rattle.season_days.specs.Seasons.{dates_of};

@@ -1,3 +1,5 @@
+//! Lines, headers and items, printed.
+
 ghost use Rattle.std.specs.Prelude.{◌≡◌, ◌<◌, ◌++◌, ◌∷◌, [], ℕ, OnOk, OnErr, IfOk, Some, None};
 ghost use Rattle.schedule_text.specs.Days.{days_text};
 ghost use Rattle.slot_text.specs.Ended.{ended};

@@ -1,3 +1,5 @@
+//! The parts of a printed line.
+
 ghost use Rattle.std.specs.Prelude.{◌≡◌, ◌<◌, ◌++◌, ◌∷◌, [], ℕ, OnOk};
 ghost use Rattle.schedule_text.specs.Days.{days_text};
 ghost use Rattle.schedule_text.specs.Times.{time_text, two_digits};

@@ -1,7 +1,9 @@
+//! What a line below a header is by itself.
+
 ghost use Rattle.std.specs.Prelude.{◌≡◌, ◌≤◌, length, true, false};
 ghost use Rattle.slot_text.specs.Fields.{is_blank};
 ghost use Rattle.scr_reader.specs.Rows.{is_remark, is_question, trimmed};
-ghost use Rattle.scr_reader.specs.Readings.{IsRowReading};
+ghost use Rattle.scr_reader.specs.Private.Readings.{IsRowReading};
 
 use crate::fields::Fields;
 use crate::line::{Flight, Line};

@@ -1,8 +1,10 @@
+//! A message from a run of lines.
+
 ghost use Rattle.std.specs.Prelude.{◌≡◌, ◌+◌, ◌<◌, ◌≤◌, ◌^◌, IfOk, IfErr, IfSome, length, List};
 ghost use Rattle.slot_text.specs.Lines.{lines_of};
-ghost use Rattle.scr_reader.specs.Texts.{texts_in};
-ghost use Rattle.scr_reader.specs.Readings.{AreReadings};
-ghost use Rattle.scr_reader.specs.Decided.{Decides};
+ghost use Rattle.scr_reader.specs.Private.Texts.{texts_in};
+ghost use Rattle.scr_reader.specs.Private.Readings.{AreReadings};
+ghost use Rattle.scr_reader.specs.Private.Decided.{Decides};
 ghost use Rattle.scr_reader.specs.Messages.{run_from, front_length, IsMessage, IsMessageFault};
 ghost use Rattle.scr_reader.specs.declared.fault.ScrFault.TheVariants.{Memory as NoMemory};
 

@@ -1,3 +1,5 @@
+//! Arrivals, departures and turnarounds, read field by field.
+
 ghost use Rattle.std.specs.Prelude.{◌≡◌, IfOk, IfErr};
 ghost use Rattle.scr_reader.specs.Shapes.{arrival, departure, turnaround, shape_of, IsLine, IsFaultyField};
 ghost use Rattle.scr_reader.specs.declared.line.Line.{Line as LineValue};

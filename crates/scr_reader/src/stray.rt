@@ -1,3 +1,5 @@
+//! A header that names another season or airport.
+
 ghost use Rattle.std.specs.Prelude.{◌≡◌, ◌+◌, ◌<◌, ◌^◌};
 ghost use Rattle.scr_reader.specs.Strays.{IsStrayLine, stray_number};
 

@@ -1,7 +1,9 @@
+//! All messages of a text, and its first.
+
 ghost use Rattle.std.specs.Prelude.{◌≡◌, ◌⊎◌, ◌+◌, ◌<◌, ◌≤◌, ◌^◌, ◌++◌, ◌∷◌, [], IfOk, IfErr, Ok, Err, length, drop, List};
 ghost use Rattle.slot_text.specs.Reads.{GivesOr};
-ghost use Rattle.scr_reader.specs.Texts.{texts_in};
-ghost use Rattle.scr_reader.specs.Decided.{Decides, Advances, Stops, BeginsFull};
+ghost use Rattle.scr_reader.specs.Private.Texts.{texts_in};
+ghost use Rattle.scr_reader.specs.Private.Decided.{Decides, Advances, Stops, BeginsFull};
 ghost use Rattle.scr_reader.specs.Messages.{runs_of, runs_in, AreMessages, IsFirstFault, FirstIs, IsFaultOfFirst, ReadsMessage, HasMessageFault, ReadsAll, HasScrFault, front_length};
 ghost use Rattle.scr_reader.specs.declared.message.Message.{Message as MessageValue};
 ghost use Rattle.scr_reader.specs.declared.fault.ScrFault.{ScrFault as ScrFaultValue};

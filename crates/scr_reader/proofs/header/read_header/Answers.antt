@@ -1,5 +1,5 @@
 use Rattle.std.proofs.Common.{refl, sym, ◌∙◌}
-use Rattle.scr_reader.specs.Texts.{texts_in}
+use Rattle.scr_reader.specs.Private.Texts.{texts_in}
 use Rattle.scr_reader.proofs.HeaderLemmas.{with_address, without_address}
 use Rattle.scr_reader.proofs.header.read_header.Goals as goal
 

@@ -1,5 +1,5 @@
 use Rattle.std.proofs.Common.{rules}
-use Rattle.scr_reader.specs.Texts.{texts_in}
+use Rattle.scr_reader.specs.Private.Texts.{texts_in}
 use Rattle.scr_reader.specs.Messages.{parts_from_season, IsHeaderFault}
 use Rattle.scr_reader.proofs.HeaderLemmas.{fault_in_date, fault_in_airport, names_same}
 use Rattle.scr_reader.proofs.header.read_names.Goals as goal

@@ -1,5 +1,5 @@
 use Rattle.std.proofs.Common.{refl}
-use Rattle.scr_reader.specs.Texts.{texts_in}
+use Rattle.scr_reader.specs.Private.Texts.{texts_in}
 use Rattle.scr_reader.proofs.HeaderLemmas.{after_address}
 use Rattle.scr_reader.proofs.header.read_names_after.Goals as goal
 

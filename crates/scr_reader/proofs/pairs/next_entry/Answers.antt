@@ -1,5 +1,5 @@
 use Rattle.std.proofs.Common.{refl, ap}
-use Rattle.scr_reader.specs.Readings.{row_read}
+use Rattle.scr_reader.specs.Private.Readings.{row_read}
 use Rattle.scr_reader.proofs.PairLemmas.{stop_at_entry}
 use Rattle.scr_reader.proofs.pairs.next_entry.Goals as goal
 

@@ -1,6 +1,6 @@
 use Rattle.std.proofs.Common.{◌≡◌, drop}
 use Rattle.scr_reader.specs.Messages.{next_row}
-use Rattle.scr_reader.specs.Pairing.{rows_read}
+use Rattle.scr_reader.specs.Private.Pairing.{rows_read}
 use Rattle.scr_reader.proofs.pairs.next_entry.Given as goal
 
 abbrev pub invariant-loop-reading : goal.invariant-loop-reading

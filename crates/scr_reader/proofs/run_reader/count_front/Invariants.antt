@@ -1,5 +1,5 @@
 use Rattle.std.proofs.Common.{◌≡◌, ◌+◌, drop}
-use Rattle.scr_reader.specs.Texts.{texts_in}
+use Rattle.scr_reader.specs.Private.Texts.{texts_in}
 use Rattle.scr_reader.specs.Messages.{front_length}
 use Rattle.scr_reader.proofs.run_reader.count_front.Given as goal
 

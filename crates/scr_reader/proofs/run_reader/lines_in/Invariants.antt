@@ -1,6 +1,6 @@
 use Rattle.std.proofs.Common.{◌≡◌, ◌++◌, length}
 use Rattle.slot_text.specs.Lines.{lines_of}
-use Rattle.scr_reader.specs.Texts.{texts_in}
+use Rattle.scr_reader.specs.Private.Texts.{texts_in}
 use Rattle.scr_reader.proofs.run_reader.lines_in.Given as goal
 
 abbrev pub invariant-loop-line : goal.invariant-loop-line

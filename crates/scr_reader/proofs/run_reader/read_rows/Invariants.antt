@@ -1,6 +1,6 @@
 use Rattle.std.proofs.Common.{take}
-use Rattle.scr_reader.specs.Texts.{texts_in}
-use Rattle.scr_reader.specs.Readings.{AreReadings}
+use Rattle.scr_reader.specs.Private.Texts.{texts_in}
+use Rattle.scr_reader.specs.Private.Readings.{AreReadings}
 use Rattle.scr_reader.proofs.run_reader.read_rows.Given as goal
 
 abbrev pub invariant-loop-line : goal.invariant-loop-line

@@ -2,7 +2,7 @@ use Rattle.std.proofs.Common.{◌≡◌, List, length, ap, rules, inr, arith}
 use Rattle.std.proofs.lemmas.List.{length-map}
 use Rattle.scr_reader.specs.declared.rows.Reading.{Reading}
 use Rattle.std.specs.Prelude.{IsErrAnd}
-use Rattle.scr_reader.specs.Texts.{text_in, texts_in}
+use Rattle.scr_reader.specs.Private.Texts.{text_in, texts_in}
 use Rattle.scr_reader.specs.Messages.{run_from}
 use Rattle.scr_reader.specs.declared.fault.ScrFault.TheVariants.{Memory}
 use Rattle.scr_reader.proofs.MessageLemmas.{header_fault, decided_fault, finished, stopped, same_header, header_fits, readings_length}

@@ -1,5 +1,5 @@
 use Rattle.std.proofs.Common.{◌≡◌, ◌+◌, drop}
-use Rattle.scr_reader.specs.Texts.{texts_in}
+use Rattle.scr_reader.specs.Private.Texts.{texts_in}
 use Rattle.scr_reader.specs.Messages.{runs_of}
 use Rattle.scr_reader.proofs.texts.count_blank.Given as goal
 

@@ -1,6 +1,6 @@
 use Rattle.std.proofs.Common.{inr, arith}
 use Rattle.std.proofs.lemmas.List.{length-map}
-use Rattle.scr_reader.specs.Texts.{text_in}
+use Rattle.scr_reader.specs.Private.Texts.{text_in}
 use Rattle.scr_reader.specs.declared.fault.ScrFault.TheVariants.{Memory}
 use Rattle.scr_reader.proofs.TextLemmas.{first_none, first_is}
 use Rattle.scr_reader.proofs.texts.read_first.Goals as goal

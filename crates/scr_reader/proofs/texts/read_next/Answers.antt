@@ -1,8 +1,8 @@
 use Rattle.std.proofs.Common.{◌≡◌, ◌⊎◌, sym, ◌∙◌, rules, arith}
 use Rattle.std.specs.Prelude.{IsErrAnd}
 use Rattle.std.proofs.lemmas.List.{length-map}
-use Rattle.scr_reader.specs.Texts.{text_in, texts_in}
-use Rattle.scr_reader.specs.Decided.{Stops}
+use Rattle.scr_reader.specs.Private.Texts.{text_in, texts_in}
+use Rattle.scr_reader.specs.Private.Decided.{Stops}
 use Rattle.scr_reader.specs.declared.fault.ScrFault.TheVariants.{Memory}
 use Rattle.scr_reader.proofs.TextLemmas.{skip_one, advance_run, stop_run, if_err}
 use Rattle.scr_reader.proofs.texts.read_next.Goals as goal

@@ -1,6 +1,6 @@
 use Rattle.std.proofs.Common.{◌≡◌, ◌++◌, map, take, length}
 use Rattle.slot_text.specs.Fields.{fields_of}
-use Rattle.scr_reader.specs.Texts.{text_in, empty_fields}
+use Rattle.scr_reader.specs.Private.Texts.{text_in, empty_fields}
 use Rattle.scr_reader.proofs.fields.Fields.cut_from.Given as goal
 
 abbrev pub invariant-loop-n : goal.invariant-loop-n

@@ -1,7 +1,7 @@
 -- Pairs and faults, over the readings of single lines.
 use Rattle.std.specs.Prelude.{◌≡◌, ◌⊎◌, ◌↔◌, ℕ, ◌+◌, Bool, IsTrue, List, [], ◌∷◌, map, Option, Some, None, IsSomeAnd}
 use Rattle.scr_reader.specs.Rows.{Row, remark, entry, question}
-use Rattle.scr_reader.specs.Readings.{row_read}
+use Rattle.scr_reader.specs.Private.Readings.{row_read}
 use Rattle.scr_reader.specs.Messages.{next_row, RowIsChange, LineIsPaired}
 use Rattle.scr_reader.specs.declared.line.Line.{Line}
 use Rattle.scr_reader.specs.declared.rows.Reading.{Reading}
