@@ -1,4 +1,5 @@
-//! The problem on classes of equal resources: each class is one resource of it, which stands for as many as the class has.
+//! The problem on classes of equal resources: each class is one resource of it, which stands for as
+//! many as the class has.
 
 ghost use Rattle.std.specs.Prelude.{◌≡◌, ℕ, ◌+◌, ◌<◌, ◌≤◌, IfOk, IfSome, List, length, slice_index, nat_eq};
 ghost use Rattle.choice_problem.specs.declared.closing.TheConstants.{PRICED_SCALE};
@@ -96,8 +97,8 @@ fn weighted(alloc: Global, prices: &[u64], sizes: &[u32]) -> Result<Option<Vec<u
     Ok(Some(weighted))
 }
 
-// Of the prices of classes after 0 to 64 steps, the first with the greatest bound; none where the prices of all resources
-// of a class together come to 2^40.
+// Of the prices of classes after 0 to 64 steps, the first with the greatest bound; none where the
+// prices of all resources of a class together come to 2^40.
 pub(crate) fn best_class_prices(
     alloc: Global,
     grouped: &Problem,
@@ -132,8 +133,8 @@ pub(crate) fn best_class_prices(
     Ok(Some(best))
 }
 
-// The point of prices of classes, with the loads and the bound at the prices times the sizes; none where such a product
-// comes to 2^40.
+// The point of prices of classes, with the loads and the bound at the prices times the sizes; none
+// where such a product comes to 2^40.
 fn class_point(
     alloc: Global,
     grouped: &Problem,

@@ -14,10 +14,11 @@ use choice_problem::{Alt, Part, Problem, Strip};
 use slot_text::Memory;
 use std::alloc::Global;
 
-// At least as many uses of each resource as the units can have together, whatever alternatives they take, as far as 32 bits
-// hold them: for each unit the uses of strips that cover the parts that its alternatives name first, and of strips that cover
-// those that they name second. For each strip of a part at most one step a covering strip of its unit; one a use of the
-// covering strips; and some a part, an alternative and a resource. For each resource 4 bytes, and for one unit at a time its
+// At least as many uses of each resource as the units can have together, whatever alternatives they
+// take, as far as 32 bits hold them: for each unit the uses of strips that cover the parts that its
+// alternatives name first, and of strips that cover those that they name second. For each strip of
+// a part at most one step a covering strip of its unit; one a use of the covering strips; and some
+// a part, an alternative and a resource. For each resource 4 bytes, and for one unit at a time its
 // covering strips and two flags a part.
 pub(crate) fn greatest_uses(alloc: Global, problem: &Problem) -> Result<Vec<u32>, Memory>
     ensures count { IfOk result (λ counts. length counts.items ≡ resource_count problem.now) }

@@ -1,7 +1,8 @@
 //! Strips that together use each resource at least as often as each of some parts.
 //!
-//! A chain of strips at nearby times may be held by one that is wider than its gap. Its runs then overlap, and a resource in
-//! two of them counts twice, even if each part uses it once: the uses are then too high, never too low.
+//! A chain of strips at nearby times may be held by one that is wider than its gap. Its runs then
+//! overlap, and a resource in two of them counts twice, even if each part uses it once: the uses
+//! are then too high, never too low.
 
 ghost use Rattle.std.specs.Prelude.{◌≡◌, ℕ, ◌+◌, ◌^◌, ◌<◌, ◌≤◌, IfOk, IsTrue, [], false, true, length, slice_index_or, All};
 ghost use Rattle.std.specs.Option.{ForSome};
@@ -19,8 +20,9 @@ pub(crate) struct Held {
     pub(crate) part: usize,
 }
 
-// Strips that together use each resource at least as often as each marked part: a strip of a part lies in one that holds no
-// other of that part. The strips of parts at nearby times are held by few.
+// Strips that together use each resource at least as often as each marked part: a strip of a part
+// lies in one that holds no other of that part. The strips of parts at nearby times are held by
+// few.
 pub(crate) fn cover_of(alloc: Global, parts: &[Part], marks: &[bool]) -> Result<Vec<Held>, Memory>
     requires marks { length marks.now ≡ length parts.now }
     ensures covers { IfOk result (λ cover. (n : ℕ) → n < length parts.now →

@@ -2,7 +2,7 @@
 
 ghost use Rattle.std.specs.Prelude.{◌+◌, ◌≡◌, ◌^◌, ◌<◌, ◌≤◌, length, All, Some, []};
 ghost use Rattle.choice_problem.specs.declared.closing.TheConstants.{PRICED_SCALE};
-ghost use Rattle.choice_problem.specs.declared.vectors.TheConstants.{MOST_FURTHER};
+ghost use Rattle.choice_problem.specs.declared.vectors.TheConstants.{MOST_VECTORS};
 ghost use Rattle.finite_sums.specs.Sums.{least_within};
 ghost use Rattle.choice_problem.specs.Problems.{unit_count, alt_count};
 ghost use Rattle.choice_problem.specs.Bounds.{AreRanges, Closes, priced_cost};
@@ -13,22 +13,23 @@ ghost use Rattle.dual_bound.specs.Stated.{IsStatedFloor, scale_at, zero_floor, r
 use choice_problem::{PRICED_SCALE, Problem, Ranges};
 use price_table::{PriceTable, bound};
 
-/// A cost, and the number of the vector whose bound shows that no feasible choice costs less: 0 is the vector without
-/// prices, at scale 1, and others are meant at scale 1024.
+/// A cost, and the number of the vector whose bound shows that no feasible choice costs less: 0 is
+/// the vector without prices, at scale 1, and others are meant at scale 1024.
 #[derive(Clone, Copy, Debug, PartialEq, Eq)]
 pub struct StatedFloor {
     pub cost: u64,
     pub vector: u32,
 }
 
-/// The floor of ranges by the vector without prices and those of these tables, which have the numbers from 1 on: the
-/// greatest of the sum of the least costs, which is the bound of vector 0 at scale 1, and of each other bound at scale 1024,
-/// divided by 1024 and rounded up. It names the lowest vector that gives it; that vector closes the ranges for the cost. One
-/// step an alternative in range for each vector.
+/// The floor of ranges by the vector without prices and those of these tables, which have the
+/// numbers from 1 on: the greatest of the sum of the least costs, which is the bound of vector 0 at
+/// scale 1, and of each other bound at scale 1024, divided by 1024 and rounded up. It names the
+/// lowest vector that gives it; that vector closes the ranges for the cost. One step an alternative
+/// in range for each vector.
 pub fn floor_of(problem: &Problem, ranges: &Ranges, tables: &[PriceTable]) -> StatedFloor
     requires ranges { AreRanges problem.now ranges.now }
     requires tables { All (IsTableFor problem.now) tables.now }
-    requires few { length tables.now ≤ MOST_FURTHER + 1 }
+    requires few { length tables.now ≤ MOST_VECTORS }
     ensures floor { IsStatedFloor problem.now ranges.now (vectors_of tables.now) result.cost
         result.vector }
     ensures closes { LeafHolds problem.now (vectors_of tables.now) (Some result.cost) ranges.now
@@ -59,7 +60,8 @@ fn priced_floor(problem: &Problem, ranges: &Ranges, table: &PriceTable) -> u64
     rounded_up(bound(problem, ranges, table, PRICED_SCALE))
 }
 
-// The least whole number that is at least a bound at scale 1024 divided by 1024, within 64 bits, or 0 below 0.
+// The least whole number that is at least a bound at scale 1024 divided by 1024, within 64 bits, or
+// 0 below 0.
 fn rounded_up(bound: i128) -> u64
     ensures { result ≡ rounded_up bound }
 {

@@ -1,5 +1,5 @@
-//! The problem on some of the resources of a problem: those that its units can pass, or the first of each class of equal
-//! ones.
+//! The problem on some of the resources of a problem: those that its units can pass, or the first
+//! of each class of equal ones.
 
 ghost use Rattle.std.specs.Prelude.{◌≡◌, ◌+◌, ◌^◌, ◌<◌, ◌≤◌, ℕ, IfOk, [], length, slice_index, slice_index_or, pos, ◌≤ℤ◌, All};
 ghost use Rattle.choice_problem.specs.declared.problems.TheConstants.{HIGHEST_LIMIT, MOST_RESOURCES, MOST_UNITS};
@@ -14,8 +14,8 @@ use choice_problem::{Chooser, Part, Problem, Strip, strip_list};
 use slot_text::Memory;
 use std::alloc::Global;
 
-// For each resource, and for the end, how many lower ones are kept: those that the units can use above their limit, as far as
-// their greatest uses tell.
+// For each resource, and for the end, how many lower ones are kept: those that the units can use
+// above their limit, as far as their greatest uses tell.
 pub(crate) fn kept_ranks(alloc: Global, problem: &Problem) -> Result<Vec<u32>, Memory>
     ensures { IfOk result (λ ranks. KeepPassed problem.now ranks.items) }
 {

@@ -1,9 +1,11 @@
-//! The vectors of prices that make Lagrangian bounds great (Geoffrion 1974, "Lagrangean
-//! relaxation for integer programming"; Held, Wolfe and Crowder 1974, "Validation of subgradient optimization").
+//! The vectors of prices that make Lagrangian bounds great (Geoffrion 1974, "Lagrangean relaxation
+//! for integer programming"; Held, Wolfe and Crowder 1974, "Validation of subgradient
+//! optimization").
 //!
-//! The root vector and the vector of ranges are the results of a subgradient run that the problem determines. Its prices move
-//! on classes of equal resources, but for very great ones, and where few resources can be passed, on these alone. The floor of
-//! ranges is the best that the bounds of some vectors say.
+//! The root vector and the vector of ranges are the results of a subgradient run that the problem
+//! determines. Its prices move on classes of equal resources, but for very great ones, and where
+//! few resources can be passed, on these alone. The floor of ranges is the best that the bounds of
+//! some vectors say.
 #![tactic(auto)]
 
 mod classes;

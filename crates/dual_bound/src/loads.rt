@@ -1,5 +1,5 @@
-//! How often alternatives use each resource, by where the runs of their strips begin and end: two steps a run, and one a
-//! resource at the end.
+//! How often alternatives use each resource, by where the runs of their strips begin and end: two
+//! steps a run, and one a resource at the end.
 
 ghost use Rattle.std.specs.Prelude.{◌≡◌, ℕ, ◌+◌, ◌-◌, ◌^◌, ◌<◌, ◌≤◌, IfOk, length, slice_index};
 ghost use Rattle.std.specs.Option.{ForSome};

@@ -12,17 +12,19 @@ use choice_problem::Problem;
 use slot_text::Memory;
 use std::alloc::Global;
 
-/// Resources of a problem by rising number, such that each other one is never used above its limit, whatever alternatives
-/// the units take, or has the same limit as a lower one of them that each alternative uses equally often.
+/// Resources of a problem by rising number, such that each other one is never used above its limit,
+/// whatever alternatives the units take, or has the same limit as a lower one of them that each
+/// alternative uses equally often.
 ///
-/// To find those that can be passed takes for each strip of a part at most one step a strip of those that cover the parts of
-/// its unit, which parts at nearby times share; one a use of the covering strips; and some a part, an alternative and a
-/// resource. For that time 4 bytes a resource, and for one unit at a time 24 bytes a covering strip and two flags a part.
+/// To find those that can be passed takes for each strip of a part at most one step a strip of
+/// those that cover the parts of its unit, which parts at nearby times share; one a use of the
+/// covering strips; and some a part, an alternative and a resource. For that time 4 bytes a
+/// resource, and for one unit at a time 24 bytes a covering strip and two flags a part.
 ///
-/// Of a season's resources a few of a hundred can be passed. Where more than a quarter can, equal ones are looked for: two
-/// steps a strip, some for each use by a part, but for parts with the same strips as one of an earlier unit, and some a
-/// resource; for that time at most some 100 bytes a resource, 8 a part, 24 a unit, 50 for each class that the uses of one
-/// unit make, and 5 MB.
+/// Of a season's resources a few of a hundred can be passed. Where more than a quarter can, equal
+/// ones are looked for: two steps a strip, some for each use by a part, but for parts with the same
+/// strips as one of an earlier unit, and some a resource; for that time at most some 100 bytes a
+/// resource, 8 a part, 24 a unit, 50 for each class that the uses of one unit make, and 5 MB.
 pub fn passable_resources(alloc: Global, problem: &Problem) -> Result<Vec<u32>, Memory>
     ensures { IfOk result (λ list. ListPassable problem.now list.items) }
 {

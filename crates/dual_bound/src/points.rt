@@ -1,4 +1,5 @@
-//! Points of subgradient runs: prices of all resources, or of classes of equal ones, and the bound there.
+//! Points of subgradient runs: prices of all resources, or of classes of equal ones, and the bound
+//! there.
 
 ghost use Rattle.std.specs.Prelude.{◌≡◌, ℕ, ◌+◌, ◌*◌, ◌^◌, ◌<◌, ◌≤◌, IfOk, List, length, slice_index, pos, ◌-ℤ◌};
 ghost use Rattle.choice_problem.specs.declared.closing.TheConstants.{PRICED_SCALE, SCALE_BOUND};
@@ -23,8 +24,9 @@ use std::alloc::Global;
 // The highest price, as a number.
 pub(crate) const HIGHEST: u64 = HIGHEST_PRICE as u64;
 
-// Prices of all resources, or of classes of equal ones; how often each unit's first least alternative at these prices uses
-// one, all units together; and the bound, where the price of a class counts as often as it has resources.
+// Prices of all resources, or of classes of equal ones; how often each unit's first least
+// alternative at these prices uses one, all units together; and the bound, where the price of a
+// class counts as often as it has resources.
 #[derive(Drop)]
 pub(crate) struct Point {
     pub(crate) prices: Vec<u64>,
@@ -154,7 +156,8 @@ fn priced_limits(problem: &Problem, prices: &[u64]) -> u128
     total
 }
 
-// Adds the runs of each unit's first least alternative, and answers the sum of the least priced costs.
+// Adds the runs of each unit's first least alternative, and answers the sum of the least priced
+// costs.
 fn take_least(
     problem: &Problem,
     ranges: &Ranges,
@@ -233,8 +236,8 @@ pub(crate) fn step_length(step: u32) -> u64
     16384 >> (step / 8)
 }
 
-// The prices after a step of this length: each rises or falls by so much for each use above or below the limit, and stays
-// a price.
+// The prices after a step of this length: each rises or falls by so much for each use above or
+// below the limit, and stays a price.
 pub(crate) fn move_prices(
     alloc: Global,
     problem: &Problem,

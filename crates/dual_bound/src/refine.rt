@@ -1,7 +1,8 @@
 //! Classes of equal resources: those with the same limit that each part uses equally often.
 //!
-//! At first those with the same limit are one class. Then each part splits the classes, by how often it uses their resources
-//! (partition refinement: Paige and Tarjan 1987, "Three partition refinement algorithms", SIAM Journal on Computing 16).
+//! At first those with the same limit are one class. Then each part splits the classes, by how
+//! often it uses their resources (partition refinement: Paige and Tarjan 1987, "Three partition
+//! refinement algorithms", SIAM Journal on Computing 16).
 
 ghost use Rattle.std.specs.Prelude.{◌≡◌, ℕ, ◌+◌, ◌<◌, ◌≤◌, IfOk, length, slice_index};
 ghost use Rattle.choice_problem.specs.declared.problems.TheConstants.{MOST_UNITS, MOST_RESOURCES};
@@ -16,8 +17,8 @@ use choice_problem::{Problem, Strip};
 use slot_text::Memory;
 use std::alloc::Global;
 
-// The last part that split a class, by its number from 1 on, and the class of those resources of it that the part uses once
-// more.
+// The last part that split a class, by its number from 1 on, and the class of those resources of it
+// that the part uses once more.
 #[derive(Clone, Copy)]
 pub(crate) struct Split {
     pub(crate) part: u64,
@@ -27,10 +28,10 @@ pub(crate) struct Split {
 // How many numbers of classes there may be for each resource before the classes are numbered anew.
 const NUMBERS_A_RESOURCE: usize = 2;
 
-// For each resource an equal one, the first that was found: some steps for each use by a part, also by one that no
-// alternative names, but for those with the same strips as one of an earlier unit, and some a resource. 4 bytes a resource,
-// and for that time at most some 100 a resource, 50 for each class that the uses of one unit make, and 4 for each number
-// up to the highest limit.
+// For each resource an equal one, the first that was found: some steps for each use by a part, also
+// by one that no alternative names, but for those with the same strips as one of an earlier unit,
+// and some a resource. 4 bytes a resource, and for that time at most some 100 a resource, 50 for
+// each class that the uses of one unit make, and 4 for each number up to the highest limit.
 pub(crate) fn equal_resources(
     alloc: Global,
     problem: &Problem,
@@ -211,7 +212,8 @@ fn split_by_run(
     Ok(())
 }
 
-// The class of those resources of a class that a part uses once more; a new one with the first of them.
+// The class of those resources of a class that a part uses once more; a new one with the first of
+// them.
 fn used_once_more(class: u32, part: u64, splits: &mut Vec<Split>) -> Result<u32, Memory>
     requires { class < length splits.old.items }
     ensures { IfOk result (λ other. IsSplitOff class part other splits.old.items splits.new.items) }
@@ -237,7 +239,8 @@ fn firsts_in(alloc: Global, numbers: &[u32]) -> Result<Vec<u32>, Memory>
     known_firsts(alloc, numbers, &mut known)
 }
 
-// For each place the first one with the same number, where for each number a place is known that is 0 at first.
+// For each place the first one with the same number, where for each number a place is known that is
+// 0 at first.
 fn known_firsts(alloc: Global, numbers: &[u32], known: &mut [u32]) -> Result<Vec<u32>, Memory>
     requires few { length numbers.now ≤ MOST_RESOURCES }
     requires known { (r : ℕ) → r < length numbers.now →
@@ -263,7 +266,8 @@ fn count_of(numbers: &[u32]) -> usize
     count
 }
 
-// The first place with the number at a place: the known one, or this place, which is known from then on.
+// The first place with the number at a place: the known one, or this place, which is known from
+// then on.
 fn first_with(numbers: &[u32], at: usize, known: &mut [u32]) -> u32
     requires at { at < length numbers.now }
     requires few { length numbers.now ≤ MOST_RESOURCES }

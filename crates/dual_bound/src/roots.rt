@@ -29,26 +29,30 @@ pub fn root_vector(alloc: Global, problem: &Problem) -> Result<Vector, Memory>
     node_vector(alloc, problem, &ranges)
 }
 
-/// Of the vectors after 0 to 64 subgradient steps on the ranges, the first with the greatest bound there at scale 1024. A
-/// step raises or lowers each resource's price by its length for each use above or below the limit, never under 0; the
-/// lengths halve from 16384 with every eight steps. All prices stay below 2^40.
+/// Of the vectors after 0 to 64 subgradient steps on the ranges, the first with the greatest bound
+/// there at scale 1024. A step raises or lowers each resource's price by its length for each use
+/// above or below the limit, never under 0; the lengths halve from 16384 with every eight steps.
+/// All prices stay below 2^40.
 ///
-/// Where at most a quarter of all resources can be passed, as far as the count tells with which `passable_resources` begins,
-/// the prices move on these alone, by a copy of the units that uses no others. Finding them takes the time of that count;
-/// the copy takes one step a run of the strips and one an alternative. It has the parts, the alternatives, and a strip of
-/// 16 bytes a run that uses one of these resources. Else the prices move on all resources.
+/// Where at most a quarter of all resources can be passed, as far as the count tells with which
+/// `passable_resources` begins, the prices move on these alone, by a copy of the units that uses no
+/// others. Finding them takes the time of that count; the copy takes one step a run of the strips
+/// and one an alternative. It has the parts, the alternatives, and a strip of 16 bytes a run that
+/// uses one of these resources. Else the prices move on all resources.
 ///
-/// Of the resources on which prices move, those with the same limit that each part uses equally often have the same price
-/// after each step: the prices move on such classes, by another such copy, which uses one resource of each. Finding the
-/// classes takes two steps a strip, some for each use by a part, also by one that no alternative names, but for parts with
-/// the same strips as one of an earlier unit, and some a resource. Where the prices of all resources of a class come to
-/// 2^40 together, the steps begin again, on each resource.
+/// Of the resources on which prices move, those with the same limit that each part uses equally
+/// often have the same price after each step: the prices move on such classes, by another such
+/// copy, which uses one resource of each. Finding the classes takes two steps a strip, some for
+/// each use by a part, also by one that no alternative names, but for parts with the same strips as
+/// one of an earlier unit, and some a resource. Where the prices of all resources of a class come
+/// to 2^40 together, the steps begin again, on each resource.
 ///
-/// A subgradient step then mostly takes one step for a part with the same strips as one of an earlier unit; for any other
-/// part one a strip, and one a run of a strip of several runs that is not priced yet; one for an alternative in range; two
-/// for a run of each unit's first least alternative; and some for a class, or for a resource where prices move on each.
-/// The memory beside the copies is at most some 150 bytes a resource on which prices move, 12 a resource of all, 32 a part,
-/// 75 a unit, 50 for each class that the uses of one unit make, and 6 MB.
+/// A subgradient step then mostly takes one step for a part with the same strips as one of an
+/// earlier unit; for any other part one a strip, and one a run of a strip of several runs that is
+/// not priced yet; one for an alternative in range; two for a run of each unit's first least
+/// alternative; and some for a class, or for a resource where prices move on each. The memory
+/// beside the copies is at most some 150 bytes a resource on which prices move, 12 a resource of
+/// all, 32 a part, 75 a unit, 50 for each class that the uses of one unit make, and 6 MB.
 pub fn node_vector(alloc: Global, problem: &Problem, ranges: &Ranges) -> Result<Vector, Memory>
     requires { AreRanges problem.now ranges.now }
     ensures node { IfOk result (λ vector. IsNodeVector problem.now ranges.now vector) }
@@ -59,7 +63,8 @@ pub fn node_vector(alloc: Global, problem: &Problem, ranges: &Ranges) -> Result<
     vector_in(alloc, problem, &best.prices)
 }
 
-// The best prices after the steps: by the kept resources alone, where they are at most a quarter of all.
+// The best prices after the steps: by the kept resources alone, where they are at most a quarter of
+// all.
 fn best_by_ranks(
     alloc: Global,
     problem: &Problem,
@@ -97,8 +102,8 @@ fn best_on_kept(
     Ok(best)
 }
 
-// Of the prices after 0 to 64 steps, the first with the greatest bound: by classes of equal resources, or by each resource
-// where the prices of a class together are too great for one.
+// Of the prices after 0 to 64 steps, the first with the greatest bound: by classes of equal
+// resources, or by each resource where the prices of a class together are too great for one.
 fn best_prices(alloc: Global, problem: &Problem, ranges: &Ranges) -> Result<Best, Memory>
     requires { AreRanges problem.now ranges.now }
     ensures { IfOk result (λ best. IsGreatestUpTo problem.now ranges.now ROOT_STEPS

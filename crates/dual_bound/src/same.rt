@@ -63,12 +63,12 @@ impl PartCosts {
     }
 }
 
-// How many places for parts there are, by a hash of their strips. Each holds a part with the same strips as the last one
-// whose strips have that hash.
+// How many places for parts there are, by a hash of their strips. Each holds a part with the same
+// strips as the last one whose strips have that hash.
 const PLACES: usize = 65_536;
 
-// For each part of all units a part with the same strips, an earlier one where one is found: two steps a strip, 8 bytes a
-// part, and 8 a place for that time.
+// For each part of all units a part with the same strips, an earlier one where one is found: two
+// steps a strip, 8 bytes a part, and 8 a place for that time.
 pub(crate) fn same_parts(alloc: Global, problem: &Problem) -> Result<Vec<SameParts>, Memory>
     ensures { IfOk result (λ units. AreSameTo problem.now (unit_count problem.now) units.items) }
 {
@@ -143,7 +143,8 @@ fn are_equal(one: &[Strip], other: &[Strip]) -> bool
     true
 }
 
-// The place of a part with these strips, their hash: the high bits of a sum of products that mixes their numbers.
+// The place of a part with these strips, their hash: the high bits of a sum of products that mixes
+// their numbers.
 fn place_of(strips: &[Strip]) -> usize {
     let mut mixed: u32 = 0;
     for strip in strips {
@@ -153,14 +154,7 @@ fn place_of(strips: &[Strip]) -> usize {
 }
 
 fn mixed_strip(strip: &Strip) -> u32 {
-    let first = strip.first.wrapping_mul(0x9E37_79B1);
-    let times = strip.times.wrapping_mul(0x85EB_CA77);
-    let gap = strip.gap.wrapping_mul(0xC2B2_AE3D);
-    let width = strip.width.wrapping_mul(0x27D4_EB2F);
-    let mixed = first
-        .wrapping_add(times)
-        .wrapping_add(gap)
-        .wrapping_add(width);
+    let mixed = strip.hash_code();
     (mixed ^ (mixed >> 15)).wrapping_mul(0x2C1B_3C6D)
 }
 

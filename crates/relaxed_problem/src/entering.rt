@@ -1,8 +1,10 @@
-//! What enters the basis: how far the prices go, which units change their key on the way, and what enters in the end.
+//! What enters the basis: how far the prices go, which units change their key on the way, and what
+//! enters in the end.
 //!
-//! Where an alternative of a unit without basic alternatives comes to its bound, it may be the unit's key from then on, and
-//! the prices go on while what leaves still passes its bound (long steps: Maros 2003, "A generalized dual phase-2 simplex
-//! algorithm"). Of what comes to its bound at the same time the greatest pivot comes first.
+//! Where an alternative of a unit without basic alternatives comes to its bound, it may be the
+//! unit's key from then on, and the prices go on while what leaves still passes its bound (long
+//! steps: Maros 2003, "A generalized dual phase-2 simplex algorithm"). Of what comes to its bound
+//! at the same time the greatest pivot comes first.
 
 use crate::leaving::Work;
 use crate::programs::Program;
@@ -50,7 +52,8 @@ impl Entering {
         }
     }
 
-    // Takes what comes to its bound earlier, or as early with a greater pivot. Answers whether it does.
+    // Takes what comes to its bound earlier, or as early with a greater pivot. Answers whether it
+    // does.
     fn offer(&mut self, other: Entering) -> bool {
         let is_first = match self.entry {
             Entry::Nothing => true,
@@ -81,8 +84,9 @@ struct Base {
 }
 
 impl Relaxation {
-    // What enters, where the prices of classes move along this direction and those of the parts as the work says, and what
-    // leaves passes its bound by so much. The work gets the alternatives that become keys until then.
+    // What enters, where the prices of classes move along this direction and those of the parts as
+    // the work says, and what leaves passes its bound by so much. The work gets the alternatives
+    // that become keys until then.
     pub(crate) fn entering(
         &self,
         program: &Program<'_>,
@@ -117,7 +121,8 @@ impl Relaxation {
         first
     }
 
-    // Takes the steps of a unit's alternatives. Where some are basic, the prices end at the first that comes to its bound.
+    // Takes the steps of a unit's alternatives. Where some are basic, the prices end at the first
+    // that comes to its bound.
     fn look_at_unit(
         &self,
         program: &Program<'_>,
@@ -157,7 +162,8 @@ impl Relaxation {
         Ok(())
     }
 
-    // The alternative of a unit that comes to its bound first, beside this key, if it does so before something else.
+    // The alternative of a unit that comes to its bound first, beside this key, if it does so
+    // before something else.
     fn first_of(
         &self,
         program: &Program<'_>,
@@ -198,7 +204,8 @@ impl Relaxation {
         }
     }
 
-    // What enters, where this comes to its bound at the latest. The breakpoints before it are taken in their order.
+    // What enters, where this comes to its bound at the latest. The breakpoints before it are taken
+    // in their order.
     fn past_breakpoints(
         &self,
         program: &Program<'_>,
@@ -260,7 +267,8 @@ impl Relaxation {
     }
 }
 
-// What comes to its bound first, and its place among the breakpoints, or past them where that is something else.
+// What comes to its bound first, and its place among the breakpoints, or past them where that is
+// something else.
 fn first_breakpoint(breakpoints: &[Entering], other: Entering) -> (usize, Entering) {
     let mut first = other;
     let mut found = breakpoints.len();

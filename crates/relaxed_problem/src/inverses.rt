@@ -1,4 +1,5 @@
-//! The inverse of a basis: a row for each basic alternative, a column for each resource with a price.
+//! The inverse of a basis: a row for each basic alternative, a column for each resource with a
+//! price.
 
 use crate::slots::{add_multiple, product, put, value_at};
 use slot_text::Memory;
@@ -93,7 +94,8 @@ impl Inverse {
         Ok(())
     }
 
-    // Adds a row and a column: for an alternative with these entries, and a resource with this direction and pivot.
+    // Adds a row and a column: for an alternative with these entries, and a resource with this
+    // direction and pivot.
     pub(crate) fn grow(
         &mut self,
         alloc: Global,
@@ -114,7 +116,8 @@ impl Inverse {
         Ok(())
     }
 
-    // Takes away a row and a column, where the row has the pivot in the column. The last ones take their places.
+    // Takes away a row and a column, where the row has the pivot in the column. The last ones take
+    // their places.
     pub(crate) fn shrink(
         &mut self,
         alloc: Global,

@@ -1,11 +1,11 @@
-//! What leaves the basis: of what passes its bounds, the one with the greatest ratio of the square of its violation and the
-//! square of the length of its direction.
+//! What leaves the basis: of what passes its bounds, the one with the greatest ratio of the square
+//! of its violation and the square of the length of its direction.
 
 use crate::entering::Entering;
 use crate::programs::{Column, Program};
 use crate::relaxations::Relaxation;
 use crate::slots::{
-    NOTHING, PASSED, add, clear_flags, copy_into, fill, number_at, place_after, product, put,
+    NOTHING, PASSED, add, clear_flags, copy_into, fill, number_or_max, place_after, product, put,
     put_flag, put_number, size_of_number, value_at,
 };
 use slot_text::Memory;
@@ -76,9 +76,11 @@ pub struct Work {
     sums: Vec<f64>,
     // For each unit the number of its basic alternatives.
     pub(crate) counts: Vec<f64>,
-    // For each touched unit without basic alternatives the alternative that comes to its bound first, and where.
+    // For each touched unit without basic alternatives the alternative that comes to its bound
+    // first, and where.
     pub(crate) breakpoints: Vec<Entering>,
-    // The alternatives that become keys in this pivot, in the order in which they come to their bounds.
+    // The alternatives that become keys in this pivot, in the order in which they come to their
+    // bounds.
     pub(crate) new_keys: Vec<u32>,
 }
 
@@ -108,7 +110,8 @@ impl Work {
         value_at(&self.parts, one as usize) + value_at(&self.parts, two as usize)
     }
 
-    // Computes how the reduced costs of some alternatives move, beside a key whose parts have this number.
+    // Computes how the reduced costs of some alternatives move, beside a key whose parts have this
+    // number.
     pub(crate) fn take_steps(&mut self, columns: &[Column], span: (usize, usize), base: f64) {
         let (first, end) = span;
         if first <= end && end <= self.steps.len() {
@@ -222,7 +225,7 @@ impl Relaxation {
         };
         for (class, (load, limit)) in loads.iter().zip(program.limits()).enumerate() {
             let passed = *load - *limit;
-            if passed > tops.least && number_at(&self.places, class) == u32::MAX {
+            if passed > tops.least && number_or_max(&self.places, class) == u32::MAX {
                 tops.offer(place_after(0, class), passed);
             }
         }
@@ -247,8 +250,9 @@ impl Relaxation {
         Ok(())
     }
 
-    // How the prices change while that of a class without one rises by 1. Where the class has many users, its uses are
-    // looked up in the parts of the basic alternatives; else it is priced in those of its users.
+    // How the prices change while that of a class without one rises by 1. Where the class has many
+    // users, its uses are looked up in the parts of the basic alternatives; else it is priced in
+    // those of its users.
     pub(crate) fn class_direction(
         &self,
         alloc: Global,
@@ -265,7 +269,8 @@ impl Relaxation {
         self.inverse.weighted(alloc, &weights)
     }
 
-    // How often the keys of the basic alternatives use a class more than these, by pricing its users.
+    // How often the keys of the basic alternatives use a class more than these, by pricing its
+    // users.
     fn priced_weights(
         &self,
         alloc: Global,

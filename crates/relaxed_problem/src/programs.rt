@@ -1,6 +1,6 @@
 //! The alternatives that take part in a relaxation.
 
-use crate::slots::{add, is_set, number_at, value_at};
+use crate::slots::{add, is_set, number_or_max, value_at};
 use choice_problem::{Alt, Problem};
 use reduced_problem::{ClassUse, Reduced};
 use slot_text::Memory;
@@ -32,7 +32,8 @@ pub(crate) struct Barred {
     pub(crate) class: u32,
 }
 
-/// The alternatives that take part in relaxations of a problem, by unit and number, over the resources that matter.
+/// The alternatives that take part in relaxations of a problem, by unit and number, over the
+/// resources that matter.
 #[derive(Drop)]
 pub struct Program<'a> {
     reduced: &'a Reduced,
@@ -44,9 +45,9 @@ pub struct Program<'a> {
 }
 
 impl<'a> Program<'a> {
-    /// The alternatives of a problem but for the excluded ones: a flag for each alternative, unit after unit, where those
-    /// without a flag take part. A price that costs nothing keeps an excluded alternative away that uses a resource of
-    /// limit 0.
+    /// The alternatives of a problem but for the excluded ones: a flag for each alternative, unit
+    /// after unit, where those without a flag take part. A price that costs nothing keeps an
+    /// excluded alternative away that uses a resource of limit 0.
     pub fn new(
         alloc: Global,
         problem: &Problem,
@@ -141,7 +142,7 @@ impl<'a> Program<'a> {
 
     /// The place of a unit's first alternative among all that take part.
     pub fn first_column(&self, unit: u32) -> u32 {
-        number_at(&self.firsts, unit as usize)
+        number_or_max(&self.firsts, unit as usize)
     }
 
     /// A unit's alternatives that take part.
@@ -157,8 +158,8 @@ impl<'a> Program<'a> {
     // Where a unit's alternatives begin and end.
     pub(crate) fn span(&self, unit: u32) -> (usize, usize) {
         let at = unit as usize;
-        let first = number_at(&self.firsts, at);
-        let end = number_at(&self.firsts, at.saturating_add(1));
+        let first = number_or_max(&self.firsts, at);
+        let end = number_or_max(&self.firsts, at.saturating_add(1));
         (first as usize, end as usize)
     }
 
@@ -210,7 +211,7 @@ impl<'a> Program<'a> {
 
     // The unit of a part.
     pub(crate) fn part_unit(&self, part: u32) -> u32 {
-        number_at(&self.part_units, part as usize)
+        number_or_max(&self.part_units, part as usize)
     }
 
     // Adds so many times the uses of an alternative to numbers of the classes.

@@ -1,9 +1,10 @@
-//! The state of a relaxation: its basis, prices and reduced costs, and the alternatives that it may take.
+//! The state of a relaxation: its basis, prices and reduced costs, and the alternatives that it may
+//! take.
 
 use crate::inverses::Inverse;
 use crate::programs::{Column, Program};
 use crate::slots::{
-    NOTHING, PASSED, add, add_multiple, is_set, number_at, place_after, put_flag, put_number,
+    NOTHING, PASSED, add, add_multiple, is_set, number_or_max, place_after, put_flag, put_number,
     size_of_number, value_at,
 };
 use slot_text::Memory;
@@ -135,8 +136,8 @@ impl Relaxation {
         put_flag(&mut self.shut, place as usize, true);
     }
 
-    /// The value with changed costs: where the relaxation is not solved yet, at most the solution's. A cost is changed by
-    /// at most 1/10,000.
+    /// The value with changed costs: where the relaxation is not solved yet, at most the
+    /// solution's. A cost is changed by at most 1/10,000.
     pub fn value(&self) -> f64 {
         self.value
     }
@@ -162,7 +163,7 @@ impl Relaxation {
 
     /// Whether a class has a place in the basis: only such have prices.
     pub fn is_priced(&self, class: u32) -> bool {
-        number_at(&self.places, class as usize) != u32::MAX
+        number_or_max(&self.places, class as usize) != u32::MAX
     }
 
     /// The alternative that a unit takes where `shares` does not name it.
@@ -170,8 +171,8 @@ impl Relaxation {
         program.column(self.key_place(unit)).number
     }
 
-    /// The shares of the units that have a basic alternative, by unit and alternative. Shares of less than 1/10,000,000 are
-    /// left out.
+    /// The shares of the units that have a basic alternative, by unit and alternative. Shares of
+    /// less than 1/10,000,000 are left out.
     pub fn shares(&self, alloc: Global, program: &Program<'_>) -> Result<Vec<Share>, Memory> {
         let sums = self.sums(alloc, program)?;
         let mut places = Vec::new(alloc);
@@ -201,7 +202,7 @@ impl Relaxation {
 
     // The place of a unit's key.
     pub(crate) fn key_place(&self, unit: u32) -> u32 {
-        number_at(&self.keys, unit as usize)
+        number_or_max(&self.keys, unit as usize)
     }
 
     // Whether an alternative may not be taken. A place past the last may not either.
@@ -227,7 +228,7 @@ impl Relaxation {
         program: &Program<'_>,
         place: usize,
     ) -> Result<(), Memory> {
-        let new = number_at(&self.basics, place);
+        let new = number_or_max(&self.basics, place);
         let unit = program.column(new).unit;
         let old = self.key_place(unit);
         let mut row = self.unit_row(alloc, program, unit)?;
@@ -256,7 +257,8 @@ impl Relaxation {
         Ok(sums)
     }
 
-    // Lets a unit without basic alternatives take its best allowed one. Answers whether there is one.
+    // Lets a unit without basic alternatives take its best allowed one. Answers whether there is
+    // one.
     pub(crate) fn set_best_key(&mut self, program: &Program<'_>, unit: u32) -> bool {
         let Some((place, _)) = self.best_allowed(program, unit) else {
             return false;

@@ -1,4 +1,5 @@
-//! Entries of lists by their place, where a place beyond the end holds 0 and takes nothing.
+//! Entries of lists by their place, where a place beyond the end holds 0, or no number, and takes
+//! nothing.
 
 // The least size of a pivot.
 pub(crate) const LEAST_PIVOT: f64 = 0.000000001;
@@ -17,8 +18,8 @@ pub(crate) fn value_at(values: &[f64], place: usize) -> f64 {
     }
 }
 
-// The number of a thing at a place.
-pub(crate) fn number_at(numbers: &[u32], place: usize) -> u32 {
+// The number of a thing at a place, or `u32::MAX`, which is no number of a thing, past the end.
+pub(crate) fn number_or_max(numbers: &[u32], place: usize) -> u32 {
     match numbers.get(place) {
         Some(number) => *number,
         None => u32::MAX,

@@ -7,7 +7,7 @@ use crate::leaving::{Leaving, Place, Work};
 use crate::programs::Program;
 use crate::relaxations::Relaxation;
 use crate::slots::{
-    NOTHING, add, fill, number_at, put, put_flag, put_number, size_of_number, value_at,
+    NOTHING, add, fill, number_or_max, put, put_flag, put_number, size_of_number, value_at,
 };
 use slot_text::Memory;
 use std::alloc::Global;
@@ -37,10 +37,12 @@ pub struct Ended {
 }
 
 impl Relaxation {
-    /// Goes on from the basis that there is, until the relaxation is solved or its value, with changed costs, is above
-    /// `stop_above`, by at most so many pivots. A pivot takes a step for each part and each alternative of the units whose
-    /// prices move, each use of the basic alternatives, and some ten for each entry of the inverse; and for each change of a
-    /// key in it, a step for each unit with a breakpoint, and for each use and alternative of the unit that changes.
+    /// Goes on from the basis that there is, until the relaxation is solved or its value, with
+    /// changed costs, is above `stop_above`, by at most so many pivots. A pivot takes a step for
+    /// each part and each alternative of the units whose prices move, each use of the basic
+    /// alternatives, and some ten for each entry of the inverse; and for each change of a key in
+    /// it, a step for each unit with a breakpoint, and for each use and alternative of the unit
+    /// that changes.
     pub fn solve(
         &mut self,
         alloc: Global,
@@ -170,7 +172,8 @@ impl Relaxation {
         found
     }
 
-    // Where a key leaves: lets a basic alternative of the unit be the key, so that a basic alternative leaves.
+    // Where a key leaves: lets a basic alternative of the unit be the key, so that a basic
+    // alternative leaves.
     fn leaving_place(
         &mut self,
         alloc: Global,
@@ -343,14 +346,14 @@ impl Relaxation {
     // Adds so many times the uses that a part makes of the classes with a price.
     fn add_priced_uses(&self, program: &Program<'_>, part: u32, by: f64, uses: &mut [f64]) {
         for entry in program.reduced().part_uses(part) {
-            let place = number_at(&self.places, entry.class as usize);
+            let place = number_or_max(&self.places, entry.class as usize);
             add(uses, place as usize, by * f64::from(entry.uses));
         }
     }
 
     // Lets an alternative be basic in the place of another one.
     fn replace_basic(&mut self, at: usize, column: u32) {
-        let old = number_at(&self.basics, at);
+        let old = number_or_max(&self.basics, at);
         put_flag(&mut self.is_basic, old as usize, false);
         put_flag(&mut self.is_basic, column as usize, true);
         put_number(&mut self.basics, at, column);
@@ -382,7 +385,7 @@ impl Relaxation {
             let old = self.priced.swap_remove(at);
             put_number(&mut self.places, old as usize, u32::MAX);
             put(&mut self.prices, old as usize, 0.0);
-            let moved = number_at(&self.priced, at);
+            let moved = number_or_max(&self.priced, at);
             let place = u32::try_from(at).unwrap_or(u32::MAX);
             put_number(&mut self.places, moved as usize, place);
         }
@@ -390,7 +393,7 @@ impl Relaxation {
 
     // Gives a class the place of another one that has no price any more.
     fn replace_price(&mut self, at: usize, class: u32) {
-        let old = number_at(&self.priced, at);
+        let old = number_or_max(&self.priced, at);
         put_number(&mut self.places, old as usize, u32::MAX);
         put(&mut self.prices, old as usize, 0.0);
         let place = u32::try_from(at).unwrap_or(u32::MAX);

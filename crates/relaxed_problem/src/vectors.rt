@@ -14,7 +14,8 @@ use std::num::{nearest_i64_to_f64, saturating_f64_to_i64};
 // A price that keeps alternatives away from a resource of limit 0, where it costs nothing.
 const GREAT_PRICE: i64 = 1 << 32;
 
-// The prices of the classes as whole numbers, how costs count beside them, and their sums over the parts.
+// The prices of the classes as whole numbers, how costs count beside them, and their sums over the
+// parts.
 #[derive(Drop)]
 struct Rounded {
     scale: f64,
@@ -23,9 +24,10 @@ struct Rounded {
 }
 
 impl Relaxation {
-    /// The prices of the basis at the costs themselves, times 1024, rounded, as a vector of the problem: the one that the
-    /// program was made from. Where an excluded alternative would be cheaper at these prices than all others of its
-    /// unit that may be taken, a resource of limit 0 that it uses gets a price of 2^32.
+    /// The prices of the basis at the costs themselves, times 1024, rounded, as a vector of the
+    /// problem: the one that the program was made from. Where an excluded alternative would be
+    /// cheaper at these prices than all others of its unit that may be taken, a resource of limit 0
+    /// that it uses gets a price of 2^32.
     pub fn vector(
         &self,
         alloc: Global,
@@ -49,8 +51,8 @@ impl Relaxation {
         self.entries_of(alloc, problem, program, rounded)
     }
 
-    /// Where the relaxation has no solution: prices that show it, as a vector of the problem for the scale 0, whose greatest
-    /// price is about this one.
+    /// Where the relaxation has no solution: prices that show it, as a vector of the problem for
+    /// the scale 0, whose greatest price is about this one.
     pub fn ray(
         &self,
         alloc: Global,
@@ -91,7 +93,8 @@ impl Relaxation {
         Ok(vector_for(alloc, problem, entries))
     }
 
-    // Raises the prices of resources of limit 0 where excluded alternatives are cheaper than the others of their unit.
+    // Raises the prices of resources of limit 0 where excluded alternatives are cheaper than the
+    // others of their unit.
     fn keep_away(&self, program: &Program<'_>, rounded: &mut Rounded) {
         let mut unit = u32::MAX;
         let mut least = 0.0;
@@ -148,7 +151,8 @@ impl Rounded {
         self.scale * cost + parts
     }
 
-    // Raises the price at an excluded alternative's resource of limit 0 where it costs less than so much.
+    // Raises the price at an excluded alternative's resource of limit 0 where it costs less than so
+    // much.
     fn raise(&mut self, barred: &Barred, least: f64) {
         let column = &barred.column;
         if self.cost(column.cost, column.one, column.two) < least {
