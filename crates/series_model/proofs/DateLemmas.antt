@@ -24,22 +24,6 @@ pub date_end : (test : ℕ → Bool) (day end : ℕ) → end ≤ day → filter 
 unfolding days_from
 date_end test day end le = let n : end - day ≡ 0 = omega arith in rw n refl
 
--- counted
-pub count_on : (test : ℕ → Bool) (count day end all : ℕ) → day < end → test day ≡ true → count + length (filter test (days_from day (end - day))) ≡ all → count + 1 + length (filter test (days_from (day + 1) (end - (day + 1)))) ≡ all
-count_on test count day end all lt on so_far =
-    let step : length (filter test (days_from day (end - day))) ≡ suc (length (filter test (days_from (day + 1) (end - (day + 1))))) = ap (λ (xs : List ℕ). length xs) (date_on test day end lt on) in
-    omega (arith, step, so_far)
-
-pub count_off : (test : ℕ → Bool) (count day end all : ℕ) → day < end → test day ≡ false → count + length (filter test (days_from day (end - day))) ≡ all → count + length (filter test (days_from (day + 1) (end - (day + 1)))) ≡ all
-count_off test count day end all lt off so_far =
-    let step : length (filter test (days_from day (end - day))) ≡ length (filter test (days_from (day + 1) (end - (day + 1)))) = ap (λ (xs : List ℕ). length xs) (date_off test day end lt off) in
-    omega (arith, step, so_far)
-
-pub count_end : (test : ℕ → Bool) (count day end all : ℕ) → end ≤ day → count + length (filter test (days_from day (end - day))) ≡ all → count ≡ all
-count_end test count day end all le so_far =
-    let step : length (filter test (days_from day (end - day))) ≡ 0 = ap (λ (xs : List ℕ). length xs) (date_end test day end le) in
-    omega (arith, step, so_far)
-
 -- with a list for each date
 pub list_step : {X : Type 0} (test : ℕ → Bool) (f : ℕ → List X) (before after all : List X) (day end : ℕ) → day < end → after ≡ before ++ (if test day then f day else [])
     → before ++ flat_map f (filter test (days_from day (end - day))) ≡ all → after ++ flat_map f (filter test (days_from (day + 1) (end - (day + 1)))) ≡ all

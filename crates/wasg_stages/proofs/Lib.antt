@@ -2,6 +2,5 @@ mod ZipLemmas
 mod ChoiceLemmas
 mod ProofLemmas
 mod PartLemmas
-mod StepLemmas
 mod LoadLemmas
 mod BuildLemmas

@@ -10,17 +10,6 @@ use Rattle.capacity_windows.specs.Windows.{capacity_of, declared_resources}
 use Rattle.choice_problem.specs.Problems.{ChooserView, ArePartsInRange}
 use Rattle.wasg_stages.specs.StageProblems.{IsChooserOf}
 
--- the units' lines have a spelling in the season
-abbrev pub AreFitting : Declaration → List UnitState → Type 0
-AreFitting d states = All (λ (state : UnitState). UnitFits d.season state.unit) states
-
--- the unit first in line is so after the stage, and takes so many of the numbers
-abbrev pub Advances : Declaration → ℕ → UnitState → List ℕ → UnitState → ℕ → Type 0
-Advances d stage state numbers after taken =
-    (rest : List UnitState) →
-    after_allotment stage (state ∷ rest) (stage_times d stage (state ∷ rest) numbers)
-    ≡ after ∷ after_allotment stage rest (stage_times d stage rest (drop taken numbers))
-
 -- each limit, if it is from 0 to the highest, is lower by the uses of its resource, and at least 0
 abbrev pub LowersBy : List ℤ → List ℤ → (ℕ → ℕ) → Type 0
 LowersBy old new uses =
