@@ -6,12 +6,11 @@ mod BoundLemmas
 mod AllowedLemmas
 mod TreeLemmas
 mod ShapeLemmas
-mod GraftLemmas
 mod FloorLemmas
 mod DrivenLemmas
 mod GreedyLemmas
 mod RootLemmas
 mod AlikeLemmas
 mod AlikeTreeLemmas
-mod RenumberLemmas
+mod NamedLemmas
 mod WalkLemmas

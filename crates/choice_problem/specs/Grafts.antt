@@ -1,11 +1,8 @@
 -- Trees put in the place of a tree's undone nodes.
-use Rattle.std.specs.Prelude.{ℕ, List, [], ◌∷◌, ◌++◌, Option}
-use Rattle.choice_problem.specs.declared.vectors.Price.{Price}
+use Rattle.std.specs.Prelude.{ℕ, List, [], ◌∷◌, ◌++◌}
 use Rattle.choice_problem.specs.declared.nodes.Node.{Node}
 use Rattle.choice_problem.specs.declared.nodes.Node.TheVariants.{Split, Leaf, Over, Undone}
-use Rattle.choice_problem.specs.Problems.{ProblemView}
-use Rattle.choice_problem.specs.Trees.{AreTrees, NodeHolds, parts_of}
-use Rattle.choice_problem.specs.Driven.{IsDrivenNode}
+use Rattle.choice_problem.specs.Trees.{AreTrees, parts_of}
 
 -- the ranges of the undone nodes, in preorder
 abbrev pub open_ranges : List (List (ℕ × ℕ)) → List Node → List (List (ℕ × ℕ))
@@ -32,14 +29,3 @@ AreOn Holds pieces [] = Unit {0}
 AreOn Holds [] (tree ∷ trees) = ⊥
 AreOn Holds (ranges ∷ pieces) (tree ∷ trees) =
     AreTrees Holds (ranges ∷ []) tree × AreOn Holds pieces trees
-
--- sound trees, and driven trees, on these pieces
-abbrev pub AreSoundOn : ProblemView → List (List Price) → Option ℕ → List (List (ℕ × ℕ)) →
-    List (List Node) → Type 0
-AreSoundOn p vectors cost pieces trees =
-    AreOn (λ ranges node. NodeHolds p vectors cost ranges node) pieces trees
-
-abbrev pub AreDrivenOn : ProblemView → List (List Price) → List Price → List (List (ℕ × ℕ)) →
-    List (List Node) → Type 0
-AreDrivenOn p vectors root pieces trees =
-    AreOn (λ ranges node. IsDrivenNode p vectors root ranges node) pieces trees

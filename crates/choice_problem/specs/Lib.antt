@@ -12,6 +12,6 @@ pub mod Driven
 pub mod Grafts
 pub mod Floors
 pub mod Alike
-pub mod Renumbered
+pub mod Named
 pub mod Walks
 pub mod Loops

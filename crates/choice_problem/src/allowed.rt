@@ -1,4 +1,5 @@
-//! Tests of the conditions of `Chooser::new` and `Problem::new`, for callers that do not know them otherwise.
+//! Tests of the conditions of `Chooser::new` and `Problem::new`, for callers that do not know them
+//! otherwise.
 
 ghost use Rattle.std.specs.Prelude.{◌≡◌, ◌↔◌, ◌+◌, ◌^◌, ◌<◌, ◌≤◌, length, All, IsTrue};
 ghost use Rattle.std.specs.Option.{ForSome};
@@ -16,10 +17,11 @@ impl Chooser {
     ghost use Rattle.choice_problem.specs.Problems.{IsChooser};
     ghost use Rattle.choice_problem.specs.Allowed.{IsAllowed};
 
-    /// Whether `new` takes these parts and alternatives. Of an alternative's uses it knows how many runs of each strip can
-    /// overlap, and takes it that the strips of its parts share a resource: where they do not, `new` takes more. So parts
-    /// of series under a night quota, or under many lines with weekdays, may be refused although `new` takes them: there
-    /// the law `few_uses` is the way. One step an alternative and strip of its parts.
+    /// Whether `new` takes these parts and alternatives. Of an alternative's uses it knows how many
+    /// runs of each strip can overlap, and takes it that the strips of its parts share a resource:
+    /// where they do not, `new` takes more. So parts of series under a night quota, or under many
+    /// lines with weekdays, may be refused although `new` takes them: there the law `few_uses` is
+    /// the way. One step an alternative and strip of its parts.
     pub fn allows(parts: &[Part], alts: &[Alt]) -> bool
         ensures exact { IsTrue result ↔ IsAllowed (record { parts = parts.now; alts = alts.now }) }
         ensures valid { IsTrue result → IsChooser (record { parts = parts.now; alts = alts.now }) }

@@ -42,7 +42,8 @@ impl Choice {
         &self.alts
     }
 
-    /// Whether there is one alternative for each unit of the problem, and each is there: one step a unit.
+    /// Whether there is one alternative for each unit of the problem, and each is there: one step a
+    /// unit.
     pub fn is_for(&self, problem: &Problem) -> bool
         ensures { IsTrue result ↔ IsChoice problem.now self.now }
     {
@@ -79,8 +80,8 @@ pub fn cost_of(problem: &Problem, choice: &Choice) -> u64
     cost
 }
 
-/// Whether no resource is used above its limit. It counts in an array of one number a resource, and takes time in
-/// proportion to the uses of the chosen parts and the number of resources.
+/// Whether no resource is used above its limit. It counts in an array of one number a resource, and
+/// takes time in proportion to the uses of the chosen parts and the number of resources.
 pub fn fits(alloc: Global, problem: &Problem, choice: &Choice) -> Result<bool, Memory>
     requires { IsChoice problem.now choice.now }
     ensures { IfOk result (λ yes. IsTrue yes ↔ Fits problem.now choice.now) }
@@ -116,7 +117,8 @@ fn count_uses(problem: &Problem, choice: &Choice, counts: &mut [u32])
     }
 }
 
-/// The lowest resource whose count is above its limit: one step a resource. There is one count for each resource.
+/// The lowest resource whose count is above its limit: one step a resource. There is one count for
+/// each resource.
 pub fn first_above(problem: &Problem, counts: &[u32]) -> Option<u32>
     requires { length counts.now ≡ resource_count problem.now }
     ensures there { IfSome result (λ r. r < resource_count problem.now) }
@@ -129,7 +131,8 @@ pub fn first_above(problem: &Problem, counts: &[u32]) -> Option<u32>
     first_above_limit(counts, problem.limits())
 }
 
-/// The lowest resource whose count is above its limit, for counts and limits of as many resources: one step a resource.
+/// The lowest resource whose count is above its limit, for counts and limits of as many resources:
+/// one step a resource.
 pub fn first_above_limit(counts: &[u32], limits: &[i64]) -> Option<u32>
     requires resources { length counts.now < 2 ^ 32 }
     requires limits { length limits.now ≡ length counts.now }

@@ -24,7 +24,8 @@ use crate::vectors::Vector;
 /// What the scale of a bound stays below.
 pub const SCALE_BOUND: u64 = 1 << 20;
 
-/// The scale at which a search takes its bounds with prices, so that a price is given to 1/1024 of a cost.
+/// The scale at which a search takes its bounds with prices, so that a price is given to 1/1024 of
+/// a cost.
 pub const PRICED_SCALE: u64 = 1_024;
 
 /// Whether even the least load of a resource passes its limit.
@@ -40,8 +41,8 @@ pub fn over_closes(problem: &Problem, ranges: &Ranges, resource: u32) -> bool
     load > problem.limit(resource)
 }
 
-/// The least number of a unit's uses of a resource from one alternative to another. It stops at the first that does not
-/// use it.
+/// The least number of a unit's uses of a resource from one alternative to another. It stops at the
+/// first that does not use it.
 #[tactic(auto, using(finite_sums::proofs::SumLemmas::least_within_steps))]
 pub fn least_uses(problem: &Problem, unit: u32, low: u32, high: u32, resource: u32) -> u32
     requires unit { unit < unit_count problem.now }

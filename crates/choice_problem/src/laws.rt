@@ -1,6 +1,7 @@
-//! Laws of closed ranges, of trees, and of what trees prove. The functions do nothing; their contracts are the laws.
+//! Laws of closed ranges, of trees, and of what trees prove. The functions do nothing; their
+//! contracts are the laws.
 
-ghost use Rattle.std.specs.Prelude.{◌≡◌, ◌↔◌, ℕ, ◌+◌, ◌*◌, ◌/◌, ◌<◌, ◌≤◌, ◌^◌, List, length, slice_set, Option, Some, None, All, map, [], ◌∷◌, ◌++◌, count_by, ◌==◌};
+ghost use Rattle.std.specs.Prelude.{◌≡◌, ℕ, ◌+◌, ◌*◌, ◌/◌, ◌<◌, ◌≤◌, ◌^◌, List, length, slice_set, Option, Some, None, All, [], ◌∷◌, ◌++◌, count_by, ◌==◌};
 ghost use Rattle.choice_problem.specs.declared.vectors.TheConstants.{ROOT_STEPS};
 ghost use Rattle.choice_problem.specs.declared.problems.TheConstants.{MOST_UNITS, MOST_USES};
 ghost use Rattle.choice_problem.specs.declared.strips.Strip.{Strip};
@@ -9,10 +10,10 @@ ghost use Rattle.choice_problem.specs.Strips.{strip_uses, strip_resources, part_
 ghost use Rattle.choice_problem.specs.declared.nodes.Node.{Node};
 ghost use Rattle.choice_problem.specs.declared.nodes.Node.TheVariants as node;
 ghost use Rattle.choice_problem.specs.declared.vectors.Price.{Price};
-ghost use Rattle.choice_problem.specs.Problems.{ChooserView, ProblemView, IsChooser, unit_count, alt_count, resource_count, limit_of};
+ghost use Rattle.choice_problem.specs.Problems.{ChooserView, ProblemView, IsChooser, unit_count, alt_count, resource_count};
 ghost use Rattle.choice_problem.specs.Allowed.{UseAtMost, IsNamedAlt};
 ghost use Rattle.choice_problem.specs.Choices.{IsFeasible, IsBest, HasNone, choice_cost};
-ghost use Rattle.choice_problem.specs.Bounds.{AreRanges, IsWithin, IsVector, Closes, IsOver, whole_of, priced, least_total, bound_of};
+ghost use Rattle.choice_problem.specs.Bounds.{AreRanges, IsWithin, IsVector, Closes, IsOver, whole_of, bound_of};
 ghost use Rattle.choice_problem.specs.Trees.{
   AreSound,
   NodeHolds,
@@ -28,13 +29,12 @@ ghost use Rattle.choice_problem.specs.Trees.{
 ghost use Rattle.choice_problem.specs.Greedy.{IsGreedy, IsGreedyCost, FitsOn};
 ghost use Rattle.choice_problem.specs.Roots.{IsNodeVector, vector_of, step_length};
 ghost use Rattle.choice_problem.specs.Driven.{IsDriven, AreDriven};
-ghost use Rattle.choice_problem.specs.Grafts.{open_ranges, graft, AreSoundOn, AreDrivenOn};
 ghost use Rattle.choice_problem.specs.Floors.{IsFloored, AreFloors, IsAtMost};
 ghost use Rattle.choice_problem.specs.Alike.{AreAlike};
-ghost use Rattle.choice_problem.specs.Renumbered.{NamesUpTo, HasNumber, KeepsVector, renumbered};
+ghost use Rattle.choice_problem.specs.Named.{NamesUpTo};
 
-/// A strip uses a resource as often as the resource comes in the list that the strip stands for, and at most once a run.
-/// Strips that stay within the resources use nothing beyond them.
+/// A strip uses a resource as often as the resource comes in the list that the strip stands for,
+/// and at most once a run. Strips that stay within the resources use nothing beyond them.
 pub fn strip_list()
     ensures list { (s : Strip) (r : ℕ) → strip_uses s r ≡ count_by (λ c. c == r)
         (strip_resources s) }
@@ -43,27 +43,17 @@ pub fn strip_list()
         resources ≤ r → part_uses strips r ≡ 0 }
 {}
 
-/// Parts that use no resource more than half of `MOST_USES` times make units, whatever strips they are in: an alternative names two of them.
+/// Parts that use no resource more than half of `MOST_USES` times make units, whatever strips they
+/// are in: an alternative names two of them.
 pub fn few_uses()
     ensures { (m : ChooserView) → UseAtMost (MOST_USES / 2) m.parts → 0 < length m.alts →
         length m.alts < 2 ^ 32 →
         length m.parts < 2 ^ 32 → All (IsNamedAlt m.parts) m.alts → IsChooser m }
 {}
 
-/// What closing means without integers: the limits at their prices and, for a cost, the scaled cost are together below the
-/// least total and the scale.
-pub fn closing_numbers()
-    ensures cost { (p : ProblemView) (ranges : List (ℕ × ℕ)) (prices : List Price) (scale u : ℕ) →
-        Closes p ranges prices scale (Some u)
-        ↔ (scale * u + priced prices (λ r. limit_of p r)
-        < least_total p ranges prices scale + scale) }
-    ensures none { (p : ProblemView) (ranges : List (ℕ × ℕ)) (prices : List Price) (scale : ℕ) →
-        Closes p ranges prices scale None
-        ↔ ((scale ≡ 0) × (priced prices (λ r. limit_of p r) < least_total p ranges prices scale)) }
-{}
-
-/// Which lists of spans are ranges of a problem: all alternatives, the two parts at a cut of ranges, and ranges of which one
-/// unit's span is replaced by another that is not empty and whose alternatives are there.
+/// Which lists of spans are ranges of a problem: all alternatives, the two parts at a cut of
+/// ranges, and ranges of which one unit's span is replaced by another that is not empty and whose
+/// alternatives are there.
 pub fn part_ranges()
     ensures whole { (p : ProblemView) → ((u : ℕ) → u < unit_count p → 0 < alt_count p u) →
         AreRanges p (whole_of p) }
@@ -76,8 +66,8 @@ pub fn part_ranges()
         AreRanges p (slice_set ranges unit (low, high)) }
 {}
 
-/// Prices below 2^40, one a resource, make a vector, and the lengths of up to 64 subgradient steps are together at most
-/// 261,120.
+/// Prices below 2^40, one a resource, make a vector, and the lengths of up to 64 subgradient steps
+/// are together at most 261,120.
 pub fn price_vectors()
     ensures valid { (p : ProblemView) (prices : ℕ → ℕ) →
         ((r : ℕ) → r < resource_count p → prices r < 2 ^ 40) →
@@ -85,9 +75,10 @@ pub fn price_vectors()
     ensures steps { (n : ℕ) → n ≤ ROOT_STEPS → sum_below n step_length ≤ 261120 }
 {}
 
-/// What closed ranges say of the feasible choices within them, by weak Lagrangian duality. What closes for none closes
-/// for every cost, and what closes for a cost closes for every smaller one. A feasible choice within ranges that are
-/// closed for a cost costs at least that; within ranges that are closed for none, or by an over leaf, there is none.
+/// What closed ranges say of the feasible choices within them, by weak Lagrangian duality. What
+/// closes for none closes for every cost, and what closes for a cost closes for every smaller one.
+/// A feasible choice within ranges that are closed for a cost costs at least that; within ranges
+/// that are closed for none, or by an over leaf, there is none.
 pub fn closed_ranges()
     ensures none_closes_all { (p : ProblemView) (ranges : List (ℕ × ℕ)) (prices : List Price)
         (scale u : ℕ) →
@@ -108,8 +99,8 @@ pub fn closed_ranges()
         OverHolds p ranges resource → IsFeasible p x → IsWithin p ranges x → ⊥ }
 {}
 
-/// What a sound and whole tree on all alternatives says of all choices: with the cost of a feasible choice it makes that
-/// choice best, and without a cost it leaves no feasible choice.
+/// What a sound and whole tree on all alternatives says of all choices: with the cost of a feasible
+/// choice it makes that choice best, and without a cost it leaves no feasible choice.
 pub fn sound_tree()
     ensures best { (p : ProblemView) (vectors : List (List Price)) (nodes : List Node)
         (x : List ℕ) →
@@ -120,9 +111,9 @@ pub fn sound_tree()
         HasNone p }
 {}
 
-/// Trees that are closed for a floor but may have undone nodes: where the bound of each undone node closes its ranges for
-/// the floor, no feasible choice costs less. `listed` says the same of a tree that is sound for a cost, or for none, with
-/// one vector and scale for each undone node.
+/// Trees that are closed for a floor but may have undone nodes: where the bound of each undone node
+/// closes its ranges for the floor, no feasible choice costs less. `listed` says the same of a tree
+/// that is sound for a cost, or for none, with one vector and scale for each undone node.
 pub fn floored_tree()
     ensures closed { (p : ProblemView) (vectors : List (List Price)) (floor : ℕ) (nodes : List Node)
         (x : List ℕ) →
@@ -135,8 +126,9 @@ pub fn floored_tree()
         AreFloors p vectors floor nodes floors → IsFeasible p x → floor ≤ choice_cost p x }
 {}
 
-/// The shape of trees: a sound split is followed by exactly two trees, sound on the low and on the high part, and two such
-/// trees make one; nothing follows another node; no tree is the beginning of another.
+/// The shape of trees: a sound split is followed by exactly two trees, sound on the low and on the
+/// high part, and two such trees make one; nothing follows another node; no tree is the beginning
+/// of another.
 pub fn split_trees()
     ensures split { (p : ProblemView) (vectors : List (List Price)) (cost : Option ℕ)
         (ranges : List (ℕ × ℕ))
@@ -160,33 +152,9 @@ pub fn split_trees()
         ++ other → one ≡ two }
 {}
 
-/// Trees joined: one after the other on two lists of ranges, and in the place of undone nodes. What was sound, or driven,
-/// stays so.
-pub fn joined_trees()
-    ensures sound { (p : ProblemView) (vectors : List (List Price)) (cost : Option ℕ)
-        (first second : List (List (ℕ × ℕ)))
-        (nodes more : List Node) →
-        AreSound p vectors cost first nodes → AreSound p vectors cost second more →
-        AreSound p vectors cost (first ++ second) (nodes ++ more) }
-    ensures sound_grafted { (p : ProblemView) (vectors : List (List Price)) (cost : Option ℕ)
-        (pending : List (List (ℕ × ℕ))) (nodes : List Node) (trees : List (List Node)) →
-        AreSound p vectors cost pending nodes →
-        AreSoundOn p vectors cost (open_ranges pending nodes) trees →
-        AreSound p vectors cost pending (graft nodes trees) }
-    ensures driven { (p : ProblemView) (vectors : List (List Price)) (root : List Price)
-        (first second : List (List (ℕ × ℕ))) (nodes more : List Node) →
-        AreDriven p vectors root first nodes → AreDriven p vectors root second more →
-        AreDriven p vectors root (first ++ second) (nodes ++ more) }
-    ensures driven_grafted { (p : ProblemView) (vectors : List (List Price)) (root : List Price)
-        (pending : List (List (ℕ × ℕ))) (nodes : List Node) (trees : List (List Node)) →
-        AreDriven p vectors root pending nodes →
-        AreDrivenOn p vectors root (open_ranges pending nodes) trees →
-        AreDriven p vectors root pending (graft nodes trees) }
-{}
-
-/// The greedy choice is feasible, and its cost, or that there is none, is determined by the problem. So is the node vector of
-/// ranges, and with it the root vector, whose prices are those of a vector for the problem: all are below 2^40. What fits
-/// on some loads fits on the same loads.
+/// The greedy choice is feasible, and its cost, or that there is none, is determined by the
+/// problem. So is the node vector of ranges, and with it the root vector, whose prices are those of
+/// a vector for the problem: all are below 2^40. What fits on some loads fits on the same loads.
 pub fn search_start()
     ensures feasible { (p : ProblemView) (x : List ℕ) → IsGreedy p (unit_count p) x →
         IsFeasible p x }
@@ -201,7 +169,8 @@ pub fn search_start()
         IsNodeVector p ranges prices → IsVector p prices }
 {}
 
-/// A tree that is driven for a result is sound for it, and stays driven where vectors are added to the list.
+/// A tree that is driven for a result is sound for it, and stays driven where vectors are added to
+/// the list.
 pub fn driven_tree()
     ensures sound { (p : ProblemView) (vectors : List (List Price)) (result : Option ℕ)
         (nodes : List Node) →
@@ -211,9 +180,9 @@ pub fn driven_tree()
         IsDriven p vectors result nodes → IsDriven p (vectors ++ more) result nodes }
 {}
 
-/// What is said of a problem depends on its numbers alone: problems that are alike have the same feasible and best choices,
-/// ranges, vectors and bounds, sound, floored and driven trees, greedy cost and node vectors. Where parts or strips differ,
-/// nothing of this changes.
+/// What is said of a problem depends on its numbers alone: problems that are alike have the same
+/// feasible and best choices, ranges, vectors and bounds, sound, floored and driven trees, greedy
+/// cost and node vectors. Where parts or strips differ, nothing of this changes.
 pub fn alike_problems()
     ensures back { (p q : ProblemView) → AreAlike p q → AreAlike q p }
     ensures whole { (p q : ProblemView) → AreAlike p q → whole_of p ≡ whole_of q }
@@ -258,7 +227,8 @@ pub fn alike_problems()
         AreAlike p q → IsDriven p vectors result nodes → IsDriven q vectors result nodes }
 {}
 
-/// Trees over a list of vectors hold over its beginning, where no leaf and no floor names a later one.
+/// Trees over a list of vectors hold over its beginning, where no leaf and no floor names a later
+/// one.
 pub fn fewer_vectors()
     ensures sound { (p : ProblemView) (vectors more : List (List Price)) (cost : Option ℕ)
         (pending : List (List (ℕ × ℕ))) (nodes : List Node) →
@@ -278,37 +248,8 @@ pub fn fewer_vectors()
         AreFloors p (vectors ++ more) floor nodes floors → AreFloors p vectors floor nodes floors }
 {}
 
-/// Trees hold over another list of vectors, where each leaf and floor gets the number there of the vector that it named.
-pub fn renumbered_vectors()
-    ensures sound { (p : ProblemView) (vectors others : List (List Price)) (cost : Option ℕ)
-        (number : ℕ → ℕ)
-        (pending : List (List (ℕ × ℕ))) (nodes : List Node) →
-        All (KeepsVector vectors others number) nodes →
-        AreSound p vectors cost pending nodes →
-        AreSound p others cost pending (map (renumbered number) nodes) }
-    ensures driven_nodes { (p : ProblemView) (vectors others : List (List Price))
-        (root : List Price)
-        (number : ℕ → ℕ) (pending : List (List (ℕ × ℕ))) (nodes : List Node) →
-        All (KeepsVector vectors others number) nodes → AreDriven p vectors root pending nodes →
-        AreDriven p others root pending (map (renumbered number) nodes) }
-    ensures driven { (p : ProblemView) (vectors others : List (List Price)) (result : Option ℕ)
-        (number : ℕ → ℕ)
-        (nodes : List Node) → All (KeepsVector vectors others number) nodes →
-        IsDriven p vectors result nodes → IsDriven p others result (map (renumbered number) nodes) }
-    ensures floors { (p : ProblemView) (vectors others : List (List Price)) (floor : ℕ)
-        (number : ℕ → ℕ)
-        (nodes : List Node) (floors : List (ℕ × ℕ)) →
-        All (λ named. HasNumber vectors others named.0 (number named.0)) floors →
-        AreFloors p vectors floor nodes floors →
-        AreFloors p others floor (map (renumbered number) nodes)
-        (map (λ named. (number named.0, named.1)) floors) }
-    ensures ranges { (number : ℕ → ℕ) (pending : List (List (ℕ × ℕ))) (nodes : List Node) →
-        open_ranges pending (map (renumbered number) nodes) ≡ open_ranges pending nodes }
-    ensures whole { (number : ℕ → ℕ) (nodes : List Node) →
-        IsWhole nodes → IsWhole (map (renumbered number) nodes) }
-{}
-
-/// Each problem and list of spans has a node vector, so a driven tree can be stated where none was computed.
+/// Each problem and list of spans has a node vector, so a driven tree can be stated where none was
+/// computed.
 pub fn node_vector_exists()
     ensures { (p : ProblemView) (ranges : List (ℕ × ℕ)) → (prices : List Price)
         × IsNodeVector p ranges prices }

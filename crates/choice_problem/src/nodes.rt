@@ -1,15 +1,17 @@
 //! Search trees of branch and bound, as the lists of their nodes.
 
-ghost use Rattle.std.specs.Prelude.{◌≡◌, ◌<◌, ◌^◌, length};
+ghost use Rattle.std.specs.Prelude.{◌≡◌, ◌⊎◌, ◌<◌, ◌≤◌, ◌^◌, length};
 ghost use Rattle.choice_problem.specs.Trees.{node_count};
+ghost use Rattle.choice_problem.specs.Named.{IsGreatestNamed, Names, NamesUpTo};
 
 use std::marker::Model;
 
-/// A node of a search tree. Each has ranges of alternatives, which the splits above it cut out of the whole ones.
-/// `seen` is the cost that was known when the node was made, if any.
+/// A node of a search tree. Each has ranges of alternatives, which the splits above it cut out of
+/// the whole ones. `seen` is the cost that was known when the node was made, if any.
 #[derive(Clone, Copy, Debug, PartialEq, Eq)]
 pub enum Node {
-    /// The unit's range is cut in two, and two trees follow: on the alternatives below the cut, and from the cut on.
+    /// The unit's range is cut in two, and two trees follow: on the alternatives below the cut, and
+    /// from the cut on.
     Split {
         /// The number of the unit, from 0.
         unit: u32,
@@ -18,7 +20,8 @@ pub enum Node {
         /// The cost that was known.
         seen: Option<u64>,
     },
-    /// The bound at a vector of prices and a scale closes the ranges. Vector 0 is the one without prices.
+    /// The bound at a vector of prices and a scale closes the ranges. Vector 0 is the one without
+    /// prices.
     Leaf {
         /// The number of the vector: 0, or its place in the list, from 1.
         vector: u32,
@@ -86,4 +89,28 @@ pub fn count_nodes(tree: &Tree) -> u32
         }
     }
     count
+}
+
+/// The greatest number of a vector that a leaf of a tree names, and 0 where none does: one step a
+/// node.
+pub fn greatest_named(tree: &[Node]) -> u32
+    ensures { IsGreatestNamed tree.now result }
+{
+    let mut most = 0;
+    for node in tree {
+        most = greater_named(most, *node);
+    }
+    most
+}
+
+// The greater of a number and the vector that a node may name.
+fn greater_named(most: u32, node: Node) -> u32
+    ensures least { most ≤ result }
+    ensures names { NamesUpTo result node }
+    ensures which { (result ≡ most) ⊎ Names result node }
+{
+    match node {
+        Node::Leaf { vector, .. } if vector > most => vector,
+        _ => most,
+    }
 }

@@ -20,8 +20,8 @@ pub const MOST_USES: u32 = 434;
 /// The highest cost that an alternative may have.
 pub const HIGHEST_COST: u64 = (1 << 24) - 1;
 
-/// An alternative of a unit: what it costs, and the numbers of up to two parts of its unit, whose resources it uses.
-/// Where it names one part twice, it uses that part's resources twice.
+/// An alternative of a unit: what it costs, and the numbers of up to two parts of its unit, whose
+/// resources it uses. Where it names one part twice, it uses that part's resources twice.
 #[derive(Clone, Copy, Debug, PartialEq, Eq)]
 pub struct Alt {
     /// What it costs, in the unit of the problem's costs, such as minutes of displacement.
@@ -32,8 +32,8 @@ pub struct Alt {
     pub two: Option<u32>,
 }
 
-/// A unit: the parts that its alternatives name, and the alternatives. A part that several alternatives name is kept
-/// once.
+/// A unit: the parts that its alternatives name, and the alternatives. A part that several
+/// alternatives name is kept once.
 #[derive(Drop)]
 pub struct Chooser {
     parts: Vec<Part>,
@@ -57,9 +57,9 @@ impl Chooser {
     ghost use Rattle.choice_problem.specs.Problems.{ChooserView, IsChooser, alt_at, part_at, named_uses, chooser_uses, ArePartsInRange};
     ghost use Rattle.choice_problem.specs.Counts.{GrowsBy, HasRoom};
 
-    /// The unit with these parts and alternatives. There is at least one alternative and fewer than 2^32; there are fewer
-    /// than 2^32 parts; each alternative costs less than 2^24, names parts that are there, and uses no resource more than
-    /// 434 times.
+    /// The unit with these parts and alternatives. There is at least one alternative and fewer than
+    /// 2^32; there are fewer than 2^32 parts; each alternative costs less than 2^24, names parts
+    /// that are there, and uses no resource more than 434 times.
     pub fn new(parts: Vec<Part>, alts: Vec<Alt>) -> Chooser
         requires { IsChooser (record { parts = parts.items; alts = alts.items }) }
         ensures { result ≡ record { parts = parts.items; alts = alts.items } }
@@ -163,8 +163,9 @@ impl Chooser {
 
 /// A problem: units of which each takes one alternative, and a limit for each resource.
 ///
-/// Memory: 24 bytes an alternative, 24 bytes a part and 16 bytes a strip, 48 bytes a unit, and 8 bytes a resource. 500
-/// units with 625 alternatives over 50 parts of 16 strips and 45,000 resources take about 15 MB.
+/// Memory: 24 bytes an alternative, 24 bytes a part and 16 bytes a strip, 48 bytes a unit, and 8
+/// bytes a resource. 500 units with 625 alternatives over 50 parts of 16 strips and 45,000
+/// resources take about 15 MB.
 #[derive(Drop)]
 pub struct Problem {
     units: Vec<Chooser>,
@@ -205,8 +206,9 @@ impl Problem {
     ghost use Rattle.choice_problem.specs.Counts.{GrowsBy, HasRoom};
     ghost use Rattle.choice_problem.specs.Strips.{IsPartInRange};
 
-    /// The problem with these units and limits, one limit for each resource. There are at most 4,096 units and 1,000,000
-    /// resources; limits are from 0 to 999,999; the strips of all parts stay within the resources.
+    /// The problem with these units and limits, one limit for each resource. There are at most
+    /// 4,096 units and 1,000,000 resources; limits are from 0 to 999,999; the strips of all parts
+    /// stay within the resources.
     pub fn new(units: Vec<Chooser>, limits: Vec<i64>) -> Problem
         requires { IsProblem units.items limits.items }
         ensures { result ≡ problem_of units.items limits.items }

@@ -69,8 +69,8 @@ impl Ranges {
         })
     }
 
-    /// Replaces the range of a unit, in one step. What are ranges of a problem stay ranges of it where the new one is
-    /// not empty and its alternatives are there.
+    /// Replaces the range of a unit, in one step. What are ranges of a problem stay ranges of it
+    /// where the new one is not empty and its alternatives are there.
     pub fn set(&mut self, unit: u32, low: u32, high: u32)
         requires { unit < length self.old }
         ensures value { self.new ≡ slice_set self.old unit (low, high) }
@@ -81,8 +81,8 @@ impl Ranges {
         self.spans[unit as usize] = (low, high);
     }
 
-    /// The ranges with the unit's alternatives below the cut, and those with its alternatives from the cut on. Both are
-    /// copies: 8 bytes a unit each.
+    /// The ranges with the unit's alternatives below the cut, and those with its alternatives from
+    /// the cut on. Both are copies: 8 bytes a unit each.
     pub fn split(&self, alloc: Global, unit: u32, cut: u32) -> Result<(Ranges, Ranges), Memory>
         requires { CanSplit self.now unit cut }
         ensures low { IfOk result (λ parts. parts.0 ≡ low_part self.now unit cut) }

@@ -6,8 +6,9 @@ ghost use Rattle.choice_problem.specs.Loops.{run_uses};
 
 use std::marker::Model;
 
-/// The resources `first + i * gap + j`, for i below `times` and j below `width`: runs of `width` resources, `gap` apart.
-/// A resource that comes several times, as where runs overlap or `gap` is 0, counts as often.
+/// The resources `first + i * gap + j`, for i below `times` and j below `width`: runs of `width`
+/// resources, `gap` apart. A resource that comes several times, as where runs overlap or `gap` is
+/// 0, counts as often.
 #[derive(Clone, Copy, Debug, PartialEq, Eq)]
 pub struct Strip {
     /// The number of the first run's first resource, from 0.
@@ -27,7 +28,8 @@ impl Strip {
     ghost use Rattle.choice_problem.specs.Allowed.{strip_most};
     ghost use Rattle.choice_problem.specs.Counts.{GrowsBy, HasRoom, HasUses};
 
-    /// Where a run, numbered from 0, begins and ends: its first resource, and the first one after it.
+    /// Where a run, numbered from 0, begins and ends: its first resource, and the first one after
+    /// it.
     pub fn run(&self, run: u32) -> (u64, u64)
         ensures start { result.0 ≡ run_start self.now run }
         ensures end { result.1 ≡ run_start self.now run + self.now.width }
@@ -36,8 +38,22 @@ impl Strip {
         (start, start + u64::from(self.width))
     }
 
-    /// How often the strip uses a resource, by at most two divisions: the runs that begin at or before it, less those that
-    /// end before it.
+    /// A number that mixes those of the strip, for tables of strips: the sum of products, modulo
+    /// 2^32, with constants of the xxHash family. Equal strips have equal numbers; its high bits
+    /// are the well mixed ones.
+    pub fn hash_code(&self) -> u32 {
+        let first = self.first.wrapping_mul(0x9E37_79B1);
+        let times = self.times.wrapping_mul(0x85EB_CA77);
+        let gap = self.gap.wrapping_mul(0xC2B2_AE3D);
+        let width = self.width.wrapping_mul(0x27D4_EB2F);
+        first
+            .wrapping_add(times)
+            .wrapping_add(gap)
+            .wrapping_add(width)
+    }
+
+    /// How often the strip uses a resource, by at most two divisions: the runs that begin at or
+    /// before it, less those that end before it.
     pub fn uses(&self, resource: u32) -> u32
         ensures { result ≡ strip_uses self.now resource }
     {
@@ -181,7 +197,8 @@ impl Part {
         &self.strips
     }
 
-    /// How often the strips together use a resource, which is fewer than 2^32 times: at most two divisions a strip.
+    /// How often the strips together use a resource, which is fewer than 2^32 times: at most two
+    /// divisions a strip.
     pub fn uses(&self, resource: u32) -> u32
         requires { part_uses self.now resource < 2 ^ 32 }
         ensures { result ≡ part_uses self.now resource }
@@ -217,8 +234,8 @@ impl Part {
         most
     }
 
-    /// Adds the uses of the strips together to counts, one for each resource from 0: one step a use. The strips stay within
-    /// these resources, and no count reaches 2^32.
+    /// Adds the uses of the strips together to counts, one for each resource from 0: one step a
+    /// use. The strips stay within these resources, and no count reaches 2^32.
     pub fn add_uses(&self, counts: &mut [u32])
         requires there { IsPartInRange (length counts.old) self.now }
         requires room { HasRoom counts.old (λ r. part_uses self.now r) }
@@ -229,8 +246,9 @@ impl Part {
         }
     }
 
-    /// Takes the uses of the strips together away from counts, one for each resource from 0: one step a use. The strips
-    /// stay within these resources, and each count is at least the uses of its resource.
+    /// Takes the uses of the strips together away from counts, one for each resource from 0: one
+    /// step a use. The strips stay within these resources, and each count is at least the uses of
+    /// its resource.
     pub fn take_uses(&self, counts: &mut [u32])
         requires there { IsPartInRange (length counts.old) self.now }
         requires added { HasUses counts.old (λ r. part_uses self.now r) }

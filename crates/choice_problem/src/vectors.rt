@@ -12,8 +12,14 @@ pub const HIGHEST_PRICE: i64 = (1 << 40) - 1;
 /// How many subgradient steps a root vector takes.
 pub const ROOT_STEPS: u32 = 64;
 
+/// The most vectors of a list, among them the root vector.
+pub const MOST_VECTORS: usize = 64;
+
 /// The most vectors that a search takes beside its root vector.
-pub const MOST_FURTHER: usize = 63;
+pub const MOST_FURTHER: usize = MOST_VECTORS - 1;
+
+/// The most prices that the vectors of a list after the first have together.
+pub const MOST_PRICES: usize = 1_000_000;
 
 /// The price of one use of a resource.
 #[derive(Clone, Copy, Debug, PartialEq, Eq)]
@@ -86,7 +92,8 @@ impl Vector {
         &self.prices
     }
 
-    /// Whether the resources rise and are the problem's, and the prices are from 1 to 2^40 - 1: one step a price.
+    /// Whether the resources rise and are the problem's, and the prices are from 1 to 2^40 - 1: one
+    /// step a price.
     pub fn is_for(&self, problem: &Problem) -> bool
         ensures { IsTrue result ↔ IsVector problem.now self.now }
     {
@@ -101,7 +108,8 @@ impl Vector {
     }
 }
 
-/// A list of vectors. The nodes of a tree number them from 1: vector 0 is the one without prices and is not listed.
+/// A list of vectors. The nodes of a tree number them from 1: vector 0 is the one without prices
+/// and is not listed.
 #[derive(Drop)]
 pub struct VectorList {
     vectors: Vec<Vector>,

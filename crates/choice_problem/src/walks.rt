@@ -13,7 +13,8 @@ use slot_text::Memory;
 use std::alloc::Global;
 use std::marker::Model;
 
-// A split above the walk: the unit's range before it, the cut, and whether the walk is in the high part.
+// A split above the walk: the unit's range before it, the cut, and whether the walk is in the high
+// part.
 #[derive(Clone, Copy, Debug, PartialEq, Eq)]
 pub(crate) struct Frame {
     pub(crate) unit: u32,
@@ -23,10 +24,10 @@ pub(crate) struct Frame {
     pub(crate) in_high: bool,
 }
 
-/// A walk over the nodes of trees in preorder, which keeps the ranges of the next node: a node in the low part of a split
-/// has ranges up to the cut, one in the high part ranges from the cut on. Contracts see the list of ranges that trees are
-/// still to come for, those of the next node first. It keeps one copy of the ranges and 20 bytes a split that is open, and
-/// does not recurse.
+/// A walk over the nodes of trees in preorder, which keeps the ranges of the next node: a node in
+/// the low part of a split has ranges up to the cut, one in the high part ranges from the cut on.
+/// Contracts see the list of ranges that trees are still to come for, those of the next node first.
+/// It keeps one copy of the ranges and 20 bytes a split that is open, and does not recurse.
 #[derive(Drop)]
 pub struct RangeWalk {
     ranges: Ranges,
@@ -174,7 +175,8 @@ fn go_down(
     Ok(true)
 }
 
-// Goes up to the last split in whose low part the walk was, and into its high part; whether there is one.
+// Goes up to the last split in whose low part the walk was, and into its high part; whether there
+// is one.
 fn go_up(
     ranges: &mut Ranges,
     frames: &mut Vec<Frame>,
@@ -218,9 +220,9 @@ fn change(
     Ok(())
 }
 
-/// The ranges of the first undone nodes of a tree on these ranges, at most so many, in preorder; None exactly where the
-/// nodes are not one tree there with possible splits. One step a node and what the walk changes, and a copy of the ranges
-/// for each undone node that is asked for.
+/// The ranges of the first undone nodes of a tree on these ranges, at most so many, in preorder;
+/// None exactly where the nodes are not one tree there with possible splits. One step a node and
+/// what the walk changes, and a copy of the ranges for each undone node that is asked for.
 pub fn open_pieces(
     alloc: Global,
     ranges: Ranges,

@@ -47,8 +47,8 @@ fn choose(rt: &HostRuntime, alloc: Global, size: Size, problem: &Problem) -> any
     print_row(rt, "bounds: first alternatives", &numbers)
 }
 
-/// A price of 100 on so many resources, spread over all.
-pub fn spread_prices(alloc: Global, problem: &Problem, count: u32) -> Result<Vector, Memory> {
+// A price of 100 on so many resources, spread over all.
+fn spread_prices(alloc: Global, problem: &Problem, count: u32) -> Result<Vector, Memory> {
     let gap = (problem.resources() / count.max(1)).max(1);
     let mut prices = Vec::new(alloc);
     for number in 0..count {

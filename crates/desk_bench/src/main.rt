@@ -5,9 +5,7 @@
 
 mod board;
 mod bounds;
-mod capacity;
 mod checks;
-mod messages;
 mod reductions;
 mod report;
 mod searches;
@@ -16,7 +14,6 @@ mod stages;
 mod texts;
 mod turn;
 mod turnarounds;
-mod walks;
 
 use report::{Size, memory};
 use std::alloc::Global;
@@ -28,15 +25,7 @@ use std::thread::Threads;
 use std::time::Clock;
 
 // The words of benchmarks without threads, in the order in which `short` runs them.
-const WORDS: [&str; 7] = [
-    "messages",
-    "capacity",
-    "stages",
-    "reductions",
-    "bounds",
-    "walks",
-    "checks",
-];
+const WORDS: [&str; 4] = ["stages", "reductions", "bounds", "checks"];
 
 // The words of those with threads, in this order after the others.
 const THREAD_WORDS: [&str; 5] = ["board", "turn", "searches", "seasons", "mixed"];
@@ -76,12 +65,9 @@ fn run_all(rt: &HostRuntime) -> anyhow::Result<()> {
 fn run_one(rt: &HostRuntime, word: &str, size: Size) -> anyhow::Result<()> {
     let alloc = rt.alloc();
     match word {
-        "messages" => messages::run(rt, alloc, size),
-        "capacity" => capacity::run(rt, alloc, size),
         "stages" => stages::run(rt, alloc, size),
         "reductions" => reductions::run(rt, alloc, size),
         "bounds" => bounds::run(rt, alloc, size),
-        "walks" => walks::run(rt, alloc, size),
         "checks" => checks::run(rt, alloc, size),
         _ => usage(rt),
     }
@@ -90,7 +76,7 @@ fn run_one(rt: &HostRuntime, word: &str, size: Size) -> anyhow::Result<()> {
 // Prints the words that name benchmarks.
 fn usage(rt: &HostRuntime) -> anyhow::Result<()> {
     println!(rt;
-        "desk_bench WORD: messages, capacity, stages, reductions, bounds, walks, checks, board, turn, searches,\n  \
+        "desk_bench WORD: stages, reductions, bounds, checks, board, turn, searches,\n  \
         seasons [NUMBER UNITS], mixed CAP SCR [CAP SCR ..]; short runs all at a small size"
     )?;
     Ok(())

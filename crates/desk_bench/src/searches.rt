@@ -8,7 +8,6 @@ use crate::seasons::count_visited;
 use crate::stages::last_problem;
 use crate::texts::submission_of;
 use choice_problem::{Alt, Chooser, Node, Part, Problem, Strip};
-use desk_outside::RealGate;
 use dual_bound::root_vector;
 use search_workers::{Outcome, search};
 use season_maker::make_season;
@@ -18,6 +17,7 @@ use std::io::Print;
 use std::thread::Threads;
 use std::time::{Clock, Instant};
 use wasg_stages::{problem_after, states_of};
+use worker_gate::RealGate;
 
 /// Searches a ring of 100 units with a budget of 120,000 visits by one and by four workers; and a
 /// season of 138 daily turnarounds, and the 138 units of stage 4 of a generated one, with a budget of

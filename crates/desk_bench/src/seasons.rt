@@ -5,7 +5,7 @@ use crate::texts::{MOST_BYTES, submission_of};
 use cert_checker::{Verdict, check};
 use cert_format::StageCert;
 use choice_problem::Node;
-use desk_outside::{Cabinet, RealCabinet, RealGate};
+use desk_outside::{Cabinet, RealCabinet};
 use season_maker::make_season;
 use season_run::run_season;
 use series_model::Submission;
@@ -15,6 +15,7 @@ use std::io::Print;
 use std::rt::Files;
 use std::thread::Threads;
 use std::time::{Clock, Instant};
+use worker_gate::RealGate;
 
 /// Runs the seasons of files, which the words after the first one name: a capacity file and a file
 /// of requests each.

@@ -4,11 +4,13 @@ use Rattle.std.specs.Prelude.{ℕ, List, [], ◌∷◌, ◌++◌, Result, Ok, Er
 use Rattle.std.specs.Global.{Vec}
 
 -- A file of this name was read, and these bytes were handed out. A file was written with these
--- bytes, or a write with them failed. The bytes were put, or a put of them failed.
+-- bytes, or a write with them failed. The bytes were taken, and none at the end of the input. The
+-- bytes were put, or a put of them failed.
 pub data Passage : Type 0 where
   read : List ℕ → List ℕ → Passage
   wrote : List ℕ → List ℕ → Passage
   write_failed : List ℕ → List ℕ → Passage
+  took : List ℕ → Passage
   put : List ℕ → Passage
   put_failed : List ℕ → Passage
 

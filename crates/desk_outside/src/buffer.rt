@@ -1,3 +1,4 @@
+//! Bytes in room that was taken at the start.
 ghost use Rattle.std.specs.Prelude.{◌≡◌, ◌+◌, ◌-◌, ◌≤◌, ◌++◌, [], IfOk, length, vec_capacity};
 
 use slot_text::Memory;
@@ -6,7 +7,7 @@ use std::marker::Model;
 
 /// Bytes in room that was taken when the buffer was made, so that no later call wants memory.
 #[derive(Drop)]
-pub(crate) struct Buffer {
+pub struct Buffer {
     bytes: Vec<u8>,
     room: usize,
 }
@@ -24,34 +25,38 @@ impl Model for Buffer {
 }
 
 impl Buffer {
-    pub(crate) fn new(alloc: Global, room: usize) -> Result<Buffer, Memory>
+    /// An empty buffer with that room. `Memory` where it could not be taken.
+    pub fn new(alloc: Global, room: usize) -> Result<Buffer, Memory>
         ensures { IfOk result (λ buffer. buffer ≡ record { bytes = []; room = room }) }
     {
         let bytes = Vec::with_capacity(alloc, room)?;
         Ok(Buffer { bytes, room })
     }
 
-    pub(crate) fn bytes(&self) -> &[u8]
+    /// The bytes so far.
+    pub fn bytes(&self) -> &[u8]
         ensures { result.now ≡ self.now.bytes }
     {
         self.bytes.as_slice()
     }
 
     /// How many bytes more there is room for.
-    pub(crate) fn free(&self) -> usize
+    pub fn free(&self) -> usize
         ensures { result ≡ self.now.room - length self.now.bytes }
     {
         self.room - self.bytes.len()
     }
 
-    pub(crate) fn append(&mut self, bytes: &[u8])
+    /// Adds bytes behind those that are there.
+    pub fn append(&mut self, bytes: &[u8])
         requires { length bytes.now ≤ self.old.room - length self.old.bytes }
         ensures { self.new ≡ record self.old { bytes = self.old.bytes ++ bytes.now } }
     {
         self.bytes.extend_from_slice(bytes).unwrap();
     }
 
-    pub(crate) fn replace(&mut self, bytes: &[u8])
+    /// Puts bytes in the place of those that are there.
+    pub fn replace(&mut self, bytes: &[u8])
         requires { length bytes.now ≤ self.old.room }
         ensures { self.new ≡ record self.old { bytes = bytes.now } }
     {

@@ -1,3 +1,4 @@
+//! The trait of a cabinet of files.
 ghost use Rattle.std.specs.Prelude.{◌≡◌, ◌≤◌, ℕ, List, Option, OnOk, OnErr, IfErr};
 ghost use Rattle.desk_outside.specs.Cause.{HasCause};
 ghost use Rattle.desk_outside.specs.Files.{Files, Reads, Writes, WritesPart};

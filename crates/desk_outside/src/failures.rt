@@ -1,3 +1,4 @@
+//! The calls of an object in memory that are to fail.
 ghost use Rattle.std.specs.Prelude.{◌≡◌, ◌≤◌, ℕ, None, Some, Option, length};
 ghost use Rattle.std.specs.Option.{option_copied};
 ghost use Rattle.desk_outside.specs.Cause.{one_more};
@@ -8,11 +9,10 @@ use std::marker::Model;
 /// One call of an object in memory that is to fail.
 #[derive(Clone, Copy, Debug, PartialEq, Eq)]
 pub struct Failure {
-    /// The number of the call, from 0. An object counts its reads and writes, or its puts, in one
-    /// row.
+    /// The number of the call, from 0. An object counts all its calls that can fail in one row.
     pub call: u64,
-    /// How many of the bytes it takes all the same, from the first one on. None: nothing is
-    /// changed. A read takes no bytes, so for a read both mean the same.
+    /// How many of the bytes it is given it takes all the same, from the first one on. None:
+    /// nothing is changed. For a call that is given no bytes both mean the same.
     pub part: Option<usize>,
 }
 
@@ -37,7 +37,7 @@ impl Failure {
 
 /// The calls that an object in memory has had, and those that are to fail.
 #[derive(Drop)]
-pub(crate) struct Calls {
+pub struct Calls {
     failing: Vec<Failure>,
     made: u64,
 }
@@ -51,14 +51,15 @@ impl Model for Calls {
 }
 
 impl Calls {
-    pub(crate) fn new(failing: Vec<Failure>) -> Calls
+    /// No call so far.
+    pub fn new(failing: Vec<Failure>) -> Calls
         ensures { result ≡ record { failing = failing.items; made = 0 } }
     {
         Calls { failing, made: 0 }
     }
 
     /// Counts a call, and says whether it is to fail.
-    pub(crate) fn next_failure(&mut self) -> Option<Failure>
+    pub fn next_failure(&mut self) -> Option<Failure>
         ensures failure { result ≡ failure_at self.old.failing self.old.made }
         ensures counted { self.new ≡ record self.old { made = one_more self.old.made } }
     {
@@ -93,7 +94,7 @@ pub(crate) fn taken<'a>(failure: &Option<Failure>, bytes: &'a [u8]) -> Option<&'
 }
 
 /// The bytes that a put appends where so many more have room.
-pub(crate) fn sent<'a>(failure: &Option<Failure>, bytes: &'a [u8], free: usize) -> &'a [u8]
+pub fn sent<'a>(failure: &Option<Failure>, bytes: &'a [u8], free: usize) -> &'a [u8]
     ensures bytes { result.now ≡ sent_bytes free failure.now bytes.now }
     ensures fits { length result.now ≤ free }
 {

@@ -23,11 +23,18 @@ unsafe impl Sync for Log {}
 
 /// What one call let through.
 #[derive(Clone, Copy, Drop)]
-pub(crate) enum Note<'a> {
+pub enum Note<'a> {
+    /// A file of this name was read, and these bytes were handed out.
     Read(&'a str, &'a [u8]),
+    /// A file of this name was written with these bytes.
     Wrote(&'a str, &'a [u8]),
+    /// A write of these bytes failed.
     WriteFailed(&'a str, &'a [u8]),
+    /// These bytes were taken.
+    Took(&'a [u8]),
+    /// These bytes were put.
     Put(&'a [u8]),
+    /// A put of these bytes failed.
     PutFailed(&'a [u8]),
 }
 

@@ -1,3 +1,4 @@
+//! A cabinet in memory.
 ghost use Rattle.std.specs.Prelude.{is_ok, ◌≡◌, ◌≤◌, ◌++◌, ◌∷◌, [], ℕ, Some, Option, IfOk, IfErr};
 ghost use Rattle.std.specs.Prelude.{OnOk, OnErr, if◌then◌else◌};
 ghost use Rattle.std.specs.Option.{option_copied};
@@ -11,8 +12,9 @@ ghost use Rattle.desk_outside.specs.Noted.{passage_of};
 ghost use Rattle.desk_outside.specs.Passages.{with_read, with_write};
 
 use crate::cabinet::{Cabinet, CabinetFault};
+use crate::call_log::CallLog;
 use crate::failures::{Calls, Failure, taken};
-use crate::log::{Log, Note};
+use crate::log::Note;
 use crate::slots::{NAME_ROOM, Slot, find_slot, new_slots};
 use slot_text::Memory;
 use std::alloc::Global;
@@ -30,8 +32,7 @@ pub struct MemoryCabinet {
     used: usize,
     byte_limit: usize,
     calls: Calls,
-    faults: u64,
-    log: Log,
+    passed: CallLog,
 }
 
 impl Model for MemoryCabinet {
@@ -47,8 +48,8 @@ impl Model for MemoryCabinet {
       byte_limit = c.byte_limit;
       failing = c.calls.failing;
       made = c.calls.made;
-      faults = c.faults;
-      log = c.log.passages;
+      faults = c.passed.faults;
+      log = c.passed.log;
     } };
 
     ghost invariant = { λ c. (c.used ≤ vec_len c.slots) × HaveRoom c.byte_limit c.slots.items };
@@ -56,8 +57,8 @@ impl Model for MemoryCabinet {
 
 impl MemoryCabinet {
     /// An empty cabinet with room for `file_limit` files of at most `byte_limit` bytes each, whose
-    /// calls named in
-    /// `failing` will fail. `Memory` where that room could not be taken; no later call but a read wants memory.
+    /// calls named in `failing` will fail. `Memory` where that room could not be taken; no later
+    /// call but a read wants memory.
     pub fn new(
         alloc: Global,
         file_limit: usize,
@@ -73,8 +74,7 @@ impl MemoryCabinet {
             used: 0,
             byte_limit,
             calls: Calls::new(failing),
-            faults: 0,
-            log: Log::new(),
+            passed: CallLog::new(),
         })
     }
 
@@ -127,14 +127,14 @@ impl MemoryCabinet {
         ensures fault { self.new ≡ with_fault self.old }
         ensures later { self.old.faults ≤ self.new.faults }
     {
-        self.faults = self.faults.saturating_add(1);
+        self.passed.fault();
     }
 
     /// Notes a passage in the log.
     fn note(&mut self, note: &Note<'_>)
         ensures { self.new ≡ record self.old { log = self.old.log ++ passage_of note.now ∷ [] } }
     {
-        self.log = self.log.then(note);
+        self.passed.note(note);
     }
 
     /// A copy of the file.
@@ -196,7 +196,7 @@ impl Cabinet for MemoryCabinet {
     ghost log = { λ cabinet. cabinet.log };
 
     fn faults(&self) -> u64 {
-        self.faults
+        self.passed.faults()
     }
 
     fn read(&mut self, alloc: Global, name: &str, most: usize) -> Result<Vec<u8>, CabinetFault>

@@ -1,3 +1,4 @@
+//! A sink in memory.
 ghost use Rattle.std.specs.Prelude.{is_ok, ◌≡◌, ◌≤◌, ◌++◌, ◌∷◌, [], ℕ, List, Option, Some, IfOk};
 ghost use Rattle.std.specs.Prelude.{OnOk, OnErr};
 ghost use Rattle.desk_outside.specs.Cause.{HasCause};
@@ -7,8 +8,9 @@ ghost use Rattle.desk_outside.specs.Noted.{passage_of};
 ghost use Rattle.desk_outside.specs.Passages.{with_put};
 
 use crate::buffer::Buffer;
+use crate::call_log::CallLog;
 use crate::failures::{Calls, Failure, sent};
-use crate::log::{Log, Note};
+use crate::log::Note;
 use crate::sink::{Sink, SinkFault};
 use slot_text::Memory;
 use std::alloc::Global;
@@ -23,8 +25,7 @@ use std::marker::Model;
 pub struct MemorySink {
     buffer: Buffer,
     calls: Calls,
-    faults: u64,
-    log: Log,
+    passed: CallLog,
 }
 
 impl Model for MemorySink {
@@ -37,8 +38,8 @@ impl Model for MemorySink {
       byte_limit = s.buffer.room;
       failing = s.calls.failing;
       made = s.calls.made;
-      faults = s.faults;
-      log = s.log.passages;
+      faults = s.passed.faults;
+      log = s.passed.log;
     } };
 }
 
@@ -56,8 +57,7 @@ impl MemorySink {
         Ok(MemorySink {
             buffer,
             calls: Calls::new(failing),
-            faults: 0,
-            log: Log::new(),
+            passed: CallLog::new(),
         })
     }
 
@@ -72,7 +72,7 @@ impl MemorySink {
     fn note(&mut self, note: &Note<'_>)
         ensures { self.new ≡ record self.old { log = self.old.log ++ passage_of note.now ∷ [] } }
     {
-        self.log = self.log.then(note);
+        self.passed.note(note);
     }
 
     fn put_counted(&mut self, bytes: &[u8]) -> bool
@@ -85,7 +85,7 @@ impl MemorySink {
         self.buffer.append(sent(&failure, bytes, free));
         let whole = failure.is_none() && bytes.len() <= free;
         if !whole {
-            self.faults = self.faults.saturating_add(1);
+            self.passed.fault();
         }
         whole
     }
@@ -99,7 +99,7 @@ impl Sink for MemorySink {
     ghost log = { λ sink. sink.log };
 
     fn faults(&self) -> u64 {
-        self.faults
+        self.passed.faults()
     }
 
     fn put(&mut self, bytes: &[u8]) -> Result<(), SinkFault>

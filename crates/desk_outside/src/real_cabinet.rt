@@ -1,9 +1,11 @@
+//! The files of the system.
 ghost use Rattle.std.specs.Prelude.{◌≡◌, ◌<◌, ◌≤◌, [], None, IfOk, IfErr, IfSome, length, vec_len};
 ghost use Rattle.std.specs.IoError.{error_kind};
 ghost use Rattle.std.specs.declared.io.ErrorKind.{ErrorKind};
 
 use crate::cabinet::{Cabinet, CabinetFault};
-use crate::log::{Log, Note};
+use crate::call_log::CallLog;
+use crate::log::Note;
 use std::alloc::Global;
 use std::fs::OpenFile;
 use std::io::{ErrorKind, Read};
@@ -14,14 +16,13 @@ use std::{fs, io};
 /// The files of the system, by their paths. It does not tell what they hold: contracts see the
 /// count of its faults and what passed.
 ///
-/// `Missing` where no file stands under the path, `Larger` where its bytes are more than the caller takes, `Failed`
-/// for everything else that the system refuses, a folder in the place of a file among them. Each of
-/// the three raises the count.
+/// `Missing` where no file stands under the path, `Larger` where its bytes are more than the caller
+/// takes, `Failed` for everything else that the system refuses, a folder in the place of a file
+/// among them. Each of the three raises the count.
 #[derive(Drop)]
 pub struct RealCabinet<'a, R: Files> {
     rt: &'a R,
-    faults: u64,
-    log: Log,
+    calls: CallLog,
 }
 
 impl<'a, R: Files> Model for RealCabinet<'a, R> {
@@ -29,7 +30,7 @@ impl<'a, R: Files> Model for RealCabinet<'a, R> {
 
     ghost Value = { Counted };
 
-    ghost view = { λ cabinet. record { faults = cabinet.faults; log = cabinet.log.passages } };
+    ghost view = { λ cabinet. cabinet.calls };
 }
 
 impl<'a, R: Files> RealCabinet<'a, R> {
@@ -39,8 +40,7 @@ impl<'a, R: Files> RealCabinet<'a, R> {
     {
         RealCabinet {
             rt,
-            faults: 0,
-            log: Log::new(),
+            calls: CallLog::new(),
         }
     }
 }
@@ -53,18 +53,18 @@ impl<'a, R: Files> Cabinet for RealCabinet<'a, R> {
     ghost log = { λ cabinet. cabinet.log };
 
     fn faults(&self) -> u64 {
-        self.faults
+        self.calls.faults()
     }
 
     fn read(&mut self, alloc: Global, name: &str, most: usize) -> Result<Vec<u8>, CabinetFault> {
         match read_file(self.rt, alloc, name, most) {
             Ok(bytes) => {
-                self.log = self.log.then(&Note::Read(name, &bytes));
+                self.calls.note(&Note::Read(name, &bytes));
                 Ok(bytes)
             }
             Err(CabinetFault::Memory) => Err(CabinetFault::Memory),
             Err(fault) => {
-                self.faults = self.faults.saturating_add(1);
+                self.calls.fault();
                 Err(fault)
             }
         }
@@ -73,12 +73,12 @@ impl<'a, R: Files> Cabinet for RealCabinet<'a, R> {
     fn write(&mut self, name: &str, bytes: &[u8]) -> Result<(), CabinetFault> {
         match fs::write(self.rt, name, bytes) {
             Ok(()) => {
-                self.log = self.log.then(&Note::Wrote(name, bytes));
+                self.calls.note(&Note::Wrote(name, bytes));
                 Ok(())
             }
             Err(_) => {
-                self.log = self.log.then(&Note::WriteFailed(name, bytes));
-                self.faults = self.faults.saturating_add(1);
+                self.calls.note(&Note::WriteFailed(name, bytes));
+                self.calls.fault();
                 Err(CabinetFault::Failed)
             }
         }
@@ -114,8 +114,8 @@ fn open_fault(error: &io::Error) -> CabinetFault
 }
 
 /// All bytes of the reader, if they are no more than `most`; of others no more than `most + 1` are
-/// read. Room for
-/// `expected` bytes is taken at once, so a file of that length is read into its place and never moved.
+/// read. Room for `expected` bytes is taken at once, so a file of that length is read into its
+/// place and never moved.
 fn read_whole<F: Read + Drop>(
     file: F,
     alloc: Global,

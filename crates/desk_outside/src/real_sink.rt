@@ -1,6 +1,8 @@
+//! The standard output.
 ghost use Rattle.std.specs.Prelude.{◌≡◌, [], None};
 
-use crate::log::{Log, Note};
+use crate::call_log::CallLog;
+use crate::log::Note;
 use crate::sink::{Sink, SinkFault};
 use std::io;
 use std::io::Write;
@@ -12,8 +14,7 @@ use std::marker::Model;
 #[derive(Drop)]
 pub struct RealSink<'a, R: Print> {
     rt: &'a R,
-    faults: u64,
-    log: Log,
+    calls: CallLog,
 }
 
 impl<'a, R: Print> Model for RealSink<'a, R> {
@@ -21,7 +22,7 @@ impl<'a, R: Print> Model for RealSink<'a, R> {
 
     ghost Value = { Counted };
 
-    ghost view = { λ sink. record { faults = sink.faults; log = sink.log.passages } };
+    ghost view = { λ sink. sink.calls };
 }
 
 impl<'a, R: Print> RealSink<'a, R> {
@@ -31,8 +32,7 @@ impl<'a, R: Print> RealSink<'a, R> {
     {
         RealSink {
             rt,
-            faults: 0,
-            log: Log::new(),
+            calls: CallLog::new(),
         }
     }
 }
@@ -45,19 +45,19 @@ impl<'a, R: Print> Sink for RealSink<'a, R> {
     ghost log = { λ sink. sink.log };
 
     fn faults(&self) -> u64 {
-        self.faults
+        self.calls.faults()
     }
 
     fn put(&mut self, bytes: &[u8]) -> Result<(), SinkFault> {
         let mut out = io::writer(self.rt);
         match out.write_all(bytes) {
             Ok(()) => {
-                self.log = self.log.then(&Note::Put(bytes));
+                self.calls.note(&Note::Put(bytes));
                 Ok(())
             }
             Err(_) => {
-                self.log = self.log.then(&Note::PutFailed(bytes));
-                self.faults = self.faults.saturating_add(1);
+                self.calls.note(&Note::PutFailed(bytes));
+                self.calls.fault();
                 Err(SinkFault)
             }
         }

@@ -1,3 +1,4 @@
+//! The trait of a sink of bytes.
 ghost use Rattle.std.specs.Prelude.{◌≡◌, ℕ, List, Option, OnOk, OnErr};
 ghost use Rattle.desk_outside.specs.Cause.{HasCause};
 ghost use Rattle.desk_outside.specs.Bytes.{Puts, PutsPart};

@@ -1,11 +1,12 @@
 //! Calls of the desk over files and an output in memory.
 
 use crate::texts::folded;
-use desk_outside::{Failure, MemoryCabinet, MemorySink, RealGate};
+use desk_outside::{Failure, MemoryCabinet, MemorySink};
 use slot_program::desk;
 use std::alloc::{AllocError, Global};
 use std::test::Fail;
 use std::thread::Threads;
+use worker_gate::RealGate;
 
 /// One call of the cabinet and one of the output, each of which is to fail.
 #[derive(Clone, Copy)]

@@ -1,8 +1,8 @@
 -- Sums of numbers of which one is replaced, and what totals say of the bound.
-use Rattle.std.proofs.Common.{◌≡◌, ℕ, ◌+◌, ◌-◌, ◌<◌, ◌≤◌, ◌^◌, ap, ◌∙◌, arith, pos, List, length, set, inl, inr}
+use Rattle.std.proofs.Common.{◌≡◌, ℕ, refl, ◌+◌, ◌-◌, ◌<◌, ◌≤◌, ◌^◌, ap, sym, ◌∙◌, arith, pos, List, [], ◌∷◌, ◌++◌, length, set, inl, inr}
 use Rattle.std.specs.Prelude.{slice_index, ◌-ℤ◌}
-use Rattle.std.proofs.lemmas.Bool.{cases_eq}
-use Rattle.std.proofs.lemmas.List.{get_or-set_same, get_or-set_other, length-set}
+use Rattle.std.proofs.lemmas.Bool.{cases_eq, cases_lt}
+use Rattle.std.proofs.lemmas.List.{get_or-set_same, get_or-set_other, length-set, get_or_append_left, get_or_push, length_push}
 use Rattle.finite_sums.specs.Sums.{sum_below}
 use Rattle.finite_sums.proofs.SumLemmas.{sum_below-same}
 use Rattle.finite_sums.proofs.ChangeLemmas.{sum_below-change, sum_below-const, term-le}
@@ -10,7 +10,7 @@ use Rattle.choice_problem.specs.declared.vectors.Price.{Price}
 use Rattle.choice_problem.specs.Problems.{ProblemView, unit_count}
 use Rattle.choice_problem.specs.Bounds.{least_total, bound_of}
 use Rattle.price_table.specs.Strips.{unit_least}
-use Rattle.price_table.specs.Totals.{TotalsView, AreTotalsFor, AreSummed, sum_of}
+use Rattle.price_table.specs.Totals.{TotalsView, AreTotalsFor, AreKeptFor, AreSummed, sum_of}
 
 -- one of the numbers is at most the sum
 pub summed-le : (numbers : List ℕ) (total k : ℕ) → AreSummed numbers total → k < length numbers → slice_index numbers k ≤ total
@@ -55,3 +55,40 @@ pub totals-bound : (p : ProblemView) (prices : List Price) (t : TotalsView) (tot
     pos total -ℤ pos t.limits ≡ bound_of p t.ranges prices t.scale
 totals-bound p prices t total h s =
     ap (λ n. pos n -ℤ pos t.limits) (totals-sum p prices t total h s) ∙ ap (λ n. pos (least_total p t.ranges prices t.scale) -ℤ pos n) h.at_limits
+
+-- totals kept for one vector more
+abbrev no_totals : TotalsView
+no_totals = record { ranges = []; scale = 0; least = []; limits = 0 }
+
+pub kept_push : (p : ProblemView) (vectors : List (List Price)) (ranges : List (ℕ × ℕ)) (totals : List TotalsView) (v : List Price) (t : TotalsView) →
+    AreKeptFor p vectors ranges totals → AreTotalsFor p v t → t.ranges ≡ ranges → t.scale ≡ 1024 →
+    AreKeptFor p (vectors ++ v ∷ []) ranges (totals ++ t ∷ [])
+kept_push p vectors ranges totals v t h f r s = record {
+  count = length_push totals t ∙ (ap (λ n. n + 1) h.count ∙ sym (length_push vectors v));
+  each = λ k l. elim (cases_lt k (length vectors)) [
+    | inl below ↦ rw (get_or_append_left vectors (v ∷ []) [] k below, get_or_append_left totals (t ∷ []) no_totals k (omega (arith, below, h.count))) (h.each k below)
+    | inr last ↦
+        let e : length vectors ≡ k = omega (arith, l, last, length_push vectors v) in
+        rw (get_or_push vectors v [] k e, get_or_push totals t no_totals k (h.count ∙ e)) f
+  ];
+  at_ranges = λ k l. elim (cases_lt k (length vectors)) [
+    | inl below ↦ rw (get_or_append_left totals (t ∷ []) no_totals k (omega (arith, below, h.count))) (h.at_ranges k below)
+    | inr last ↦
+        let e : length vectors ≡ k = omega (arith, l, last, length_push vectors v) in
+        rw (get_or_push totals t no_totals k (h.count ∙ e)) r
+  ];
+  at_scale = λ k l. elim (cases_lt k (length vectors)) [
+    | inl below ↦ rw (get_or_append_left totals (t ∷ []) no_totals k (omega (arith, below, h.count))) (h.at_scale k below)
+    | inr last ↦
+        let e : length vectors ≡ k = omega (arith, l, last, length_push vectors v) in
+        rw (get_or_push totals t no_totals k (h.count ∙ e)) s
+  ];
+}
+
+pub no_kept : (p : ProblemView) (ranges : List (ℕ × ℕ)) → AreKeptFor p [] ranges []
+no_kept p ranges = record {
+  count = refl;
+  each = λ k l. absurd (omega (arith, l));
+  at_ranges = λ k l. absurd (omega (arith, l));
+  at_scale = λ k l. absurd (omega (arith, l));
+}

@@ -13,8 +13,9 @@ ghost use Rattle.price_table.specs.Loops.{unit_cost, ArePriceable};
 use crate::tables::PriceTable;
 use choice_problem::{Alt, Problem, Ranges};
 
-/// The Lagrangian bound of ranges at the table's vector, scaled: the sum over units of the least of `scale` times an
-/// alternative's cost and its uses at their prices, less the limits at their prices. One step an alternative in range.
+/// The Lagrangian bound of ranges at the table's vector, scaled: the sum over units of the least of
+/// `scale` times an alternative's cost and its uses at their prices, less the limits at their
+/// prices. One step an alternative in range.
 pub fn bound(problem: &Problem, ranges: &Ranges, table: &PriceTable, scale: u64) -> i128
     requires ranges { AreRanges problem.now ranges.now }
     requires table { IsTableFor problem.now table.now }
@@ -72,7 +73,8 @@ pub struct Least {
     pub cost: u128,
 }
 
-// The first alternative from one to another that is least by `scale` times its cost and the prices of its parts.
+// The first alternative from one to another that is least by `scale` times its cost and the prices
+// of its parts.
 #[tactic(auto, using(crate::proofs::BoundLemmas::least_steps))]
 pub(crate) fn first_least(alts: &[Alt], low: u32, high: u32, prices: &[u128], scale: u64) -> Least
     requires ordered { low ≤ high }

@@ -9,9 +9,9 @@ use crate::bounds::bound;
 use crate::tables::PriceTable;
 use choice_problem::{Problem, Ranges, bound_passes};
 
-/// Whether the bound at a table's vector and a scale closes ranges for a cost, or where no cost is known: for a cost it
-/// shows that no feasible choice within them costs less, and with none, which takes scale 0, that there is none. One step
-/// an alternative in range.
+/// Whether the bound at a table's vector and a scale closes ranges for a cost, or where no cost is
+/// known: for a cost it shows that no feasible choice within them costs less, and with none, which
+/// takes scale 0, that there is none. One step an alternative in range.
 pub fn closes(
     problem: &Problem,
     ranges: &Ranges,

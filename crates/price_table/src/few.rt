@@ -16,9 +16,10 @@ use std::alloc::Global;
 // The most prices that are looked up.
 const MOST_FEW: usize = 4096;
 
-// So many prices of strips for each resource, and for each place of a strip that is kept, are looked up. Where most prices
-// lie outside a strip, as in seasons, that takes less time than sums over all resources; where all lie between the strip's
-// first resource and its end, up to four times as much.
+// So many prices of strips for each resource, and for each place of a strip that is kept, are
+// looked up. Where most prices lie outside a strip, as in seasons, that takes less time than sums
+// over all resources; where all lie between the strip's first resource and its end, up to four
+// times as much.
 const LOOKED_UP: u64 = 16;
 
 // Whether the vector has so few prices that they are looked up for each strip.

@@ -1,9 +1,10 @@
-//! Price tables and the exact Lagrangian bound by them (Geoffrion 1974, "Lagrangean relaxation for integer programming").
-//! Who checks a proof of others stands on this crate and on nothing that searches.
+//! Price tables and the exact Lagrangian bound by them (Geoffrion 1974, "Lagrangean relaxation for
+//! integer programming"). Who checks a proof of others stands on this crate and on nothing that
+//! searches.
 //!
-//! A table prices the parts of each unit once, so that an alternative costs two look-ups: by the prices alone where they
-//! are few, else by sums over all resources. A bound takes one step an alternative in range; kept totals take as many for
-//! the one unit whose range changes.
+//! A table prices the parts of each unit once, so that an alternative costs two look-ups: by the
+//! prices alone where they are few, else by sums over all resources. A bound takes one step an
+//! alternative in range; kept totals take as many for the one unit whose range changes.
 #![tactic(auto)]
 
 mod bounds;
@@ -16,5 +17,5 @@ mod totals;
 pub use bounds::{Least, bound};
 pub use closing::closes;
 pub use strips::StripPrices;
-pub use tables::{PriceTable, price_table};
-pub use totals::{Totals, set_kept};
+pub use tables::{PriceTable, price_table, push_tables, tables_of};
+pub use totals::{Totals, push_totals, set_kept, totals_of};

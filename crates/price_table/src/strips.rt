@@ -47,9 +47,10 @@ pub(crate) struct Known {
     pub(crate) price: u128,
 }
 
-/// The prices of strips, at one price for each resource: the sums of the prices before each resource, and some strips of
-/// several runs that were priced by them, since the strips of many units are the same. Contracts see the sums. 8 bytes a
-/// resource, and 2 MB from the first strip of several runs on; where there is no memory for these, each strip is priced anew.
+/// The prices of strips, at one price for each resource: the sums of the prices before each
+/// resource, and some strips of several runs that were priced by them, since the strips of many
+/// units are the same. Contracts see the sums. 8 bytes a resource, and 2 MB from the first strip of
+/// several runs on; where there is no memory for these, each strip is priced anew.
 #[derive(Drop)]
 pub struct StripPrices {
     sums: Vec<u64>,
@@ -79,7 +80,8 @@ impl StripPrices {
     ghost use Rattle.price_table.specs.Strips.{ArePrices, AreSums, AreSumsOf, IsPricedBy, strip_cost, part_cost, capped_cost};
     ghost use Rattle.price_table.specs.Strips.{least_alt, unit_least};
 
-    /// The sums of these prices, one below 2^40 for each resource, and no strip priced yet: one step a resource.
+    /// The sums of these prices, one below 2^40 for each resource, and no strip priced yet: one
+    /// step a resource.
     pub fn new(alloc: Global, problem: &Problem, prices: &[u64]) -> Result<StripPrices, Memory>
         requires { ArePrices problem.now prices.now }
         ensures sums { IfOk result (λ sums. AreSums prices.now sums) }
@@ -115,8 +117,8 @@ impl StripPrices {
         Ok(UnitPrices { parts })
     }
 
-    /// The first alternative of a unit's range that is least by `scale` times its cost and what its parts cost at these sums,
-    /// and that least: one step an alternative in range.
+    /// The first alternative of a unit's range that is least by `scale` times its cost and what its
+    /// parts cost at these sums, and that least: one step an alternative in range.
     pub fn first_least(
         &self,
         problem: &Problem,
@@ -144,8 +146,8 @@ impl StripPrices {
         first_least(problem.unit_alts(unit), low, high, parts, scale)
     }
 
-    /// What a part costs, within 128 bits, in one step a strip, and one a run of each strip that is priced. Parts that an
-    /// alternative names stay far below.
+    /// What a part costs, within 128 bits, in one step a strip, and one a run of each strip that is
+    /// priced. Parts that an alternative names stay far below.
     pub fn part(&mut self, part: &Part) -> u128
         requires some { 0 < length self.old }
         requires there { IsPartInRange (length self.old - 1) part.now }
@@ -189,7 +191,8 @@ impl StripPrices {
         total
     }
 
-    // What a strip costs. One of a single run costs two sums, which is less than to look it up among the kept ones.
+    // What a strip costs. One of a single run costs two sums, which is less than to look it up
+    // among the kept ones.
     fn strip(&mut self, strip: &Strip) -> u128
         requires some { 0 < length self.old }
         requires there { IsStripInRange (length self.old - 1) strip.now }
@@ -204,7 +207,8 @@ impl StripPrices {
         }
     }
 
-    // What a strip costs that may be kept. It stays apart from the loops over strips, most of which have one run.
+    // What a strip costs that may be kept. It stays apart from the loops over strips, most of which
+    // have one run.
     #[inline(never)]
     fn several(&mut self, strip: &Strip) -> u128
         requires some { 0 < length self.old }
@@ -230,7 +234,8 @@ impl StripPrices {
         price
     }
 
-    // Makes the places of strips, where there are none and memory allows it: strips are priced without them too.
+    // Makes the places of strips, where there are none and memory allows it: strips are priced
+    // without them too.
     fn make_places(&mut self)
         ensures same { self.new ≡ self.old }
     {
@@ -249,19 +254,11 @@ impl StripPrices {
     }
 }
 
-// Where a strip is kept, if it is: the high bits of a product that mixes its numbers.
+// Where a strip is kept, if it is: the high bits of its hash code.
 fn place_of(strip: &Strip) -> usize
     ensures { result < 65536 }
 {
-    let first = strip.first.wrapping_mul(0x9E37_79B1);
-    let times = strip.times.wrapping_mul(0x85EB_CA77);
-    let gap = strip.gap.wrapping_mul(0xC2B2_AE3D);
-    let width = strip.width.wrapping_mul(0x27D4_EB2F);
-    let mixed = first
-        .wrapping_add(times)
-        .wrapping_add(gap)
-        .wrapping_add(width);
-    (mixed >> 16) as usize
+    (strip.hash_code() >> 16) as usize
 }
 
 // For each resource the sum of the prices before it, and of all.
@@ -299,8 +296,7 @@ fn strip_price(sums: &[u64], strip: &Strip) -> u128
 {
     let mut total = 0;
     for i in 0..strip.times {
-        let start = u64::from(strip.first) + u64::from(i) * u64::from(strip.gap);
-        let end = start + u64::from(strip.width);
+        let (start, end) = strip.run(i);
         total += u128::from(sums[end as usize].saturating_sub(sums[start as usize]));
     }
     total

@@ -1,11 +1,11 @@
 //! Price tables.
 
-ghost use Rattle.std.specs.Prelude.{◌≡◌, ℕ, ◌<◌, ◌≤◌, ◌^◌, IfOk, length, slice_index};
+ghost use Rattle.std.specs.Prelude.{◌≡◌, ℕ, ◌++◌, ◌<◌, ◌≤◌, ◌^◌, All, IfOk, OnOk, length, slice_index};
 ghost use Rattle.choice_problem.specs.declared.problems.TheConstants.{MOST_RESOURCES};
 ghost use Rattle.choice_problem.specs.Problems.{resource_count};
 ghost use Rattle.choice_problem.specs.Bounds.{IsVector};
 ghost use Rattle.price_table.specs.declared.few.TheConstants.{MOST_FEW};
-ghost use Rattle.price_table.specs.Tables.{ArePriced, IsTableFor};
+ghost use Rattle.price_table.specs.Tables.{ArePriced, IsTableFor, vectors_of};
 ghost use Rattle.price_table.specs.Strips.{IsSpread, AreSumsOf};
 
 use crate::few::{are_few, looked_up};
@@ -15,7 +15,8 @@ use slot_text::Memory;
 use std::alloc::Global;
 use std::marker::Model;
 
-/// What the parts of all units and the limits cost at the prices of a vector, which it keeps: 16 bytes a part and a price.
+/// What the parts of all units and the limits cost at the prices of a vector, which it keeps: 16
+/// bytes a part and a price.
 #[derive(Drop)]
 pub struct PriceTable {
     vector: Vector,
@@ -60,11 +61,12 @@ impl PriceTable {
     }
 }
 
-/// The table of a vector for a problem, in one of two ways, by how many prices and strips there are. A vector of few prices,
-/// at most 4,096, takes up to 12 steps a strip of each part and one for each price between a strip's first resource and its
-/// end, and no memory beside the table. Else it takes one step a resource and a strip of each part, and one a run of each
-/// strip that is priced: strips that differ, and those that take turns in one of 65,536 places. Memory is then 16 bytes a
-/// resource and 2 MB while it is made.
+/// The table of a vector for a problem, in one of two ways, by how many prices and strips there
+/// are. A vector of few prices, at most 4,096, takes up to 12 steps a strip of each part and one
+/// for each price between a strip's first resource and its end, and no memory beside the table.
+/// Else it takes one step a resource and a strip of each part, and one a run of each strip that is
+/// priced: strips that differ, and those that take turns in one of 65,536 places. Memory is then 16
+/// bytes a resource and 2 MB while it is made.
 pub fn price_table(alloc: Global, problem: &Problem, vector: &Vector) -> Result<PriceTable, Memory>
     requires { IsVector problem.now vector.now }
     ensures vector { IfOk result (λ table. table.prices ≡ vector.now) }
@@ -82,6 +84,41 @@ pub fn price_table(alloc: Global, problem: &Problem, vector: &Vector) -> Result<
         units,
         limits,
     })
+}
+
+/// The tables of vectors, in their order: for each the cost of `price_table`.
+pub fn tables_of(
+    alloc: Global,
+    problem: &Problem,
+    vectors: &[Vector],
+) -> Result<Vec<PriceTable>, Memory>
+    requires { All (IsVector problem.now) vectors.now }
+    ensures valid { IfOk result (λ tables. All (IsTableFor problem.now) tables.items) }
+    ensures vectors { IfOk result (λ tables. vectors_of tables.items ≡ vectors.now) }
+{
+    let mut tables = Vec::with_capacity(alloc, vectors.len())?;
+    push_tables(alloc, problem, vectors, &mut tables)?;
+    Ok(tables)
+}
+
+/// Adds the tables of vectors to those of others, in their order: for each the cost of
+/// `price_table`. After want of memory some may have been added.
+pub fn push_tables(
+    alloc: Global,
+    problem: &Problem,
+    vectors: &[Vector],
+    tables: &mut Vec<PriceTable>,
+) -> Result<(), Memory>
+    requires tables { All (IsTableFor problem.now) tables.old.items }
+    requires vectors { All (IsVector problem.now) vectors.now }
+    ensures valid { OnOk result (All (IsTableFor problem.now) tables.new.items) }
+    ensures vectors { OnOk result (vectors_of tables.new.items
+        ≡ vectors_of tables.old.items ++ vectors.now) }
+{
+    for vector in vectors {
+        tables.push(price_table(alloc, problem, vector)?)?;
+    }
+    Ok(())
 }
 
 // What the parts of each unit cost, by each price between a strip's first resource and its end.

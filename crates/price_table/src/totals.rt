@@ -1,8 +1,9 @@
 //! Totals that are kept while ranges change.
 
-ghost use Rattle.std.specs.Prelude.{◌≡◌, ◌^◌, ◌<◌, ◌≤◌, ℕ, All, IfOk, length, slice_index, slice_set, pos, ◌-ℤ◌};
+ghost use Rattle.std.specs.Prelude.{◌≡◌, ◌++◌, ◌^◌, ◌<◌, ◌≤◌, ℕ, List, All, IfOk, OnOk, length, slice_index, slice_set, pos, ◌-ℤ◌};
 ghost use Rattle.choice_problem.specs.declared.closing.TheConstants.{SCALE_BOUND};
 ghost use Rattle.choice_problem.specs.declared.problems.TheConstants.{MOST_UNITS};
+ghost use Rattle.choice_problem.specs.declared.vectors.Price.{Price};
 ghost use Rattle.choice_problem.specs.Problems.{unit_count, alt_count};
 ghost use Rattle.choice_problem.specs.Bounds.{AreRanges};
 ghost use Rattle.price_table.specs.Tables.{IsTableFor, vectors_of};
@@ -11,14 +12,15 @@ ghost use Rattle.price_table.specs.Totals.{AreKeptFor, AreSummed, sum_of};
 
 use crate::bounds::unit_least;
 use crate::tables::PriceTable;
-use choice_problem::{Problem, Ranges, bound_passes};
+use choice_problem::{PRICED_SCALE, Problem, Ranges, bound_passes};
 use slot_text::Memory;
 use std::alloc::Global;
 use std::marker::Model;
 
-/// What a table's bound is made of, for one scale and ranges that change unit by unit: each unit's least priced cost in its
-/// range, and their sum. Contracts see the ranges, the scale and these costs. Which problem and which prices they are for,
-/// `AreTotalsFor` says: the caller hands in the same problem and table at each change.
+/// What a table's bound is made of, for one scale and ranges that change unit by unit: each unit's
+/// least priced cost in its range, and their sum. Contracts see the ranges, the scale and these
+/// costs. Which problem and which prices they are for, `AreTotalsFor` says: the caller hands in the
+/// same problem and table at each change.
 ///
 /// Memory: 24 bytes a unit.
 #[derive(Drop)]
@@ -87,8 +89,8 @@ impl Totals {
         &self.ranges
     }
 
-    /// Replaces the range of a unit, at one step an alternative in its new range: no other unit is asked. The problem and
-    /// the table are those of `of`.
+    /// Replaces the range of a unit, at one step an alternative in its new range: no other unit is
+    /// asked. The problem and the table are those of `of`.
     pub fn set(&mut self, problem: &Problem, unit: u32, low: u32, high: u32, table: &PriceTable)
         requires totals { AreTotalsFor problem.now table.now.prices self.old }
         requires table { IsTableFor problem.now table.now }
@@ -104,7 +106,8 @@ impl Totals {
         self.total = replace(&mut self.least, self.total, unit, cost);
     }
 
-    /// Whether the bound closes the ranges for a cost, or where no cost is known, in one step: what `closes` answers.
+    /// Whether the bound closes the ranges for a cost, or where no cost is known, in one step: what
+    /// `closes` answers.
     pub fn closes(&self, seen: Option<u64>) -> bool
         ensures { (p : ProblemView) (prices : List Price) → AreTotalsFor p prices self.now →
             IsTrue result ↔ Closes p self.now.ranges prices self.now.scale seen }
@@ -125,8 +128,46 @@ impl Totals {
     }
 }
 
-/// Replaces the range of a unit in the totals that are kept for these tables' vectors in ranges: one step an alternative in
-/// the new range for each vector.
+/// The totals of ranges at the vectors of tables, at scale 1024: one step an alternative in range
+/// for each.
+pub fn totals_of(
+    alloc: Global,
+    problem: &Problem,
+    ranges: &Ranges,
+    tables: &[PriceTable],
+) -> Result<Vec<Totals>, Memory>
+    requires ranges { AreRanges problem.now ranges.now }
+    requires tables { All (IsTableFor problem.now) tables.now }
+    ensures { IfOk result (λ totals.
+        AreKeptFor problem.now (vectors_of tables.now) ranges.now totals.items) }
+{
+    let mut totals = Vec::with_capacity(alloc, tables.len())?;
+    push_totals(alloc, problem, ranges, tables, &mut totals)?;
+    Ok(totals)
+}
+
+/// Adds such totals at the vectors of tables to those at other vectors.
+pub fn push_totals(
+    alloc: Global,
+    problem: &Problem,
+    ranges: &Ranges,
+    tables: &[PriceTable],
+    totals: &mut Vec<Totals>,
+) -> Result<(), Memory>
+    requires ranges { AreRanges problem.now ranges.now }
+    requires tables { All (IsTableFor problem.now) tables.now }
+    ensures { OnOk result ((vectors : List (List Price)) →
+        AreKeptFor problem.now vectors ranges.now totals.old.items →
+        AreKeptFor problem.now (vectors ++ vectors_of tables.now) ranges.now totals.new.items) }
+{
+    for table in tables {
+        totals.push(Totals::of(alloc, problem, ranges, table, PRICED_SCALE)?)?;
+    }
+    Ok(())
+}
+
+/// Replaces the range of a unit in the totals that are kept for these tables' vectors in ranges:
+/// one step an alternative in the new range for each vector.
 pub fn set_kept(
     problem: &Problem,
     ranges: &Ranges,

@@ -9,10 +9,12 @@ use choice_problem::Problem;
 use slot_text::Memory;
 use std::alloc::Global;
 
-/// A resource that stands for all resources with the same users and uses, and for those whose users are among its own.
+/// A resource that stands for all resources with the same users and uses, and for those whose users
+/// are among its own.
 #[derive(Clone, Copy, Debug, PartialEq, Eq)]
 pub struct Class {
-    /// The number of the resource, from 0: of those with the same users and uses, one with the least limit.
+    /// The number of the resource, from 0: of those with the same users and uses, one with the
+    /// least limit.
     pub resource: u32,
     /// Its limit.
     pub limit: i64,
@@ -27,7 +29,8 @@ pub struct ClassUse {
     pub uses: u32,
 }
 
-/// Parts of one unit that follow one another and use a class equally often. Parts are numbered through all units, from 0.
+/// Parts of one unit that follow one another and use a class equally often. Parts are numbered
+/// through all units, from 0.
 #[derive(Clone, Copy, Debug, PartialEq, Eq)]
 pub struct UserRun {
     /// The first of them.

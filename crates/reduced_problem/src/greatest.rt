@@ -41,8 +41,8 @@ impl Placed {
         self.gap == other.gap && self.times == other.times
     }
 
-    // The strip of the resources of both, if there is one: both have runs as far apart and as many, and the first run of the
-    // other begins within this one's or at its end.
+    // The strip of the resources of both, if there is one: both have runs as far apart and as many,
+    // and the first run of the other begins within this one's or at its end.
     fn joined(&self, other: &Placed) -> Option<Placed> {
         let width = self.end().max(other.end()).saturating_sub(self.first);
         let alike = self.is_like(other) && other.first <= self.end();
@@ -81,9 +81,10 @@ impl Tally {
     }
 }
 
-// For each resource at least as many uses as the units together can have: for each unit the greatest use of a first part
-// and that of a second part of its alternatives. One step a strip of each part, and one a run of the joined strips.
-pub(crate) fn greatest_uses(alloc: Global, problem: &Problem) -> Result<Vec<u64>, Memory> {
+// For each resource at least as many uses as the units together can have: for each unit the strips
+// of the first parts of its alternatives, joined, and those of the second parts. One step a strip
+// of each part, and one a run of the joined strips.
+pub(crate) fn joined_uses(alloc: Global, problem: &Problem) -> Result<Vec<u64>, Memory> {
     let mut tally = Tally {
         table: StripTable::new(alloc)?,
         counts: Vec::new(alloc),
@@ -169,7 +170,8 @@ fn join_placed(tally: &mut Tally, placed: &[Placed], last: &mut [Placed]) -> Res
     tally.add(&open.strip())
 }
 
-// Whether a strip has resources of the part's last one, and so must not be joined with it. It becomes the last one.
+// Whether a strip has resources of the part's last one, and so must not be joined with it. It
+// becomes the last one.
 fn is_again(last: &mut [Placed], next: &Placed) -> bool {
     let at = next.part as usize;
     if at >= last.len() {

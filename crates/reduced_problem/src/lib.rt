@@ -1,9 +1,10 @@
-//! The resources of a problem that can matter. Most of a season's resources cannot be passed, however its units choose; of
-//! the others many have the same users, of which the one with the least limit stands for all; and many have users that
-//! are among those of another with no greater limit. What is left is a few thousand of a million.
+//! The resources of a problem that can matter. Most of a season's resources cannot be passed,
+//! however its units choose; of the others many have the same users, of which the one with the
+//! least limit stands for all; and many have users that are among those of another with no greater
+//! limit. What is left is a few thousand of a million.
 //!
-//! All of it is a help for searches, whose answers are tested by the whole problem: promised is only that each class that
-//! is kept names a resource of the problem, with its limit.
+//! All of it is a help for searches, whose answers are tested by the whole problem: promised is
+//! only that each class that is kept names a resource of the problem, with its limit.
 #![tactic(auto)]
 
 mod classes;

@@ -8,7 +8,8 @@ use choice_problem::Strip;
 use slot_text::Memory;
 use std::alloc::Global;
 
-// For each strip a row of the classes that it uses, where the marked resources are the classes: one step a run and a use.
+// For each strip a row of the classes that it uses, where the marked resources are the classes: one
+// step a run and a use.
 pub(crate) fn strip_classes(
     alloc: Global,
     strips: &[Strip],

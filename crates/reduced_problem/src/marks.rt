@@ -9,7 +9,8 @@ use std::alloc::Global;
 // How many places there are for keys that were seen.
 const PLACES: usize = 65_536;
 
-// A resource that can be passed, with the key of its users: ordered by key, then limit, then number.
+// A resource that can be passed, with the key of its users: ordered by key, then limit, then
+// number.
 #[derive(Clone, Copy, Debug, PartialEq, Eq, PartialOrd, Ord)]
 struct Passable {
     key: u64,
@@ -17,15 +18,15 @@ struct Passable {
     resource: u32,
 }
 
-// Marks of the resources, one for each key of those whose greatest uses are above their limit: the one with the least
-// limit, and of several the lowest.
+// Marks of the resources, one for each key of those whose greatest uses are above their limit: the
+// one with the least limit, and of several the lowest.
 pub(crate) fn least_limits(
     alloc: Global,
     problem: &Problem,
     uses: &[u64],
     keys: &[u64],
 ) -> Result<Vec<bool>, Memory> {
-    let mut passable = passable_resources(alloc, problem.limits(), uses, keys)?;
+    let mut passable = keyed_resources(alloc, problem.limits(), uses, keys)?;
     passable.sort_unstable();
     let mut marks = vec![in alloc; false; problem.resources() as usize]?;
     mark_first(&mut marks, &passable);
@@ -33,7 +34,7 @@ pub(crate) fn least_limits(
 }
 
 // The resources that can be passed. Of those with the same key, most that can be left out are.
-fn passable_resources(
+fn keyed_resources(
     alloc: Global,
     limits: &[i64],
     uses: &[u64],
@@ -59,7 +60,8 @@ fn is_above(uses: u64, limit: i64) -> bool {
     i128::from(uses) > i128::from(limit)
 }
 
-// Adds a resource, or puts it in the place of the one with its key that was seen last, if its limit is less.
+// Adds a resource, or puts it in the place of the one with its key that was seen last, if its limit
+// is less.
 fn note(found: &mut Vec<Passable>, places: &mut [u32], passable: Passable) -> Result<(), Memory> {
     let place = (passable.key >> 48) as usize;
     let known = number_at(places, place) as usize;

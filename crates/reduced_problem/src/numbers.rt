@@ -31,7 +31,8 @@ pub(crate) fn add_at(amounts: &mut [u64], at: u64, amount: u64) {
     }
 }
 
-// A number whose bits all depend on all bits of another (the last steps of SplitMix64, by Steele, Lea and Flood 2014).
+// A number whose bits all depend on all bits of another (the last steps of SplitMix64, by Steele,
+// Lea and Flood 2014).
 pub(crate) fn mix(number: u64) -> u64 {
     let first = number.wrapping_add(0x9e37_79b9_7f4a_7c15);
     let second = (first ^ (first >> 30)).wrapping_mul(0xbf58_476d_1ce4_e5b9);

@@ -1,5 +1,5 @@
-//! The strips of a problem, each kept once: the strips of many parts are the same, so that what is done strip by strip is
-//! done once for all of them.
+//! The strips of a problem, each kept once: the strips of many parts are the same, so that what is
+//! done strip by strip is done once for all of them.
 
 use crate::numbers::{as_number, number_at};
 use crate::rows::Rows;
@@ -42,20 +42,13 @@ impl StripTable {
     }
 }
 
-// Where a strip is looked for: the high bits of a sum of products that mixes its numbers.
+// Where a strip is looked for: the high bits of its hash code.
 fn place_of(strip: &Strip) -> usize {
-    let first = strip.first.wrapping_mul(0x9E37_79B1);
-    let times = strip.times.wrapping_mul(0x85EB_CA77);
-    let gap = strip.gap.wrapping_mul(0xC2B2_AE3D);
-    let width = strip.width.wrapping_mul(0x27D4_EB2F);
-    let mixed = first
-        .wrapping_add(times)
-        .wrapping_add(gap)
-        .wrapping_add(width);
-    (mixed >> 16) as usize
+    (strip.hash_code() >> 16) as usize
 }
 
-// The strips of a problem, for each part of all units a row of their numbers, and the number of each unit's first part.
+// The strips of a problem, for each part of all units a row of their numbers, and the number of
+// each unit's first part.
 #[derive(Drop)]
 pub(crate) struct Outline {
     pub(crate) strips: Vec<Strip>,

@@ -2,7 +2,7 @@
 
 use crate::classes::{Class, ClassUse, UserRun, marked_classes};
 use crate::contained::unmark_contained;
-use crate::greatest::greatest_uses;
+use crate::greatest::joined_uses;
 use crate::lists::strip_classes;
 use crate::marks::least_limits;
 use crate::numbers::as_number;
@@ -16,9 +16,10 @@ use slot_text::Memory;
 use std::alloc::Global;
 use std::marker::Model;
 
-/// The classes of a problem's resources that are kept, by rising resource, the classes that each part uses, and the parts that
-/// use each class. Contracts see the classes. Parts are numbered through all units, from 0. 8 bytes a part and a class
-/// that it uses, and 12 bytes a run of a class's users.
+/// The classes of a problem's resources that are kept, by rising resource, the classes that each
+/// part uses, and the parts that use each class. Contracts see the classes. Parts are numbered
+/// through all units, from 0. 8 bytes a part and a class that it uses, and 12 bytes a run of a
+/// class's users.
 #[derive(Drop)]
 pub struct Reduced {
     classes: Vec<Class>,
@@ -40,13 +41,15 @@ impl Reduced {
     ghost use Rattle.std.specs.Prelude.{◌≡◌, IfOk};
     ghost use Rattle.reduced_problem.specs.Reduced.{ArePicked};
 
-    /// The classes of a problem. A resource is left out where the units' greatest uses of it together are within its limit,
-    /// where another one with the same users and uses has a lower limit, or as low a one and a lower number, and where its users
-    /// are among those of another that has no greater limit, as far as that was found. So a choice that keeps the limits of all
-    /// classes keeps those of all resources; this is tested, and no clause says it.
+    /// The classes of a problem. A resource is left out where the units' greatest uses of it
+    /// together are within its limit, where another one with the same users and uses has a lower
+    /// limit, or as low a one and a lower number, and where its users are among those of another
+    /// that has no greater limit, as far as that was found. So a choice that keeps the limits of
+    /// all classes keeps those of all resources; this is tested, and no clause says it.
     ///
-    /// Time and memory of some steps a resource, a strip of each part, a run of the strips that differ, and a class that a
-    /// part uses: 500 daily turnarounds under 16 capacity lines take a tenth of a second.
+    /// Time and memory of some steps a resource, a strip of each part, a run of the strips that
+    /// differ, and a class that a part uses: 500 daily turnarounds under 16 capacity lines take a
+    /// tenth of a second.
     pub fn of(alloc: Global, problem: &Problem) -> Result<Reduced, Memory>
         ensures { IfOk result (λ kept. ArePicked problem.now kept) }
     {
@@ -97,7 +100,7 @@ impl Reduced {
 // Marks of one resource for each set of users, where it can be passed.
 fn least_marks(alloc: Global, problem: &Problem, outline: &Outline) -> Result<Vec<bool>, Memory> {
     let keys = resource_keys(alloc, outline, problem.resources())?;
-    let uses = greatest_uses(alloc, problem)?;
+    let uses = joined_uses(alloc, problem)?;
     least_limits(alloc, problem, &uses, &keys)
 }
 

@@ -1,5 +1,5 @@
-//! Sums over the resources of strips: differences at the ends of runs, and then sums, so that a strip costs its runs and not
-//! its uses.
+//! Sums over the resources of strips: differences at the ends of runs, and then sums, so that a
+//! strip costs its runs and not its uses.
 
 use crate::numbers::{add_at, amount_at, as_number, mix};
 use crate::outline::Outline;
@@ -8,8 +8,8 @@ use choice_problem::Strip;
 use slot_text::Memory;
 use std::alloc::Global;
 
-// For each resource the sum of the amounts of the strips, one amount a strip, each as often as the strip uses it, modulo
-// 2^64.
+// For each resource the sum of the amounts of the strips, one amount a strip, each as often as the
+// strip uses it, modulo 2^64.
 pub(crate) fn strip_sums(
     alloc: Global,
     strips: &[Strip],

@@ -33,3 +33,11 @@ mod RisingLemmas
 mod LengthLemmas
 mod AskedLemmas
 mod ReadItemLemmas
+mod LastLemmas
+mod StreamLineLemmas
+mod StreamMessageLemmas
+mod StreamLemmas
+mod LimitLemmas
+mod AlikeLemmas
+mod NamedLemmas
+mod ItemTextLemmas

@@ -14,3 +14,5 @@ pub mod Faults
 pub mod Again
 pub mod Rising
 pub mod Strays
+pub mod Cuts
+pub mod Streams

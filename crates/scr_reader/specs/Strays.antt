@@ -1,5 +1,5 @@
 -- Headers that name another season or airport than was expected.
-use Rattle.std.specs.Prelude.{◌≡◌, ◌≢◌, ◌+◌, Option, Some, None}
+use Rattle.std.specs.Prelude.{◌≡◌, ◌≢◌, ℕ, ◌+◌, Option, Some, None}
 use Rattle.slot_text.specs.declared.station.Station.{Station}
 use Rattle.season_days.specs.Term.{Term}
 use Rattle.scr_reader.specs.declared.message.Message.{Message}
@@ -14,3 +14,8 @@ IsStrayLine season airport message (Some (Season line)) =
     (message.season ≢ season) × (line ≡ message.line)
 IsStrayLine season airport message (Some (Airport line)) =
     (message.season ≡ season) × (message.airport ≢ airport) × (line ≡ message.line + 2)
+
+-- the number of the line
+abbrev pub stray_number : StrayLine → ℕ
+stray_number (Season line) = line
+stray_number (Airport line) = line

@@ -1,5 +1,5 @@
 ghost use Rattle.std.specs.Prelude.{◌≡◌, Some};
-ghost use Rattle.scr_reader.specs.Faults.{scr_fault_text};
+ghost use Rattle.scr_reader.specs.Faults.{scr_fault_text, fault_line};
 ghost use Rattle.scr_reader.specs.declared.fault.ScrFault.TheVariants.{Memory};
 
 use std::alloc::{AllocError, AllocFailed};
@@ -21,6 +21,21 @@ pub enum ScrFault {
     TooLong { line: u32 },
     /// Memory ran out.
     Memory,
+}
+
+impl ScrFault {
+    /// The number of the line that it names. Only want of memory names none.
+    pub fn line(&self) -> Option<u32>
+        ensures { result ≡ fault_line self.now }
+    {
+        match *self {
+            ScrFault::BadLine { line, .. } => Some(line),
+            ScrFault::BadHeader { line } => Some(line),
+            ScrFault::Unpaired { line } => Some(line),
+            ScrFault::TooLong { line } => Some(line),
+            ScrFault::Memory => None,
+        }
+    }
 }
 
 impl fmt::Display for ScrFault {

@@ -1,15 +1,21 @@
 //! Laws of what is read and printed. Each function does nothing; its contract is the law.
 
-ghost use Rattle.std.specs.Prelude.{◌≡◌, ◌++◌, ◌∷◌, [], ◌<◌, ◌≤◌, ℕ, List, All, length, false};
+ghost use Rattle.std.specs.Prelude.{◌≡◌, ◌⊎◌, ◌↔◌, ◌++◌, ◌∷◌, [], ◌+◌, ◌<◌, ◌≤◌, ℕ, List, All, IsSomeAnd, length, map, true, false};
 ghost use Rattle.std.specs.List.Sorted.{IsStrictlyIncreasing};
 ghost use Rattle.season_days.specs.Term.{Term};
 ghost use Rattle.slot_text.specs.Lines.{lines_of};
 ghost use Rattle.slot_text.specs.Fields.{is_blank_line};
 ghost use Rattle.scr_reader.specs.Rows.{entry, IsRow};
-ghost use Rattle.scr_reader.specs.Messages.{ReadsMessage, HasMessageFault, ReadsAll, HasScrFault};
-ghost use Rattle.scr_reader.specs.Printed.{line_text, message_text, LineFits, ItemsFit, MessagesFit, PrintsBack};
-ghost use Rattle.scr_reader.specs.Printed.{IsAsked};
-ghost use Rattle.scr_reader.specs.declared.print.TheConstants.{LONGEST_PRINTED_LINE};
+ghost use Rattle.scr_reader.specs.Bytes.{is_letter};
+ghost use Rattle.scr_reader.specs.Messages.{run_from, runs_of, runs_in, IsMessage, IsMessageFault, ReadsMessage, HasMessageFault, ReadsAll, HasScrFault};
+ghost use Rattle.scr_reader.specs.Printed.{line_text, item_text, message_text, LineFits, ItemFits, ItemsFit, MessagesFit, PrintsBack, IsAsked};
+ghost use Rattle.scr_reader.specs.Faults.{fault_line};
+ghost use Rattle.scr_reader.specs.Places.{StandAt};
+ghost use Rattle.scr_reader.specs.Cuts.{up_to_last};
+ghost use Rattle.scr_reader.specs.Streams.{AreOfMessage, HoldsMessage, messages_in, run_lines, piece_lines, messages_at_end, is_lf, whole_lines, open_bytes, complete_messages, open_lines, without_last_cr, messages_so_far, one_message, message_under_way, served_messages, is_broken};
+ghost use Rattle.scr_reader.specs.declared.print.TheConstants.{LONGEST_PRINTED_LINE, LONGEST_PRINTED_ITEM};
+ghost use Rattle.scr_reader.specs.declared.line.Item.{Item as ItemValue};
+ghost use Rattle.scr_reader.specs.declared.message.Piece.{Piece as PieceValue};
 ghost use Rattle.scr_reader.specs.Again.{IsAirlineMessage, IsReadAgain, messages_text, AreReadAgain};
 ghost use Rattle.scr_reader.specs.Rising.{all_named_lines};
 ghost use Rattle.scr_reader.specs.declared.line.Code.{Code as CodeValue};
@@ -105,4 +111,107 @@ pub fn printed_lines_are_lines()
 pub fn printed_lines_are_short()
     ensures { (season : Term) (code : CodeValue) (line : LineValue) → LineFits season line →
         length (line_text season code line) ≤ LONGEST_PRINTED_LINE }
+{}
+
+/// A printed item has at most 142 bytes, and its first is a letter.
+pub fn printed_items()
+    ensures short { (season : Term) (item : ItemValue) → ItemFits season item →
+        length (item_text season item) ≤ LONGEST_PRINTED_ITEM }
+    ensures first { (season : Term) (item : ItemValue) → ItemFits season item →
+        (b : ℕ) × (rest : List ℕ) × (item_text season item ≡ b ∷ rest) × (is_letter b ≡ true) }
+{}
+
+/// Lines of one message are one run. So a text with such lines is read as the message of all its
+/// lines, counted from 1, or has the fault of these.
+pub fn one_run()
+    ensures run { (number : ℕ) (lines : List (List ℕ)) → AreOfMessage lines →
+        runs_of number lines ≡ run_from number lines ∷ [] }
+    ensures read { (bytes : List ℕ) (message : MessageValue) → AreOfMessage (lines_of bytes) →
+        (ReadsMessage bytes message ↔ IsMessage (run_from 1 (lines_of bytes)) message) }
+    ensures fault { (bytes : List ℕ) (fault : ScrFaultValue) → AreOfMessage (lines_of bytes) →
+        (HasMessageFault bytes fault ↔ IsMessageFault (run_from 1 (lines_of bytes)) fault) }
+{}
+
+/// The runs of lines are the messages that the lines make, and each of these has lines.
+pub fn runs_are_messages()
+    ensures lines { (number : ℕ) (lines : List (List ℕ)) →
+        map run_lines (runs_of number lines) ≡ messages_in lines }
+    ensures full { (lines : List (List ℕ)) → All AreOfMessage (messages_in lines) }
+{}
+
+/// The pieces into which a text is cut hold the lines of its messages, one each, in order.
+pub fn pieces_are_messages()
+    ensures lines { (bytes : List ℕ) (pieces : List PieceValue) →
+        StandAt bytes (runs_in bytes) pieces →
+        map (piece_lines bytes) pieces ≡ messages_at_end bytes }
+    ensures held { (bytes : List ℕ) (pieces : List PieceValue) →
+        StandAt bytes (runs_in bytes) pieces → All (HoldsMessage bytes) pieces }
+{}
+
+/// The season stands on the second line of a message, or on the third.
+pub fn season_lines()
+    ensures { (lines : List (List ℕ)) (message : MessageValue) →
+        IsMessage (run_from 1 lines) message → (message.line ≡ 2) ⊎ (message.line ≡ 3) }
+{}
+
+/// The fault of a message names one of its lines, or the place after the last.
+pub fn faults_name_lines()
+    ensures { (number : ℕ) (lines : List (List ℕ)) (fault : ScrFaultValue) →
+        IsMessageFault (run_from number lines) fault →
+        IsSomeAnd (fault_line fault)
+        (λ line. (number ≤ line) × (line ≤ number + length lines)) }
+{}
+
+/// What one more byte does: one that is no LF belongs to the line that is under way; an LF ends
+/// that line, and where the line is empty also the message that is under way.
+pub fn one_more_byte()
+    ensures within { (text : List ℕ) (b : ℕ) → is_lf b ≡ false →
+        (complete_messages (text ++ b ∷ []) ≡ complete_messages text)
+        × (open_lines (text ++ b ∷ []) ≡ open_lines text)
+        × (open_bytes (text ++ b ∷ []) ≡ open_bytes text ++ b ∷ []) }
+    ensures line { (text : List ℕ) →
+        is_blank_line (without_last_cr (open_bytes text)) ≡ false →
+        (complete_messages (text ++ 10 ∷ []) ≡ complete_messages text)
+        × (open_lines (text ++ 10 ∷ []) ≡ open_lines text
+        ++ without_last_cr (open_bytes text) ∷ [])
+        × (open_bytes (text ++ 10 ∷ []) ≡ []) }
+    ensures message { (text : List ℕ) →
+        is_blank_line (without_last_cr (open_bytes text)) ≡ true →
+        (complete_messages (text ++ 10 ∷ []) ≡ complete_messages text
+        ++ one_message (open_lines text))
+        × (open_lines (text ++ 10 ∷ []) ≡ [])
+        × (open_bytes (text ++ 10 ∷ []) ≡ []) }
+{}
+
+/// All messages of a text are the complete ones and the one that is under way: while bytes may
+/// come, without a CR at the end, and at the end with it.
+pub fn one_under_way()
+    ensures so_far { (text : List ℕ) → messages_so_far text ≡ complete_messages text
+        ++ message_under_way (open_lines text) (without_last_cr (open_bytes text)) }
+    ensures at_end { (text : List ℕ) → messages_at_end text ≡ complete_messages text
+        ++ message_under_way (open_lines text) (open_bytes text) }
+{}
+
+/// Behind the last LF of a text lines begin anew, and an LF ends the line that is under way.
+pub fn lines_begin_anew()
+    ensures behind { (text back : List ℕ) →
+        lines_of (up_to_last is_lf text ++ back) ≡ whole_lines text ++ lines_of back }
+    ensures ended { (text : List ℕ) →
+        lines_of (open_bytes text ++ 10 ∷ []) ≡ without_last_cr (open_bytes text) ∷ [] }
+{}
+
+/// More bytes only add complete messages.
+pub fn messages_stay()
+    ensures { (text more : List ℕ) → (later : List (List (List ℕ)))
+        × (complete_messages (text ++ more) ≡ complete_messages text ++ later) }
+{}
+
+/// Once a message has broken a limit, more bytes change nothing of what is answered; until then all
+/// complete messages are.
+pub fn breaks_stay()
+    ensures broken { (text more : List ℕ) → is_broken text ≡ true
+        → (is_broken (text ++ more) ≡ true)
+        × (served_messages (text ++ more) ≡ served_messages text) }
+    ensures unbroken { (text : List ℕ) → is_broken text ≡ false
+        → served_messages text ≡ complete_messages text }
 {}

@@ -31,8 +31,10 @@ pub use flight::read_flight;
 pub use header::Header;
 pub use item_reader::read_item;
 pub use line::{Code, Craft, Flight, Item, Line, Stop};
-pub use message::{Message, MessageList, Piece, Placed, PlacedList};
+pub use message::{MOST_MESSAGE_LINES, Message, MessageList, Piece, Placed, PlacedList};
 pub use period::read_period;
-pub use print::{LONGEST_PRINTED_LINE, print_flight, print_header, print_item, print_line};
+pub use print::{
+    LONGEST_PRINTED_ITEM, LONGEST_PRINTED_LINE, print_flight, print_header, print_item, print_line,
+};
 pub use stray::StrayLine;
 pub use texts::{read_all, read_message};

@@ -107,6 +107,9 @@ impl MessageList {
     }
 }
 
+/// The most lines that a message may have where it comes over a link.
+pub const MOST_MESSAGE_LINES: usize = 1000;
+
 /// Where a message stands: the number of its first line, and its bytes.
 #[derive(Clone, Copy, Debug, PartialEq, Eq)]
 pub struct Piece {

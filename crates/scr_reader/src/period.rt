@@ -1,4 +1,4 @@
-ghost use Rattle.std.specs.Prelude.{◌≡◌, ◌≢◌, ◌<◌, ◌≤◌, ℕ, IfSome, Some, IsSomeAnd, IsTrue, IfOk, IsOk, [], ◌↔◌, ◌++◌, Ok};
+ghost use Rattle.std.specs.Prelude.{◌≡◌, ◌≢◌, ◌<◌, ◌≤◌, ℕ, IfSome, Some, IsSomeAnd, [], ◌++◌};
 ghost use Rattle.schedule_text.specs.Days.{IsDays};
 ghost use Rattle.season_days.specs.Seasons.{dates_of};
 ghost use Rattle.season_days.specs.declared.day.Period.{Period as PeriodValue};
@@ -7,7 +7,6 @@ ghost use Rattle.scr_reader.specs.Shapes.{NamesPeriod};
 
 use schedule_text::{read_two_digits, read_weekdays};
 use season_days::{Day, Period, Season};
-use slot_text::Memory;
 
 /// The month of a name.
 pub(crate) fn read_month(text: &[u8]) -> Option<u8>
@@ -93,20 +92,8 @@ pub(crate) fn read_weekdays_of(
 
 /// The period that two fields of a data line name: one date or two, and its days of operation. None
 /// where a date does not exist or lies outside the season, where the period is reversed or has no
-/// date on these weekdays, and where a field has another form. It takes no memory, so there is no
-/// error.
-pub fn read_period(season: &Season, period: &[u8], days: &[u8]) -> Result<Option<Period>, Memory>
-    ensures found { IfOk result
-        (λ read. IfSome read (λ p. NamesPeriod season.now period.now days.now p)) }
-    ensures only { (p : PeriodValue) → NamesPeriod season.now period.now days.now p →
-        result ≡ Ok (Some p) }
-    // Memory cannot run out.
-    ensures answered { IsOk result }
-{
-    Ok(read_period_fields(season, period, days))
-}
-
-fn read_period_fields(season: &Season, period: &[u8], days: &[u8]) -> Option<Period>
+/// date on these weekdays, and where a field has another form.
+pub fn read_period(season: &Season, period: &[u8], days: &[u8]) -> Option<Period>
     ensures found { IfSome result (λ p. NamesPeriod season.now period.now days.now p) }
     ensures only { (p : PeriodValue) → NamesPeriod season.now period.now days.now p →
         result ≡ Some p }

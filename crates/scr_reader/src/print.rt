@@ -19,6 +19,9 @@ use std::alloc::Global;
 /// The most bytes that a printed line has, without its end.
 pub const LONGEST_PRINTED_LINE: usize = 70;
 
+/// The most bytes that a printed item has: two lines, each with its LF.
+pub const LONGEST_PRINTED_ITEM: usize = 142;
+
 /// Appends the printed spelling of a line with a code: the flight's number with at least three
 /// digits, both dates of the period, seven places of weekdays, no digit for no nights, and one
 /// blank between two fields; no line end. After an error `out` is as before. It takes memory once

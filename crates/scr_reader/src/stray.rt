@@ -1,5 +1,5 @@
-ghost use Rattle.std.specs.Prelude.{◌+◌, ◌<◌, ◌^◌};
-ghost use Rattle.scr_reader.specs.Strays.{IsStrayLine};
+ghost use Rattle.std.specs.Prelude.{◌≡◌, ◌+◌, ◌<◌, ◌^◌};
+ghost use Rattle.scr_reader.specs.Strays.{IsStrayLine, stray_number};
 
 use crate::message::Message;
 use season_days::Season;
@@ -12,6 +12,18 @@ pub enum StrayLine {
     Season(u32),
     /// The airport's line, two lines below the season line, names another airport.
     Airport(u32),
+}
+
+impl StrayLine {
+    /// The number of the line.
+    pub fn line(&self) -> u32
+        ensures { result ≡ stray_number self.now }
+    {
+        match *self {
+            StrayLine::Season(line) => line,
+            StrayLine::Airport(line) => line,
+        }
+    }
 }
 
 impl Message {

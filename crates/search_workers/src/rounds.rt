@@ -13,11 +13,11 @@ use crate::states::{State, cheaper, cost_if_any};
 use crate::tasks::Task;
 use crate::trees::{graft_nodes, trees_of};
 use choice_problem::{Ranges, open_pieces, part_ranges};
-use desk_outside::Gate;
 use incumbent_word::Board;
 use slot_text::Memory;
 use std::alloc::Global;
 use std::thread::Threads;
+use worker_gate::Gate;
 
 // How many pieces a round has for each worker, at most.
 const MOST_PIECES: u32 = 64;

@@ -15,10 +15,10 @@ use crate::looks::look;
 use crate::places::Place;
 use crate::tasks::Task;
 use choice_problem::{Choice, Node, Problem, Ranges, cost_of, part_ranges};
-use desk_outside::Gate;
 use incumbent_word::{Board, BoardSeat};
 use slot_text::Memory;
 use std::alloc::Global;
+use worker_gate::Gate;
 
 // How many visits a worker makes in one piece before it claims another.
 const MOST_VISITS: u32 = 1024;

@@ -27,11 +27,11 @@ use choice_problem::{
     Choice, Node, Problem, Ranges, Tree, Vector, VectorList, closed_ranges, driven_tree,
     fewer_vectors, node_vector_exists, search_start, sound_tree,
 };
-use desk_outside::Gate;
 use dual_bound::node_vector;
 use slot_text::Memory;
 use std::alloc::Global;
 use std::thread::Threads;
+use worker_gate::Gate;
 
 /// Searches a problem with at most `budget` visits, by `workers` workers on threads of their own, from the greedy choice.
 /// Each worker passes `gate` before a visit. Where no thread can be made, the workers go one after another.

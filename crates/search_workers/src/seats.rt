@@ -13,12 +13,12 @@ ghost use Rattle.search_workers.specs.Rounds.{IsReady, HasStopped, shares};
 use crate::searchers::Searcher;
 use crate::tasks::Task;
 use choice_problem::{Choice, Ranges};
-use desk_outside::Gate;
 use incumbent_word::{Board, BoardSeat};
 use slot_text::Memory;
 use std::alloc::Global;
 use std::thread;
 use std::thread::Threads;
+use worker_gate::Gate;
 
 // So many workers, with seats split from the first one.
 pub(crate) fn seat_all(

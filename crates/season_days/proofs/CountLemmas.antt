@@ -1,4 +1,5 @@
--- The dates of a period, counted: day by day, and by whole weeks, each of which has as many as the first one.
+-- The dates of a period, counted: day by day, and by whole weeks, each of which has as many as the
+-- first one.
 use Rattle.std.proofs.Common.{◌≡◌, ℕ, zero, suc, ◌+◌, ◌-◌, ◌*◌, ◌/◌, ◌<◌, ◌≤◌, Bool, true, false, cond, List, [], ◌∷◌, length, refl, sym, ap, ◌∙◌, arith, inl, inr}
 use Rattle.std.proofs.lemmas.Bool.{cases_Bool}
 use Rattle.std.specs.List.{filter}

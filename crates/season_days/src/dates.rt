@@ -1,3 +1,5 @@
+//! The days that months and days of a month name, the dates of days, and the dates of a period.
+
 ghost use Rattle.std.specs.Prelude.{◌≡◌, ◌≢◌, ◌↔◌, ◌<◌, map, [], ℕ, Ok, IfOk, IfErr, IsErrOf};
 ghost use Rattle.season_days.specs.Seasons.{date_count, date_at, is_on, dates_of, IsDatesFault, NamesDate, number_named, IsDayNamed, IsOutside, IsDayOfFault};
 

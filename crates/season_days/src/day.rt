@@ -1,3 +1,5 @@
+//! Days of a season, periods and their parts, and why they may not be there.
+
 ghost use Rattle.std.specs.Prelude.{◌≡◌, Some};
 ghost use Rattle.season_days.specs.Texts.{day_fault_text};
 ghost use Rattle.season_days.specs.declared.day.DayFault.TheVariants.{Memory};

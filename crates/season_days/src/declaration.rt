@@ -1,3 +1,5 @@
+//! The capacity declaration of an airport in a season.
+
 ghost use Rattle.std.specs.Prelude.{◌≡◌, IfOk};
 
 use crate::season::Season;

@@ -1,12 +1,13 @@
 //! Laws of the calendar. Each function does nothing; its contract is the law.
 
-ghost use Rattle.std.specs.Prelude.{◌≡◌, ◌↔◌, ◌<◌, ◌≤◌, ◌+◌, ◌%◌, ◌+ℤ◌, ℕ, ℤ, pos, true, [], ◌∷◌, length, Some, slice_get, Contains};
+ghost use Rattle.std.specs.Prelude.{◌≡◌, ◌↔◌, ◌<◌, ◌≤◌, ◌+◌, ◌-◌, ◌%◌, ◌+ℤ◌, ℕ, ℤ, pos, Bool, true, false, [], ◌∷◌, length, Some, slice_get, All, Contains, count_by};
+ghost use Rattle.std.specs.List.{filter};
 ghost use Rattle.std.specs.List.Sorted.{IsStrictlyIncreasing};
 ghost use Rattle.jiff_core.specs.Calendar.{days_from_civil, days_in_month};
 ghost use Rattle.season_days.specs.Term.{Term};
 ghost use Rattle.season_days.specs.Dates.{IsLastSunday, last_sunday};
-ghost use Rattle.season_days.specs.Seasons.{first_year, year_after, month_after, season_after, first_number, number_after, date_count, date_at, season_dates, weekday_on, IsDayNamed, is_on, dates_of};
-ghost use Rattle.season_days.specs.Periods.{part_dates, cut_of, IsInOne};
+ghost use Rattle.season_days.specs.Seasons.{first_year, year_after, month_after, season_after, first_number, number_after, date_count, date_at, days_from, season_dates, weekday_on, IsDayNamed, is_on, dates_of};
+ghost use Rattle.season_days.specs.Periods.{SharesDate, HasAllDates, is_date_of, shares_date, has_all_dates, part_dates, cut_of, cut_periods, IsPartOf, IsInOne};
 ghost use Rattle.season_days.specs.declared.day.Period.{Period};
 ghost use Rattle.season_days.specs.declared.season.TheConstants.{MOST_DATES};
 
@@ -97,6 +98,30 @@ pub fn period_dates()
         dates_of season period ≡ dates_of other period }
 {}
 
+/// The days from one on and before an end that pass a test, one by one: the first of them where it
+/// passes, and those of the days after it; none where the day is not before the end.
+pub fn listed_days()
+    ensures passes { (test : ℕ → Bool) (day end : ℕ) → day < end → test day ≡ true →
+        filter test (days_from day (end - day))
+        ≡ day ∷ filter test (days_from (day + 1) (end - (day + 1))) }
+    ensures fails { (test : ℕ → Bool) (day end : ℕ) → day < end → test day ≡ false →
+        filter test (days_from day (end - day))
+        ≡ filter test (days_from (day + 1) (end - (day + 1))) }
+    ensures ends { (test : ℕ → Bool) (day end : ℕ) → end ≤ day →
+        filter test (days_from day (end - day)) ≡ [] }
+{}
+
+/// A day is among the dates of a period, two periods share a date, and one has all dates of
+/// another, exactly where the answers say so.
+pub fn date_answers()
+    ensures date { (season : Term) (period : Period) (day : ℕ) →
+        (is_date_of season period day ≡ true) ↔ Contains (dates_of season period) day }
+    ensures shared { (season : Term) (one other : Period) →
+        (shares_date season one other ≡ true) ↔ SharesDate season one other }
+    ensures all { (season : Term) (held asked : Period) →
+        (has_all_dates season held asked ≡ true) ↔ HasAllDates season held asked }
+{}
+
 /// The parts of a cut have the held dates before the first asked day, those from it to the last
 /// asked day that are not asked, and those after it. So each held date is in exactly one of the
 /// asked period and the three parts.
@@ -116,4 +141,22 @@ pub fn cuts()
         IsInOne day (dates_of season asked ∷ part_dates season (cut_of season held asked).before
         ∷ part_dates season (cut_of season held asked).between
         ∷ part_dates season (cut_of season held asked).after ∷ []) }
+{}
+
+/// Each part of a cut is a part of the held period. So where the held period's days are days of the
+/// season, the part's are.
+pub fn cut_parts()
+    ensures { (season : Term) (held asked : Period) →
+        All (IsPartOf season held) (cut_periods (cut_of season held asked)) }
+{}
+
+/// Where a held period has all dates of an asked one, a count over the held dates is that over the
+/// asked dates and those over the parts of the cut together.
+pub fn cut_counts()
+    ensures { (season : Term) (held asked : Period) (passes : ℕ → Bool) →
+        asked.first.0 ≤ asked.last.0 → HasAllDates season held asked →
+        count_by passes (dates_of season held) ≡ count_by passes (dates_of season asked)
+        + (count_by passes (part_dates season (cut_of season held asked).before)
+        + (count_by passes (part_dates season (cut_of season held asked).between)
+        + count_by passes (part_dates season (cut_of season held asked).after))) }
 {}

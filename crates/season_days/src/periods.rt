@@ -1,7 +1,9 @@
+//! Periods beside one another: their dates, counted and tested, and what is left after a cut.
+
 ghost use Rattle.std.specs.Prelude.{◌≡◌, ◌≢◌, ◌↔◌, ◌<◌, ◌≤◌, ◌-◌, [], length, true, Contains, IsTrue, Some};
 ghost use Rattle.std.specs.List.{filter};
 ghost use Rattle.season_days.specs.Seasons.{date_count, is_on, days_from, dates_of};
-ghost use Rattle.season_days.specs.Periods.{SharesDate, HasAllDates, if_dated, cut_of, part_before, part_between, part_after};
+ghost use Rattle.season_days.specs.Periods.{SharesDate, HasAllDates, shares_date, has_all_dates, if_dated, cut_of, part_before, part_between, part_after};
 
 use crate::day::{Cut, Day, Period};
 use crate::season::{MOST_DATES, Season};
@@ -67,7 +69,8 @@ impl Season {
 
     /// Whether two periods have a date in common. Time in proportion to their common days.
     pub fn share_date(&self, one: Period, other: Period) -> bool
-        ensures { IsTrue result ↔ SharesDate self.now one other }
+        ensures exact { IsTrue result ↔ SharesDate self.now one other }
+        ensures value { result ≡ shares_date self.now one other }
     {
         self.has_dates(Period {
             first: Day(one.first.0.max(other.first.0)),
@@ -79,7 +82,8 @@ impl Season {
     /// Whether each date of the asked period is one of the held period. Time in proportion to the
     /// asked days.
     pub fn has_all_dates(&self, held: Period, asked: Period) -> bool
-        ensures { IsTrue result ↔ HasAllDates self.now held asked }
+        ensures exact { IsTrue result ↔ HasAllDates self.now held asked }
+        ensures value { result ≡ has_all_dates self.now held asked }
     {
         if asked.last.0 < asked.first.0 {
             return true;

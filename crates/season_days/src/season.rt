@@ -1,3 +1,5 @@
+//! Seasons: their names, first and last dates, length and weekdays.
+
 ghost use Rattle.std.specs.Prelude.{◌≡◌, ◌↔◌, ◌<◌, ◌≤◌, ◌-◌, ◌+ℤ◌, pos, ℕ, List, IsNone, IfSome, Some, IfNone, unsigned_abs, ◌≤ℤ◌};
 ghost use Rattle.jiff.specs.Words.{epoch_day, weekday_of, IsBetween};
 ghost use Rattle.season_days.specs.Term.{Term};

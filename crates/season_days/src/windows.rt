@@ -1,3 +1,5 @@
+//! How many windows a declaration has.
+
 ghost use Rattle.std.specs.Prelude.{◌≡◌, ◌≤◌, ◌<◌, ◌*◌, length, All};
 ghost use Rattle.season_days.specs.Capacity.{declared_resources, starts_of, IsRule};
 

@@ -11,12 +11,12 @@ use crate::stages::stage_cert;
 use crate::trials::settle_stage;
 use cert_format::{Certificate, FloorList, Mark, StageCert, StageList, line_counts};
 use choice_problem::{Choice, Tree, VectorList, fewer_vectors};
-use desk_outside::Gate;
 use series_model::{Submission, UnitState};
 use slot_text::Memory;
 use std::alloc::Global;
 use std::thread::Threads;
 use wasg_stages::{after_stage, problem_after, states_of};
+use worker_gate::Gate;
 
 /// The certificate of a season: each stage is allotted after those before it, by a search of at
 /// most `budget` nodes with so many workers, each of which passes the gate before a visit.

@@ -10,11 +10,11 @@ ghost use Rattle.season_run.specs.Steps.{TakesNodes, IsDrivenEnd, IsTrialEnd};
 
 use choice_problem::{Choice, Problem, Vector};
 use closing_search::{Closed, Ending, closing_search};
-use desk_outside::Gate;
 use search_workers::{Outcome, search, search_from};
 use slot_text::Memory;
 use std::alloc::Global;
 use std::thread::Threads;
+use worker_gate::Gate;
 
 /// The greatest budget with which a stage is searched from its greedy choice and by the vectors of
 /// the search alone, and nothing else is tried. A stage of at most so many units is first given to

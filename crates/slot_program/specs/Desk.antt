@@ -4,7 +4,7 @@ use Rattle.std.specs.Prelude.{◌≡◌, ℕ, List, [], ◌∷◌, ◌++◌, map
 use Rattle.std.specs.Prelude.{Contains}
 use Rattle.desk_outside.specs.Cause.{Rose}
 use Rattle.desk_outside.specs.Files.{Files}
-use Rattle.desk_outside.specs.Passages.{Passage, read, wrote, write_failed, put, put_failed}
+use Rattle.desk_outside.specs.Passages.{Passage, read, wrote, write_failed, took, put, put_failed}
 use Rattle.command_words.specs.Words.{Word}
 use Rattle.slot_program.specs.Reports.{Report, Refusal, no_command, refused, unread, unwritten}
 use Rattle.slot_program.specs.Reports.{finished}
@@ -91,6 +91,7 @@ abbrev pub IsOfFiles : List Word → List Word → Passage → Type 0
 IsOfFiles reads writes (read name bytes) = Contains reads name
 IsOfFiles reads writes (wrote name bytes) = Contains writes name
 IsOfFiles reads writes (write_failed name bytes) = Contains writes name
+IsOfFiles reads writes (took bytes) = ⊥
 IsOfFiles reads writes (put bytes) = ⊥
 IsOfFiles reads writes (put_failed bytes) = ⊥
 

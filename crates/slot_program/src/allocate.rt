@@ -14,14 +14,15 @@ use crate::stop::{Answer, Stop};
 use crate::writes::write_two;
 use cert_format::{print_cert, season_bytes};
 use command_words::NameList;
+use desk_outside::Cabinet;
 use desk_outside::laws::file_changes;
-use desk_outside::{Cabinet, Gate};
 use scr_replies::season_replies;
 use season_run::{run_season, settled_run};
 use series_model::Submission;
 use slot_text::Memory;
 use std::alloc::Global;
 use std::thread::Threads;
+use worker_gate::Gate;
 
 /// What the run of a season gives.
 #[derive(Drop)]

@@ -30,11 +30,12 @@ use crate::make::make;
 use crate::stop::Answer;
 use crate::trial::trial;
 use command_words::{Job, NameList, WordFault, read_words};
-use desk_outside::{Cabinet, Gate, Sink};
+use desk_outside::{Cabinet, Sink};
 use slot_text::Memory;
 use std::alloc::Global;
 use std::thread::Threads;
 use wasg_stages::laws::valid_marks;
+use worker_gate::Gate;
 
 /// Does what the words of a command line ask, on the files of a cabinet, and says the result to a
 /// sink. Where stages are searched, each worker passes the gate before it visits a node.

@@ -17,7 +17,6 @@ use crate::stage_lines::{mark_lines, marks_status, node_total};
 use crate::stop::{Answer, Stop};
 use cert_checker::{Verdict, check};
 use cert_format::{Certificate, line_counts};
-use desk_outside::Gate;
 use season_days::Declaration;
 use season_maker::laws::{capacity_is_read, requests_are_read, sizes, submission_is_taken};
 use season_maker::make_season;
@@ -26,6 +25,7 @@ use series_model::Submission;
 use slot_text::Memory;
 use std::alloc::Global;
 use std::thread::Threads;
+use worker_gate::Gate;
 
 /// The budget of nodes of each stage of a trial.
 pub(crate) const TRIAL_NODES: u32 = 10_000;

@@ -1,11 +1,13 @@
-//! The slot coordination desk of one airport and one season, over the real files and the standard output.
+//! The slot coordination desk of one airport and one season, over the real files and the standard
+//! output.
 #![tactic(auto)]
 
-use desk_outside::{RealCabinet, RealGate, RealSink, Sink};
+use desk_outside::{RealCabinet, RealSink, Sink};
 use slot_program::desk;
 use std::env;
 use std::io::ErrorKind;
 use std::process::ExitCode;
+use worker_gate::RealGate;
 
 fn main(rt: HostRuntime) -> ExitCode {
     let alloc = rt.alloc();

@@ -182,14 +182,17 @@ impl Case for Strays {
         if found.line > 1_000 {
             return Err("a line behind the text".into());
         }
-        show(alloc, out, found.stray_line(season, airport))
+        match found.stray_line(season, airport) {
+            Some(stray) => say(alloc, out, format_args!("{stray:?} {}", stray.line())),
+            None => say(alloc, out, "-"),
+        }
     }
 }
 
 const STRAYS: &[u8] = b"\
-W25 XYZ|Some(Season(3))
-S25 XYZ|Some(Airport(5))
-S25 ABC|None
+W25 XYZ|Season(3) 3
+S25 XYZ|Airport(5) 5
+S25 ABC|-
 ";
 
 /// Appends the printed item, if it has a spelling.
@@ -369,7 +372,7 @@ impl Case for Periods {
     fn find(&mut self, alloc: Global, given: &[u8], out: &mut Vec<u8>) -> Result<(), Fail> {
         let season = Season::read(b"S25").ok_or("season")?;
         let (period, days) = cut(given, b' ');
-        match read_period(&season, period, days)? {
+        match read_period(&season, period, days) {
             Some(found) => say(
                 alloc,
                 out,
@@ -475,6 +478,27 @@ impl Case for FaultsBelow {
     }
 }
 
+/// The line that a fault names.
+#[derive(Drop)]
+struct FaultLines;
+
+impl Case for FaultLines {
+    fn find(&mut self, alloc: Global, given: &[u8], out: &mut Vec<u8>) -> Result<(), Fail> {
+        let text = below(alloc, given)?;
+        match messages(alloc, &text) {
+            Ok(_) => say(alloc, out, "-"),
+            Err(fault) => show(alloc, out, fault.line()),
+        }
+    }
+}
+
+const FAULT_LINES: &[u8] = b"\
+QBA001;;SCR|Some(8)
+QBA001;NBA001|Some(6)
+QBA001;SI;LBA001 30MAR25OCT 1234567 180320 JFK0610 J|Some(7)
+<201A>|Some(5)
+";
+
 const FIELD_FAULTS: &[u8] = b"\
 KBA001 30MAR25OCT 1234567 180320 JFK0610 J|line 5: field 1 has not its form
  NBA001 30MAR25OCT 1234567 180320 JFK0610 J|line 5: field 1 has not its form
@@ -576,6 +600,7 @@ fn messages_are_printed(rt: HostRuntime) -> Result<(), Fail> {
 fn faults_are_named(rt: HostRuntime) -> Result<(), Fail> {
     let alloc = rt.alloc();
     walk(alloc, &mut Faults, FAULTS)?;
+    walk(alloc, &mut FaultLines, FAULT_LINES)?;
     walk(alloc, &mut FaultsBelow, FIELD_FAULTS)?;
     walk(alloc, &mut FaultsBelow, PAIR_FAULTS)
 }

@@ -2,13 +2,13 @@
 
 use crate::rows::{Case, cut, number, say, show, walk};
 use desk_outside::{
-    Cabinet, Failure, Gate, MemoryCabinet, MemorySink, RealCabinet, RealGate, RealSink, Sink,
-    SinkFault,
+    Cabinet, Failure, MemoryCabinet, MemorySink, RealCabinet, RealSink, Sink, SinkFault,
 };
 use std::alloc::Global;
 use std::fmt::Display;
 use std::test::Fail;
 use std::{env, fs, io, process};
+use worker_gate::{Gate, RealGate};
 
 /// Calls of a cabinet in memory, one a row: what each answers, the file then, and the count of
 /// faults. A file that is not there is `-`.

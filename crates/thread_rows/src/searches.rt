@@ -8,12 +8,12 @@ ghost use Rattle.search_workers.specs.Outcomes.{AreFurther};
 use choice_problem::{
     Alt, Choice, Chooser, Node, Part, Price, Problem, Strip, Tree, Vector, cost_of, fits,
 };
-use desk_outside::{Gate, RealGate};
 use search_workers::{Outcome, search, search_from};
 use std::alloc::{AllocError, Global};
 use std::sync::atomic::{AtomicU64, Ordering};
 use std::test::Fail;
 use std::thread::Threads;
+use worker_gate::{Gate, RealGate};
 
 fn alt(cost: u64, one: Option<u32>) -> Alt {
     Alt {

@@ -73,7 +73,8 @@ module _ (p : ProblemView) (u a : ℕ) where
   abbrev pub two_uses : ℕ → ℕ
   two_uses r = named_uses (chooser_at p u) (alt_at (chooser_at p u) a).two r
 
-  -- an alternative that fits on the counts fits part by part, and has room for its second part alone
+  -- an alternative that fits on the counts fits part by part, and has room for its second part
+  -- alone
   pub FitsOn-room : (counts : List ℕ) → FitsOn p (λ r. slice_index counts r) u a → FitsOnce p counts two_uses
   FitsOn-room counts h = λ r l u'. omega (arith, h r l, u')
 

@@ -7,14 +7,16 @@ ghost use Rattle.window_counts.specs.Counts.{listed_uses};
 
 use crate::adding::add_all;
 use crate::fitting::part_fits;
+use crate::having::{both_have, part_has};
 use crate::joint::add_both;
 use choice_problem::{Part, first_above_limit};
 use slot_text::Memory;
 use std::alloc::Global;
 use std::marker::Model;
 
-/// How often each resource is used by the parts that were added and not taken away: 4 bytes a resource. Contracts see
-/// the counts, resource by resource. Only `of` and `copy` take memory.
+/// How often each resource is used by the parts that were added and not taken away, or how often it
+/// can still be used: 4 bytes a resource. Contracts see the counts, resource by resource. Only `of`
+/// and `copy` take memory.
 #[derive(Drop)]
 pub struct Counts {
     counts: Vec<u32>,
@@ -38,8 +40,8 @@ impl Counts {
     ghost use Rattle.window_counts.specs.Counts.{listed_uses, both_uses, AreCountsOf, AreWithin, FitsWith, KeepsLimit};
     ghost use Rattle.std.specs.Option.{ForSome};
 
-    /// The counts of these parts: one step a resource and a use. The resources are numbered from 0; the parts stay within
-    /// them, and each is used fewer than 2^32 times.
+    /// The counts of these parts: one step a resource and a use. The resources are numbered from 0;
+    /// the parts stay within them, and each is used fewer than 2^32 times.
     pub fn of(alloc: Global, parts: &[Part], resources: u32) -> Result<Counts, Memory>
         requires there { All (λ strips. IsPartInRange resources strips) parts.now }
         requires few { (r : ℕ) → r < resources → listed_uses parts.now r < 2 ^ 32 }
@@ -51,6 +53,15 @@ impl Counts {
         Ok(Counts { counts })
     }
 
+    /// These numbers as counts, as what each resource has left before parts take it. It takes no
+    /// memory.
+    pub fn with(counts: Vec<u32>) -> Counts
+        requires { length counts.items < 2 ^ 32 }
+        ensures { result ≡ counts.items }
+    {
+        Counts { counts }
+    }
+
     /// The same counts again: one step a resource.
     pub fn copy(&self, alloc: Global) -> Result<Counts, Memory>
         ensures { IfOk result (λ counts. counts ≡ self.now) }
@@ -58,6 +69,14 @@ impl Counts {
         Ok(Counts {
             counts: Vec::from_slice(alloc, &self.counts)?,
         })
+    }
+
+    /// Takes over other counts of as many resources: one step a resource, and no memory.
+    pub fn copy_from(&mut self, other: &Counts)
+        requires { length other.now ≡ length self.old }
+        ensures { self.new ≡ other.now }
+    {
+        self.counts.copy_from_slice(&other.counts);
     }
 
     /// Adds the uses of a part: one step a use. No count reaches 2^32.
@@ -85,9 +104,10 @@ impl Counts {
         part.take_uses(&mut self.counts);
     }
 
-    /// Adds the uses of two parts, of which each may be missing, where both fit together: where at each resource that they
-    /// use, the count and the uses of both are together at most the limit. Else the counts stay. So counts within limits
-    /// stay within them. No count reaches 2^32 with both. At most four steps a use.
+    /// Adds the uses of two parts, of which each may be missing, where both fit together: where at
+    /// each resource that they use, the count and the uses of both are together at most the limit.
+    /// Else the counts stay. So counts within limits stay within them. No count reaches 2^32 with
+    /// both. At most four steps a use.
     pub fn add_if_fits(&mut self, one: Option<&Part>, two: Option<&Part>, limits: &[i64]) -> bool
         requires one { ForSome (option_copied one) (IsPartInRange (length self.old)) }
         requires two { ForSome (option_copied two) (IsPartInRange (length self.old)) }
@@ -107,8 +127,30 @@ impl Counts {
         add_both(&mut self.counts, one, two, limits)
     }
 
-    // Whether there is room for one more use of each resource that the part uses: whether its count is below its limit.
-    // One step for each use and each of the part's strips, and none after the first resource that has no room.
+    /// Whether each resource that the part uses is counted at least once: one step a use, and none
+    /// after the first that is not.
+    pub fn has_one(&self, part: &Part) -> bool
+        requires { IsPartInRange (length self.now) part.now }
+        ensures { IsTrue result
+            ↔ ((r : ℕ) → 0 < part_uses part.now r → 1 ≤ slice_index self.now r) }
+    {
+        part_has(&self.counts, part)
+    }
+
+    /// Whether each resource that both parts use is counted at least twice. One step a use of the
+    /// first part, and two divisions a strip of the second for each that is counted less.
+    pub fn has_two(&self, one: &Part, two: &Part) -> bool
+        requires there { IsPartInRange (length self.now) one.now }
+        requires few { (r : ℕ) → part_uses two.now r < 2 ^ 32 }
+        ensures { IsTrue result ↔ ((r : ℕ) → 0 < part_uses one.now r → 0 < part_uses two.now r →
+            2 ≤ slice_index self.now r) }
+    {
+        both_have(&self.counts, one, two)
+    }
+
+    // Whether there is room for one more use of each resource that the part uses: whether its count
+    // is below its limit. One step for each use and each of the part's strips, and none after the
+    // first resource that has no room.
     pub(crate) fn has_room(&self, part: &Part, limits: &[i64]) -> bool
         requires there { IsPartInRange (length self.now) part.now }
         requires limits { length limits.now ≡ length self.now }

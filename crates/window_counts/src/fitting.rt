@@ -6,7 +6,8 @@ ghost use Rattle.window_counts.specs.Counts.{KeepsLimit};
 
 use choice_problem::{Part, Strip};
 
-// Whether at each resource that the part uses, the count and so many more are together at most the limit.
+// Whether at each resource that the part uses, the count and so many more are together at most the
+// limit.
 pub(crate) fn part_fits(counts: &[u32], part: &Part, more: u32, limits: &[i64]) -> bool
     requires there { IsPartInRange (length counts.now) part.now }
     requires resources { length counts.now < 2 ^ 32 }

@@ -1,4 +1,5 @@
-//! Counting the uses of alternatives of a problem: of one where it fits, and of all that a choice takes.
+//! Counting the uses of alternatives of a problem: of one where it fits, and of all that a choice
+//! takes.
 
 ghost use Rattle.std.specs.Prelude.{◌≡◌, ◌↔◌, ℕ, ◌<◌, ◌≤◌, length, slice_index, false, IsTrue};
 ghost use Rattle.choice_problem.specs.declared.problems.TheConstants.{MOST_UNITS, MOST_USES};
@@ -21,9 +22,10 @@ ghost use Rattle.window_counts.specs.Placed.{KeepsLimits, FitsBeside, FitsOnce, 
 use crate::counts::Counts;
 use choice_problem::Problem;
 
-/// Counts the uses of a unit's alternative where it fits on the counts, and says whether it does. Else the counts stay. No
-/// count is above its limit before. At most eight steps a use of its two parts; where one of them uses a resource that has
-/// no room, one step a use up to the first such resource.
+/// Counts the uses of a unit's alternative where it fits on the counts, and says whether it does.
+/// Else the counts stay. No count is above its limit before. At most eight steps a use of its two
+/// parts; where one of them uses a resource that has no room, one step a use up to the first such
+/// resource.
 pub fn place_alt(problem: &Problem, unit: u32, alt: u32, counts: &mut Counts) -> bool
     requires unit { unit < unit_count problem.now }
     requires alt { alt < alt_count problem.now unit }
@@ -132,7 +134,8 @@ fn add_alt(problem: &Problem, unit: u32, alt: u32, counts: &mut Counts)
     add_named(problem, unit, chosen.two, counts);
 }
 
-/// Counts the uses of a choice of a problem on counts of 0, and answers what it costs: one step a use.
+/// Counts the uses of a choice of a problem on counts of 0, and answers what it costs: one step a
+/// use.
 pub fn add_choice(problem: &Problem, alts: &[u32], loads: &mut Counts) -> u64
     requires alts { IsChoice problem.now alts.now }
     requires count { length loads.old ≡ resource_count problem.now }

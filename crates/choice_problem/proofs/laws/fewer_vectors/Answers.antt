@@ -1,4 +1,4 @@
-use Rattle.choice_problem.proofs.RenumberLemmas.{AreSound-fewer, AreDriven-fewer, IsDriven-fewer, AreFloors-fewer}
+use Rattle.choice_problem.proofs.NamedLemmas.{AreSound-fewer, AreDriven-fewer, IsDriven-fewer, AreFloors-fewer}
 use Rattle.choice_problem.proofs.laws.fewer_vectors.Goals as goal
 
 pub returns-clause-sound : goal.returns-clause-sound

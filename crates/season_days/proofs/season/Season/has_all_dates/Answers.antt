@@ -3,13 +3,14 @@ use Rattle.std.specs.Prelude.{Contains}
 use Rattle.std.proofs.lemmas.Bool.{false≢true, cases_Bool, eqb-true, eqb-false, both_ways}
 use Rattle.season_days.specs.Seasons.{is_on, dates_of}
 use Rattle.season_days.proofs.CutLemmas.{date_in, in_dates, in_or_not}
+use Rattle.season_days.proofs.AnswerLemmas.{all_answer}
 use Rattle.season_days.proofs.season.Season.has_all_dates.Goals as goal
 
-pub returns-then-asked : goal.returns-then-asked
-returns-then-asked c = (λ _ day has. let m = in_dates c.args.self.now c.args.asked day has in absurd (omega (arith, m.0, m.1, c.if-asked.true)), λ _. refl)
+pub returns-then-asked-clause-exact : goal.returns-then-asked-clause-exact
+returns-then-asked-clause-exact c = (λ _ day has. let m = in_dates c.args.self.now c.args.asked day has in absurd (omega (arith, m.0, m.1, c.if-asked.true)), λ _. refl)
 
-pub returns-then-lacks : goal.returns-then-lacks
-returns-then-lacks c =
+pub returns-then-lacks-clause-exact : goal.returns-then-lacks-clause-exact
+returns-then-lacks-clause-exact c =
     let day = c.loop-day.day in
     let lacks = c.lacks.ensures.0 c.if-lacks.true in
     (λ never. absurd (false≢true never), λ all. absurd (lacks.1 (all day (date_in c.args.self.now c.args.asked day (c.loop-day.auto.day, omega (arith, c.loop-day-test.true), lacks.0)))))
@@ -23,8 +24,8 @@ loop-day-preserved c = λ k ge lt on none.
       | inr other ↦ c.loop-day.invariant k ge (omega (arith, lt, eqb-false _ _ other)) on none
     ]
 
-pub returns : goal.returns
-returns c =
+pub returns-clause-exact : goal.returns-clause-exact
+returns-clause-exact c =
     let season = c.args.self.now in
     let asked = c.args.asked in
     let held = c.args.held in (
@@ -48,3 +49,12 @@ returns c =
         | inr none ↦ ap not none
       ],
     )
+
+pub returns-then-asked-clause-value : goal.returns-then-asked-clause-value
+returns-then-asked-clause-value c = all_answer c.args.self.now c.args.held c.args.asked _ (returns-then-asked-clause-exact c)
+
+pub returns-then-lacks-clause-value : goal.returns-then-lacks-clause-value
+returns-then-lacks-clause-value c = all_answer c.args.self.now c.args.held c.args.asked _ (returns-then-lacks-clause-exact c)
+
+pub returns-clause-value : goal.returns-clause-value
+returns-clause-value c = all_answer c.args.self.now c.args.held c.args.asked _ (returns-clause-exact c)
