@@ -1,7 +1,7 @@
 -- One unit of a stage after the other.
 use Rattle.std.proofs.Common.{◌≡◌, ℕ, zero, suc, ◌+◌, ◌<◌, Bool, true, false, refl, sym, ◌∙◌, ap, subst, arith, List, [], ◌∷◌, ◌++◌, length, get_or, drop}
 use Rattle.std.proofs.lemmas.List.{append_assoc}
-use Rattle.std.specs.Prelude.{Option, Some, None, if◌then◌else◌, All}
+use Rattle.std.specs.Prelude.{Option, Some, None, if◌then◌else◌, All, is_some, ◌&&◌, ◌≤◌}
 use Rattle.std.proofs.lemmas.Grind.{common_steps}
 use Rattle.season_days.specs.declared.declaration.Declaration.{Declaration}
 use Rattle.series_model.specs.Loops.{Advances}
@@ -10,7 +10,7 @@ use Rattle.series_model.specs.declared.times.Times.{Times}
 use Rattle.series_model.specs.declared.times.Times.TheVariants.{Refused}
 use Rattle.series_model.specs.Options.{options_of}
 use Rattle.series_model.specs.declared.state.UnitState.{UnitState}
-use Rattle.series_model.specs.Stages.{AreFitting, first_states, is_due_state, stage_units, after_allotment, times_named, stage_times, after_stage, after_stages}
+use Rattle.series_model.specs.Stages.{AreFitting, first_states, is_due_state, stage_units, after_allotment, times_named, stage_times, after_stage, after_stages, states_after, may_follow}
 use Rattle.series_model.specs.Units.{UnitFits}
 
 abbrev pub units_by : ℕ → UnitState → List UnitState → Bool → List SlotUnit
@@ -159,3 +159,32 @@ after_stages-on d stage states after whole choices i lt is all =
     let step : after_stages d (suc stage) (after_stage d stage states choice) (drop (i + 1) choices) ≡ whole = sym (ap (λ (cs : List (Option (List ℕ))). after_stages d stage states cs) head) ∙ all in
     ap (λ (s : List UnitState). after_stages d (stage + 1) s (drop (i + 1) choices)) is
     ∙ ap (λ (k : ℕ). after_stages d k (after_stage d stage states choice) (drop (i + 1) choices)) (sym next) ∙ step
+
+-- ---- one choice more
+
+after-one : (d : Declaration) (stage : ℕ) (states : List UnitState) (choices : List (Option (List ℕ))) (choice : Option (List ℕ)) →
+    after_stages d stage states (choices ++ choice ∷ []) ≡ after_stage d (length choices + stage) (after_stages d stage states choices) choice
+after-one d stage states [] choice =
+    let count : stage ≡ 0 + stage = omega arith in
+    ap (λ (k : ℕ). after_stage d k states choice) count
+after-one d stage states (one ∷ choices) choice =
+    let count : length choices + suc stage ≡ suc (length choices) + stage = omega arith in
+    after-one d (suc stage) (after_stage d stage states one) choices choice
+    ∙ ap (λ (k : ℕ). after_stage d k (after_stages d (suc stage) (after_stage d stage states one) choices) choice) count
+
+pub states-one : (d : Declaration) (units : List SlotUnit) (choices : List (Option (List ℕ))) (choice : Option (List ℕ)) →
+    states_after d units (choices ++ choice ∷ []) ≡ after_stage d (length choices + 1) (states_after d units choices) choice
+states-one d units choices choice = after-one d 1 (first_states units) choices choice
+
+pub follows-late : (earlier : List (Option (List ℕ))) (choice : Option (List ℕ)) → 2 < length earlier + 1 → may_follow (earlier ++ choice ∷ []) ≡ may_follow earlier
+follows-late [] choice late = absurd (omega (arith, late))
+follows-late (one ∷ []) choice late = absurd (omega (arith, late))
+follows-late (one ∷ other ∷ earlier) choice late = refl
+
+pub follows-early : (earlier : List (Option (List ℕ))) (choice : Option (List ℕ)) → length earlier + 1 ≤ 2 → may_follow (earlier ++ choice ∷ []) ≡ (may_follow earlier && is_some choice)
+follows-early [] None early = refl
+follows-early [] (Some x) early = refl
+follows-early (None ∷ []) choice early = refl
+follows-early (Some y ∷ []) None early = refl
+follows-early (Some y ∷ []) (Some x) early = refl
+follows-early (one ∷ other ∷ earlier) choice early = absurd (omega (arith, early))

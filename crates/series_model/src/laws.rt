@@ -1,6 +1,6 @@
 //! Laws of the model. Each function does nothing; its contract is the law.
 
-ghost use Rattle.std.specs.Prelude.{◌≡◌, ◌+◌, ◌*◌, ◌<◌, ◌≤◌, ◌^◌, ℕ, List, [], All, Contains, length, map, Option, Some, None};
+ghost use Rattle.std.specs.Prelude.{◌≡◌, ◌+◌, ◌*◌, ◌<◌, ◌≤◌, ◌^◌, ℕ, List, [], ◌∷◌, ◌++◌, All, Contains, length, map, Option, Some, None};
 ghost use Rattle.std.specs.Option.{ForSome};
 ghost use Rattle.season_days.specs.Term.{Term};
 ghost use Rattle.season_days.specs.declared.declaration.Declaration.{Declaration as DeclarationValue};
@@ -22,7 +22,7 @@ ghost use Rattle.series_model.specs.declared.state.UnitState.{UnitState as UnitS
 ghost use Rattle.series_model.specs.declared.times.Times.{Times as TimesValue};
 ghost use Rattle.series_model.specs.declared.unit.Unit.{Unit as SlotUnit};
 ghost use Rattle.series_model.specs.Allotments.{IsFeasibleAllotment};
-ghost use Rattle.series_model.specs.Stages.{first_states, movements_given, stage_units, stage_limit, after_allotment, states_after, AreFeasibleChoices, GivenFits};
+ghost use Rattle.series_model.specs.Stages.{first_states, movements_given, stage_units, stage_limit, after_allotment, after_stage, states_after, AreFeasibleChoices, GivenFits};
 
 use season_days::laws::lengths;
 
@@ -129,6 +129,14 @@ pub fn feasible_fits()
         (choices : List (Option (List ℕ))) →
         d.share ≤ HIGHEST_SHARE → AreFeasibleChoices d units choices →
         GivenFits d (states_after d units choices) }
+{}
+
+/// After one more stage the units are as that stage leaves them.
+pub fn one_more_stage()
+    ensures { (d : DeclarationValue) (units : List SlotUnit) (choices : List (Option (List ℕ)))
+        (choice : Option (List ℕ)) →
+        states_after d units (choices ++ choice ∷ [])
+        ≡ after_stage d (length choices + 1) (states_after d units choices) choice }
 {}
 
 /// A stage leaves the units as they are, in their order.

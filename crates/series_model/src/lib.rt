@@ -29,7 +29,7 @@ pub use group::Group;
 pub use movements::movements_of;
 pub use numbered::times_at;
 pub use options::{are_same, line_times, options_of, shifts_of};
-pub use stages::{after_stage, is_due, stage_positions, states_after, states_of};
+pub use stages::{after_stage, is_due, next_may_follow, stage_positions, states_after, states_of};
 pub use state::UnitState;
 pub use submission::Submission;
 pub use timed_line::line_at;

@@ -1,11 +1,11 @@
 //! What the units of a submission have been given, stage by stage.
 
-ghost use Rattle.std.specs.Prelude.{◌≡◌, ◌+◌, ◌<◌, ◌≤◌, ℕ, All, length, Option, Some, None, IfOk, OnOk, slice_index_or};
+ghost use Rattle.std.specs.Prelude.{◌≡◌, ◌+◌, ◌<◌, ◌≤◌, ℕ, ◌++◌, ◌∷◌, [], All, List, length, Option, Some, None, IfOk, OnOk, slice_index_or};
 ghost use Rattle.series_model.specs.Units.{UnitFits};
 ghost use Rattle.series_model.specs.Options.{options_of};
 ghost use Rattle.choice_problem.specs.declared.problems.TheConstants.{MOST_UNITS};
 ghost use Rattle.series_model.specs.declared.times.Times.TheVariants.{Refused};
-ghost use Rattle.series_model.specs.Stages.{first_states, has_slots, is_due_state, after_stage, stage_positions, states_after, AreFitting, AreStates};
+ghost use Rattle.series_model.specs.Stages.{first_states, has_slots, is_due_state, after_stage, stage_positions, states_after, may_follow, AreFitting, AreStates};
 ghost use Rattle.series_model.specs.Loops.{Advances};
 
 use crate::group::Group;
@@ -61,6 +61,19 @@ pub fn states_after(
 {
     let declaration = submission.declaration();
     all_after(alloc, declaration, submission.units(), choices)
+}
+
+/// Whether the stage after this one is tried, where this one is or is not: not where stage 1 or
+/// stage 2 has no allotment.
+pub fn next_may_follow(follows: bool, stage: u32, choice: &Option<Choice>) -> bool
+    ensures { (earlier : List (Option (List ℕ))) → stage ≡ length earlier + 1 →
+        follows ≡ may_follow earlier → result ≡ may_follow (earlier ++ choice.now ∷ []) }
+{
+    if stage > 2 {
+        follows
+    } else {
+        follows && choice.is_some()
+    }
 }
 
 // Before the first stage.

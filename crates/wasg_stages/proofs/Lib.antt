@@ -4,3 +4,4 @@ mod ProofLemmas
 mod PartLemmas
 mod LoadLemmas
 mod BuildLemmas
+mod FeasibleLemmas

@@ -1,11 +1,11 @@
--- Units in a loop over stages. Contracts of private functions alone cite them.
+-- Limits that are lowered, and units that are added, in the loops of a stage. Contracts of private
+-- functions alone cite them.
 use Rattle.std.specs.Prelude.{◌≡◌, ℕ, ◌-◌, ◌<◌, ◌≤◌, List, ◌∷◌, ◌++◌, length, All, drop, slice_index_or, ℤ, pos}
 use Rattle.std.specs.List.{AllZip}
 use Rattle.season_days.specs.declared.declaration.Declaration.{Declaration}
 use Rattle.season_days.specs.declared.declaration.TheConstants.{HIGHEST_NIGHT_LIMIT}
-use Rattle.series_model.specs.Units.{UnitFits}
 use Rattle.series_model.specs.declared.state.UnitState.{UnitState}
-use Rattle.series_model.specs.Stages.{after_allotment, stage_times, stage_units, share_of}
+use Rattle.series_model.specs.Stages.{stage_units, share_of}
 use Rattle.capacity_windows.specs.Windows.{capacity_of, declared_resources}
 use Rattle.choice_problem.specs.Problems.{ChooserView, ArePartsInRange}
 use Rattle.wasg_stages.specs.StageProblems.{IsChooserOf}
