@@ -1,5 +1,5 @@
 -- How late alternatives are, what they cost at most, and that there is one.
-use Rattle.std.proofs.Common.{◌≡◌, ℕ, zero, suc, ◌+◌, ◌-◌, ◌*◌, ◌%◌, ◌^◌, ◌<◌, ◌≤◌, Bool, true, List, [], ◌∷◌, length, map, Some, None, refl, sym, ap, subst, ◌∙◌, arith, inl, inr}
+use Rattle.std.proofs.Common.{◌≡◌, ℕ, zero, suc, ◌+◌, ◌-◌, ◌*◌, ◌%◌, ◌^◌, ◌<◌, ◌≤◌, Bool, true, List, [], ◌∷◌, length, get_or, map, Some, None, refl, sym, ap, subst, ◌∙◌, arith, inl, inr}
 use Rattle.std.specs.Prelude.{Option, All, Contains, IsSomeAnd, nat_le, is_some, if◌then◌else◌}
 use Rattle.std.specs.Option.{ForSome, unwrap_or}
 use Rattle.std.specs.List.{filter, flat_map, range_with_len, list_any, count_by}
@@ -10,7 +10,7 @@ use Rattle.std.proofs.lemmas.Bool.{cases_Bool, cases_eq, le-leb, eq-eqb, and_fro
 use Rattle.std.proofs.lemmas.Nat.{mul-le}
 use Rattle.std.proofs.Math.Nat.{zero-mod}
 use Rattle.std.proofs.lemmas.List.{length-append, length-map}
-use Rattle.std.proofs.lemmas.List.Elements.{All-nil, All-cons, All-head, All-tail, All-append, All-weaker, All-map, All-filter, All-contains, Contains-append_right}
+use Rattle.std.proofs.lemmas.List.Elements.{All-nil, All-cons, All-head, All-tail, All-append, All-weaker, All-map, All-filter, All-contains, Contains-append_left, Contains-append_right}
 use Rattle.season_days.specs.Term.{Term}
 use Rattle.season_days.specs.Seasons.{date_count, is_on, days_from}
 use Rattle.season_days.specs.declared.declaration.Declaration.{Declaration}
@@ -56,7 +56,7 @@ pairs_good price least (a ∷ comings) goings early late =
         All-map (TimesFit price) (λ (departure : ℕ). At a departure) kept
         (All-weaker (λ x. x < 14400) (λ departure. TimesFit price (At a departure)) (λ x l. (lt, l)) kept (All-filter (λ departure. nat_le (a + least) departure) (λ x. x < 14400) goings late))
 
-shifts_good : (d : Declaration) (price : Option ℕ) (nights : ℕ) (a g : Option Stop) → nights < 10 → All (TimesFit price) (shifts_by d nights a g)
+pub shifts_good : (d : Declaration) (price : Option ℕ) (nights : ℕ) (a g : Option Stop) → nights < 10 → All (TimesFit price) (shifts_by d nights a g)
 shifts_good d price nights None None few = All-nil (TimesFit price)
 shifts_good d price nights (Some coming) None few =
     All-map (TimesFit price) (λ (arrival : ℕ). At arrival 0) (stop_shifts d 0 coming)
@@ -177,7 +177,7 @@ pub options_cheap : ((season : Term) → (147 ≤ date_count season) × (date_co
 options_cheap lengths d unit fits few =
     All-weaker (TimesFit d.refuse) (λ times. displacement_of d unit times < 2 ^ 24) (λ times good. cost_small d unit.request times (lengths d.season).1 fits.request few good) (options_of d unit) (options_good d unit fits)
 
--- ---- there is an alternative
+-- ---- the requested times are among the shifts, so there is an alternative
 
 minute_kept : (p : ℕ → Bool) (a n x : ℕ) → a ≤ x → x < a + n → p x ≡ true → Contains (filter p (range_with_len a n)) x
 minute_kept p a zero x le lt is = absurd (omega arith)
@@ -203,41 +203,54 @@ requested_kept d nights stop lt =
     let is : is_shift d.step d.flex asked asked ≡ true = and_from _ _ (le-leb (abs_diff asked asked) d.flex (omega (arith, zero_is))) (eq-eqb (abs_diff asked asked % d.step) 0 rest) in
     minute_kept (is_shift d.step d.flex asked) (1440 * nights) 1440 asked (omega arith) (omega (arith, lt)) is
 
-some_kept : (p : ℕ → Bool) (xs : List ℕ) → All (λ x. p x ≡ true → 1 ≤ length (filter p xs)) xs
-some_kept p [] = All-nil (λ x. p x ≡ true → 1 ≤ length (filter p []))
-some_kept p (x ∷ xs) =
-    All-cons (λ y. p y ≡ true → 1 ≤ length (filter p (x ∷ xs))) x xs (λ is. rw is (omega arith))
-    (All-weaker (λ y. p y ≡ true → 1 ≤ length (filter p xs)) (λ y. p y ≡ true → 1 ≤ length (filter p (x ∷ xs))) (λ y some is. elim (cases_Bool (p x)) [
-      | inl kept ↦ rw kept (omega arith)
-      | inr off ↦ rw off (some is)
-    ]) xs (some_kept p xs))
+-- what a list has at a place, its filter, its image and its pairs have
+passing_at : (p : ℕ → Bool) (xs : List ℕ) (x k : ℕ) → k < length xs → get_or xs k x ≡ x → p x ≡ true → Contains (filter p xs) x
+passing_at p [] x k lt e is = absurd (omega (arith, lt))
+passing_at p (y ∷ xs) x zero lt e is = let here : p y ≡ true = ap p e ∙ is in rw here (0, omega arith, e)
+passing_at p (y ∷ xs) x (suc k) lt e is =
+    let rest = passing_at p xs x k (omega (arith, lt)) e is in
+    elim (cases_Bool (p y)) [
+      | inl kept ↦ rw kept (Contains-append_right (y ∷ []) (filter p xs) x rest)
+      | inr off ↦ rw off rest
+    ]
 
-part_of : (f : ℕ → List Times) (xs : List ℕ) → All (λ x. length (f x) ≤ length (flat_map f xs)) xs
-part_of f [] = All-nil (λ x. length (f x) ≤ length (flat_map f []))
-part_of f (x ∷ xs) =
-    let long = length-append (f x) (flat_map f xs) in
-    All-cons (λ y. length (f y) ≤ length (flat_map f (x ∷ xs))) x xs (omega (arith, long))
-    (All-weaker (λ y. length (f y) ≤ length (flat_map f xs)) (λ y. length (f y) ≤ length (flat_map f (x ∷ xs))) (λ y le. omega (arith, long, le)) xs (part_of f xs))
+mapped_at : (f : ℕ → Times) (xs : List ℕ) (x k : ℕ) → k < length xs → get_or xs k x ≡ x → Contains (map f xs) (f x)
+mapped_at f [] x k lt e = absurd (omega (arith, lt))
+mapped_at f (y ∷ xs) x zero lt e = (0, omega arith, ap f e)
+mapped_at f (y ∷ xs) x (suc k) lt e = Contains-append_right (f y ∷ []) (map f xs) (f x) (mapped_at f xs x k (omega (arith, lt)) e)
 
-pairs_some : (least : ℕ) (comings goings : List ℕ) (a g : ℕ) → Contains comings a → Contains goings g → a + least ≤ g → 1 ≤ length (pairs_of least comings goings)
-pairs_some least comings goings a g has_a has_g le =
+pair_at : (least : ℕ) (goings : List ℕ) (a g : ℕ) → Contains goings g → a + least ≤ g → Contains (pairs_at least goings a) (At a g)
+pair_at least goings a g has le =
     let late : ℕ → Bool = λ (x : ℕ). nat_le (a + least) x in
-    let part = All-contains (λ x. length (pairs_at least goings x) ≤ length (pairs_of least comings goings)) comings a (part_of (pairs_at least goings) comings) has_a in
-    let kept = All-contains (λ x. late x ≡ true → 1 ≤ length (filter late goings)) goings g (some_kept late goings) has_g (le-leb (a + least) g le) in
-    let long = length-map (filter late goings) (λ (departure : ℕ). At a departure) in
-    omega (arith, part, kept, long)
+    let kept : Contains (filter late goings) g = passing_at late goings g has.0 has.1 has.2 (le-leb (a + least) g le) in
+    mapped_at (λ (departure : ℕ). At a departure) (filter late goings) g kept.0 kept.1 kept.2
 
-some_of : (xs : List ℕ) (x : ℕ) (f : ℕ → Times) → Contains xs x → 1 ≤ length (map f xs)
-some_of [] x f has = absurd (omega (arith, has.1))
-some_of (y ∷ xs) x f has = omega arith
+pairs_at_place : (least : ℕ) (comings goings : List ℕ) (a g k : ℕ) → k < length comings → get_or comings k a ≡ a → Contains goings g → a + least ≤ g → Contains (pairs_of least comings goings) (At a g)
+pairs_at_place least [] goings a g k lt e has le = absurd (omega (arith, lt))
+pairs_at_place least (b ∷ comings) goings a g zero lt e has le =
+    Contains-append_left (pairs_at least goings b) (pairs_of least comings goings) (At a g)
+    (subst (λ (c : ℕ). Contains (pairs_at least goings c) (At a g)) (sym e) (pair_at least goings a g has le))
+pairs_at_place least (b ∷ comings) goings a g (suc k) lt e has le =
+    Contains-append_right (pairs_at least goings b) (pairs_of least comings goings) (At a g) (pairs_at_place least comings goings a g k (omega (arith, lt)) e has le)
+
+requested_by : (d : Declaration) (line : Line) (a g : Option Stop) → StopsFit line a g → Contains (shifts_by d line.nights a g) (At (relative_minute 0 a) (relative_minute line.nights g))
+requested_by d line None None fits = absurd fits
+requested_by d line (Some coming) None fits =
+    let has = requested_kept d 0 coming fits.0.minute in
+    mapped_at (λ (arrival : ℕ). At arrival 0) (stop_shifts d 0 coming) (1440 * 0 + coming.minute) has.0 has.1 has.2
+requested_by d line None (Some going) fits =
+    let has = requested_kept d line.nights going fits.0.minute in
+    mapped_at (λ (departure : ℕ). At 0 departure) (stop_shifts d line.nights going) (1440 * line.nights + going.minute) has.0 has.1 has.2
+requested_by d line (Some coming) (Some going) fits =
+    let has = requested_kept d 0 coming fits.0.minute in
+    pairs_at_place (least_ground d coming.minute (1440 * line.nights + going.minute)) (stop_shifts d 0 coming) (stop_shifts d line.nights going) (1440 * 0 + coming.minute) (1440 * line.nights + going.minute)
+    has.0 has.1 has.2 (requested_kept d line.nights going fits.1.minute) (omega (arith, fits.3))
+
+pub requested_is : (d : Declaration) (line : Line) → LineFits d.season line → Contains (shifts_of d line) (line_times line)
+requested_is d line fits = requested_by d line line.arrival line.departure fits.stops
 
 shifts_some : (d : Declaration) (line : Line) (a g : Option Stop) → StopsFit line a g → 1 ≤ length (shifts_by d line.nights a g)
-shifts_some d line None None fits = absurd fits
-shifts_some d line (Some coming) None fits = some_of (stop_shifts d 0 coming) (1440 * 0 + coming.minute) (λ arrival. At arrival 0) (requested_kept d 0 coming fits.0.minute)
-shifts_some d line None (Some going) fits = some_of (stop_shifts d line.nights going) (1440 * line.nights + going.minute) (λ departure. At 0 departure) (requested_kept d line.nights going fits.0.minute)
-shifts_some d line (Some coming) (Some going) fits =
-    pairs_some (least_ground d coming.minute (1440 * line.nights + going.minute)) (stop_shifts d 0 coming) (stop_shifts d line.nights going) (1440 * 0 + coming.minute) (1440 * line.nights + going.minute)
-    (requested_kept d 0 coming fits.0.minute) (requested_kept d line.nights going fits.1.minute) (omega (arith, fits.3))
+shifts_some d line a g fits = let has = requested_by d line a g fits in omega (arith, has.1)
 
 any_some : (p : Times → Bool) (options : List Times) → list_any p options ≡ true → 1 ≤ length options
 any_some p [] is = absurd cc
@@ -265,3 +278,8 @@ group_some d request historic N fits has = refused_some d.refuse (shifts_of d re
 
 pub options_some : (d : Declaration) (unit : SlotUnit) → UnitFits d.season unit → 1 ≤ length (options_of d unit)
 options_some d unit fits = group_some d unit.request unit.historic unit.group fits.request fits.historic
+
+-- ---- shifts of a line
+
+pub shifts_fit : (d : Declaration) (line : Line) → LineFits d.season line → All (TimesFit None) (shifts_of d line)
+shifts_fit d line fits = shifts_good d None line.nights line.arrival line.departure (few_nights line line.arrival line.departure fits.stops)

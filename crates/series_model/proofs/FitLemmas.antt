@@ -21,6 +21,7 @@ use Rattle.series_model.specs.declared.fault.ModelFault.{ModelFault}
 use Rattle.series_model.specs.declared.fault.ModelFault.TheVariants.{OtherSeason}
 use Rattle.series_model.specs.declared.unit.Unit.{Unit as SlotUnit}
 use Rattle.series_model.specs.Units.{group_of, pair_group, single_unit, unit_of, placed_unit, message_units, units_of, IsHistoric, HistoricFits, UnitFits}
+use Rattle.series_model.proofs.UnitLemmas.{no_more}
 use Rattle.series_model.specs.Submissions.{is_half, is_season, message_fault, first_fault, ItemPairs, PlacedPairs, MessagePairs}
 
 -- ---- the unit of an item
@@ -104,10 +105,6 @@ right_season d m rest none =
           let wrong : Some (OtherSeason m.line) ≡ None = ap (λ (o : Option ModelFault). option_or o rest) (sym fault) ∙ none in
           absurd cc
     ]
-
-no_more : (o rest : Option ModelFault) → option_or o rest ≡ None → rest ≡ None
-no_more None rest none = none
-no_more (Some fault) rest none = absurd cc
 
 pub units_fit : (d : Declaration) (messages : List Message) → first_fault d messages ≡ None → MessagesFit messages → All MessagePairs messages → All (UnitFits d.season) (units_of messages)
 units_fit d [] none fits pairs = All-nil (UnitFits d.season)

@@ -13,3 +13,5 @@ mod FewLemmas
 mod StageLemmas
 mod TimedLemmas
 mod NumberedLemmas
+mod ShiftLemmas
+mod StepLemmas

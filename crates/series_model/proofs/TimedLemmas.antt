@@ -20,14 +20,14 @@ use Rattle.series_model.specs.Options.{relative_minute, line_times, stop_shifts,
 use Rattle.series_model.specs.TimedLines.{stop_at, line_at}
 use Rattle.series_model.proofs.BoundLemmas.{shifts_below, few_nights, arrives_early, leaves_early}
 
--- a departure is on the date of a line that has it alone, and not before the arrival where there are both
+-- a departure is on the date of a line that has it alone, and not before the arrival where there are both; a movement that is not there has 0
 abbrev InOrder : Option Stop → Option Stop → ℕ → ℕ → Type 0
 InOrder (Some coming) (Some going) arrival departure = arrival ≤ departure
-InOrder (Some coming) None arrival departure = departure < 1440
-InOrder None (Some going) arrival departure = departure < 1440
-InOrder None None arrival departure = departure < 1440
+InOrder (Some coming) None arrival departure = departure ≡ 0
+InOrder None (Some going) arrival departure = (arrival ≡ 0) × (departure < 1440)
+InOrder None None arrival departure = (arrival ≡ 0) × (departure ≡ 0)
 
-abbrev IsTimed : Option Stop → Option Stop → Times → Type 0
+abbrev pub IsTimed : Option Stop → Option Stop → Times → Type 0
 IsTimed a g Refused = Unit {0}
 IsTimed a g (At arrival departure) = (arrival < 1440) × (departure < 14400) × InOrder a g arrival departure
 
@@ -39,7 +39,7 @@ stops_at line None None arrival departure fits timed = absurd fits
 stops_at line (Some coming) None arrival departure fits timed =
     (record { flight = fits.0.flight; minute = mod_below arrival 1440 (omega arith); stations = fits.0.stations; service = fits.0.service }, omega (arith, timed.2))
 stops_at line None (Some going) arrival departure fits timed =
-    (record { flight = fits.0.flight; minute = mod_below departure 1440 (omega arith); stations = fits.0.stations; service = fits.0.service }, omega (arith, timed.2))
+    (record { flight = fits.0.flight; minute = mod_below departure 1440 (omega arith); stations = fits.0.stations; service = fits.0.service }, omega (arith, timed.2.1))
 stops_at line (Some coming) (Some going) arrival departure fits timed = (
   record { flight = fits.0.flight; minute = mod_below arrival 1440 (omega arith); stations = fits.0.stations; service = fits.0.service },
   record { flight = fits.1.flight; minute = mod_below departure 1440 (omega arith); stations = fits.1.stations; service = fits.1.service },
@@ -47,7 +47,7 @@ stops_at line (Some coming) (Some going) arrival departure fits timed = (
   omega (arith, timed.0, timed.2),
 )
 
-line-fits : (season : Term) (line : Line) (times : Times) → LineFits season line → IsTimed line.arrival line.departure times → LineFits season (line_at line times)
+pub line-fits : (season : Term) (line : Line) (times : Times) → LineFits season line → IsTimed line.arrival line.departure times → LineFits season (line_at line times)
 line-fits season line Refused fits timed = fits
 line-fits season line (At arrival departure) fits timed = record {
   stops = stops_at line line.arrival line.departure arrival departure fits.stops timed;
@@ -86,14 +86,14 @@ pairs_timed coming going least (a ∷ comings) goings early late =
         (All-weaker (λ x. (x < 14400) × (a + least ≤ x)) (λ departure. IsTimed (Some coming) (Some going) (At a departure)) (λ x both. (lt, both.0, omega (arith, both.1))) kept
         (All-both (λ x. x < 14400) (λ x. a + least ≤ x) kept (All-filter (λ departure. nat_le (a + least) departure) (λ x. x < 14400) goings late) (kept_late (a + least) goings)))
 
-shifts_timed : (d : Declaration) (line : Line) (a g : Option Stop) → StopsFit line a g → All (IsTimed a g) (shifts_by d line.nights a g)
+pub shifts_timed : (d : Declaration) (line : Line) (a g : Option Stop) → StopsFit line a g → All (IsTimed a g) (shifts_by d line.nights a g)
 shifts_timed d line None None fits = All-nil (IsTimed None None)
 shifts_timed d line (Some coming) None fits =
     All-map (IsTimed (Some coming) None) (λ (arrival : ℕ). At arrival 0) (stop_shifts d 0 coming)
-    (All-weaker (λ x. x < 1440) (λ arrival. IsTimed (Some coming) None (At arrival 0)) (λ x l. (l, omega arith, omega arith)) (stop_shifts d 0 coming) (shifts_below d 0 1440 coming (omega arith)))
+    (All-weaker (λ x. x < 1440) (λ arrival. IsTimed (Some coming) None (At arrival 0)) (λ x l. (l, omega arith, refl)) (stop_shifts d 0 coming) (shifts_below d 0 1440 coming (omega arith)))
 shifts_timed d line None (Some going) fits =
     All-map (IsTimed None (Some going)) (λ (departure : ℕ). At 0 departure) (stop_shifts d line.nights going)
-    (All-weaker (λ x. x < 1440) (λ departure. IsTimed None (Some going) (At 0 departure)) (λ x l. (omega arith, omega (arith, l), l)) (stop_shifts d line.nights going) (shifts_below d line.nights 1440 going (omega (arith, fits.1))))
+    (All-weaker (λ x. x < 1440) (λ departure. IsTimed None (Some going) (At 0 departure)) (λ x l. (omega arith, omega (arith, l), (refl, l))) (stop_shifts d line.nights going) (shifts_below d line.nights 1440 going (omega (arith, fits.1))))
 shifts_timed d line (Some coming) (Some going) fits =
     pairs_timed coming going (least_ground d coming.minute (1440 * line.nights + going.minute)) (stop_shifts d 0 coming) (stop_shifts d line.nights going)
     (shifts_below d 0 1440 coming (omega arith)) (shifts_below d line.nights 14400 going (omega (arith, fits.2)))
@@ -102,8 +102,8 @@ shifts_timed d line (Some coming) (Some going) fits =
 
 in_order : (line : Line) (a g : Option Stop) → StopsFit line a g → InOrder a g (relative_minute 0 a) (relative_minute line.nights g)
 in_order line None None fits = absurd fits
-in_order line (Some coming) None fits = omega arith
-in_order line None (Some going) fits = omega (arith, fits.0.minute, fits.1)
+in_order line (Some coming) None fits = refl
+in_order line None (Some going) fits = (refl, omega (arith, fits.0.minute, fits.1))
 in_order line (Some coming) (Some going) fits = omega (arith, fits.3)
 
 line_timed : (line : Line) → StopsFit line line.arrival line.departure → IsTimed line.arrival line.departure (line_times line)
@@ -146,7 +146,7 @@ refused_all : (P : Times → Type 0) (price : Option ℕ) (options : List Times)
 refused_all P None options one all = all
 refused_all P (Some price) options one all = All-append P options (Refused ∷ []) all (All-cons P Refused [] one (All-nil P))
 
-group_timed : (d : Declaration) (request : Line) (historic : Option Line) (group : Group) → LineFits d.season request → HistoricFits d.season request group historic →
+pub group_timed : (d : Declaration) (request : Line) (historic : Option Line) (group : Group) → LineFits d.season request → HistoricFits d.season request group historic →
     All (IsTimed request.arrival request.departure) (options_by d request historic group)
 group_timed d request historic F fits has =
     All-cons (IsTimed request.arrival request.departure) (line_times request) [] (line_timed request fits.stops) (All-nil (IsTimed request.arrival request.departure))
@@ -165,3 +165,8 @@ pub options_spelled : (d : Declaration) (unit : SlotUnit) → UnitFits d.season 
 options_spelled d unit fits =
     All-weaker (IsTimed unit.request.arrival unit.request.departure) (λ times. LineFits d.season (line_at unit.request times)) (λ times timed. line-fits d.season unit.request times fits.request timed)
     (options_of d unit) (group_timed d unit.request unit.historic unit.group fits.request fits.historic)
+
+pub shifts_spelled : (d : Declaration) (line : Line) → LineFits d.season line → All (λ times. LineFits d.season (line_at line times)) (shifts_of d line)
+shifts_spelled d line fits =
+    All-weaker (IsTimed line.arrival line.departure) (λ times. LineFits d.season (line_at line times)) (λ times timed. line-fits d.season line times fits timed)
+    (shifts_of d line) (shifts_timed d line line.arrival line.departure fits.stops)

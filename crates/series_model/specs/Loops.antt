@@ -1,6 +1,6 @@
--- Shifts within spans of minutes, as loops find and number them: contracts of private functions alone
--- cite them.
-use Rattle.std.specs.Prelude.{◌≡◌, ℕ, zero, suc, ◌+◌, ◌-◌, ◌*◌, ◌%◌, ◌<◌, ◌≤◌, List, [], ◌∷◌, map, filter, Option, Some, None, Result, Ok, Err}
+-- Shifts within spans of minutes, as loops find and number them, and units in a loop over a stage:
+-- contracts of private functions alone cite them.
+use Rattle.std.specs.Prelude.{◌≡◌, ℕ, zero, suc, ◌+◌, ◌-◌, ◌*◌, ◌%◌, ◌<◌, ◌≤◌, List, [], ◌∷◌, map, filter, drop, Option, Some, None, Result, Ok, Err}
 use Rattle.std.specs.List.{range_with_len}
 use Rattle.season_days.specs.declared.declaration.Declaration.{Declaration}
 use Rattle.season_days.specs.declared.declaration.TheConstants.{MINUTES_OF_DAY}
@@ -13,7 +13,9 @@ use Rattle.series_model.specs.declared.shifts.LineShifts.{LineShifts}
 use Rattle.series_model.specs.declared.shifts.LineShifts.TheVariants.{Neither, Arrivals, Departures, Pairs}
 use Rattle.series_model.specs.declared.times.Times.{Times}
 use Rattle.series_model.specs.declared.times.Times.TheVariants.{At}
+use Rattle.series_model.specs.declared.state.UnitState.{UnitState}
 use Rattle.series_model.specs.Options.{is_shift, least_ground, pairs_of}
+use Rattle.series_model.specs.Stages.{after_allotment, stage_times}
 
 -- the shifts from a minute on
 abbrev pub shifts_from : Shifts → ℕ → List ℕ
@@ -77,3 +79,12 @@ abbrev pub numbered : {X : Type 0} → List X → ℕ → Result X ℕ
 numbered [] n = Err n
 numbered (x ∷ xs) zero = Ok x
 numbered (x ∷ xs) (suc n) = numbered xs n
+
+-- ---- units in a loop over a stage
+
+-- the unit first in line is so after the stage, and takes so many of the numbers
+abbrev pub Advances : Declaration → ℕ → UnitState → List ℕ → UnitState → ℕ → Type 0
+Advances d stage state numbers after taken =
+    (rest : List UnitState) →
+    after_allotment stage (state ∷ rest) (stage_times d stage (state ∷ rest) numbers)
+    ≡ after ∷ after_allotment stage rest (stage_times d stage rest (drop taken numbers))

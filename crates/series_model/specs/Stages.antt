@@ -1,7 +1,7 @@
 -- The four stages of initial allocation: which units each allots, what it may use of the capacity,
 -- and what the units have been given after it. See the Worldwide Airport Slot Guidelines on the
 -- order of initial allocation and on the half of the pool that is offered to new entrants.
-use Rattle.std.specs.Prelude.{ℕ, suc, ◌+◌, ◌-◌, ◌*◌, ◌/◌, ◌<◌, ◌==◌, ◌&&◌, ◌||◌, not, Bool, true, false, if◌then◌else◌, List, [], ◌∷◌, length, map, take, Option, Some, None, is_some, slice_index_or}
+use Rattle.std.specs.Prelude.{ℕ, suc, ◌+◌, ◌-◌, ◌*◌, ◌/◌, ◌<◌, ◌≤◌, ◌==◌, ◌&&◌, ◌||◌, not, Bool, true, false, if◌then◌else◌, List, [], ◌∷◌, length, map, take, All, Option, Some, None, is_some, slice_index_or}
 use Rattle.std.specs.List.{AllZip, flat_map, list_all}
 use Rattle.season_days.specs.Term.{Term}
 use Rattle.season_days.specs.Capacity.{capacity_of}
@@ -14,6 +14,9 @@ use Rattle.series_model.specs.declared.unit.Unit.{Unit as SlotUnit}
 use Rattle.series_model.specs.declared.times.Times.{Times}
 use Rattle.series_model.specs.declared.times.Times.TheVariants.{Refused, At}
 use Rattle.series_model.specs.declared.state.UnitState.{UnitState}
+use Rattle.choice_problem.specs.declared.problems.TheConstants.{MOST_UNITS}
+use Rattle.series_model.specs.Units.{UnitFits}
+use Rattle.series_model.specs.Submissions.{SubmissionView}
 use Rattle.series_model.specs.Options.{options_of}
 use Rattle.series_model.specs.Movements.{movements_of}
 use Rattle.series_model.specs.Allotments.{IsFeasibleAllotment}
@@ -43,6 +46,15 @@ given_movements season state = movements_once_given season state.unit state.give
 
 abbrev pub movements_given : Term → List UnitState → List Movement
 movements_given season states = flat_map (given_movements season) states
+
+-- units whose lines have a spelling in the season
+abbrev pub AreFitting : Declaration → List UnitState → Type 0
+AreFitting d states = All (λ (state : UnitState). UnitFits d.season state.unit) states
+
+-- as stages leave the units of a submission
+pub record AreStates (s : SubmissionView) (states : List UnitState) : Type 0 where
+  pub few : length states ≤ MOST_UNITS
+  pub fit : AreFitting s.declaration states
 
 -- ---- which units a stage allots
 

@@ -16,7 +16,7 @@ use Rattle.scr_reader.specs.declared.message.Message.{Message}
 use Rattle.series_model.specs.declared.fault.ModelFault.{ModelFault}
 use Rattle.series_model.specs.declared.fault.ModelFault.TheVariants.{OtherSeason, OtherAirport, NotInitial, TooMany}
 use Rattle.series_model.specs.declared.unit.Unit.{Unit as SlotUnit}
-use Rattle.series_model.specs.Units.{placed_unit, units_of, UnitFits}
+use Rattle.series_model.specs.Units.{placed_unit, message_units, units_of, UnitFits}
 
 -- ---- tests of a header
 
@@ -113,11 +113,16 @@ abbrev pub submission_answer : Declaration → List Message → Result Submissio
 submission_answer declaration messages =
     answer_by (refusal declaration messages) (submission_of declaration messages)
 
+-- each item of the message makes a unit
+abbrev pub MakesUnits : Message → Type 0
+MakesUnits message = length (message_units message) ≡ length message.items
+
 -- what a submission keeps: the limits of its declaration, the windows of that, and the units of its
--- messages, which have a spelling
+-- messages, one an item, which have a spelling
 pub record IsSubmission (s : SubmissionView) (windows : Capacity) : Type 0 where
   pub keeps : IsDeclaration s.declaration
   pub declared : windows ≡ capacity_of s.declaration
   pub units : s.units ≡ units_of s.messages
+  pub one_each : All MakesUnits s.messages
   pub few : length s.units ≤ MOST_UNITS
   pub fits : All (UnitFits s.declaration.season) s.units

@@ -1,6 +1,6 @@
 //! Laws of the model. Each function does nothing; its contract is the law.
 
-ghost use Rattle.std.specs.Prelude.{◌≡◌, ◌+◌, ◌*◌, ◌<◌, ◌≤◌, ◌^◌, ℕ, List, [], All, length, map, Option};
+ghost use Rattle.std.specs.Prelude.{◌≡◌, ◌+◌, ◌*◌, ◌<◌, ◌≤◌, ◌^◌, ℕ, List, [], ◌∷◌, ◌++◌, All, Contains, length, map, Option, Some, None};
 ghost use Rattle.std.specs.Option.{ForSome};
 ghost use Rattle.season_days.specs.Term.{Term};
 ghost use Rattle.season_days.specs.declared.declaration.Declaration.{Declaration as DeclarationValue};
@@ -12,17 +12,17 @@ ghost use Rattle.scr_reader.specs.declared.line.Line.{Line as LineValue};
 ghost use Rattle.scr_reader.specs.declared.message.Message.{Message as MessageValue};
 ghost use Rattle.capacity_windows.specs.Windows.{Capacity, window_load};
 ghost use Rattle.series_model.specs.Units.{UnitFits};
-ghost use Rattle.series_model.specs.Options.{options_of, TimesFit};
-ghost use Rattle.series_model.specs.Displacement.{displacement_of};
-ghost use Rattle.series_model.specs.TimedLines.{line_at};
+ghost use Rattle.series_model.specs.Options.{line_times, shifts_of, options_of, TimesFit};
+ghost use Rattle.series_model.specs.Displacement.{cost_at, displacement_of};
+ghost use Rattle.series_model.specs.TimedLines.{line_at, line_movements};
 ghost use Rattle.series_model.specs.Submissions.{HasNumbers, MessagePairs, item_count};
-ghost use Rattle.series_model.specs.Movements.{movements_at, stop_load};
+ghost use Rattle.series_model.specs.Movements.{movements_at, movements_of, stop_load};
 ghost use Rattle.series_model.specs.declared.times.Times.TheVariants.{At as at_times};
 ghost use Rattle.series_model.specs.declared.state.UnitState.{UnitState as UnitStateValue};
 ghost use Rattle.series_model.specs.declared.times.Times.{Times as TimesValue};
 ghost use Rattle.series_model.specs.declared.unit.Unit.{Unit as SlotUnit};
 ghost use Rattle.series_model.specs.Allotments.{IsFeasibleAllotment};
-ghost use Rattle.series_model.specs.Stages.{first_states, movements_given, stage_units, stage_limit, after_allotment, states_after, AreFeasibleChoices, GivenFits};
+ghost use Rattle.series_model.specs.Stages.{first_states, movements_given, stage_units, stage_limit, after_allotment, after_stage, states_after, AreFeasibleChoices, GivenFits};
 
 use season_days::laws::lengths;
 
@@ -73,6 +73,46 @@ pub fn spelled_alternatives()
         All (λ times. LineFits d.season (line_at unit.request times)) (options_of d unit) }
 {}
 
+/// The shifts of a line are times, each an arrival on its date and a departure at most nine nights
+/// later, and the line at each of them has a spelling.
+pub fn shift_bounds()
+    ensures times { (d : DeclarationValue) (line : LineValue) → LineFits d.season line →
+        All (TimesFit None) (shifts_of d line) }
+    ensures spelled { (d : DeclarationValue) (line : LineValue) → LineFits d.season line →
+        All (λ times. LineFits d.season (line_at line times)) (shifts_of d line) }
+{}
+
+/// The times that a line names are one of its shifts.
+pub fn requested_shift()
+    ensures { (d : DeclarationValue) (line : LineValue) → LineFits d.season line →
+        Contains (shifts_of d line) (line_times line) }
+{}
+
+/// The times that a line names cost nothing, and no other shift does.
+pub fn free_shift()
+    ensures own { (d : DeclarationValue) (line : LineValue) →
+        cost_at d line (line_times line) ≡ 0 }
+    ensures free { (d : DeclarationValue) (line : LineValue) (times : TimesValue) →
+        LineFits d.season line → Contains (shifts_of d line) times → cost_at d line times ≡ 0 →
+        line_times line ≡ times }
+{}
+
+/// The line at the times of a shift has the movements of these times, and so has the line of a unit
+/// at those of an alternative. The historic line of a pair has the movements of its unit at the
+/// historic times.
+pub fn timed_movements()
+    ensures shifts { (d : DeclarationValue) (line : LineValue) (times : TimesValue) →
+        LineFits d.season line → Contains (shifts_of d line) times →
+        line_movements d.season (line_at line times) ≡ movements_at d.season line times }
+    ensures alternatives { (d : DeclarationValue) (unit : SlotUnit) (arrival departure : ℕ) →
+        UnitFits d.season unit → Contains (options_of d unit) (at_times arrival departure) →
+        line_movements d.season (line_at unit.request (at_times arrival departure))
+        ≡ movements_of d.season unit (at_times arrival departure) }
+    ensures historic { (season : Term) (unit : SlotUnit) (historic : LineValue) →
+        UnitFits season unit → unit.historic ≡ Some historic →
+        line_movements season historic ≡ movements_of season unit (line_times historic) }
+{}
+
 /// What the stages give fits. Before the first stage nothing is given. Where all that was given
 /// fits the declared limits, and a stage gives a feasible allotment, all that is given after it
 /// fits too, since a share of at most 100 per cent is no more than what is left. So after feasible
@@ -89,6 +129,14 @@ pub fn feasible_fits()
         (choices : List (Option (List ℕ))) →
         d.share ≤ HIGHEST_SHARE → AreFeasibleChoices d units choices →
         GivenFits d (states_after d units choices) }
+{}
+
+/// After one more stage the units are as that stage leaves them.
+pub fn one_more_stage()
+    ensures { (d : DeclarationValue) (units : List SlotUnit) (choices : List (Option (List ℕ)))
+        (choice : Option (List ℕ)) →
+        states_after d units (choices ++ choice ∷ [])
+        ≡ after_stage d (length choices + 1) (states_after d units choices) choice }
 {}
 
 /// A stage leaves the units as they are, in their order.

@@ -9,7 +9,7 @@ use crate::times::Times;
 use crate::unit::Unit;
 use capacity_windows::Movement;
 use scr_reader::{Line, Stop};
-use season_days::laws::lengths;
+use season_days::laws::{lengths, listed_days};
 use season_days::{Day, Kind, MINUTES_OF_DAY, Season};
 use slot_text::Memory;
 use std::alloc::Global;
@@ -47,6 +47,7 @@ fn push_movements(
         ++ movements_at season.now line.now (Times.At arrival departure)) }
 {
     lengths();
+    listed_days();
     let end = line.period.last.0 + 1;
     for date in line.period.first.0..end {
         push_date(movements, season, line, arrival, departure, date)?;

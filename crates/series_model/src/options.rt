@@ -168,8 +168,8 @@ fn has_times(options: &[Times], times: Times) -> bool
     options.iter().any(|option| are_same(&times, option))
 }
 
-// Whether these are the same times.
-pub(crate) fn are_same(one: &Times, other: &Times) -> bool
+/// Whether these are the same times.
+pub fn are_same(one: &Times, other: &Times) -> bool
     ensures { result ≡ are_same one.now other.now }
 {
     match (one, other) {
@@ -185,8 +185,8 @@ pub(crate) fn are_same(one: &Times, other: &Times) -> bool
     }
 }
 
-// The times that a line names.
-pub(crate) fn line_times(line: &Line) -> Times
+/// The times that a line names, in minutes from the beginning of its date.
+pub fn line_times(line: &Line) -> Times
     ensures { result ≡ line_times line.now }
 {
     Times::At {

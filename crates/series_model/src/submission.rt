@@ -6,8 +6,8 @@ ghost use Rattle.choice_problem.specs.declared.problems.TheConstants.{MOST_UNITS
 ghost use Rattle.series_model.specs.declared.fault.ModelFault.TheVariants.{Memory as NoMemory};
 
 use crate::fault::ModelFault;
+use crate::message_units::{collect_units, count_units, first_fault};
 use crate::unit::Unit;
-use crate::units::{collect_units, count_units, first_fault};
 use capacity_windows::Windows;
 use choice_problem::MOST_UNITS;
 use scr_reader::MessageList;
@@ -46,7 +46,7 @@ impl Model for Submission {
 
 impl Submission {
     ghost use Rattle.series_model.specs.Units.{units_of, UnitFits};
-    ghost use Rattle.series_model.specs.Submissions.{HasNumbers, item_count, MessagePairs, submission_answer};
+    ghost use Rattle.series_model.specs.Submissions.{HasNumbers, item_count, MakesUnits, MessagePairs, submission_answer};
 
     /// The submission that messages make under a declaration that keeps the limits of a capacity
     /// file, as one that was read does. The messages are read ones: their lines have a spelling,
@@ -112,9 +112,10 @@ impl Submission {
         &self.units
     }
 
-    /// The messages.
+    /// The messages. Each of their items makes a unit.
     pub fn messages(&self) -> &MessageList
-        ensures { result.now ≡ self.now.messages }
+        ensures value { result.now ≡ self.now.messages }
+        ensures units { All MakesUnits result.now }
     {
         &self.messages
     }

@@ -1,6 +1,6 @@
 -- The units of a stage's problem.
-use Rattle.std.proofs.Common.{◌≡◌, ℕ, zero, suc, ◌+◌, ◌<◌, ◌≤◌, Bool, true, false, refl, sym, ap, subst, arith, List, [], ◌∷◌, ◌++◌, length, get_or, drop}
-use Rattle.std.specs.Prelude.{All}
+use Rattle.std.proofs.Common.{◌≡◌, ℕ, zero, suc, ◌+◌, ◌<◌, ◌≤◌, Bool, true, false, refl, sym, ap, ◌∙◌, subst, arith, List, [], ◌∷◌, ◌++◌, length, get_or, drop}
+use Rattle.std.specs.Prelude.{All, if◌then◌else◌}
 use Rattle.std.specs.List.{AllZip}
 use Rattle.std.proofs.lemmas.List.{append_assoc}
 use Rattle.season_days.specs.declared.declaration.Declaration.{Declaration}
@@ -10,9 +10,13 @@ use Rattle.series_model.specs.declared.state.UnitState.{UnitState}
 use Rattle.series_model.specs.Stages.{is_due_state, stage_units}
 use Rattle.wasg_stages.specs.StageProblems.{IsChooserOf}
 use Rattle.wasg_stages.specs.Steps.{AddsDue, AreChoosers}
-use Rattle.wasg_stages.proofs.StepLemmas.{drop-cons, units_by}
+use Rattle.std.proofs.Math.Seq.{drop-cons}
+use Rattle.series_model.specs.declared.unit.Unit.{Unit as SlotUnit}
 
 -- ---- units
+
+abbrev units_by : ℕ → UnitState → List UnitState → Bool → List SlotUnit
+units_by stage state rest due = if due then state.unit ∷ stage_units stage rest else stage_units stage rest
 
 pub adds-due : (d : Declaration) (stage : ℕ) (state : UnitState) (old : List ChooserView) (m : ChooserView) → is_due_state stage state ≡ true → IsChooserOf d state.unit m → AddsDue d stage state old (old ++ m ∷ [])
 adds-due d stage state old m due chooser rest tail zip = (
@@ -30,7 +34,8 @@ pub AreChoosers-on : (d : Declaration) (stage : ℕ) (states : List UnitState) (
 AreChoosers-on d stage states old new i e lt are adds range few = record {
   whole = λ tail zip.
       let added = adds (drop (i + 1) states) tail zip in
-      let head = drop-cons states i e lt in
+      let next : suc i ≡ i + 1 = omega arith in
+      let head : drop i states ≡ get_or states i e ∷ drop (i + 1) states = drop-cons states i e lt ∙ ap (λ (k : ℕ). get_or states i e ∷ drop k states) next in
       let all = are.whole added.0 (subst (λ (s : List UnitState). AllZip (IsChooserOf d) (stage_units stage s) added.0) (sym head) added.1) in
       subst (λ (ms : List ChooserView). AllZip (IsChooserOf d) (stage_units stage states) ms) (sym added.2) all;
   range = range;

@@ -2,6 +2,6 @@ mod ZipLemmas
 mod ChoiceLemmas
 mod ProofLemmas
 mod PartLemmas
-mod StepLemmas
 mod LoadLemmas
 mod BuildLemmas
+mod FeasibleLemmas

@@ -1,8 +1,9 @@
 -- The loads of what was given, unit by unit, and limits that are lowered by them.
-use Rattle.std.proofs.Common.{◌≡◌, ℕ, ◌+◌, ◌-◌, ◌<◌, ◌≤◌, ◌∙◌, Bool, refl, ap, arith, List, [], ◌∷◌, length, get_or, set, take, sym, subst, pos, ℤ, inl, inr}
-use Rattle.std.specs.Prelude.{None, nat_le, ◌&&◌, ◌*◌, if◌then◌else◌}
+use Rattle.std.proofs.Common.{◌≡◌, ℕ, ◌+◌, ◌-◌, ◌<◌, ◌≤◌, ◌∙◌, Bool, refl, ap, arith, List, [], ◌∷◌, length, map, zero, suc, get_or, set, take, sym, subst, pos, ℤ, inl, inr}
+use Rattle.std.specs.Prelude.{slice_get, Some, None, nat_le, ◌&&◌, ◌*◌, if◌then◌else◌}
 use Rattle.std.proofs.lemmas.Grind.{flat_map-append}
-use Rattle.std.proofs.lemmas.List.{take_more, append-nil, get_or-set_same, get_or-set_other, length-set}
+use Rattle.std.proofs.lemmas.List.{take_more, append-nil, get_or-set_same, get_or-set_other, length-set, length-map}
+use Rattle.std.proofs.lemmas.Option.{get_or_from_slice_get}
 use Rattle.std.proofs.lemmas.Bool.{cases_lt, lt-ltb, le-ltb, le-leb, ne_eqb}
 use Rattle.std.proofs.lemmas.Nat.{mul-le}
 use Rattle.season_days.specs.declared.declaration.Kind.TheVariants.{Arr, Dep}
@@ -163,3 +164,15 @@ stage-third d stage states mid new third share long left shares r lt =
     let one = left r before in
     let same : stage_limit d stage states r ≡ share_of d.share (limit_left d states r) = ap (λ (k : ℕ). stage_limit d k states r) third in
     (shares.shared r (limit_left d states r) before one.1 one.0 ∙ ap pos (sym same), subst (λ (n : ℕ). n ≤ HIGHEST_NIGHT_LIMIT) (sym same) (share-small d.share (limit_left d states r) share one.1))
+
+-- declared limits as signed numbers
+get_or-signed : (numbers : List ℕ) (r : ℕ) → get_or (map pos numbers) r (pos 0) ≡ pos (get_or numbers r 0)
+get_or-signed [] r = refl
+get_or-signed (n ∷ numbers) zero = refl
+get_or-signed (n ∷ numbers) (suc r) = get_or-signed numbers r
+
+pub signed-limits : (c : Capacity) (numbers : List ℕ) (count : ℕ) → length numbers ≡ count → ((r : ℕ) → r < count → slice_get numbers r ≡ Some (window_limit c r)) →
+    ((r : ℕ) → window_limit c r ≤ HIGHEST_NIGHT_LIMIT) → AreLimitsOf (map pos numbers) (window_limit c)
+signed-limits c numbers count long each few r lt =
+    let there : r < count = omega (arith, lt, long, length-map numbers pos) in
+    (get_or-signed numbers r ∙ ap pos (get_or_from_slice_get numbers r (window_limit c r) 0 (each r there)), few r)

@@ -47,9 +47,3 @@ IsStageProblem d stage states p =
 -- the numbers of a choice are those of alternatives of the units
 abbrev pub AreNumbers : Declaration → List SlotUnit → List ℕ → Type 0
 AreNumbers d units choice = AllZip (λ unit number. number < length (options_of d unit)) units choice
-
--- ---- the units of a submission, as stages leave them
-
-pub record AreStates (s : SubmissionView) (states : List UnitState) : Type 0 where
-  pub few : length states ≤ MOST_UNITS
-  pub fit : All (λ (state : UnitState). UnitFits s.declaration.season state.unit) states

@@ -1,25 +1,14 @@
--- Units in a loop over stages. Contracts of private functions alone cite them.
+-- Limits that are lowered, and units that are added, in the loops of a stage. Contracts of private
+-- functions alone cite them.
 use Rattle.std.specs.Prelude.{◌≡◌, ℕ, ◌-◌, ◌<◌, ◌≤◌, List, ◌∷◌, ◌++◌, length, All, drop, slice_index_or, ℤ, pos}
 use Rattle.std.specs.List.{AllZip}
 use Rattle.season_days.specs.declared.declaration.Declaration.{Declaration}
 use Rattle.season_days.specs.declared.declaration.TheConstants.{HIGHEST_NIGHT_LIMIT}
-use Rattle.series_model.specs.Units.{UnitFits}
 use Rattle.series_model.specs.declared.state.UnitState.{UnitState}
-use Rattle.series_model.specs.Stages.{after_allotment, stage_times, stage_units, share_of}
+use Rattle.series_model.specs.Stages.{stage_units, share_of}
 use Rattle.capacity_windows.specs.Windows.{capacity_of, declared_resources}
 use Rattle.choice_problem.specs.Problems.{ChooserView, ArePartsInRange}
 use Rattle.wasg_stages.specs.StageProblems.{IsChooserOf}
-
--- the units' lines have a spelling in the season
-abbrev pub AreFitting : Declaration → List UnitState → Type 0
-AreFitting d states = All (λ (state : UnitState). UnitFits d.season state.unit) states
-
--- the unit first in line is so after the stage, and takes so many of the numbers
-abbrev pub Advances : Declaration → ℕ → UnitState → List ℕ → UnitState → ℕ → Type 0
-Advances d stage state numbers after taken =
-    (rest : List UnitState) →
-    after_allotment stage (state ∷ rest) (stage_times d stage (state ∷ rest) numbers)
-    ≡ after ∷ after_allotment stage rest (stage_times d stage rest (drop taken numbers))
 
 -- each limit, if it is from 0 to the highest, is lower by the uses of its resource, and at least 0
 abbrev pub LowersBy : List ℤ → List ℤ → (ℕ → ℕ) → Type 0

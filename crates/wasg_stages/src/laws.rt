@@ -7,15 +7,17 @@ ghost use Rattle.choice_problem.specs.Choices.{IsChoice, IsFeasible, IsBest, Has
 ghost use Rattle.series_model.specs.declared.times.Times.{Times as TimesValue};
 ghost use Rattle.series_model.specs.declared.unit.Unit.{Unit as SlotUnit};
 ghost use Rattle.series_model.specs.Allotments.{IsFeasibleAllotment, IsLeastAllotment, HasNoAllotment, IsDisplacementBound, total_displacement, allotted_load};
-ghost use Rattle.series_model.specs.Stages.{times_named};
+ghost use Rattle.series_model.specs.Stages.{times_named, AreFeasibleChoices};
 ghost use Rattle.series_model.specs.Submissions.{SubmissionView};
 ghost use Rattle.cert_format.specs.declared.cert.StageCert.{StageCert as StageCertValue};
 ghost use Rattle.cert_format.specs.declared.cert.Certificate.{Certificate as CertificateValue};
+ghost use Rattle.cert_format.specs.Choices.{choices_of};
 ghost use Rattle.cert_format.specs.Proofs.{IsProof};
 ghost use Rattle.wasg_stages.specs.Valid.{MarkClaims, IsValid, MarksHold};
 ghost use Rattle.wasg_stages.specs.StageProblems.{IsAllotmentProblem, AreNumbers};
 
 use cert_format::proven_stage;
+use series_model::laws::one_more_stage;
 
 /// The choices of the problem of some units are their allotments: a choice has the numbers of
 /// alternatives, costs what the times of these displace, and uses a resource as often as that holds
@@ -62,6 +64,14 @@ pub fn problem_choices()
         ((x : List ℕ) → IsFeasible p x → bound ≤ choice_cost p x) →
         IsDisplacementBound d units limit bound }
 {}
+
+/// The choices of a valid certificate are feasible for their stages, each after those before it.
+pub fn valid_choices()
+    ensures { (s : SubmissionView) (c : CertificateValue) → IsValid s c →
+        AreFeasibleChoices s.declaration s.units (choices_of c) }
+{
+    one_more_stage();
+}
 
 /// A proof on the problem of some units shows what its mark claims of their allotments.
 pub fn proven_claims()

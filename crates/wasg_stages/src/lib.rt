@@ -7,11 +7,11 @@
 #![tactic(auto)]
 
 mod choosers;
+mod earlier;
 pub mod laws;
 mod limits;
 mod parts;
 mod problems;
-mod states;
 
-pub use problems::{after_stage, problem_after, stage_problem, states_of, units_of_stage};
-pub use states::Earlier;
+pub use earlier::Earlier;
+pub use problems::{problem_after, stage_problem, units_of_stage};

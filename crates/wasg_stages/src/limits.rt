@@ -1,6 +1,6 @@
 //! What the resources may still hold in a stage.
 
-ghost use Rattle.std.specs.Prelude.{◌≡◌, ◌-◌, ◌<◌, ◌≤◌, ◌≤ℤ◌, ℕ, All, length, slice_index_or, OnOk, IfOk, pos};
+ghost use Rattle.std.specs.Prelude.{◌≡◌, ◌-◌, ◌<◌, ◌≤◌, ◌≤ℤ◌, ℕ, All, length, map, slice_index_or, OnOk, IfOk, pos};
 ghost use Rattle.season_days.specs.Seasons.{date_count};
 ghost use Rattle.season_days.specs.declared.declaration.TheConstants.{HIGHEST_NIGHT_LIMIT, HIGHEST_SHARE};
 ghost use Rattle.capacity_windows.specs.Windows.{capacity_of, declared_resources, window_limit, window_load};
@@ -223,9 +223,30 @@ fn lower_limits(
     Ok(())
 }
 
+// The declared limits, as a problem takes them.
+fn declared_limits(alloc: Global, windows: &Windows) -> Result<Vec<i64>, Memory>
+    ensures count { IfOk result (λ limits. length limits.items ≡ declared_resources windows.now) }
+    ensures each { IfOk result (λ limits. AreLimitsOf limits.items (window_limit windows.now)) }
+{
+    let declared = windows.limits(alloc)?;
+    let limits = signed(alloc, &declared)?;
+    Ok(limits)
+}
+
+// Numbers as signed ones.
+fn signed(alloc: Global, numbers: &[u32]) -> Result<Vec<i64>, Memory>
+    ensures { IfOk result (λ limits. limits.items ≡ map pos numbers.now) }
+{
+    let mut limits = Vec::with_capacity(alloc, numbers.len())?;
+    for number in numbers {
+        limits.push(i64::from(*number))?;
+    }
+    Ok(limits)
+}
+
 /// The limits of a stage: of each resource its declared limit, less the movements that units were
 /// given, and in stage 3 the share of new entrants of that. They are written over the declared
-/// ones, and no other number is kept for a resource.
+/// ones.
 pub(crate) fn stage_limits(
     alloc: Global,
     declaration: &Declaration,
@@ -245,7 +266,7 @@ pub(crate) fn stage_limits(
     ensures few { IfOk result (λ limits. (r : ℕ) → r < declared_resources windows.now →
         stage_limit declaration.now stage states.now r ≤ HIGHEST_NIGHT_LIMIT) }
 {
-    let mut limits = windows.limits(alloc)?;
+    let mut limits = declared_limits(alloc, windows)?;
     lower_limits(alloc, declaration, windows, stage, states, &mut limits)?;
     Ok(limits)
 }

@@ -6,17 +6,17 @@ ghost use Rattle.season_days.specs.Capacity.{IsDeclaration};
 ghost use Rattle.capacity_windows.specs.Windows.{capacity_of, declared_resources};
 ghost use Rattle.choice_problem.specs.Problems.{ArePartsInRange};
 ghost use Rattle.series_model.specs.Units.{UnitFits};
-ghost use Rattle.series_model.specs.Stages.{first_states, after_stage, states_after, stage_units, stage_positions};
-ghost use Rattle.wasg_stages.specs.StageProblems.{IsChooserOf, IsStageProblem, AreStates};
-ghost use Rattle.wasg_stages.specs.Steps.{AreFitting, AddsDue, AreChoosers};
+ghost use Rattle.series_model.specs.Stages.{AreFitting, AreStates, states_after, stage_units, stage_positions};
+ghost use Rattle.wasg_stages.specs.StageProblems.{IsChooserOf, IsStageProblem};
+ghost use Rattle.wasg_stages.specs.Steps.{AddsDue, AreChoosers};
 
 use crate::choosers::chooser_of;
+use crate::earlier::Earlier;
 use crate::limits::stage_limits;
-use crate::states::{Earlier, after_one, is_due, positions_of, states_after};
 use capacity_windows::Windows;
-use choice_problem::{Choice, Chooser, Problem};
+use choice_problem::{Chooser, Problem};
 use season_days::Declaration;
-use series_model::{Submission, UnitState};
+use series_model::{Submission, UnitState, is_due, stage_positions, states_after};
 use slot_text::Memory;
 use std::alloc::Global;
 
@@ -74,34 +74,6 @@ fn choosers_of(
     Ok(choosers)
 }
 
-/// The units of a submission before the first stage. One step a unit.
-pub fn states_of(alloc: Global, submission: &Submission) -> Result<Vec<UnitState>, Memory>
-    ensures states { IfOk result (λ states. states.items ≡ first_states submission.now.units) }
-    ensures fit { IfOk result (λ states. AreStates submission.now states.items) }
-{
-    let declaration = submission.declaration();
-    states_after(alloc, declaration, submission.units(), &[])
-}
-
-/// The units of a submission after one more stage, which may have no choice. One step a unit, and
-/// for each of the stage's units one for each shift of an arrival: no alternatives are listed.
-pub fn after_stage(
-    alloc: Global,
-    submission: &Submission,
-    stage: u32,
-    states: Vec<UnitState>,
-    choice: &Option<Choice>,
-) -> Result<Vec<UnitState>, Memory>
-    requires { AreStates submission.now states.items }
-    ensures after { IfOk result
-        (λ after. after.items
-        ≡ after_stage submission.now.declaration stage states.items choice.now) }
-    ensures fit { IfOk result (λ after. AreStates submission.now after.items) }
-{
-    let declaration = submission.declaration();
-    after_one(alloc, declaration, stage, states, choice)
-}
-
 /// The problem of a stage, after what its units were given: its units with their alternatives and
 /// costs, and of each resource what is left of its limit, in stage 3 the share of new entrants of
 /// that.
@@ -142,16 +114,15 @@ pub fn units_of_stage(
         ≡ stage_positions stage
         (states_after submission.now.declaration submission.now.units earlier.now)) }
 {
-    let declaration = submission.declaration();
-    let states = states_after(alloc, declaration, submission.units(), earlier.items())?;
-    positions_of(alloc, stage, &states)
+    let states = states_after(alloc, submission, earlier.items())?;
+    stage_positions(alloc, stage, &states)
 }
 
 /// The problem of a stage, after these choices of the stages before it: its units with their
 /// alternatives and costs, and of each resource what is left of its limit, in stage 3 the share of
 /// new entrants of that.
 ///
-/// The time is that of `after_stage` for each earlier stage and of `problem_after`, so the
+/// The time is that of `series_model::after_stage` for each earlier stage and of `problem_after`, so the
 /// alternatives of the stage's own units alone are listed.
 pub fn stage_problem(
     alloc: Global,
@@ -164,7 +135,6 @@ pub fn stage_problem(
         (λ problem. IsStageProblem submission.now.declaration stage
         (states_after submission.now.declaration submission.now.units earlier.now) problem) }
 {
-    let declaration = submission.declaration();
-    let states = states_after(alloc, declaration, submission.units(), earlier.items())?;
+    let states = states_after(alloc, submission, earlier.items())?;
     problem_after(alloc, submission, stage, &states)
 }

@@ -1,6 +1,0 @@
-use Rattle.std.proofs.Common.{◌≡◌, map, take}
-use Rattle.series_model.specs.Stages.{first_state}
-use Rattle.wasg_stages.proofs.states.first_states.Given as goal
-
-abbrev pub invariant-loop-unit : goal.invariant-loop-unit
-invariant-loop-unit l = l.states.items ≡ map first_state (take l.unit-index l.units)
