@@ -13,7 +13,8 @@ use choice_problem::{Choice, Node, Problem, Ranges, cost_of, least_uses};
 use slot_text::Memory;
 use std::alloc::Global;
 
-// The choice of each unit's first cheapest alternative where it fits, and else the split at the resource that it passes.
+// The choice of each unit's first cheapest alternative where it fits, and else the split at the
+// resource that it passes.
 pub(crate) fn found_or_split(
     alloc: Global,
     problem: &Problem,
@@ -52,8 +53,9 @@ fn found(alloc: Global, problem: &Problem, ranges: &Ranges, alts: &[u32]) -> Res
     Ok(Visit::Found(choice, leaf))
 }
 
-// The lowest unit that could use the resource less often, and the cut at its alternative. One step a unit that does not
-// use it, and one an alternative in range and strip for the others up to that unit.
+// The lowest unit that could use the resource less often, and the cut at its alternative. One step
+// a unit that does not use it, and one an alternative in range and strip for the others up to that
+// unit.
 fn split_at(problem: &Problem, ranges: &Ranges, alts: &[u32], resource: u32) -> (u32, u32)
     requires ranges { AreRanges problem.now ranges.now }
     requires alts { IsCheapest problem.now ranges.now alts.now }

@@ -15,9 +15,10 @@ use slot_text::Memory;
 use std::alloc::Global;
 use window_counts::{Counts, place_alt};
 
-/// The units in order each take the cheapest alternative that fits with those already taken, the lowest number on ties.
-/// None exactly where some unit in order finds no alternative. It counts in an array of one number a resource; a unit
-/// takes one step an alternative for each one that it tries, and one step a use and strip of those.
+/// The units in order each take the cheapest alternative that fits with those already taken, the
+/// lowest number on ties. None exactly where some unit in order finds no alternative. It counts in
+/// an array of one number a resource; a unit takes one step an alternative for each one that it
+/// tries, and one step a use and strip of those.
 pub fn greedy(alloc: Global, problem: &Problem) -> Result<Option<Choice>, Memory>
     ensures some { IfOk result (λ found. IfSome found
         (IsGreedy problem.now (unit_count problem.now))) }
@@ -54,7 +55,8 @@ fn choose_all(problem: &Problem, counts: &mut Counts, alts: &mut Vec<u32>) -> Re
     Ok(true)
 }
 
-// Takes the cheapest alternative of a unit that fits on the counts, the lowest on ties, and counts its uses.
+// Takes the cheapest alternative of a unit that fits on the counts, the lowest on ties, and counts
+// its uses.
 fn place_cheapest(problem: &Problem, unit: u32, counts: &mut Counts) -> Option<u32>
     requires unit { unit < unit_count problem.now }
     requires counts { KeepsLimits problem.now counts.old }

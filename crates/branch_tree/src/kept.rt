@@ -22,7 +22,8 @@ use choice_problem::{Problem, Ranges};
 use slot_text::Memory;
 use std::alloc::Global;
 
-// Counts the least loads of the listed resources on counts of 0, and answers what each unit uses of them.
+// Counts the least loads of the listed resources on counts of 0, and answers what each unit uses of
+// them.
 pub(crate) fn count_least(
     alloc: Global,
     problem: &Problem,
@@ -76,7 +77,8 @@ pub(crate) fn move_least(least: &mut [u32], was: &[u32], now: &[u32])
     add_list(least, now);
 }
 
-// Moves the loads of the listed resources from one alternative of a unit to another. After want of memory they are as before.
+// Moves the loads of the listed resources from one alternative of a unit to another. After want of
+// memory they are as before.
 pub(crate) fn move_loads(
     alloc: Global,
     problem: &Problem,

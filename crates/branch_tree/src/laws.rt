@@ -9,8 +9,9 @@ ghost use Rattle.choice_problem.specs.Bounds.{AreRanges};
 ghost use Rattle.choice_problem.specs.Driven.{IsDrivenNode};
 ghost use Rattle.branch_tree.specs.Visits.{ClosesBy, IsFound, IsSplit, StaysOpenToAll};
 
-/// What a visit answers is a node of a driven tree: the leaf of closed ranges, the leaf of a choice that was found, and the
-/// split with what was seen. The root vector is the first of the tree's vectors, and the further ones follow.
+/// What a visit answers is a node of a driven tree: the leaf of closed ranges, the leaf of a choice
+/// that was found, and the split with what was seen. The root vector is the first of the tree's
+/// vectors, and the further ones follow.
 pub fn visited_nodes()
     ensures closed { (p : ProblemView) (root : List Price) (further : List (List Price))
         (ranges : List (ℕ × ℕ))

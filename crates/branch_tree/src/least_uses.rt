@@ -14,12 +14,13 @@ use choice_problem::Problem;
 use slot_text::Memory;
 use std::alloc::Global;
 
-// The places of the listed resources that each alternative of a unit from one to another uses, each as often as each of
-// them does; `ranks` are the ranks of all resources among the listed ones, so that no other is looked at. In a row of
-// alternatives with the same first part this is what that part uses, and what their second parts have in common. From row
-// to row mostly the same second parts come again, so that each part is looked at once; and what they have in common is
-// kept only as far as the rows before have it. The last row is tried first, since it has least in common with the first
-// alternative. `zeros` is room to count in.
+// The places of the listed resources that each alternative of a unit from one to another uses, each
+// as often as each of them does; `ranks` are the ranks of all resources among the listed ones, so
+// that no other is looked at. In a row of alternatives with the same first part this is what that
+// part uses, and what their second parts have in common. From row to row mostly the same second
+// parts come again, so that each part is looked at once; and what they have in common is kept only
+// as far as the rows before have it. The last row is tried first, since it has least in common with
+// the first alternative. `zeros` is room to count in.
 pub(crate) fn least_list(
     alloc: Global,
     problem: &Problem,

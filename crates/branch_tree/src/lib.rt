@@ -1,5 +1,6 @@
-//! What one step of a branch-and-bound search of a problem does: the greedy choice that it starts from, and the visit of
-//! ranges of alternatives, which closes them, finds a choice, or says where to split them.
+//! What one step of a branch-and-bound search of a problem does: the greedy choice that it starts
+//! from, and the visit of ranges of alternatives, which closes them, finds a choice, or says where
+//! to split them.
 #![tactic(auto)]
 
 mod answers;
@@ -12,7 +13,6 @@ mod laws;
 mod least_uses;
 mod listing;
 mod placed;
-mod plain;
 mod ranks;
 mod rows;
 mod runs;
@@ -25,6 +25,5 @@ mod walks;
 pub use answers::Visit;
 pub use greedy_start::greedy;
 pub use laws::visited_nodes;
-pub use plain::plain_visit;
 pub use visits::visit;
 pub use walks::Walk;

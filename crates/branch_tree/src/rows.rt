@@ -7,7 +7,7 @@ ghost use Rattle.branch_tree.specs.Lists.{times_in, AreWithin, AreRanksOf};
 ghost use Rattle.window_counts.specs.Placed.{AreZero};
 ghost use Rattle.branch_tree.specs.Rows.{IsRow, EndAlike, AreLeastTwos};
 
-use crate::runs::{first_runs, second_runs};
+use crate::runs::part_runs;
 use crate::tallies::lower;
 use choice_problem::Problem;
 use slot_text::Memory;
@@ -51,8 +51,8 @@ fn is_same(one: Option<u32>, other: Option<u32>) -> bool
     one == other
 }
 
-// Moves the least uses of second parts from a row to another one. Where the second row ends as the first one does, only
-// its other parts are listed. They are wanted only as far as a list has them.
+// Moves the least uses of second parts from a row to another one. Where the second row ends as the
+// first one does, only its other parts are listed. They are wanted only as far as a list has them.
 pub(crate) fn move_twos(
     alloc: Global,
     problem: &Problem,
@@ -90,8 +90,9 @@ pub(crate) fn move_twos(
     )
 }
 
-// Moves the least uses of second parts from a row to the last alternatives of another one, and tells the first of these:
-// they are as many as the first row has, where the second one ends as it does, and else one.
+// Moves the least uses of second parts from a row to the last alternatives of another one, and
+// tells the first of these: they are as many as the first row has, where the second one ends as it
+// does, and else one.
 fn begin_twos(
     alloc: Global,
     problem: &Problem,
@@ -153,14 +154,14 @@ pub(crate) fn twos_of(
     ensures within { IfOk result (λ twos. AreWithin (length listed.now) twos.items) }
     ensures same { zeros.new ≡ zeros.old }
 {
-    let runs = second_runs(alloc, problem, unit, alt, listed, ranks)?;
+    let runs = part_runs(alloc, problem, unit, alt, true, listed, ranks)?;
     let mut twos = Vec::from_slice(alloc, list)?;
     lower(&mut twos, &runs, &[], zeros);
     Ok(twos)
 }
 
-// Lowers the least uses of the second parts of a row's alternatives from one on to those of the whole row. The first
-// alternative is tried first, since it has least in common with the last ones.
+// Lowers the least uses of the second parts of a row's alternatives from one on to those of the
+// whole row. The first alternative is tried first, since it has least in common with the last ones.
 fn lower_twos(
     alloc: Global,
     problem: &Problem,
@@ -193,7 +194,7 @@ fn lower_twos(
         if twos.is_empty() {
             return Ok(());
         }
-        let other = second_runs(alloc, problem, unit, alt, listed, ranks)?;
+        let other = part_runs(alloc, problem, unit, alt, true, listed, ranks)?;
         lower(twos, &other, &[], zeros);
     }
     Ok(())
@@ -220,8 +221,8 @@ fn end_alike(problem: &Problem, unit: u32, row: Row, end: u32) -> bool
     true
 }
 
-// Lowers a list to what each alternative of a row uses, by what their first part uses and the least uses of their second
-// parts.
+// Lowers a list to what each alternative of a row uses, by what their first part uses and the least
+// uses of their second parts.
 pub(crate) fn lower_row(
     alloc: Global,
     problem: &Problem,
@@ -250,7 +251,7 @@ pub(crate) fn lower_row(
     ensures within { OnOk result (AreWithin (length listed.now) list.new.items) }
     ensures same { zeros.new ≡ zeros.old }
 {
-    let ones = first_runs(alloc, problem, unit, row.last, listed, ranks)?;
+    let ones = part_runs(alloc, problem, unit, row.last, false, listed, ranks)?;
     lower(list, &ones, twos, zeros);
     Ok(())
 }

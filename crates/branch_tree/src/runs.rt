@@ -4,10 +4,10 @@ ghost use Rattle.std.specs.Prelude.{◌≡◌, ℕ, ◌+◌, ◌^◌, ◌<◌, �
 ghost use Rattle.choice_problem.specs.declared.problems.TheConstants.{MOST_USES};
 ghost use Rattle.std.specs.Option.{ForSome};
 ghost use Rattle.choice_problem.specs.Problems.{unit_count, alt_count, part_count, alt_uses, named_uses, chooser_at, resource_count};
-ghost use Rattle.choice_problem.specs.Strips.{run_start, strip_uses, part_uses, IsStripInRange, IsPartInRange};
+ghost use Rattle.choice_problem.specs.Strips.{strip_uses, part_uses, IsStripInRange, IsPartInRange};
 ghost use Rattle.choice_problem.specs.Loops.{run_uses};
 ghost use Rattle.branch_tree.specs.Lists.{AreRanksOf};
-ghost use Rattle.branch_tree.specs.Rows.{one_uses, two_uses};
+ghost use Rattle.branch_tree.specs.Rows.{side_uses};
 ghost use Rattle.branch_tree.specs.Runs.{times_held, IsRunBelow, AppendsRuns};
 
 use choice_problem::{Problem, Strip};
@@ -49,12 +49,14 @@ pub(crate) fn alt_runs(
     Ok(runs)
 }
 
-// The places of those that the first part of an alternative uses, each as often as it does.
-pub(crate) fn first_runs(
+// The places of those that the part uses that an alternative names first, or second, each as often
+// as it does.
+pub(crate) fn part_runs(
     alloc: Global,
     problem: &Problem,
     unit: u32,
     alt: u32,
+    second: bool,
     listed: &[u32],
     ranks: &[u32],
 ) -> Result<Vec<Run>, Memory>
@@ -62,37 +64,27 @@ pub(crate) fn first_runs(
     requires alt { alt < alt_count problem.now unit }
     requires ranks { AreRanksOf (resource_count problem.now) listed.now ranks.now }
     ensures uses { IfOk result (λ runs. (i : ℕ) → i < length listed.now → times_held runs.items i
-        ≡ one_uses problem.now unit alt (slice_index listed.now i)) }
+        ≡ side_uses second problem.now unit alt (slice_index listed.now i)) }
     ensures below { IfOk result (λ runs. All (IsRunBelow (length listed.now)) runs.items) }
     ensures few { (r : ℕ) → alt_uses problem.now unit alt r ≤ MOST_USES }
 {
-    let chosen = problem.unit_alts(unit)[alt as usize];
+    let part = part_of(problem, unit, alt, second);
     let mut runs = Vec::with_capacity(alloc, FIRST_RUNS)?;
-    push_named(problem, unit, chosen.one, listed, ranks, &mut runs)?;
+    push_named(problem, unit, part, listed, ranks, &mut runs)?;
     Ok(runs)
 }
 
-// The places of those that the second part of an alternative uses, each as often as it does.
-pub(crate) fn second_runs(
-    alloc: Global,
-    problem: &Problem,
-    unit: u32,
-    alt: u32,
-    listed: &[u32],
-    ranks: &[u32],
-) -> Result<Vec<Run>, Memory>
+// The part that an alternative names first, or second.
+fn part_of(problem: &Problem, unit: u32, alt: u32, second: bool) -> Option<u32>
     requires unit { unit < unit_count problem.now }
     requires alt { alt < alt_count problem.now unit }
-    requires ranks { AreRanksOf (resource_count problem.now) listed.now ranks.now }
-    ensures uses { IfOk result (λ runs. (i : ℕ) → i < length listed.now → times_held runs.items i
-        ≡ two_uses problem.now unit alt (slice_index listed.now i)) }
-    ensures below { IfOk result (λ runs. All (IsRunBelow (length listed.now)) runs.items) }
+    ensures uses { (r : ℕ) → named_uses (chooser_at problem.now unit) result r
+        ≡ side_uses second problem.now unit alt r }
+    ensures there { ForSome result (λ k. k < part_count problem.now unit) }
     ensures few { (r : ℕ) → alt_uses problem.now unit alt r ≤ MOST_USES }
 {
     let chosen = problem.unit_alts(unit)[alt as usize];
-    let mut runs = Vec::with_capacity(alloc, FIRST_RUNS)?;
-    push_named(problem, unit, chosen.two, listed, ranks, &mut runs)?;
-    Ok(runs)
+    if second { chosen.two } else { chosen.one }
 }
 
 // Appends the places of the listed resources of the part that an alternative may name.
@@ -163,19 +155,10 @@ fn push_strip(
     ensures below { OnOk result (All (IsRunBelow (length listed.now)) runs.new.items) }
 {
     for i in 0..strip.times {
-        let (start, end) = run_of(strip, i);
+        let (start, end) = strip.run(i);
         push_run(runs, start, end, resources, listed, ranks)?;
     }
     Ok(())
-}
-
-// Where a run of the strip begins and ends.
-fn run_of(strip: &Strip, run: u32) -> (u64, u64)
-    ensures start { result.0 ≡ run_start strip.now run }
-    ensures end { result.1 ≡ run_start strip.now run + strip.now.width }
-{
-    let start = u64::from(strip.first) + u64::from(run) * u64::from(strip.gap);
-    (start, start + u64::from(strip.width))
 }
 
 // Appends the places of the listed resources from one to another, where there are any.

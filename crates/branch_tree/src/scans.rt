@@ -7,8 +7,9 @@ ghost use Rattle.branch_tree.specs.Walks.{AreWithinPlaces, AreWithinFrom, IsFirs
 // How many places are looked at together.
 const TOGETHER: usize = 64;
 
-// The first place whose count is above its limit. It tests 64 places at once, without stopping at the first that is above,
-// which processors do by several numbers in one step; only where one is above, and behind the last 64, it looks at each.
+// The first place whose count is above its limit. It tests 64 places at once, without stopping at
+// the first that is above, which processors do by several numbers in one step; only where one is
+// above, and behind the last 64, it looks at each.
 pub(crate) fn first_above(counts: &[u32], limits: &[u32]) -> Option<usize>
     requires { length limits.now ≡ length counts.now }
     ensures some { IfSome result (IsFirstPlaceAbove counts.now limits.now) }

@@ -77,8 +77,8 @@ fn take_run(counts: &mut [u32], from: u32, to: u32)
     }
 }
 
-// Keeps of the list each place at most as often as the runs hold it and it comes in the other list together. `zeros` is
-// room to count in.
+// Keeps of the list each place at most as often as the runs hold it and it comes in the other list
+// together. `zeros` is room to count in.
 pub(crate) fn lower(list: &mut Vec<u32>, runs: &[Run], other: &[u32], zeros: &mut [u32])
     requires within { AreWithin (length zeros.old) list.old.items }
     requires below { All (IsRunBelow (length zeros.old)) runs.now }
@@ -99,7 +99,8 @@ pub(crate) fn lower(list: &mut Vec<u32>, runs: &[Run], other: &[u32], zeros: &mu
     take_runs(zeros, runs);
 }
 
-// Keeps of the list each place at most as often as its count says, and takes what is kept from the counts.
+// Keeps of the list each place at most as often as its count says, and takes what is kept from the
+// counts.
 pub(crate) fn keep(list: &mut Vec<u32>, counts: &mut [u32])
     requires { AreWithin (length counts.old) list.old.items }
     ensures kept { (r : ℕ) → times_in list.new.items r

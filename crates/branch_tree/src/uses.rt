@@ -4,7 +4,8 @@ ghost use Rattle.std.specs.Prelude.{◌≡◌};
 
 use std::marker::Model;
 
-// Places of listed resources, each as often as a unit uses the resource whatever it takes of its range.
+// Places of listed resources, each as often as a unit uses the resource whatever it takes of its
+// range.
 #[derive(Drop)]
 pub(crate) struct Uses {
     places: Vec<u32>,

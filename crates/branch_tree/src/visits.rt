@@ -12,9 +12,10 @@ use price_table::PriceTable;
 use slot_text::Memory;
 use std::alloc::Global;
 
-/// Visits ranges, where `seen` is the best cost so far, if any, and `root` the table of the root vector. The answer is the
-/// first of the cases of `Visit` that applies; there is no further vector. It makes a `Walk` and asks it once, in the time
-/// and memory of `Walk::of`: for several ranges of one problem keep a walk, and narrow it.
+/// Visits ranges, where `seen` is the best cost so far, if any, and `root` the table of the root
+/// vector. The answer is the first of the cases of `Visit` that applies; there is no further
+/// vector. It makes a `Walk` and asks it once, in the time and memory of `Walk::of`: for several
+/// ranges of one problem keep a walk, and narrow it.
 pub fn visit(
     alloc: Global,
     problem: &Problem,

@@ -10,7 +10,7 @@ ghost use Rattle.dual_bound.specs.Kept.{ListPassable};
 
 use crate::answers::Visit;
 use crate::branching::found_or_split;
-use crate::closings::{kept_leaf, leaf, priced_leaf};
+use crate::closings::{kept_leaf, leaf};
 use crate::kept::{cheapest, count_least, first_cheapest, move_least, move_loads};
 use crate::least_uses::least_list;
 use crate::placed::{counts_at, limits_at};
@@ -19,21 +19,25 @@ use crate::scans::first_above;
 use crate::uses::Uses;
 use choice_problem::{Node, Problem, Ranges};
 use dual_bound::passable_resources;
-use price_table::{PriceTable, Totals};
+use price_table::{PriceTable, Totals, push_totals, totals_of};
 use slot_text::Memory;
 use std::alloc::Global;
 use std::marker::Model;
+use std::slice::from_ref;
 use window_counts::{Counts, add_choice};
 
-/// Ranges of a problem, with what a visit asks of them: each unit's first cheapest alternative, what these together
-/// cost, and the listed resources, with what they use of each and its least load, and what each unit adds to these. Where
-/// a range changes, what changes with it is counted anew, and nothing else. Contracts see the problem and the ranges.
+/// Ranges of a problem, with what a visit asks of them: each unit's first cheapest alternative,
+/// what these together cost, and the listed resources, with what they use of each and its least
+/// load, and what each unit adds to these. Where a range changes, what changes with it is counted
+/// anew, and nothing else. Contracts see the problem and the ranges.
 ///
-/// The listed resources are those that `dual_bound::passable_resources` lists: the resources that can be passed, but of
-/// equal ones perhaps the first alone. So the lowest of all resources that are above their limits is a listed one.
+/// The listed resources are those that `dual_bound::passable_resources` lists: the resources that
+/// can be passed, but of equal ones perhaps the first alone. So the lowest of all resources that
+/// are above their limits is a listed one.
 ///
-/// Memory: 4 bytes a resource (8 while it is made), 20 bytes a listed resource, and for each unit up to 76 bytes and 8 a
-/// use that the first alternative in its range has of those. `of` takes, before this, what listing the resources takes.
+/// Memory: 4 bytes a resource (8 while it is made), 20 bytes a listed resource, and for each unit
+/// up to 76 bytes and 8 a use that the first alternative in its range has of those. `of` takes,
+/// before this, what listing the resources takes.
 #[derive(Drop)]
 pub struct Walk<'a> {
     problem: &'a Problem,
@@ -66,7 +70,7 @@ impl<'a> Walk<'a> {
     ghost use Rattle.choice_problem.specs.declared.vectors.TheConstants.{MOST_FURTHER};
     ghost use Rattle.choice_problem.specs.Problems.{unit_count, alt_count, resource_count};
     ghost use Rattle.choice_problem.specs.Bounds.{AreRanges};
-    ghost use Rattle.choice_problem.specs.Renumbered.{NamesUpTo};
+    ghost use Rattle.choice_problem.specs.Named.{NamesUpTo};
     ghost use Rattle.price_table.specs.Tables.{IsTableFor, vectors_of};
     ghost use Rattle.price_table.specs.Totals.{AreKeptFor};
     ghost use Rattle.choice_problem.specs.declared.vectors.Price.{Price};
@@ -75,11 +79,13 @@ impl<'a> Walk<'a> {
     ghost use Rattle.branch_tree.specs.Walks.{AreLimitsAt};
     ghost use Rattle.branch_tree.specs.Visits.{IsVisit, ClosesBy, NeedsPrices};
 
-    /// The walk at these ranges. A unit takes a step an alternative in range, and, for each part that these name, some steps
-    /// a run and a use of a listed resource; it ends early where nothing is left that all of them use. This counts on
-    /// alternatives that name the same first part standing together, and on their second parts being those of the next such
-    /// row, or these and others in front: else the second parts of a row are listed anew. Beside this it takes the steps of
-    /// listing the resources, some a use of each unit's first cheapest alternative, and some a resource.
+    /// The walk at these ranges. A unit takes a step an alternative in range, and, for each part
+    /// that these name, some steps a run and a use of a listed resource; it ends early where
+    /// nothing is left that all of them use. This counts on alternatives that name the same first
+    /// part standing together, and on their second parts being those of the next such row, or these
+    /// and others in front: else the second parts of a row are listed anew. Beside this it takes
+    /// the steps of listing the resources, some a use of each unit's first cheapest alternative,
+    /// and some a resource.
     pub fn of(alloc: Global, problem: &'a Problem, ranges: Ranges) -> Result<Walk<'a>, Memory>
         requires { AreRanges problem.now ranges }
         ensures problem { IfOk result (λ walk. walk.problem ≡ problem.now) }
@@ -92,8 +98,8 @@ impl<'a> Walk<'a> {
         Walk::over(alloc, problem, ranges, passable, ranks, limits)
     }
 
-    /// A walk of the same problem at these ranges. What does not change with ranges is copied, so that it takes far fewer
-    /// steps than `of` where there are many resources.
+    /// A walk of the same problem at these ranges. What does not change with ranges is copied, so
+    /// that it takes far fewer steps than `of` where there are many resources.
     pub fn copy_at(&self, alloc: Global, ranges: Ranges) -> Result<Walk<'a>, Memory>
         requires { AreRanges self.now.problem ranges }
         ensures problem { IfOk result (λ walk. walk.problem ≡ self.now.problem) }
@@ -176,8 +182,10 @@ impl<'a> Walk<'a> {
         self.visit_with(alloc, problem, root, &[], seen)
     }
 
-    /// Visits the walk's ranges with further vectors, whose tables these are, from number 2 on: at most 63. `problem` is
-    /// the one of `of`. One step a listed resource, and one an alternative in range for each vector with prices.
+    /// Visits the walk's ranges with further vectors, whose tables these are, from number 2 on: at
+    /// most 63. `problem` is the one of `of`. It makes the totals of the vectors and asks
+    /// `visit_kept`, in one step a listed resource, and one an alternative in range for each vector
+    /// with prices: where ranges change unit by unit, keep the totals.
     pub fn visit_with(
         &self,
         alloc: Global,
@@ -193,15 +201,15 @@ impl<'a> Walk<'a> {
         ensures { IfOk result (IsVisit problem.now root.now.prices (vectors_of further.now)
             self.now.ranges seen) }
     {
-        if let Some(leaf) = self.unpriced_leaf(problem, seen) {
-            return Ok(Visit::Close(leaf));
-        }
-        self.visit_priced(alloc, problem, root, further, seen)
+        let mut totals = totals_of(alloc, problem, &self.ranges, from_ref(root))?;
+        push_totals(alloc, problem, &self.ranges, further, &mut totals)?;
+        self.visit_kept(alloc, problem, root, further, &totals, seen)
     }
 
-    /// The leaf that closes the walk's ranges without prices, and so at each visit, whatever the vectors are: of the lowest
-    /// resource whose least load is above its limit, or of vector 0. Where there is none, `visit_priced` gives the visit's
-    /// answer: the root vector is wanted only there. `problem` is the one of `of`. One step a listed resource.
+    /// The leaf that closes the walk's ranges without prices, and so at each visit, whatever the
+    /// vectors are: of the lowest resource whose least load is above its limit, or of vector 0.
+    /// Where there is none, the prices decide: the root vector is wanted only there. `problem` is
+    /// the one of `of`. One step a listed resource.
     pub fn unpriced_leaf(&self, problem: &Problem, seen: Option<u64>) -> Option<Node>
         requires problem { problem.now ≡ self.now.problem }
         ensures some { IfSome result (λ leaf. (root : List Price) (further : List (List Price)) →
@@ -224,40 +232,9 @@ impl<'a> Walk<'a> {
         None
     }
 
-    /// The answer of `visit_with` where `unpriced_leaf` has none: one step an alternative in range for each vector with
-    /// prices, and one a listed resource where none of them closes.
-    pub fn visit_priced(
-        &self,
-        alloc: Global,
-        problem: &Problem,
-        root: &PriceTable,
-        further: &[PriceTable],
-        seen: Option<u64>,
-    ) -> Result<Visit, Memory>
-        requires problem { problem.now ≡ self.now.problem }
-        requires root { IsTableFor problem.now root.now }
-        requires further { All (IsTableFor problem.now) further.now }
-        requires few { length further.now ≤ MOST_FURTHER }
-        requires needs { NeedsPrices problem.now self.now.ranges seen }
-        ensures { IfOk result (IsVisit problem.now root.now.prices (vectors_of further.now)
-            self.now.ranges seen) }
-    {
-        if let Some(leaf) = priced_leaf(problem, &self.ranges, root, further, seen) {
-            return Ok(Visit::Close(leaf));
-        }
-        let passed = first_passed(
-            problem,
-            &self.cheapest,
-            &self.loads,
-            &self.passable,
-            &self.limits,
-        );
-        found_or_split(alloc, problem, &self.ranges, &self.cheapest, passed)
-    }
-
-    /// The answer of `visit_with` by totals that are kept for the vectors at scale 1024, those of the root vector first,
-    /// while the walk's ranges change: one step a listed resource and a vector, and none an alternative. Both tables are
-    /// those for which the totals are.
+    /// The answer of `visit_with` by totals that are kept for the vectors at scale 1024, those of
+    /// the root vector first, while the walk's ranges change: one step a listed resource and a
+    /// vector, and none an alternative. Both tables are those for which the totals are.
     pub fn visit_kept(
         &self,
         alloc: Global,
@@ -290,9 +267,9 @@ impl<'a> Walk<'a> {
         found_or_split(alloc, problem, &self.ranges, &self.cheapest, passed)
     }
 
-    /// Sets a unit's range, which is not empty and of its alternatives. `problem` is the one of `of`. After want of memory
-    /// the walk is as before. The steps of `of` for the unit at its new range, and for the alternatives that are
-    /// cheapest in its old and in its new range.
+    /// Sets a unit's range, which is not empty and of its alternatives. `problem` is the one of
+    /// `of`. After want of memory the walk is as before. The steps of `of` for the unit at its new
+    /// range, and for the alternatives that are cheapest in its old and in its new range.
     pub fn narrow(
         &mut self,
         alloc: Global,
@@ -365,7 +342,8 @@ fn first_over(
     Some(passable[place])
 }
 
-// Whether vector 0 closes ranges at scale 1: whether their first cheapest alternatives together cost at least what was seen.
+// Whether vector 0 closes ranges at scale 1: whether their first cheapest alternatives together
+// cost at least what was seen.
 fn zero_closes(
     problem: &Problem,
     ranges: &Ranges,

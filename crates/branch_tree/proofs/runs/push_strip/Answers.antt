@@ -7,7 +7,7 @@ use Rattle.branch_tree.proofs.runs.push_strip.Goals as goal
 pub loop-i-preserved : goal.loop-i-preserved
 loop-i-preserved c =
     let s = c.args.strip.now in
-    let uses = rw (c.run_of-start.ensures.start, c.run_of-start.ensures.end) at c.in_ok-push_run.ensures.uses in
+    let uses = rw (c.run-start.ensures.start, c.run-start.ensures.end) at c.in_ok-push_run.ensures.uses in
     record {
       uses = λ i l. omega (arith, uses i l, c.loop-i.invariant.uses i l, count_below-more c.loop-i.i (λ k. is_in_run s (slice_index c.args.listed.now i) k));
       below = c.in_ok-push_run.ensures.below;
