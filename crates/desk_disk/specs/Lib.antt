@@ -1,0 +1,4 @@
+pub mod Disks
+pub mod Stops
+pub mod Noted
+pub mod DisksInMemory
