@@ -11,12 +11,13 @@ use choice_problem::{Alt, Chooser, Node, Part, Problem, Strip};
 use dual_bound::root_vector;
 use search_workers::{Outcome, search};
 use season_maker::make_season;
+use series_model::states_of;
 use slot_text::Memory;
 use std::alloc::Global;
 use std::io::Print;
 use std::thread::Threads;
 use std::time::{Clock, Instant};
-use wasg_stages::{problem_after, states_of};
+use wasg_stages::problem_after;
 use worker_gate::RealGate;
 
 /// Searches a ring of 100 units with a budget of 120,000 visits by one and by four workers; and a

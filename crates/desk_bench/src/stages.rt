@@ -1,16 +1,16 @@
 //! The problems of the four stages of a season.
 
 ghost use Rattle.std.specs.Prelude.{IfOk};
-ghost use Rattle.wasg_stages.specs.StageProblems.{AreStates};
+ghost use Rattle.series_model.specs.Stages.{AreStates};
 
 use crate::report::{Size, print_row, step};
 use crate::turnarounds::{busy_line, submission};
 use choice_problem::{Choice, Problem};
-use series_model::{Submission, UnitState};
+use series_model::{Submission, UnitState, after_stage, states_of};
 use slot_text::Memory;
 use std::alloc::Global;
 use std::time::Instant;
-use wasg_stages::{after_stage, problem_after, states_of};
+use wasg_stages::problem_after;
 
 // How many daily turnarounds, and how many capacity lines.
 fn scale_of(size: Size) -> (u32, u32) {
