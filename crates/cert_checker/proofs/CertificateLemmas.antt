@@ -12,10 +12,10 @@ use Rattle.cert_format.specs.Proofs.{IsProof}
 use Rattle.cert_format.specs.Spelling.{is_tried, stage_lines, proof_lines, numbered}
 use Rattle.series_model.specs.declared.unit.Unit.{Unit as SlotUnit}
 use Rattle.series_model.specs.declared.state.UnitState.{UnitState}
-use Rattle.series_model.specs.Stages.{first_states, after_stage, after_stages, states_after, may_follow, stage_units, stage_limit}
+use Rattle.series_model.specs.Stages.{AreStates, first_states, after_stage, states_after, may_follow, stage_units, stage_limit}
 use Rattle.series_model.specs.Submissions.{SubmissionView}
 use Rattle.choice_problem.specs.Alike.{AreAlike}
-use Rattle.wasg_stages.specs.StageProblems.{IsStageProblem, AreStates}
+use Rattle.wasg_stages.specs.StageProblems.{IsStageProblem}
 use Rattle.wasg_stages.specs.Valid.{IsStageAs, AreStages, IsValid}
 use Rattle.cert_checker.specs.declared.verdict.Reason.{Reason}
 use Rattle.cert_checker.specs.declared.verdict.Reason.TheVariants as because
@@ -66,33 +66,16 @@ pub check-valid : (s : SubmissionView) (c : Certificate) (verdict : Verdict) →
 check-valid s c Yes not_both is = ((λ e. is), (λ valid. refl))
 check-valid s c (No line reason) not_both is = ((λ e. let no : ⊥ = cc in absurd no), (λ valid. absurd (not_both line reason valid is)))
 
--- ---- one choice more
-
-after-one : (d : Declaration) (stage : ℕ) (states : List UnitState) (choices : Choices) (choice : Option (List ℕ)) →
-    after_stages d stage states (choices ++ choice ∷ []) ≡ after_stage d (length choices + stage) (after_stages d stage states choices) choice
-after-one d stage states [] choice =
-    let count : stage ≡ 0 + stage = omega arith in
-    ap (λ (k : ℕ). after_stage d k states choice) count
-after-one d stage states (one ∷ choices) choice =
-    let count : length choices + suc stage ≡ suc (length choices) + stage = omega arith in
-    after-one d (suc stage) (after_stage d stage states one) choices choice
-    ∙ ap (λ (k : ℕ). after_stage d k (after_stages d (suc stage) (after_stage d stage states one) choices) choice) count
-
-states-one : (d : Declaration) (units : List SlotUnit) (earlier : Choices) (choice : Option (List ℕ)) →
-    states_after d units (earlier ++ choice ∷ []) ≡ after_stage d (length earlier + 1) (states_after d units earlier) choice
-states-one d units earlier choice = after-one d 1 (first_states units) earlier choice
-
-follows-one : (earlier : Choices) (choice : Option (List ℕ)) (follows next : Bool) → follows ≡ may_follow earlier → (2 < length earlier + 1 → next ≡ follows) →
-    (length earlier + 1 ≤ 2 → next ≡ (follows && is_some choice)) → next ≡ may_follow (earlier ++ choice ∷ [])
-follows-one [] None follows next is late early = early (omega arith) ∙ ap (λ (b : Bool). b && false) is
-follows-one [] (Some x) follows next is late early = early (omega arith) ∙ ap (λ (b : Bool). b && true) is
-follows-one (None ∷ []) None follows next is late early = early (omega arith) ∙ ap (λ (b : Bool). b && false) is
-follows-one (None ∷ []) (Some x) follows next is late early = early (omega arith) ∙ ap (λ (b : Bool). b && true) is
-follows-one (Some y ∷ []) None follows next is late early = early (omega arith) ∙ ap (λ (b : Bool). b && false) is
-follows-one (Some y ∷ []) (Some x) follows next is late early = early (omega arith) ∙ ap (λ (b : Bool). b && true) is
-follows-one (one ∷ other ∷ earlier) choice follows next is late early = late (omega arith) ∙ is
-
 -- ---- one stage after the other
+
+-- the law of the model
+abbrev pub OneMoreStage : Type 0
+OneMoreStage = (d : Declaration) (units : List SlotUnit) (choices : Choices) (choice : Option (List ℕ)) →
+    states_after d units (choices ++ choice ∷ []) ≡ after_stage d (length choices + 1) (states_after d units choices) choice
+
+-- what the answer of the model on the next stage says
+abbrev pub MayFollowNext : ℕ → Bool → Option (List ℕ) → Bool → Type 0
+MayFollowNext stage follows choice next = (earlier : Choices) → stage ≡ length earlier + 1 → follows ≡ may_follow earlier → next ≡ may_follow (earlier ++ choice ∷ [])
 
 -- a check before some stage: what is still to come decides the whole
 pub record IsOn (s : SubmissionView) (c : Certificate) (stage : ℕ) (states : List UnitState) (follows : Bool) (number : ℕ) (certs : List StageCert) : Type 0 where
@@ -154,11 +137,11 @@ stage-valid d units earlier version c false true tried is printable passes = abs
 stage-valid d units earlier version c false false tried is printable passes = sym is
 
 -- a stage that passes
-pub IsOn-next : (s : SubmissionView) (c : Certificate) (stage : ℕ) (states after : List UnitState) (follows next_follows : Bool) (number next : ℕ) (block : StageCert) (certs : List StageCert) (verdict : Verdict) →
+pub IsOn-next : OneMoreStage → (s : SubmissionView) (c : Certificate) (stage : ℕ) (states after : List UnitState) (follows next_follows : Bool) (number next : ℕ) (block : StageCert) (certs : List StageCert) (verdict : Verdict) →
     IsOn s c stage states follows number (block ∷ certs) → verdict ≡ Yes → IsBlockVerdict s.declaration stage states follows number block verdict next →
-    after ≡ after_stage s.declaration stage states block.choice → AreStates s after → (2 < stage → next_follows ≡ follows) → (stage ≤ 2 → next_follows ≡ (follows && is_some block.choice)) →
+    after ≡ after_stage s.declaration stage states block.choice → AreStates s after → MayFollowNext stage follows block.choice next_follows →
     IsOn s c (stage + 1) after next_follows next certs
-IsOn-next s c stage states after follows next_follows number next block certs verdict on passing judged after_is fit late early =
+IsOn-next more s c stage states after follows next_follows number next block certs verdict on passing judged after_is fit answer =
     let d = s.declaration in
     let passed = subst (λ (v : Verdict). IsBlockVerdict d stage states follows number block v next) passing judged in
     let passes = passes-here s c stage states follows number block certs on passed.0 in
@@ -170,8 +153,8 @@ IsOn-next s c stage states after follows next_follows number next block certs ve
       stage_is = omega (arith, on.stage_is, length-append on.earlier (block.choice ∷ []));
       states_is = after_is ∙ ap (λ (st : List UnitState). after_stage d stage st block.choice) on.states_is
           ∙ ap (λ (k : ℕ). after_stage d k (states_after d s.units on.earlier) block.choice) on.stage_is
-          ∙ sym (states-one d s.units on.earlier block.choice);
-      follows_is = follows-one on.earlier block.choice follows next_follows on.follows_is (λ lt. late (omega (arith, lt, on.stage_is))) (λ le. early (omega (arith, le, on.stage_is)));
+          ∙ sym (more d s.units on.earlier block.choice);
+      follows_is = answer on.earlier on.stage_is on.follows_is;
       fit = fit;
       printable = on.printable.1;
       lines = omega (arith, on.lines, passed.1, lines_same, length-append (stage_lines stage block) (numbered stage_lines (suc stage) certs));

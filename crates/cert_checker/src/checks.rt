@@ -1,11 +1,11 @@
 //! Checks of certificates and of one stage.
 
-ghost use Rattle.std.specs.Prelude.{◌≡◌, ◌↔◌, ◌+◌, ◌<◌, ◌≤◌, ◌^◌, ◌&&◌, ℕ, true, IfOk, length, is_some};
+ghost use Rattle.std.specs.Prelude.{◌≡◌, ◌↔◌, ◌+◌, ◌<◌, ◌≤◌, ◌^◌, ℕ, true, IfOk, length};
 ghost use Rattle.cert_format.specs.Printable.{IsPrintable, IsPrintableExtra, IsPrintableProof, IsPrintableStage};
 ghost use Rattle.cert_format.specs.Proofs.{IsProof};
 ghost use Rattle.cert_format.specs.Spelling.{is_tried, proof_lines, stage_lines};
 ghost use Rattle.cert_format.specs.declared.cert.TheConstants.{MOST_LINES};
-ghost use Rattle.wasg_stages.specs.StageProblems.{AreStates};
+ghost use Rattle.series_model.specs.Stages.{AreStates};
 ghost use Rattle.wasg_stages.specs.Valid.{IsValid, MarksHold};
 ghost use Rattle.cert_checker.specs.Verdicts.{IsStageVerdict};
 ghost use Rattle.cert_checker.specs.Certificates.{IsCheck};
@@ -15,13 +15,14 @@ ghost use Rattle.cert_checker.specs.declared.verdict.Verdict.TheVariants.{Yes};
 use crate::laws::one_verdict;
 use crate::lines::{Judged, check_lines};
 use crate::verdict::{Reason, Verdict};
-use cert_format::{Certificate, Mark, StageCert};
-use choice_problem::{Choice, Problem};
-use series_model::{Submission, UnitState};
+use cert_format::{Certificate, StageCert};
+use choice_problem::Problem;
+use series_model::laws::one_more_stage;
+use series_model::{Submission, UnitState, after_stage, next_may_follow, states_of};
 use slot_text::Memory;
 use std::alloc::Global;
 use wasg_stages::laws::valid_marks;
-use wasg_stages::{after_stage, problem_after, states_of};
+use wasg_stages::problem_after;
 
 /// Checks one stage on its problem; `first` is the number of the line of its mark.
 pub fn check_stage(
@@ -72,30 +73,6 @@ pub fn check(alloc: Global, submission: &Submission, cert: &Certificate) -> Resu
     Ok(verdict)
 }
 
-// Whether a stage was tried.
-fn is_tried(mark: Mark) -> bool
-    ensures { result ≡ is_tried mark }
-{
-    match mark {
-        Mark::Optimal => true,
-        Mark::Infeasible => true,
-        Mark::Unsettled => true,
-        Mark::NotTried => false,
-    }
-}
-
-// Whether the stage after this one may follow, where this one may or may not.
-fn may_follow(follows: bool, stage: u32, choice: &Option<Choice>) -> bool
-    ensures late { 2 < stage → result ≡ follows }
-    ensures early { stage ≤ 2 → result ≡ (follows && is_some choice.now) }
-{
-    if stage > 2 {
-        follows
-    } else {
-        follows && choice.is_some()
-    }
-}
-
 // Checks the lines of a stage that was tried and may be, the first of which has a number.
 fn check_tried(
     alloc: Global,
@@ -133,7 +110,7 @@ fn check_block(
     ensures { IfOk result (λ judged. IsBlockVerdict submission.now.declaration stage states.now
         follows first cert.now judged.verdict judged.next) }
 {
-    let tried = is_tried(cert.mark);
+    let tried = cert.mark.is_tried();
     if tried != follows {
         return Ok(Judged::refused(first, Reason::Mark));
     }
@@ -152,6 +129,7 @@ fn check_blocks(
     requires { IsPrintable cert.now }
     ensures { IfOk result (λ verdict. IsCheck submission.now cert.now verdict) }
 {
+    one_more_stage();
     let mut states = states_of(alloc, submission)?;
     let mut follows = true;
     let mut line = 2;
@@ -162,7 +140,7 @@ fn check_blocks(
             return Ok(judged.verdict);
         }
         states = after_stage(alloc, submission, stage, states, &block.choice)?;
-        follows = may_follow(follows, stage, &block.choice);
+        follows = next_may_follow(follows, stage, &block.choice);
         line = judged.next;
         stage += 1;
     }

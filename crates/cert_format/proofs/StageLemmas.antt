@@ -7,8 +7,8 @@ use Rattle.cert_format.specs.declared.cert.StageCert.{StageCert}
 use Rattle.cert_format.specs.declared.cert.Certificate.{Certificate}
 use Rattle.cert_format.specs.Private.Spots.{Spot, ◌>>=◌, line_by}
 use Rattle.cert_format.specs.Private.Rows.{mark_row, version_row, end_row}
-use Rattle.cert_format.specs.Private.Reading.{many, choice_at, vectors_at, optional_at, tree_at, not_tried, proof_at, stage_at, ended_by, ended, cert_at}
-use Rattle.cert_format.specs.Spelling.{numbered, count_words, optional_lines, choice_lines, stage_words, is_tried, proof_lines, stage_lines, cert_lines, has_bound, ProofFits, HoldsNothing, StageFitsAs, StageFits, IsCert}
+use Rattle.cert_format.specs.Private.Reading.{many, choice_at, vectors_at, optional_at, tree_at, proof_at, stage_at, ended_by, ended, cert_at}
+use Rattle.cert_format.specs.Spelling.{not_tried, numbered, count_words, optional_lines, choice_lines, stage_words, is_tried, proof_lines, stage_lines, cert_lines, has_bound, ProofFits, HoldsNothing, StageFitsAs, StageFits, IsCert}
 use Rattle.cert_format.proofs.RowLemmas.{mark_takes, mark_again, version_takes, version_again, end_line_takes, end_line_again}
 use Rattle.cert_format.proofs.BlockLemmas.{Line, bind_ok, done, ok_is, line_takes, Again, line_again, OneTakes, many_take, OneAgain, many_again, choice_takes, choice_again, optional_takes, optional_again, vectors_lines, vectors_take, vectors_again}
 use Rattle.cert_format.proofs.TreeLemmas.{tree_lines, tree_takes, tree_again}

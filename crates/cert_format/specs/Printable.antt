@@ -5,10 +5,11 @@ use Rattle.std.specs.List.{AllByRecursion}
 use Rattle.choice_problem.specs.declared.problems.TheConstants.{MOST_UNITS}
 use Rattle.choice_problem.specs.declared.closing.TheConstants.{PRICED_SCALE}
 use Rattle.choice_problem.specs.Trees.{node_count}
+use Rattle.choice_problem.specs.declared.vectors.TheConstants.{MOST_VECTORS, MOST_PRICES}
 use Rattle.cert_format.specs.declared.cert.Floor.{Floor}
 use Rattle.cert_format.specs.declared.cert.StageCert.{StageCert}
 use Rattle.cert_format.specs.declared.cert.Certificate.{Certificate}
-use Rattle.cert_format.specs.declared.cert.TheConstants.{MOST_VECTORS, MOST_PRICES, MOST_NODES, MOST_BUDGET, MOST_LINES}
+use Rattle.cert_format.specs.declared.cert.TheConstants.{MOST_NODES, MOST_BUDGET, MOST_LINES}
 use Rattle.cert_format.specs.Spelling.{is_tried, has_bound, floor_count, HoldsNothing, IsVersion, cert_lines, extra_lines}
 
 -- the parts of a stage that was tried belong together

@@ -10,7 +10,7 @@ use Rattle.cert_format.specs.declared.cert.Mark.{Mark}
 use Rattle.cert_format.specs.declared.cert.Mark.TheVariants.{Optimal, Infeasible, Unsettled, NotTried}
 use Rattle.cert_format.specs.declared.cert.StageCert.{StageCert}
 use Rattle.cert_format.specs.declared.cert.Certificate.{Certificate}
-use Rattle.cert_format.specs.declared.cert.TheConstants.{MOST_VECTORS}
+use Rattle.choice_problem.specs.declared.vectors.TheConstants.{MOST_VECTORS}
 use Rattle.cert_format.specs.Lines.{Word, text_of}
 
 -- a word and a number
@@ -171,6 +171,18 @@ pub record ProofFits (version : ℕ) (s : StageCert) : Type 0 where
   pub nodes : AllByRecursion NodeFits s.tree
   pub floor_count : length s.floors ≡ floor_count version s.tree
   pub floors : AllByRecursion FloorFits s.floors
+
+-- a stage that was not tried, with nothing but its mark
+abbrev pub not_tried : Mark → StageCert
+not_tried mark = record {
+  mark = mark;
+  choice = None;
+  cost = None;
+  bound = None;
+  vectors = [];
+  tree = [];
+  floors = [];
+}
 
 -- a stage that was not tried holds nothing
 pub record HoldsNothing (s : StageCert) : Type 0 where

@@ -6,15 +6,15 @@ ghost use Rattle.cert_format.specs.Private.Rows.{count_row, choices_row, node_ro
 ghost use Rattle.cert_format.specs.Spelling.{has_bound};
 ghost use Rattle.cert_format.specs.Private.Spots.{spot_of, line_by};
 ghost use Rattle.cert_format.specs.Forms.{Gives};
-ghost use Rattle.cert_format.specs.Private.Reading.{many, alternative_at, alternatives_at, choice_at, price_at, one_vector, vector_at, vectors_at, not_tried, optional_at, nodes_at, tree_at, proof_at, stage_at};
+ghost use Rattle.cert_format.specs.Private.Reading.{many, alternative_at, alternatives_at, choice_at, price_at, one_vector, vector_at, vectors_at, optional_at, nodes_at, tree_at, proof_at, stage_at};
 
-use crate::cert::{Floor, FloorList, MOST_VECTORS, Mark, StageCert};
+use crate::cert::{Floor, FloorList, Mark, StageCert};
 use crate::fault::CertFault;
 use crate::place::Place;
 use crate::rows::{
     AlternativeRow, ChoicesRow, CountRow, MarkRow, NodeRow, PriceRow, SmallCountRow,
 };
-use choice_problem::{Choice, Node, Price, Tree, Vector, VectorList};
+use choice_problem::{Choice, MOST_VECTORS, Node, Price, Tree, Vector, VectorList};
 use std::alloc::Global;
 
 // The alternatives of the units below the count.
@@ -217,21 +217,6 @@ pub fn proof_at(
     Ok((stage, place))
 }
 
-// A stage that was not tried.
-fn not_tried(alloc: Global) -> StageCert
-    ensures { result ≡ not_tried Mark.NotTried }
-{
-    StageCert {
-        mark: Mark::NotTried,
-        choice: None,
-        cost: None,
-        bound: None,
-        vectors: VectorList::new(Vec::new(alloc)),
-        tree: Tree::new(Vec::new(alloc)),
-        floors: FloorList::new(Vec::new(alloc)),
-    }
-}
-
 /// A stage, by its number.
 #[tactic(auto, unfolding(crate::specs::Private::Reading::stage_at))]
 pub fn stage_at(
@@ -245,7 +230,7 @@ pub fn stage_at(
 {
     let (mark, place) = place.read(&MarkRow { stage })?;
     match mark {
-        Mark::NotTried => Ok((not_tried(alloc), place)),
+        Mark::NotTried => Ok((StageCert::not_tried(alloc), place)),
         Mark::Optimal | Mark::Infeasible | Mark::Unsettled => proof_at(alloc, version, mark, place),
     }
 }

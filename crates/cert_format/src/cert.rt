@@ -1,16 +1,12 @@
 //! Certificates as values.
 
 ghost use Rattle.std.specs.Prelude.{◌≡◌};
+ghost use Rattle.cert_format.specs.declared.cert.Mark.TheVariants.{NotTried};
+ghost use Rattle.cert_format.specs.Spelling.{is_tried, not_tried};
 
 use choice_problem::{Choice, Tree, VectorList};
+use std::alloc::Global;
 use std::marker::Model;
-
-/// The most vectors of a stage; vector 0, which has no prices, is not counted.
-pub const MOST_VECTORS: usize = 64;
-
-/// The most prices of the first vector of a stage of a season, and the most of its other vectors
-/// together.
-pub const MOST_PRICES: usize = 1_000_000;
 
 /// The most nodes of the tree of a stage of a season: 1,000,000 splits and closed leaves, and what
 /// they leave undone.
@@ -39,6 +35,18 @@ pub enum Mark {
     Unsettled,
     /// An earlier stage has no allotment.
     NotTried,
+}
+
+impl Mark {
+    /// Whether the stage was tried.
+    pub fn is_tried(self) -> bool
+        ensures { result ≡ is_tried self }
+    {
+        match self {
+            Mark::NotTried => false,
+            Mark::Optimal | Mark::Infeasible | Mark::Unsettled => true,
+        }
+    }
 }
 
 /// The vector and the scale whose Lagrangian bound is the floor of an undone node. Vector 0 has no
@@ -92,6 +100,23 @@ pub struct StageCert {
     pub vectors: VectorList,
     pub tree: Tree,
     pub floors: FloorList,
+}
+
+impl StageCert {
+    /// A stage that was not tried, with nothing but its mark. It takes no memory.
+    pub fn not_tried(alloc: Global) -> StageCert
+        ensures { result ≡ not_tried NotTried }
+    {
+        StageCert {
+            mark: Mark::NotTried,
+            choice: None,
+            cost: None,
+            bound: None,
+            vectors: VectorList::new(Vec::new(alloc)),
+            tree: Tree::new(Vec::new(alloc)),
+            floors: FloorList::new(Vec::new(alloc)),
+        }
+    }
 }
 
 /// The stages of a season, in order.

@@ -15,8 +15,8 @@ mod rows;
 mod tokens;
 
 pub use cert::{
-    Certificate, Floor, FloorList, LONGEST_CERT, MOST_BUDGET, MOST_LINES, MOST_NODES, MOST_PRICES,
-    MOST_SEASON_BYTES, MOST_VECTORS, Mark, StageCert, StageList,
+    Certificate, Floor, FloorList, LONGEST_CERT, MOST_BUDGET, MOST_LINES, MOST_NODES,
+    MOST_SEASON_BYTES, Mark, StageCert, StageList,
 };
 pub use extra::{print_extra, read_extra};
 pub use fault::CertFault;

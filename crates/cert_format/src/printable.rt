@@ -3,13 +3,13 @@
 ghost use Rattle.std.specs.Prelude.{◌≡◌, ◌↔◌, ◌+◌, ◌<◌, ◌≤◌, [], ◌∷◌, IsTrue, MatchOption, length, sum_by};
 ghost use Rattle.std.specs.List.{AllByRecursion};
 ghost use Rattle.std.specs.Option.{option_map_or};
-ghost use Rattle.cert_format.specs.Spelling.{undone_count, floor_count, is_tried, cert_lines, extra_lines, HoldsNothing};
+ghost use Rattle.cert_format.specs.Spelling.{undone_count, floor_count, cert_lines, extra_lines, HoldsNothing};
 ghost use Rattle.cert_format.specs.Printable.{IsPrintableProof, IsPrintableStage, IsPrintable, IsPrintableExtra, proof_line_count};
 ghost use Rattle.cert_format.specs.Private.Ranges.{prices_line_count, stage_line_count};
 
 use crate::blocks::has_bound;
-use crate::cert::{Certificate, MOST_LINES, MOST_VECTORS, Mark, StageCert};
-use choice_problem::{Choice, Node, Tree, Vector};
+use crate::cert::{Certificate, MOST_LINES, Mark, StageCert};
+use choice_problem::{Choice, MOST_VECTORS, Node, Tree, Vector};
 
 // 1 for an undone node, else 0.
 fn undone_of(node: Node) -> usize
@@ -174,16 +174,6 @@ fn take_stages(room: u64, stages: &[StageCert]) -> Option<u64>
     Some(left)
 }
 
-// Whether a stage was tried.
-fn is_tried(mark: Mark) -> bool
-    ensures { result ≡ is_tried mark }
-{
-    match mark {
-        Mark::NotTried => false,
-        Mark::Optimal | Mark::Infeasible | Mark::Unsettled => true,
-    }
-}
-
 // Whether the stages of a certificate have few enough lines.
 #[tactic(auto, using(crate::proofs::CountLemmas::cert_length))]
 fn has_few_lines(cert: &Certificate) -> bool
@@ -221,7 +211,7 @@ pub fn is_printable(cert: &Certificate) -> bool
 pub fn is_printable_extra(stage: &StageCert) -> bool
     ensures { IsTrue result ↔ IsPrintableExtra stage.now }
 {
-    if !is_tried(stage.mark) {
+    if !stage.mark.is_tried() {
         return false;
     }
     if !is_printable_proof(2, stage) {

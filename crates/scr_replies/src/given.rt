@@ -4,40 +4,16 @@ ghost use Rattle.std.specs.Prelude.{◌≡◌, ◌++◌, OnOk, IfSome, All, Some
 ghost use Rattle.std.specs.List.{flat_map};
 ghost use Rattle.scr_reader.specs.Printed.{LineFits};
 ghost use Rattle.series_model.specs.Units.{UnitFits};
-ghost use Rattle.series_model.specs.Options.{relative_minute, line_times, are_same};
+ghost use Rattle.series_model.specs.Options.{line_times, are_same};
 ghost use Rattle.series_model.specs.TimedLines.{line_at, IsNear};
 ghost use Rattle.scr_replies.specs.SeasonReplies.{moved_answer, slots_answer, given_answer, unit_answer, IsAnswerable};
 
 use crate::answers::{put_confirmed, put_held, put_offer, put_refused};
-use scr_reader::{Line, Stop};
-use season_days::{MINUTES_OF_DAY, Season};
-use series_model::{Times, Unit, UnitState, line_at};
+use scr_reader::Line;
+use season_days::Season;
+use series_model::{Times, Unit, UnitState, are_same, line_at, line_times};
 use slot_text::Memory;
 use std::alloc::Global;
-
-// The minutes from the beginning of a line's date to a movement some nights later; 0 where there is
-// no such movement.
-fn relative_minute(nights: u8, stop: Option<Stop>) -> u32
-    ensures { result ≡ relative_minute nights stop }
-{
-    match stop {
-        Some(stop) => MINUTES_OF_DAY * u32::from(nights) + u32::from(stop.minute),
-        None => 0,
-    }
-}
-
-// Whether these are the times that a line names.
-fn are_times_of(line: &Line, times: Times) -> bool
-    ensures { result ≡ are_same times (line_times line.now) }
-{
-    match times {
-        Times::Refused => false,
-        Times::At { arrival, departure } => {
-            arrival == relative_minute(0, line.arrival)
-                && departure == relative_minute(line.nights, line.departure)
-        }
-    }
-}
 
 // Appends the answer to a request that was given other times.
 fn put_moved(
@@ -77,7 +53,7 @@ fn put_moved_pair(
     ensures { OnOk result (out.new.items
         ≡ out.old.items ++ moved_answer season.now request.now (Some historic.now) times) }
 {
-    if are_times_of(historic, times) {
+    if are_same(&times, &line_times(historic)) {
         put_held(alloc, out, season, request, historic)
     } else {
         put_offer(alloc, out, season, request, &line_at(request, times))
@@ -98,7 +74,7 @@ fn put_slots(
     ensures { OnOk result
         (out.new.items ≡ out.old.items ++ slots_answer season.now unit.now times) }
 {
-    if are_times_of(&unit.request, times) {
+    if are_same(&times, &line_times(&unit.request)) {
         put_confirmed(alloc, out, season, &unit.request)
     } else {
         put_moved(alloc, out, season, &unit.request, unit.historic, times)

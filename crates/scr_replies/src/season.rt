@@ -1,17 +1,18 @@
 //! The replies to a season's messages.
 
-ghost use Rattle.std.specs.Prelude.{◌≡◌, ◌≤◌, ◌++◌, ◌∷◌, [], All, IfOk, OnOk, length, take, is_some};
-ghost use Rattle.std.specs.List.{filter_map, flat_map};
+ghost use Rattle.std.specs.Prelude.{◌≡◌, ◌≤◌, ◌++◌, ◌∷◌, [], All, IfOk, OnOk, length, take};
+ghost use Rattle.std.specs.List.{flat_map};
 ghost use Rattle.cert_format.specs.Printable.{IsPrintable};
 ghost use Rattle.scr_reader.specs.Messages.{header_of};
-ghost use Rattle.series_model.specs.Units.{placed_unit, message_units, units_of};
+ghost use Rattle.series_model.specs.Units.{message_units, units_of};
+ghost use Rattle.series_model.specs.Submissions.{MakesUnits};
 ghost use Rattle.scr_replies.specs.Answers.{message_reply};
 ghost use Rattle.scr_replies.specs.SeasonReplies.{unit_answer, replies_from, replies_text, IsAnswerable};
 
 use crate::given::put_units;
 use crate::states::final_states;
 use cert_format::Certificate;
-use scr_reader::{Code, Item, Message, Placed, print_header};
+use scr_reader::{Message, print_header};
 use season_days::Season;
 use series_model::{Submission, UnitState};
 use slot_text::Memory;
@@ -26,7 +27,7 @@ use std::alloc::Global;
 /// refusal; a valid certificate has no such number.
 ///
 /// Beside the text, memory is taken for what each unit was given, and for one line at a time. The
-/// time is that of `wasg_stages::after_stage` for each stage, and one step for each item and byte.
+/// time is that of `series_model::after_stage` for each stage, and one step for each item and byte.
 pub fn season_replies(
     alloc: Global,
     submission: &Submission,
@@ -59,13 +60,14 @@ fn put_replies(
     states: &[UnitState],
 ) -> Result<(), Memory>
     requires answerable { All (IsAnswerable season.now) states.now }
+    requires each { All MakesUnits messages.now }
     requires count { length states.now ≡ length (units_of messages.now) }
     ensures { OnOk result (out.new.items
         ≡ out.old.items ++ replies_from season.now messages.now states.now) }
 {
     let mut next = 0;
     for message in messages {
-        let count = unit_count(message.items.items());
+        let count = unit_count(message);
         put_reply(alloc, out, season, message, &states[next..next + count])?;
         next += count;
     }
@@ -91,26 +93,10 @@ fn put_reply(
     Ok(())
 }
 
-// How many units items make.
-fn unit_count(items: &[Placed]) -> usize
-    ensures { result ≡ length (filter_map placed_unit items.now) }
+// How many units a message makes, each of whose items makes one.
+fn unit_count(message: &Message) -> usize
+    requires { MakesUnits message.now }
+    ensures { result ≡ length (message_units message.now) }
 {
-    let mut count = 0;
-    for placed in items {
-        if makes_unit(placed) {
-            count += 1;
-        }
-    }
-    count
-}
-
-// Whether an item makes a unit.
-fn makes_unit(placed: &Placed) -> bool
-    ensures { result ≡ is_some (placed_unit placed.now) }
-{
-    match placed.item {
-        Item::One(line) => matches!(line.code, Code::F | Code::B | Code::N),
-        Item::Pair(_, _) => true,
-        Item::Query(_) => false,
-    }
+    message.items.items().len()
 }

@@ -2,17 +2,15 @@
 
 ghost use Rattle.std.specs.Prelude.{◌≡◌, ◌≤◌, ◌<◌, All, IfOk, length, map};
 ghost use Rattle.cert_format.specs.Printable.{IsPrintable};
-ghost use Rattle.series_model.specs.Stages.{after_stage};
-ghost use Rattle.wasg_stages.specs.StageProblems.{AreStates};
+ghost use Rattle.series_model.specs.Stages.{AreStates, after_stage};
 ghost use Rattle.scr_replies.specs.SeasonReplies.{final_states, IsAnswerable};
 
 use cert_format::Certificate;
 use choice_problem::Choice;
 use series_model::laws::{option_bounds, spelled_alternatives};
-use series_model::{Submission, UnitState};
+use series_model::{Submission, UnitState, after_stage, states_of};
 use slot_text::Memory;
 use std::alloc::Global;
-use wasg_stages::{after_stage, states_of};
 
 // The units after one more stage; what they have been given can be printed.
 fn after_next(

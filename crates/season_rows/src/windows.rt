@@ -212,7 +212,7 @@ fn limit(alloc: Global, windows: &Windows, asked: &[u32]) -> Result<Vec<u32>, Fa
     let limit = windows.limit(*resource);
     let limits = windows.limits(alloc)?;
     let listed = limits.get(*resource as usize).copied().unwrap_or(0);
-    if listed != i64::from(limit) {
+    if listed != limit {
         return Err("another limit".into());
     }
     Ok(vec![in alloc; limit]?)

@@ -2,15 +2,15 @@
 use Rattle.std.proofs.Common.{◌≡◌, ℕ, zero, suc, ◌+◌, ◌-◌, ◌*◌, ◌%◌, ◌^◌, ◌<◌, ◌≤◌, Bool, true, List, [], ◌∷◌, length, get_or, map, Some, None, refl, sym, ap, subst, ◌∙◌, arith, inl, inr}
 use Rattle.std.specs.Prelude.{Option, All, Contains, IsSomeAnd, nat_le, is_some, if◌then◌else◌}
 use Rattle.std.specs.Option.{ForSome, unwrap_or}
-use Rattle.std.specs.List.{filter, flat_map, range_with_len, list_any, count_by}
+use Rattle.std.specs.List.{filter, range_with_len, list_any, count_by}
 use Rattle.std.proofs.lemmas.List.Sums.{length-filter, count_by-le-length}
 use Rattle.series_model.specs.Displacement.{stop_change, line_change, stop_count, line_dates, cost_at, displacement_of}
 use Rattle.std.specs.Int.{abs_diff}
 use Rattle.std.proofs.lemmas.Bool.{cases_Bool, cases_eq, le-leb, eq-eqb, and_from}
 use Rattle.std.proofs.lemmas.Nat.{mul-le}
 use Rattle.std.proofs.Math.Nat.{zero-mod}
-use Rattle.std.proofs.lemmas.List.{length-append, length-map}
-use Rattle.std.proofs.lemmas.List.Elements.{All-nil, All-cons, All-head, All-tail, All-append, All-weaker, All-map, All-filter, All-contains, Contains-append_left, Contains-append_right}
+use Rattle.std.proofs.lemmas.List.{length-append}
+use Rattle.std.proofs.lemmas.List.Elements.{All-nil, All-cons, All-head, All-tail, All-append, All-weaker, All-map, All-filter, Contains-append_left, Contains-append_right}
 use Rattle.season_days.specs.Term.{Term}
 use Rattle.season_days.specs.Seasons.{date_count, is_on, days_from}
 use Rattle.season_days.specs.declared.declaration.Declaration.{Declaration}

@@ -1,6 +1,6 @@
 -- Elements of lists by their numbers, and whether times are among the shifts of a line.
 use Rattle.std.proofs.Common.{◌≡◌, ◌⊎◌, ℕ, zero, suc, ◌+◌, ◌-◌, ◌*◌, ◌/◌, ◌%◌, ◌<◌, ◌≤◌, max, Bool, true, false, ◌&&◌, ◌||◌, List, [], ◌∷◌, ◌++◌, map, Some, None, refl, sym, ap, ◌∙◌, arith, inl, inr}
-use Rattle.std.specs.Prelude.{Option, Result, Ok, Err, IfSome, slice_get, ◌==◌}
+use Rattle.std.specs.Prelude.{Option, Ok, Err, IfSome, slice_get, ◌==◌}
 use Rattle.std.specs.List.{list_any, cons_option, flat_map}
 use Rattle.std.specs.Option.{option_map}
 use Rattle.std.proofs.lemmas.List.{append-nil}

@@ -1,13 +1,12 @@
 -- What a stage gives: counts along lists, and limits.
-use Rattle.std.proofs.Common.{◌≡◌, ℕ, zero, suc, ◌+◌, ◌-◌, ◌*◌, ◌/◌, ◌<◌, ◌≤◌, Bool, true, false, refl, sym, ◌∙◌, ap, arith, lit<, mul-le-mul_left, List, [], ◌∷◌, ◌++◌}
+use Rattle.std.proofs.Common.{◌≡◌, ℕ, suc, ◌+◌, ◌*◌, ◌/◌, ◌<◌, ◌≤◌, Bool, true, false, refl, ap, arith, lit<, mul-le-mul_left, List, [], ◌∷◌, ◌++◌}
 use Rattle.std.specs.Prelude.{Option, Some, None, if◌then◌else◌, ◌==◌, map}
-use Rattle.std.specs.List.{count_by, flat_map}
 use Rattle.std.proofs.lemmas.List.Sums.{sum_by-append}
 use Rattle.std.proofs.lemmas.Nat.{div_below}
 use Rattle.season_days.specs.Term.{Term}
 use Rattle.season_days.specs.Capacity.{Capacity, capacity_of}
 use Rattle.season_days.specs.declared.declaration.Declaration.{Declaration}
-use Rattle.capacity_windows.specs.Windows.{window_load, window_limit}
+use Rattle.capacity_windows.specs.Windows.{window_load}
 use Rattle.capacity_windows.specs.declared.movement.Movement.{Movement}
 use Rattle.series_model.specs.declared.unit.Unit.{Unit as SlotUnit}
 use Rattle.series_model.specs.declared.times.Times.{Times}

@@ -1,6 +1,6 @@
 -- A header whose season or airport is another is refused, and one that has none such is not.
-use Rattle.std.proofs.Common.{◌≡◌, ◌≢◌, ◌+◌, ℕ, true, false, List, [], ◌∷◌, Some, None, refl, sym, ap, subst, ◌∙◌, inl, inr}
-use Rattle.std.specs.Prelude.{Bool, Option, ◌==◌}
+use Rattle.std.proofs.Common.{◌≡◌, ◌≢◌, ◌+◌, ℕ, true, false, List, [], ◌∷◌, Some, refl, subst, inl, inr}
+use Rattle.std.specs.Prelude.{◌==◌}
 use Rattle.std.proofs.lemmas.Bool.{cases_Bool, and_parts, and_from, eqb-true, eq-eqb}
 use Rattle.slot_text.specs.declared.station.Station.{Station}
 use Rattle.season_days.specs.Term.{Term}
@@ -8,7 +8,6 @@ use Rattle.season_days.specs.declared.season.Half.{Half}
 use Rattle.season_days.specs.declared.season.Half.TheVariants.{Summer, Winter}
 use Rattle.season_days.specs.declared.declaration.Declaration.{Declaration}
 use Rattle.scr_reader.specs.declared.message.Message.{Message}
-use Rattle.series_model.specs.declared.fault.ModelFault.{ModelFault}
 use Rattle.series_model.specs.declared.fault.ModelFault.TheVariants.{OtherAirport}
 use Rattle.series_model.specs.Submissions.{is_half, is_season, are_letters, is_station, items_fault, message_fault}
 

@@ -1,6 +1,6 @@
 -- The lines at the times of alternatives have a spelling.
-use Rattle.std.proofs.Common.{◌≡◌, ℕ, zero, suc, ◌+◌, ◌*◌, ◌/◌, ◌%◌, ◌<◌, ◌≤◌, Bool, true, false, List, [], ◌∷◌, ◌++◌, Some, None, refl, sym, ap, ◌∙◌, arith, inl, inr}
-use Rattle.std.specs.Prelude.{Option, All, IsSomeAnd, nat_le, is_some, if◌then◌else◌}
+use Rattle.std.proofs.Common.{◌≡◌, ℕ, ◌+◌, ◌*◌, ◌/◌, ◌<◌, ◌≤◌, List, [], ◌∷◌, Some, None, refl, arith, inl, inr}
+use Rattle.std.specs.Prelude.{Option, All, nat_le, is_some}
 use Rattle.std.specs.List.{filter, list_any}
 use Rattle.std.proofs.lemmas.Bool.{cases_Bool, leb-true}
 use Rattle.std.proofs.lemmas.Nat.{mod_below, div_below}
@@ -16,7 +16,7 @@ use Rattle.series_model.specs.declared.unit.Unit.{Unit as SlotUnit}
 use Rattle.series_model.specs.declared.times.Times.{Times}
 use Rattle.series_model.specs.declared.times.Times.TheVariants.{Refused, At}
 use Rattle.series_model.specs.Units.{IsHistoric, HistoricFits, UnitFits}
-use Rattle.series_model.specs.Options.{relative_minute, line_times, stop_shifts, least_ground, pairs_at, pairs_of, shifts_by, shifts_of, lies_between, are_same, with_times, with_refused, flexible_options, either_options, options_by, options_of}
+use Rattle.series_model.specs.Options.{relative_minute, line_times, stop_shifts, least_ground, pairs_at, pairs_of, shifts_by, shifts_of, lies_between, are_same, with_times, with_refused, options_by, options_of}
 use Rattle.series_model.specs.TimedLines.{stop_at, line_at}
 use Rattle.series_model.proofs.BoundLemmas.{shifts_below, few_nights, arrives_early, leaves_early}
 

@@ -1,22 +1,19 @@
 -- The problem of some units under a limit for each resource: the same units, alternatives, costs,
 -- uses and limits, as plain numbers. It is a relation and no function, since the uses of an
 -- alternative may be put into strips in many ways.
-use Rattle.std.specs.Prelude.{◌≡◌, ℕ, ◌+◌, ◌<◌, ◌≤◌, List, length, All}
+use Rattle.std.specs.Prelude.{◌≡◌, ℕ, ◌+◌, ◌<◌, List, length}
 use Rattle.std.specs.List.{AllZip}
 use Rattle.season_days.specs.Capacity.{capacity_of, declared_resources}
 use Rattle.season_days.specs.declared.declaration.Declaration.{Declaration}
 use Rattle.capacity_windows.specs.Windows.{window_load}
 use Rattle.choice_problem.specs.declared.problems.Alt.{Alt}
-use Rattle.choice_problem.specs.declared.problems.TheConstants.{MOST_UNITS}
 use Rattle.choice_problem.specs.Problems.{ProblemView, ChooserView, named_uses, resource_count, limit_of}
 use Rattle.series_model.specs.declared.unit.Unit.{Unit as SlotUnit}
 use Rattle.series_model.specs.declared.times.Times.{Times}
 use Rattle.series_model.specs.declared.state.UnitState.{UnitState}
-use Rattle.series_model.specs.Units.{UnitFits}
 use Rattle.series_model.specs.Options.{options_of}
 use Rattle.series_model.specs.Movements.{movements_of}
 use Rattle.series_model.specs.Displacement.{displacement_of}
-use Rattle.series_model.specs.Submissions.{SubmissionView}
 use Rattle.series_model.specs.Stages.{stage_units, stage_limit}
 
 -- an alternative costs what its times displace, and uses a resource as often as that holds its

@@ -6,13 +6,13 @@ use Rattle.cert_format.specs.declared.cert.Floor.{Floor}
 use Rattle.cert_format.specs.declared.cert.Mark.{Mark}
 use Rattle.cert_format.specs.declared.cert.StageCert.{StageCert}
 use Rattle.cert_format.specs.declared.cert.Certificate.{Certificate}
-use Rattle.cert_format.specs.declared.cert.TheConstants.{MOST_VECTORS}
+use Rattle.choice_problem.specs.declared.vectors.TheConstants.{MOST_VECTORS}
 use Rattle.cert_format.specs.Lines.{Word}
 use Rattle.cert_format.specs.Private.Cuts.{cert_lines_of}
 use Rattle.cert_format.specs.Private.Words.{most_small, most_large}
 use Rattle.cert_format.specs.Private.Spots.{Spot, Read, ◌>>=◌, line_by}
 use Rattle.cert_format.specs.Private.Rows.{count_row, choices_row, alternative_row, price_row, node_row, mark_row, version_row, end_row, extra_row, tried_row}
-use Rattle.cert_format.specs.Spelling.{is_tried, has_bound}
+use Rattle.cert_format.specs.Spelling.{is_tried, has_bound, not_tried}
 
 -- items one after the other, of which `one` reads the i-th
 unfoldable pub many : {A : Type 0} → (ℕ → Spot → Read A) → ℕ → ℕ → Spot → Read (List A)
@@ -70,17 +70,6 @@ unfoldable pub tree_at : ℕ → Spot → Read (List Node × List Floor)
 tree_at version s = do
   n ← line_by (count_row (codes "TREE") most_small) s
   nodes_at version n.0 n.1
-
-abbrev pub not_tried : Mark → StageCert
-not_tried mark = record {
-  mark = mark;
-  choice = None;
-  cost = None;
-  bound = None;
-  vectors = [];
-  tree = [];
-  floors = [];
-}
 
 -- what follows the line of the mark of a stage that was tried
 unfoldable pub proof_at : ℕ → Mark → Spot → Read StageCert

@@ -49,8 +49,8 @@ loop-block-preserved c =
     c.deref.ensures.value c.in_ok-judged.ensures in
     record {
       stage = omega (arith, c.loop-block.invariant.stage);
-      on = IsOn-next s cert c.loop-block.stage c.loop-block.states.items c.in_ok-states-2.states.items c.loop-block.follows c.may_follow-follows.result c.loop-block.line c.in_ok-judged.judged.next
-          c.block-item.result (drop (i + 1) cert.stages) c.in_ok-judged.judged.verdict on passed verdict c.in_ok-states-2.ensures.after c.in_ok-states-2.ensures.fit c.may_follow-follows.ensures.late c.may_follow-follows.ensures.early;
+      on = IsOn-next c.one_more_stage.ensures s cert c.loop-block.stage c.loop-block.states.items c.in_ok-states-2.states.items c.loop-block.follows c.next_may_follow-follows.result c.loop-block.line c.in_ok-judged.judged.next
+          c.block-item.result (drop (i + 1) cert.stages) c.in_ok-judged.judged.verdict on passed verdict c.in_ok-states-2.ensures.after c.in_ok-states-2.ensures.fit c.next_may_follow-follows.ensures;
     }
 
 pub returns : goal.returns

@@ -9,4 +9,4 @@ pub put_replies-requires-clause-count : goal.put_replies-requires-clause-count
 put_replies-requires-clause-count c =
     ap (λ (s : List UnitState). length s) c.deref.ensures.value ∙ c.in_ok-states.ensures.count
     ∙ ap (λ (us : List SlotUnit). length us) (sym c.units-units.ensures.value ∙ c.units-units.ensures.of_messages)
-    ∙ ap (λ (ms : List Message). length (units_of ms)) (sym (c.items.ensures ∙ c.messages.ensures))
+    ∙ ap (λ (ms : List Message). length (units_of ms)) (sym (c.items.ensures ∙ c.messages.ensures.value))

@@ -2,7 +2,7 @@ use Rattle.std.proofs.Common.{◌≡◌, ◌+◌, drop, length}
 use Rattle.std.specs.Prelude.{All}
 use Rattle.cert_format.specs.Choices.{choices_of}
 use Rattle.series_model.specs.Stages.{after_stages}
-use Rattle.wasg_stages.specs.StageProblems.{AreStates}
+use Rattle.series_model.specs.Stages.{AreStates}
 use Rattle.scr_replies.specs.SeasonReplies.{final_states, IsAnswerable}
 use Rattle.scr_replies.proofs.states.final_states.Given as goal
 

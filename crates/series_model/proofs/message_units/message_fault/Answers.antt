@@ -1,6 +1,6 @@
-use Rattle.std.proofs.Common.{◌≡◌, ◌≢◌, ◌+◌, ◌∙◌, ap, sym, subst, Some}
+use Rattle.std.proofs.Common.{◌≡◌, ◌∙◌, ap, subst, Some}
 use Rattle.scr_reader.specs.declared.stray.StrayLine.{StrayLine}
-use Rattle.scr_reader.specs.declared.stray.StrayLine.TheVariants.{Season, Airport}
+use Rattle.scr_reader.specs.declared.stray.StrayLine.TheVariants.{Airport}
 use Rattle.scr_reader.specs.Strays.{IsStrayLine}
 use Rattle.series_model.specs.Submissions.{items_fault}
 use Rattle.series_model.proofs.StrayLemmas.{other_airport, no_stray}
