@@ -1,3 +1,5 @@
+//! A run of the starts of a capacity line.
+
 // The windows of a capacity line at some of its starts, on the day some days before a movement's:
 // the starts from `low` on and below `high` of the `starts` of a day, where `first` is the number
 // of the line's first window.

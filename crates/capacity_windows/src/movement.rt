@@ -1,3 +1,5 @@
+//! Movements.
+
 use season_days::Kind;
 
 /// An arrival or a departure (its kind is never `Tot`), on a day of the season and a minute of that

@@ -1,3 +1,5 @@
+//! What the numbers of resources stand for.
+
 use season_days::{Night, Rule};
 
 /// What a number stands for: the window of a capacity line on a day that begins at one of the

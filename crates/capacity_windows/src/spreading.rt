@@ -34,11 +34,11 @@ impl Windows {
     ///
     /// The part uses one resource at most 217 times, so an alternative of two such parts at most
     /// 434 times, and a window at most once, since it is at most a day long: the night quota alone
-    /// can be used more often. A capacity line that holds the kind takes one strip for its windows of the
-    /// movement's day and one for those of the day before where all weekdays are in its set and in
-    /// the period's, and else up to seven for each; any other line takes none, and the night quota
-    /// one. So a daily stop under 16 daily lines takes at most 33 strips, however many dates it
-    /// has, and any part at most 897. The time is one step a strip or weekday, and for the quota
+    /// can be used more often. A capacity line that holds the kind takes one strip for its windows
+    /// of the movement's day and one for those of the day before where all weekdays are in its set
+    /// and in the period's, and else up to seven for each; any other line takes none, and the night
+    /// quota one. So a daily stop under 16 daily lines takes at most 33 strips, however many dates
+    /// it has, and any part at most 897. The time is one step a strip or weekday, and for the quota
     /// one step a date. The one fault is want of memory.
     pub fn strips_of(
         &self,

@@ -1,3 +1,5 @@
+//! The windows of a declaration, their numbers and limits.
+
 ghost use Rattle.std.specs.Prelude.{◌≡◌, nat_lt, ◌+◌, ◌*◌, ◌<◌, ◌≤◌, IfOk, IfSome, IfNone, IsNone, ◌↔◌, slice_get, length, sum_by, take};
 ghost use Rattle.std.specs.Option.{ForSome};
 ghost use Rattle.season_days.specs.Seasons.{date_count, is_on};

@@ -1,5 +1,5 @@
--- Least loads of resources that are kept while the ranges change. Contracts of private functions alone
--- cite this.
+-- Least loads of resources that are kept while the ranges change. Contracts of private functions
+-- alone cite this.
 use Rattle.std.specs.Prelude.{◌≡◌, ℕ, ◌<◌, ◌≤◌, List, length, drop, Option, None, IfSome, slice_index, slice_index_or}
 use Rattle.choice_problem.specs.declared.problems.TheConstants.{MOST_UNITS, MOST_USES}
 use Rattle.finite_sums.specs.Sums.{least_within}
@@ -33,4 +33,5 @@ abbrev pub AreKeptLoads : ProblemView → List (ℕ × ℕ) → List (ℕ × ℕ
     List (Option KeptLoad) → Type 0
 AreKeptLoads p ranges whole changes marked kept =
     (i : ℕ) → IfSome (slice_index_or kept i None)
-    (λ (k : KeptLoad). IsKeptLoad p k × HasSeenLoad ranges changes k × AgreeBut marked whole k.ranges)
+    (λ (k : KeptLoad). IsKeptLoad p k × HasSeenLoad ranges changes k
+    × AgreeBut marked whole k.ranges)

@@ -1,4 +1,5 @@
--- Least loads that are kept while the ranges change. Contracts of private functions alone cite this.
+-- Least loads that are kept while the ranges change. Contracts of private functions alone cite
+-- this.
 use Rattle.std.specs.Prelude.{◌≡◌, ℕ, ◌<◌, List, length, Option, None, IfSome, slice_index, slice_index_or}
 use Rattle.choice_problem.specs.Problems.{ProblemView, unit_count}
 use Rattle.choice_problem.specs.Bounds.{AreRanges, least_load, whole_of}

@@ -29,8 +29,9 @@ pub(crate) struct Loads {
     pub(crate) kept: Vec<Option<KeptLoad>>,
 }
 
-/// Loads before any change, for a walk of these nodes: a few numbers for each unit and each resource
-/// that one of the nodes names, and one for each of these nodes that names another than the one before.
+/// Loads before any change, for a walk of these nodes: a few numbers for each unit and each
+/// resource that one of the nodes names, and one for each of these nodes that names another than
+/// the one before.
 pub(crate) fn first_loads(alloc: Global, problem: &Problem, nodes: &[Node]) -> Result<Loads, Memory>
     ensures { IfOk result (λ loads. IsLoadState problem.now (whole_of problem.now) [] loads) }
 {
@@ -219,9 +220,9 @@ fn load_of(
 /// resource costs one step a unit, and one an alternative in range that uses it. Then a node costs
 /// one step for each change of a range since one last named it, at most one for each unit whose
 /// range has changed since the walk began, and one an alternative that uses it of each range that
-/// differs. Where another resource has its place, a node goes over each unit whose range has changed
-/// since the walk began, and its alternatives that use the resource. A resource is looked up among
-/// those that nodes of the walk name by halving their list.
+/// differs. Where another resource has its place, a node goes over each unit whose range has
+/// changed since the walk began, and its alternatives that use the resource. A resource is looked
+/// up among those that nodes of the walk name by halving their list.
 pub(crate) fn over_holds(
     alloc: Global,
     problem: &Problem,

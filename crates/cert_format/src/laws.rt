@@ -22,9 +22,9 @@ pub fn line_counts()
     ensures extra { (s : StageCertValue) → IsWithinLimits s → length (extra_lines s) ≤ MOST_LINES }
 {}
 
-/// A certificate of four stages within the limits of a season has at most 512 MiB: 133,099,601 bytes
-/// a stage at most, the most of them its 2,000,000 prices and the 1,000,000 splits and closed leaves
-/// of its tree.
+/// A certificate of four stages within the limits of a season has at most 512 MiB: 133,099,601
+/// bytes a stage at most, the most of them its 2,000,000 prices and the 1,000,000 splits and closed
+/// leaves of its tree.
 pub fn season_bytes()
     ensures { (c : CertificateValue) → IsCert c → AllByRecursion IsWithinLimits c.stages →
         length (spelling c) ≤ MOST_SEASON_BYTES }

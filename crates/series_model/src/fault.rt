@@ -1,3 +1,5 @@
+//! Why messages are no submission.
+
 ghost use Rattle.std.specs.Prelude.{◌≡◌};
 ghost use Rattle.series_model.specs.declared.fault.ModelFault.TheVariants.{Memory as NoMemory};
 

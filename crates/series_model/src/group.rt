@@ -1,3 +1,5 @@
+//! Groups of units.
+
 /// What a unit asks for, in the order of initial allocation of the Worldwide Airport Slot
 /// Guidelines.
 #[derive(Clone, Copy, Debug, PartialEq, Eq)]

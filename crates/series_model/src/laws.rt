@@ -66,8 +66,8 @@ pub fn option_bounds()
     lengths();
 }
 
-/// At each of its alternatives the line that a unit asks with has a spelling, so that an offer can be
-/// printed.
+/// At each of its alternatives the line that a unit asks with has a spelling, so that an offer can
+/// be printed.
 pub fn spelled_alternatives()
     ensures { (d : DeclarationValue) (unit : SlotUnit) → UnitFits d.season unit →
         All (λ times. LineFits d.season (line_at unit.request times)) (options_of d unit) }

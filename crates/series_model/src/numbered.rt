@@ -22,8 +22,8 @@ use scr_reader::Line;
 use season_days::Declaration;
 
 /// The alternative of a unit with a number, counted from 0 as in the list of its alternatives; none
-/// where there are not so many. One step for each shift of an arrival, and where the unit is of group
-/// R one more for each shift of a movement; no list is made, and no memory taken.
+/// where there are not so many. One step for each shift of an arrival, and where the unit is of
+/// group R one more for each shift of a movement; no list is made, and no memory taken.
 pub fn times_at(unit: &Unit, number: u32, declaration: &Declaration) -> Option<Times>
     requires step { 0 < declaration.now.step }
     requires unit { UnitFits declaration.now.season unit.now }
@@ -135,8 +135,8 @@ fn last_if(last: Option<Times>, left: u32) -> Option<Times>
     if left == 0 { last } else { None }
 }
 
-// Of the shifts from a minute on the one with a number, or by how much the number is past them. They
-// are a step apart, so none is counted.
+// Of the shifts from a minute on the one with a number, or by how much the number is past them.
+// They are a step apart, so none is counted.
 fn nth_shift(shifts: &Shifts, from: u32, number: u32) -> Result<u32, u32>
     requires { AreShifts shifts.now }
     ensures { result ≡ numbered (shifts_from shifts.now from) number }

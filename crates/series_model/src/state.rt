@@ -1,3 +1,5 @@
+//! A unit between two stages.
+
 use crate::times::Times;
 use crate::unit::Unit;
 

@@ -1,3 +1,5 @@
+//! Submissions.
+
 ghost use Rattle.std.specs.Prelude.{◌≡◌, ◌≤◌, ◌<◌, ◌^◌, All, length};
 ghost use Rattle.slot_text.specs.Reads.{GivesOr};
 ghost use Rattle.season_days.specs.Capacity.{capacity_of, IsCapacity, IsDeclaration};

@@ -1,3 +1,5 @@
+//! The times of an alternative.
+
 /// An alternative of a unit: no slots, or one time for each of its movements, in minutes from the
 /// beginning of a date of the line.
 #[derive(Clone, Copy, Debug, PartialEq, Eq)]

@@ -1,3 +1,5 @@
+//! Units.
+
 use crate::group::Group;
 use scr_reader::Line;
 

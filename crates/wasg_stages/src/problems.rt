@@ -78,11 +78,11 @@ fn choosers_of(
 /// costs, and of each resource what is left of its limit, in stage 3 the share of new entrants of
 /// that.
 ///
-/// The time is that of listing the alternatives of the stage's units, one step for each resource and
-/// capacity line, and one for each resource that a movement which was given uses: those are taken
-/// from the limits once a stage, which costs about what one alternative of each given unit does in
-/// its problem. A part is kept once for each minute at which a movement of the unit may be. Of
-/// resources the limits alone are kept, eight bytes each.
+/// The time is that of listing the alternatives of the stage's units, one step for each resource
+/// and capacity line, and one for each resource that a movement which was given uses: those are
+/// taken from the limits once a stage, which costs about what one alternative of each given unit
+/// does in its problem. A part is kept once for each minute at which a movement of the unit may be.
+/// Of resources the limits alone are kept, eight bytes each.
 pub fn problem_after(
     alloc: Global,
     submission: &Submission,
@@ -122,8 +122,8 @@ pub fn units_of_stage(
 /// alternatives and costs, and of each resource what is left of its limit, in stage 3 the share of
 /// new entrants of that.
 ///
-/// The time is that of `series_model::after_stage` for each earlier stage and of `problem_after`, so the
-/// alternatives of the stage's own units alone are listed.
+/// The time is that of `series_model::after_stage` for each earlier stage and of `problem_after`,
+/// so the alternatives of the stage's own units alone are listed.
 pub fn stage_problem(
     alloc: Global,
     submission: &Submission,
