@@ -3,7 +3,8 @@
 use crate::problems::{problem, read_problem, strips};
 use crate::texts::{Case, numbers, piece, small_at, walk, yes_no};
 use choice_problem::{
-    Choice, Node, Problem, Ranges, Tree, cost_of, count_nodes, first_passed, fits, open_pieces,
+    Choice, Node, Problem, Ranges, Tree, cost_of, count_nodes, first_passed, fits, greatest_named,
+    open_pieces,
 };
 use std::alloc::Global;
 use std::test::Fail;
@@ -81,9 +82,9 @@ fn conditions_can_be_tested(rt: HostRuntime) -> Result<(), Fail> {
     walk(rt.alloc(), &mut ConditionCase, CONDITIONS)
 }
 
-// What the accessors give of a unit: the numbers of units, alternatives, parts and resources; the cost of its second
-// alternative, the limit of resource 2, and how often the first alternative uses that; its alternatives and the strips of
-// its part.
+// What the accessors give of a unit: the numbers of units, alternatives, parts and resources; the
+// cost of its second alternative, the limit of resource 2, and how often the first alternative uses
+// that; its alternatives and the strips of its part.
 fn accessors(alloc: Global, problem: &Problem, unit: u32) -> Result<String, Fail> {
     if unit >= problem.units() || problem.alts(unit) < 2 || problem.resources() < 3 {
         return Err("unit".into());
@@ -137,7 +138,8 @@ pub(crate) fn choice(alloc: Global, text: &str) -> Result<Choice, Fail> {
     Ok(Choice::new(alts))
 }
 
-// The cost of a choice, the lowest resource above its limit, and whether it fits; or that it is none for the problem.
+// The cost of a choice, the lowest resource above its limit, and whether it fits; or that it is
+// none for the problem.
 #[derive(Drop)]
 struct JudgedCase;
 
@@ -172,21 +174,26 @@ fn choices_of_small_problems(rt: HostRuntime) -> Result<(), Fail> {
     walk(rt.alloc(), &mut JudgedCase, CHOICES)
 }
 
-// The node of a word: `U` is undone, `O` an over leaf of resource 0, `L` a leaf, and a number the unit of a split.
+// The node of a word: `U` is undone, `O` an over leaf of resource 0, `L` a leaf of vector 0, and a
+// number the unit of a split.
 fn node(word: &str) -> Node {
     match word {
         "U" => Node::Undone,
         "O" => Node::Over { resource: 0 },
-        "L" => Node::Leaf {
-            vector: 0,
-            scale: 1,
-            seen: Some(40),
-        },
+        "L" => leaf(0),
         _ => Node::Split {
             unit: word.parse::<u32>().unwrap_or(9),
             cut: 1,
             seen: None,
         },
+    }
+}
+
+fn leaf(vector: u32) -> Node {
+    Node::Leaf {
+        vector,
+        scale: 1,
+        seen: Some(40),
     }
 }
 
@@ -211,7 +218,8 @@ fn add_ranges(alloc: Global, out: &mut String, ranges: &Ranges) -> Result<(), Fa
     Ok(())
 }
 
-// The ranges of the undone nodes of a tree on three units of two alternatives, at most so many, if the nodes are one tree.
+// The ranges of the undone nodes of a tree on three units of two alternatives, at most so many, if
+// the nodes are one tree.
 #[derive(Drop)]
 struct UndoneCase;
 
@@ -233,8 +241,8 @@ impl Case for UndoneCase {
     }
 }
 
-// A tree: the low part of unit 1, then the high parts of units 1 and 0. A whole one. A split of one alternative, a node too
-// few and one too many.
+// A tree: the low part of unit 1, then the high parts of units 1 and 0. A whole one. A split of one
+// alternative, a node too few and one too many.
 const TREES: &str = "1 U 0 O U | 9 = 0-1 0-0 0-1, 1-1 1-1 0-1,
 1 U 0 O U | 1 = 0-1 0-0 0-1,
 1 O O | 9 =
@@ -257,5 +265,10 @@ fn nodes_are_counted(rt: HostRuntime) -> Result<(), Fail> {
     let tree = Tree::new(list);
     assert_eq!(rt; tree.items(), nodes(alloc, "1 O U L U")?.as_slice());
     assert_eq!(rt; count_nodes(&tree), 3);
+    assert_eq!(rt; greatest_named(tree.items()), 0);
+    assert_eq!(rt;
+        greatest_named(&[leaf(3), Node::Undone, leaf(7), leaf(1)]),
+        7
+    );
     Ok(())
 }

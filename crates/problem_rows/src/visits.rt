@@ -1,11 +1,11 @@
-//! Visits of ranges by the definitions, by `visit` and by a walk, and greedy choices.
+//! Visits of ranges by `visit` and by a walk that came from other ranges, and greedy choices.
 
 ghost use Rattle.std.specs.Prelude.{◌≡◌};
 ghost use Rattle.price_table.specs.Tables.{IsTableFor};
 
 use crate::problems::{problem, span, table};
 use crate::texts::{Case, numbers, piece, seen, walk};
-use branch_tree::{Visit, Walk, greedy, plain_visit, visit};
+use branch_tree::{Visit, Walk, greedy, visit};
 use choice_problem::{Problem, Ranges, cost_of};
 use price_table::PriceTable;
 use std::alloc::Global;
@@ -34,7 +34,8 @@ fn go(alloc: Global, problem: &Problem, walk: &mut Walk<'_>, text: &str) -> Resu
     Ok(())
 }
 
-// The answers of the definitions, of `visit` and of a walk at its ranges, which are these: one answer, where they are alike.
+// The answers of `visit` and of a walk at its ranges, which are these: one answer, where they are
+// alike.
 fn answers(
     alloc: Global,
     problem: &Problem,
@@ -45,21 +46,17 @@ fn answers(
     requires walk { walk.now.problem ≡ problem.now }
     requires root { IsTableFor problem.now root.now }
 {
-    let plain = shown(
-        alloc,
-        &plain_visit(alloc, problem, walk.ranges(), root, seen)?,
-    )?;
     let anew = shown(alloc, &visit(alloc, problem, walk.ranges(), root, seen)?)?;
     let kept = shown(alloc, &walk.visit(alloc, problem, root, seen)?)?;
-    if plain.as_str() == anew.as_str() && anew.as_str() == kept.as_str() {
+    if anew.as_str() == kept.as_str() {
         Ok(kept)
     } else {
-        Ok(format!(in alloc; "unlike: {plain} / {anew} / {kept}")?)
+        Ok(format!(in alloc; "unlike: {anew} / {kept}")?)
     }
 }
 
-// The answer of a visit of a row: the problem, the ranges that a walk comes from, and those that it goes to, the root prices,
-// and what was seen.
+// The answer of a visit of a row: the problem, the ranges that a walk comes from, and those that it
+// goes to, the root prices, and what was seen.
 fn visited(alloc: Global, row: &str) -> Result<String, Fail> {
     let problem = problem(alloc, piece(row, 0))?;
     let root = table(alloc, &problem, piece(row, 3))?;
@@ -69,10 +66,11 @@ fn visited(alloc: Global, row: &str) -> Result<String, Fail> {
     answers(alloc, &problem, &walk, &root, seen(piece(row, 4)))
 }
 
-// One unit beside a full window, on all dates of a season, 30 minutes a date, and on one date: the bound is 1024 times 30, and
-// with a price of 29696 it is 1024 times 29. Three units that exclude each other. Two units where a resource is used by both
-// parts: over where both use it at least once, a split of the lowest unit that could use it less often; 9 and 0; with the
-// price 9 and 3 and 4, less 4 for the limit.
+// One unit beside a full window, on all dates of a season, 30 minutes a date, and on one date: the
+// bound is 1024 times 30, and with a price of 29696 it is 1024 times 29. Three units that exclude
+// each other. Two units where a resource is used by both parts: over where both use it at least
+// once, a split of the lowest unit that could use it less often; 9 and 0; with the price 9 and 3
+// and 4, less 4 for the limit.
 const VISITS: &str =
     "window 210 | 12 18 | 0 24 | 210 of 32768 | 6300 = Leaf { vector: 1, scale: 1024, seen: Some(6300) }
 window 210 | 12 18 | 0 24 | 210 of 32768 | 6301 = 0 at 12
@@ -120,7 +118,8 @@ fn visits_answer_alike(rt: HostRuntime) -> Result<(), Fail> {
     walk(rt.alloc(), &mut VisitCase, VISITS)
 }
 
-// Ranges of a window on three dates and of turnarounds, and what was seen: at each the visits have to answer the same.
+// Ranges of a window on three dates and of turnarounds, and what was seen: at each the visits have
+// to answer the same.
 const ALIKE: &str =
     "window 3 | 3 20 | # | 3 of 20000 | $ | 0 24,6 17,5 18,12 12,0 5,18 24,7 9 | -,0,60,89,90,106
 turnarounds | 1 4 2 2 | $ # | 6 of 700 | 3 | 0 0,0 1,1 1,0 2,1 2,2 2,0 3,1 3,2 3,3 3,0 4,1 4,2 4,3 4,4 4,0 5,1 5,2 5,3 5,4 5,5 5,0 6,1 6,2 6,3 6,4 6,5 6,6 6 | 0 6,0 3,4 5";
@@ -170,7 +169,8 @@ fn visits_answer_alike_at_many_ranges(rt: HostRuntime) -> Result<(), Fail> {
     Ok(())
 }
 
-// The answer of a walk at the whole ranges of the three units, with an empty root vector and two further ones.
+// The answer of a walk at the whole ranges of the three units, with an empty root vector and two
+// further ones.
 #[derive(Drop)]
 struct FurtherCase;
 
@@ -219,9 +219,10 @@ impl Case for StartCase {
     }
 }
 
-// Half an hour later costs less than 35 minutes earlier. The second and the third unit find no room beside the first. Of two
-// that cost the same, the first; an alternative that does not fit is passed over. Two units that must both use one resource.
-// Where the second part does not fit, the first part is taken back, and is then counted once.
+// Half an hour later costs less than 35 minutes earlier. The second and the third unit find no room
+// beside the first. Of two that cost the same, the first; an alternative that does not fit is
+// passed over. Two units that must both use one resource. Where the second part does not fit, the
+// first part is taken back, and is then counted once.
 const GREEDY: &str = "window 210 = [18] 6300
 three = [0, 1, 1] 40
 P 0 1 0 1 0 1 0 1; A 9 - -; A 3 0 -; A 4 - -; A 4 - -; U; L 1 = [2] 4
