@@ -1,23 +1,18 @@
 //! What is answered of a tree that was found, after its test.
 
-ghost use Rattle.std.specs.Prelude.{◌≡◌, ◌<◌, ◌≤◌, ◌^◌, ℕ, List, All, IsTrue, IfOk, IfSome, drop, length, sum_by, Some, None};
+ghost use Rattle.std.specs.Prelude.{◌≡◌, ◌↔◌, ◌<◌, ◌≤◌, ◌^◌, ℕ, List, All, IsTrue, IfOk, IfSome, drop, length, sum_by, Some, None};
 ghost use Rattle.choice_problem.specs.declared.vectors.Price.{Price};
 ghost use Rattle.choice_problem.specs.Choices.{IsFeasible, choice_cost};
 ghost use Rattle.choice_problem.specs.Trees.{node_count};
 ghost use Rattle.closing_search.specs.Closed.{ClosesWhole, IsClosed, IsClosedAtMost, IsKnownAtMost};
 
 use crate::closed::Closed;
-use crate::exact::{is_proof, tables_of};
+use crate::exact::{is_proof, leaf_tables};
 use choice_problem::{
-    Choice, Node, Problem, Tree, Vector, VectorList, cost_of, count_nodes, fits, sound_tree,
+    Choice, MOST_PRICES, MOST_VECTORS, Node, Problem, Tree, Vector, VectorList, cost_of, count_nodes, fits, sound_tree,
 };
 use slot_text::Memory;
 use std::alloc::Global;
-
-// The most vectors, and the most prices of all but the first.
-const MOST_LISTED: usize = 64;
-
-const MOST_PRICES: usize = 1_000_000;
 
 // A tree that was found, with the vectors that its leaves name, and the choice that it is to prove best, if any. Nothing is
 // known of them.
@@ -168,7 +163,7 @@ fn infeasible(problem: &Problem, _budget: u32, tree: Tree, vectors: VectorList) 
 // Whether a cost is at most that of the start, if there is one.
 fn is_within(problem: &Problem, start: &Option<Choice>, cost: u64) -> bool
     requires { IfSome start.now (IsFeasible problem.now) }
-    ensures { IsTrue result → IfSome start.now (λ x. cost ≤ choice_cost problem.now x) }
+    ensures { IsTrue result ↔ IfSome start.now (λ x. cost ≤ choice_cost problem.now x) }
 {
     match start {
         Some(start) => cost <= cost_of(problem, start),
@@ -194,7 +189,7 @@ fn closes_whole(
     if !are_listable(vectors) {
         return Ok(false);
     }
-    match tables_of(alloc, problem, vectors.items())? {
+    match leaf_tables(alloc, problem, vectors.items())? {
         Some(tables) => is_proof(alloc, problem, &tables, cost, tree.items()),
         None => Ok(false),
     }
@@ -214,7 +209,7 @@ pub(crate) fn are_listable(vectors: &VectorList) -> bool
         sum_by (λ (prices : List Price). length prices) (drop 1 vectors.now) ≤ 1000000 }
 {
     let vectors = vectors.items();
-    vectors.len() <= MOST_LISTED && are_few_prices(after_first(vectors))
+    vectors.len() <= MOST_VECTORS && are_few_prices(after_first(vectors))
 }
 
 // All but the first.

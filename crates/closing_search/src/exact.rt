@@ -8,7 +8,7 @@ ghost use Rattle.choice_problem.specs.Walks.{CanStand};
 ghost use Rattle.closing_search.specs.Tables.{AreLeafTables, listed_in};
 
 use choice_problem::{Node, Problem, RangeWalk, Ranges, SCALE_BOUND, Vector, over_closes};
-use price_table::{PriceTable, closes, price_table};
+use price_table::{PriceTable, closes, price_table, tables_of};
 use slot_text::Memory;
 use std::alloc::Global;
 
@@ -128,8 +128,20 @@ pub(crate) fn is_proof(
     Ok(walk.is_done())
 }
 
+// Whether each of these is a vector for the problem.
+fn are_vectors(problem: &Problem, vectors: &[Vector]) -> bool
+    ensures { IsTrue result → All (IsVector problem.now) vectors.now }
+{
+    for vector in vectors {
+        if !vector.is_for(problem) {
+            return false;
+        }
+    }
+    true
+}
+
 /// The tables of the zero vector and of these, if each of them is a vector for the problem.
-pub(crate) fn tables_of(
+pub(crate) fn leaf_tables(
     alloc: Global,
     problem: &Problem,
     vectors: &[Vector],
@@ -140,13 +152,10 @@ pub(crate) fn tables_of(
     ensures each { IfOk result (λ found. IfSome found
         (λ tables. All (IsVector problem.now) vectors.now)) }
 {
-    let mut listed = Vec::new(alloc);
-    for vector in vectors {
-        if !vector.is_for(problem) {
-            return Ok(None);
-        }
-        listed.push(price_table(alloc, problem, vector)?)?;
+    if !are_vectors(problem, vectors) {
+        return Ok(None);
     }
+    let listed = tables_of(alloc, problem, vectors)?;
     let none = Vector::new(Vec::new(alloc));
     let zero = price_table(alloc, problem, &none)?;
     Ok(Some(Tables { zero, listed }))

@@ -1,8 +1,8 @@
 -- What a search answers at its end.
-use Rattle.std.proofs.Common.{◌≡◌, ℕ, zero, suc, ◌+◌, ◌-◌, ◌<◌, ◌≤◌, List, [], ◌∷◌, ◌++◌, length, take, drop, refl, sym, ◌∙◌, ap, arith, Option, Some, None, ◌⊎◌, inl, inr, append_assoc, length-append}
+use Rattle.std.proofs.Common.{◌≡◌, ℕ, zero, suc, ◌+◌, ◌-◌, ◌<◌, ◌≤◌, List, [], ◌∷◌, ◌++◌, length, take, drop, refl, sym, ◌∙◌, ap, arith, Option, Some, None, ◌⊎◌, inl, inr, append_assoc}
 use Rattle.std.specs.Prelude.{All, Contains, IfSome, slice_index_or}
 use Rattle.std.specs.Option.{option_map}
-use Rattle.std.proofs.lemmas.List.{length-take, take_all, take-append-drop, get_or_append_left, length-drop, drop-append-le}
+use Rattle.std.proofs.lemmas.List.{length-take, take_all, take-append-drop, get_or_append_left, drop-append-le}
 use Rattle.std.proofs.lemmas.List.Elements.{All-take, All-contains, All-cons, All-nil}
 use Rattle.std.proofs.lemmas.List.Sums.{sum_by-take-le}
 use Rattle.choice_problem.specs.declared.vectors.Price.{Price}
@@ -14,10 +14,10 @@ use Rattle.choice_problem.specs.Bounds.{IsVector, whole_of}
 use Rattle.choice_problem.specs.Trees.{AreTrees, IsSound, parts_of}
 use Rattle.choice_problem.specs.Driven.{IsDriven, IsDrivenFrom}
 use Rattle.choice_problem.specs.Greedy.{IsGreedyCost}
-use Rattle.choice_problem.specs.Renumbered.{NamesUpTo}
+use Rattle.choice_problem.specs.Named.{Names, NamesUpTo}
 use Rattle.choice_problem.specs.Roots.{IsRootVector}
 use Rattle.incumbent_word.specs.Core.{AtMost}
-use Rattle.search_workers.specs.Outcomes.{IsBestFound, AreListed, IsSearched, EndsAtNamed, Names, OutcomeCostsAtMost}
+use Rattle.search_workers.specs.Outcomes.{IsBestFound, AreListed, IsSearched, EndsAtNamed, OutcomeCostsAtMost}
 use Rattle.search_workers.specs.declared.outcomes.Outcome.{Outcome}
 use Rattle.search_workers.specs.Settings.{Setting, IsSetting, IsWider, HasGiven, Drives, AreGrown, root_of}
 use Rattle.search_workers.specs.Work.{IsSoFar}
@@ -129,15 +129,6 @@ none_cost p None None h e = refl
 none_cost p (Some c) None h e = absurd h
 none_cost p None (Some x) h e = absurd h
 none_cost p (Some c) (Some x) h e = absurd (cc e)
-
--- all vectors that were handed in are there
-pub given_less : (s : Setting) (given : List (List Price)) → IsSetting s → HasGiven s given → length given < length (take 64 s.vectors)
-given_less s given k g =
-    let all : take 64 s.vectors ≡ s.vectors = take_all 64 s.vectors k.few in
-    let rest : length (drop 1 s.vectors) ≡ length s.vectors - 1 = length-drop 1 s.vectors in
-    let both : length (drop 1 s.vectors) ≡ length (given ++ g.more) = ap length g.vectors in
-    let sum = length-append given g.more in
-    rw all (omega (arith, rest, both, sum, k.some))
 
 pub wider_trans : (a b c : Setting) → IsWider a b → IsWider b c → IsWider a c
 wider_trans a b c h k = record {

@@ -10,8 +10,8 @@ mod EndLemmas
 mod OpenLemmas
 mod SizeLemmas
 mod FinishLemmas
-mod PlaceLemmas
 mod SeatLemmas
 mod TaskLemmas
 mod OutcomeLemmas
+mod JoinedLemmas
 mod LookLemmas

@@ -6,7 +6,7 @@ use Rattle.choice_problem.specs.declared.nodes.Node.{Node}
 use Rattle.choice_problem.specs.declared.nodes.Node.TheVariants.{Split, Leaf, Over, Undone}
 use Rattle.choice_problem.specs.Trees.{AreTrees, parts_of, node_count}
 use Rattle.choice_problem.specs.Driven.{RecordsBetween}
-use Rattle.choice_problem.specs.Renumbered.{NamesUpTo}
+use Rattle.choice_problem.specs.Named.{NamesUpTo}
 use Rattle.search_workers.specs.Settings.{Setting, AreGrown}
 
 pub node_count-append : (xs ys : List Node) → node_count (xs ++ ys) ≡ node_count xs + node_count ys

@@ -18,13 +18,13 @@ use Rattle.branch_tree.specs.Visits.{ClosesBy}
 use Rattle.search_workers.specs.declared.outcomes.Outcome.{Outcome}
 use Rattle.search_workers.specs.declared.outcomes.Outcome.TheVariants as answer
 use Rattle.search_workers.specs.declared.states.Start.{Start}
-use Rattle.search_workers.specs.Outcomes.{IsBestFound, AreListed, IsSearched, EndsAtNamed, IsOutcome, IsSettled, HasAtMost, OutcomeCostsAtMost}
+use Rattle.search_workers.specs.Outcomes.{IsBestFound, AreListed, IsSearched, AreNamedOf, IsOutcome, IsSettled, HasAtMost, OutcomeCostsAtMost}
 use Rattle.search_workers.specs.Work.{IsStart}
 use Rattle.search_workers.proofs.FinishLemmas.{none_cost}
 
 module _ (p : ProblemView) (given : List (List Price)) (budget : ℕ) (vectors : List (List Price)) (tree : List Node) (cost : Option ℕ)
     (best : Option (List ℕ)) (outcome : Outcome) (h : IsSearched p given vectors cost best tree) (whole : IsWhole tree) (few : node_count tree ≤ budget)
-    (cut : EndsAtNamed vectors tree)
+    (cut : AreNamedOf p given budget vectors tree)
     (best_law : (x : List ℕ) → IsFeasible p x → IsSound p vectors (Some (choice_cost p x)) (whole_of p) tree → IsBest p x)
     (none_law : IsSound p vectors None (whole_of p) tree → HasNone p)
     (optimal : (x : List ℕ) (c : ℕ) → best ≡ Some x → cost ≡ Some c → outcome ≡ answer.Optimal x c tree vectors)

@@ -17,7 +17,7 @@ use Rattle.search_workers.specs.Settings.{Setting, AreTables, IsWider}
 pub vectors-push : (tables : List TableView) (t : TableView) → vectors_of (tables ++ t ∷ []) ≡ vectors_of tables ++ t.prices ∷ []
 vectors-push tables t = map_push (λ (u : TableView). u.prices) tables t
 
-count_is : (tables : List TableView) → length (vectors_of tables) ≡ length tables
+pub count_is : (tables : List TableView) → length (vectors_of tables) ≡ length tables
 count_is tables = length-map {B = List Price} tables (λ (u : TableView). u.prices)
 
 module _ (p : ProblemView) (greedy : Option ℕ) (tables : List TableView) (given prices : ℕ) (h : AreTables p greedy tables given prices)

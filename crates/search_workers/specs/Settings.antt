@@ -13,7 +13,7 @@ use Rattle.choice_problem.specs.Roots.{IsRootVector}
 use Rattle.price_table.specs.Tables.{TableView, IsTableFor, vectors_of}
 use Rattle.price_table.specs.Totals.{AreKeptFor}
 use Rattle.search_workers.specs.declared.places.Place.{Place}
-use Rattle.search_workers.specs.declared.outcomes.TheConstants.{MOST_LISTED, MOST_LISTED_PRICES}
+use Rattle.choice_problem.specs.declared.vectors.TheConstants.{MOST_VECTORS, MOST_PRICES}
 use Rattle.search_workers.specs.Outcomes.{price_count}
 
 -- the problem, the cost of its greedy choice, and the vectors, the root vector first
@@ -30,9 +30,9 @@ pub record IsSetting (s : Setting) : Type 0 where
   pub greedy_is : IsGreedyCost s.problem s.greedy
   pub root_is : IsRootVector s.problem (root_of s)
   pub some : 1 ≤ length s.vectors
-  pub few : length s.vectors ≤ MOST_LISTED
+  pub few : length s.vectors ≤ MOST_VECTORS
   pub each : All (IsVector s.problem) s.vectors
-  pub few_prices : price_count (drop 1 s.vectors) ≤ MOST_LISTED_PRICES
+  pub few_prices : price_count (drop 1 s.vectors) ≤ MOST_PRICES
 
 -- the same with tables, some of which are of vectors that were handed in
 pub record AreTables (p : ProblemView) (greedy : Option ℕ) (tables : List TableView)

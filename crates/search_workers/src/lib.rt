@@ -20,5 +20,5 @@ mod states;
 mod tasks;
 mod trees;
 
-pub use outcomes::{MOST_LISTED, MOST_LISTED_PRICES, Outcome};
+pub use outcomes::Outcome;
 pub use searches::{search, search_from};

@@ -2,12 +2,6 @@
 
 use choice_problem::{Choice, Tree, VectorList};
 
-/// The most vectors that a search lists, its root vector among them.
-pub const MOST_LISTED: usize = 64;
-
-/// The most prices that the vectors after the root vector have together.
-pub const MOST_LISTED_PRICES: usize = 1_000_000;
-
 /// What a search of a problem answers, with its tree and the vectors that the leaves of the tree name: number 1 is the root
 /// vector, and those that were handed in have the numbers from 2 on.
 #[derive(Drop)]

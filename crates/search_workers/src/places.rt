@@ -1,16 +1,14 @@
 //! A place in the search: ranges, with what a visit asks of them.
 
-ghost use Rattle.std.specs.Prelude.{◌≡◌, ◌<◌, ◌≤◌, ℕ, IfOk, OnOk, length, slice_set, All};
+ghost use Rattle.std.specs.Prelude.{◌≡◌, ◌<◌, ◌≤◌, ℕ, IfOk, OnOk, length, slice_set};
 ghost use Rattle.choice_problem.specs.Problems.{unit_count, alt_count};
 ghost use Rattle.choice_problem.specs.Bounds.{AreRanges};
-ghost use Rattle.price_table.specs.Tables.{IsTableFor, vectors_of};
-ghost use Rattle.price_table.specs.Totals.{AreKeptFor};
 ghost use Rattle.search_workers.specs.Settings.{IsPlaceIn};
 
 use crate::tasks::Task;
 use branch_tree::Walk;
-use choice_problem::{PRICED_SCALE, Problem, Ranges};
-use price_table::{PriceTable, Totals, set_kept};
+use choice_problem::Ranges;
+use price_table::{Totals, set_kept, totals_of};
 use slot_text::Memory;
 use std::alloc::Global;
 
@@ -84,23 +82,4 @@ impl<'a> Place<'a> {
         );
         self.walk.narrow(alloc, problem, unit, low, high)
     }
-}
-
-// The totals of each table at ranges, at scale 1024.
-fn totals_of(
-    alloc: Global,
-    problem: &Problem,
-    ranges: &Ranges,
-    tables: &[PriceTable],
-) -> Result<Vec<Totals>, Memory>
-    requires ranges { AreRanges problem.now ranges.now }
-    requires tables { All (IsTableFor problem.now) tables.now }
-    ensures { IfOk result (λ totals.
-        AreKeptFor problem.now (vectors_of tables.now) ranges.now totals.items) }
-{
-    let mut totals = Vec::new(alloc);
-    for table in tables {
-        totals.push(Totals::of(alloc, problem, ranges, table, PRICED_SCALE)?)?;
-    }
-    Ok(totals)
 }

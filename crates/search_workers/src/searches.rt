@@ -7,25 +7,26 @@ ghost use Rattle.std.specs.Option.{option_map};
 ghost use Rattle.choice_problem.specs.Bounds.{AreRanges, whole_of};
 ghost use Rattle.choice_problem.specs.Greedy.{IsGreedyCost};
 ghost use Rattle.choice_problem.specs.Choices.{IsFeasible, choice_cost};
-ghost use Rattle.choice_problem.specs.Renumbered.{NamesUpTo};
+ghost use Rattle.choice_problem.specs.Named.{NamesUpTo};
 ghost use Rattle.choice_problem.specs.Trees.{IsWhole, node_count};
 ghost use Rattle.incumbent_word.specs.Core.{AtMost};
 ghost use Rattle.branch_tree.specs.Visits.{NoneOver, ClosesBy};
-ghost use Rattle.search_workers.specs.Outcomes.{AreFurther, IsOutcome, IsSettled, OutcomeCostsAtMost, choice_count};
+ghost use Rattle.search_workers.specs.Outcomes.{AreAllOf, AreFurther, IsOutcome, IsSettled, OutcomeCostsAtMost, choice_count};
+ghost use Rattle.search_workers.specs.Rounds.{AreSoFarJoined, IsRoundJoined, ListsAll};
 ghost use Rattle.search_workers.specs.Settings.{IsWider, HasGiven};
 ghost use Rattle.search_workers.specs.Work.{IsSoFar, IsStart};
 
 use crate::opening::{first_visit, open_parts};
-use crate::outcomes::{MOST_LISTED, Outcome};
+use crate::outcomes::Outcome;
 use crate::places::Place;
 use crate::rounds::{first_open, round};
 use crate::states::{Start, State};
 use crate::tasks::Task;
-use crate::trees::{greatest_named, is_whole};
+use crate::trees::is_whole;
 use branch_tree::{Walk, greedy, visited_nodes};
 use choice_problem::{
-    Choice, Node, Problem, Ranges, Tree, Vector, VectorList, closed_ranges, driven_tree,
-    fewer_vectors, node_vector_exists, search_start, sound_tree,
+    Choice, MOST_VECTORS, Node, Problem, Ranges, Tree, Vector, VectorList, closed_ranges,
+    driven_tree, fewer_vectors, greatest_named, node_vector_exists, search_start, sound_tree,
 };
 use dual_bound::node_vector;
 use slot_text::Memory;
@@ -217,6 +218,8 @@ fn run<R: Threads + Sync, G: Gate>(
     ensures within { IfOk result (λ s. node_count s.tree.items ≤ budget) }
     ensures ended { IfOk result (λ s. IsWhole s.tree.items ⊎ (node_count s.tree.items ≡ budget)) }
     ensures fell { IfOk result (λ s. AtMost s.cost state.cost) }
+    ensures joined { IfOk result (λ s. AreSoFarJoined task.old.problem budget
+        (node_count s.tree.items) task.old.vectors task.new.vectors) }
 {
     let mut state = state;
     let mut taken = taken;
@@ -224,28 +227,38 @@ fn run<R: Threads + Sync, G: Gate>(
         let (next, more) = round(rt, alloc, gate, task, budget - taken, workers, state)?;
         state = next;
         taken += more;
-        widen(alloc, task, &state, taken < budget)?;
+        widen(alloc, task, &state, budget, taken)?;
     }
     Ok(state)
 }
 
 // Adds the vector of the first undone node's ranges, if visits are left and there is room for it.
-fn widen(alloc: Global, task: &mut Task<'_>, state: &State, visits_left: bool) -> Result<(), Memory>
+fn widen(
+    alloc: Global,
+    task: &mut Task<'_>,
+    state: &State,
+    budget: u32,
+    taken: u32,
+) -> Result<(), Memory>
     requires so_far { IsSoFar task.old state.now.cost state.now.best state.now.tree.items }
+    requires count { node_count state.now.tree.items ≡ taken }
     ensures wider { OnOk result (IsWider task.old task.new) }
     ensures so_far { OnOk result (IsSoFar task.new state.now.cost state.now.best
         state.now.tree.items) }
+    ensures joined { OnOk result (IsRoundJoined task.old.problem budget state.now.tree.items
+        task.old.vectors task.new.vectors) }
 {
     driven_tree();
     search_start();
+    node_vector_exists();
     task.known();
-    if !visits_left {
-        return Ok(());
-    }
-    if task.is_full() {
+    if taken >= budget {
         return Ok(());
     }
     if is_whole(&state.tree) {
+        return Ok(());
+    }
+    if task.is_full() {
         return Ok(());
     }
     let pieces = first_open(alloc, task, state, 1)?;
@@ -266,9 +279,11 @@ fn finish(
     requires so_far { IsSoFar task.now state.cost state.best state.tree.items }
     requires whole { AreRanges task.now.problem (whole_of task.now.problem) }
     requires given { HasGiven task.now _given.now }
+    requires all { AreAllOf task.now.problem _given.now budget task.now.vectors }
     requires within { node_count state.tree.items ≤ budget }
     requires ended { IsWhole state.tree.items ⊎ (node_count state.tree.items ≡ budget) }
     ensures outcome { IfOk result (IsOutcome task.now.problem _given.now budget) }
+    ensures all { IfOk result (ListsAll task.now.vectors) }
     ensures settled { 2 * choice_count task.now.problem ≤ budget + 1 → IfOk result IsSettled }
     ensures start { IfOk result (λ outcome. (x : List ℕ) → IsFeasible task.now.problem x →
         AtMost state.cost (Some (choice_cost task.now.problem x)) →
@@ -277,7 +292,7 @@ fn finish(
     driven_tree();
     task.known();
     if !is_whole(&state.tree) {
-        let vectors = task.vectors(alloc, MOST_LISTED)?;
+        let vectors = task.vectors(alloc, MOST_VECTORS)?;
         let State { tree, best, .. } = state;
         let tree = Tree::new(tree);
         return Ok(Outcome::Spent {
@@ -299,6 +314,7 @@ fn whole_outcome(
 ) -> Result<Outcome, Memory>
     requires so_far { IsSoFar task.now state.cost state.best state.tree.items }
     requires given { HasGiven task.now _given.now }
+    requires all { AreAllOf task.now.problem _given.now _budget task.now.vectors }
     requires within { node_count state.tree.items ≤ _budget }
     requires whole { IsWhole state.tree.items }
     ensures { IfOk result (λ outcome.

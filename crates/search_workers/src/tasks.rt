@@ -1,16 +1,14 @@
 //! What all workers of a search read.
 
-ghost use Rattle.std.specs.Prelude.{◌≡◌, ◌≤◌, ◌++◌, IfOk, OnOk, All};
-ghost use Rattle.choice_problem.specs.Bounds.{IsVector};
-ghost use Rattle.price_table.specs.Tables.{IsTableFor, vectors_of};
-ghost use Rattle.search_workers.specs.declared.outcomes.TheConstants.{MOST_LISTED_PRICES};
+ghost use Rattle.std.specs.Prelude.{◌≡◌, ◌≤◌, IfOk};
+ghost use Rattle.price_table.specs.Tables.{vectors_of};
+ghost use Rattle.choice_problem.specs.declared.vectors.TheConstants.{MOST_PRICES};
 ghost use Rattle.search_workers.specs.Outcomes.{price_count};
 
-use crate::outcomes::{MOST_LISTED, MOST_LISTED_PRICES};
 use branch_tree::Walk;
-use choice_problem::{Problem, Ranges, Vector, VectorList};
+use choice_problem::{MOST_PRICES, MOST_VECTORS, Problem, Ranges, Vector, VectorList};
 use dual_bound::root_vector;
-use price_table::{PriceTable, price_table};
+use price_table::{PriceTable, price_table, push_tables};
 use slot_text::Memory;
 use std::alloc::Global;
 use std::marker::Model;
@@ -43,12 +41,12 @@ impl<'a> Model for Task<'a> {
 }
 
 impl<'a> Task<'a> {
-    ghost use Rattle.std.specs.Prelude.{◌≡◌, ◌<◌, ◌≤◌, ◌∷◌, [], IfOk, OnOk, take, drop, length, All};
+    ghost use Rattle.std.specs.Prelude.{◌≡◌, ◌↔◌, ◌<◌, ◌≤◌, ◌∷◌, [], IfOk, OnOk, IsTrue, take, drop, length, All};
     ghost use Rattle.choice_problem.specs.Bounds.{AreRanges, IsVector};
     ghost use Rattle.choice_problem.specs.Greedy.{IsGreedyCost};
     ghost use Rattle.price_table.specs.Tables.{IsTableFor, vectors_of};
-    ghost use Rattle.search_workers.specs.declared.outcomes.TheConstants.{MOST_LISTED};
-    ghost use Rattle.search_workers.specs.Outcomes.{AreFurther};
+    ghost use Rattle.choice_problem.specs.declared.vectors.TheConstants.{MOST_VECTORS};
+    ghost use Rattle.search_workers.specs.Outcomes.{AreFurther, IsJoinedBy};
     ghost use Rattle.search_workers.specs.Settings.{IsSetting, IsWider, root_of};
 
     // The task of a walk's problem with these further vectors. It computes the root vector.
@@ -104,7 +102,7 @@ impl<'a> Task<'a> {
     pub(crate) fn tables(&self) -> &[PriceTable]
         ensures valid { All (IsTableFor self.now.problem) result.now }
         ensures vectors { vectors_of result.now ≡ self.now.vectors }
-        ensures few { (1 ≤ length result.now) × (length result.now ≤ MOST_LISTED) }
+        ensures few { (1 ≤ length result.now) × (length result.now ≤ MOST_VECTORS) }
     {
         &self.tables
     }
@@ -117,20 +115,21 @@ impl<'a> Task<'a> {
     }
 
     // Whether there is no room for more vectors.
-    pub(crate) fn is_full(&self) -> bool {
-        self.tables.len() >= MOST_LISTED
+    pub(crate) fn is_full(&self) -> bool
+        ensures { IsTrue result ↔ MOST_VECTORS ≤ length self.now.vectors }
+    {
+        self.tables.len() >= MOST_VECTORS
     }
 
     // Adds a vector, unless it is empty or there is no room for it.
     pub(crate) fn add(&mut self, alloc: Global, vector: &Vector) -> Result<(), Memory>
         requires { IsVector self.old.problem vector.now }
-        ensures { IsWider self.old self.new }
+        ensures wider { IsWider self.old self.new }
+        ensures joined { OnOk result
+            (IsJoinedBy self.old.vectors vector.now self.new.vectors) }
     {
         let prices = self.prices + vector.items().len();
-        if vector.items().is_empty()
-            || self.tables.len() >= MOST_LISTED
-            || prices > MOST_LISTED_PRICES
-        {
+        if vector.items().is_empty() || self.tables.len() >= MOST_VECTORS || prices > MOST_PRICES {
             return Ok(());
         }
         let table = price_table(alloc, self.walk.problem(), vector)?;
@@ -167,28 +166,9 @@ fn copy_of(alloc: Global, table: &PriceTable) -> Result<Vector, Memory>
     Ok(Vector::new(Vec::from_slice(alloc, table.vector().items())?))
 }
 
-// Adds the tables of vectors.
-fn push_tables(
-    alloc: Global,
-    problem: &Problem,
-    vectors: &[Vector],
-    tables: &mut Vec<PriceTable>,
-) -> Result<(), Memory>
-    requires tables { All (IsTableFor problem.now) tables.old.items }
-    requires vectors { All (IsVector problem.now) vectors.now }
-    ensures valid { OnOk result (All (IsTableFor problem.now) tables.new.items) }
-    ensures vectors { OnOk result (vectors_of tables.new.items
-        ≡ vectors_of tables.old.items ++ vectors.now) }
-{
-    for vector in vectors {
-        tables.push(price_table(alloc, problem, vector)?)?;
-    }
-    Ok(())
-}
-
 // How many prices some vectors have together.
 fn count_prices(vectors: &[Vector]) -> usize
-    requires { price_count vectors.now ≤ MOST_LISTED_PRICES }
+    requires { price_count vectors.now ≤ MOST_PRICES }
     ensures { result ≡ price_count vectors.now }
 {
     let mut count = 0;

@@ -1,11 +1,9 @@
 //! Trees put in the place of undone nodes.
 
-ghost use Rattle.std.specs.Prelude.{◌≡◌, ◌↔◌, ℕ, ◌+◌, ◌<◌, ◌≤◌, List, [], ◌∷◌, ◌++◌, All, Contains, IsTrue, length, slice_index_or, slice_set, OnOk, IfOk, map, drop, ◌⊎◌};
+ghost use Rattle.std.specs.Prelude.{◌≡◌, ◌↔◌, ℕ, ◌+◌, ◌<◌, ◌≤◌, List, [], ◌∷◌, ◌++◌, All, IsTrue, length, slice_index_or, slice_set, OnOk, IfOk, map, drop};
 ghost use Rattle.choice_problem.specs.declared.nodes.Node.{Node};
 ghost use Rattle.choice_problem.specs.Trees.{IsWhole};
 ghost use Rattle.choice_problem.specs.Grafts.{graft, AreOn};
-ghost use Rattle.choice_problem.specs.Renumbered.{NamesUpTo};
-ghost use Rattle.search_workers.specs.Outcomes.{Names};
 ghost use Rattle.search_workers.specs.Settings.{AreGrown, Drives};
 ghost use Rattle.search_workers.specs.Searchers.{made, pieces_of};
 ghost use Rattle.search_workers.specs.Work.{IsMadeOf, all_nodes};
@@ -114,28 +112,4 @@ fn undone_trees(alloc: Global, count: usize) -> Result<Vec<Vec<Node>>, Memory>
         trees.push(vec![in alloc; Node::Undone; 1]?)?;
     }
     Ok(trees)
-}
-
-// The greatest number of a vector that a leaf names.
-pub(crate) fn greatest_named(tree: &[Node]) -> u32
-    ensures most { All (NamesUpTo result) tree.now }
-    ensures named { (result ≡ 0) ⊎ ((leaf : Node) × Contains tree.now leaf × Names result leaf) }
-{
-    let mut most = 0;
-    for node in tree {
-        most = greater(most, *node);
-    }
-    most
-}
-
-// The greater of a number and the vector that a node may name.
-fn greater(most: u32, node: Node) -> u32
-    ensures least { most ≤ result }
-    ensures names { NamesUpTo result node }
-    ensures which { (result ≡ most) ⊎ Names result node }
-{
-    match node {
-        Node::Leaf { vector, .. } if vector > most => vector,
-        _ => most,
-    }
 }

@@ -8,8 +8,7 @@ use Rattle.choice_problem.specs.declared.vectors.Price.{Price}
 use Rattle.choice_problem.specs.declared.nodes.Node.{Node}
 use Rattle.choice_problem.specs.declared.nodes.Node.TheVariants.{Split, Leaf, Over, Undone}
 use Rattle.choice_problem.specs.Problems.{ProblemView}
-use Rattle.choice_problem.specs.Renumbered.{NamesUpTo}
-use Rattle.search_workers.specs.Outcomes.{Names}
+use Rattle.choice_problem.specs.Named.{Names, NamesUpTo}
 use Rattle.cert_format.specs.declared.cert.Floor.{Floor}
 use Rattle.season_run.specs.Ends.{IsGreatestName, AreKeptOf}
 use Rattle.season_run.specs.Steps.{IsFoundFloor, IsGreatestAtFloors}

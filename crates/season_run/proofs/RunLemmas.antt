@@ -1,5 +1,5 @@
 -- A stage of a run, from the trial of its problem and the stage that this made.
-use Rattle.std.proofs.Common.{◌≡◌, ℕ, zero, suc, ◌*◌, ◌≤◌, refl, sym, ◌∙◌, ap, subst, arith, List, [], ◌∷◌, ◌++◌, length, length-append, drop, map, true, false, Option, Some, None}
+use Rattle.std.proofs.Common.{◌≡◌, ℕ, zero, suc, ◌*◌, ◌<◌, ◌≤◌, refl, sym, ◌∙◌, ap, subst, arith, List, [], ◌∷◌, ◌++◌, length, length-append, drop, map, true, false, Option, Some, None}
 use Rattle.std.specs.Prelude.{All, IfSome, IsNone, IsSomeAnd, is_some, sum_by}
 use Rattle.std.specs.List.{AllZip, AllByRecursion}
 use Rattle.std.specs.Option.{option_map}
@@ -12,9 +12,10 @@ use Rattle.choice_problem.specs.declared.nodes.Node.{Node}
 use Rattle.choice_problem.specs.Problems.{ProblemView, ChooserView, resource_count, unit_count}
 use Rattle.choice_problem.specs.Choices.{IsFeasible, choice_cost}
 use Rattle.choice_problem.specs.Bounds.{IsVector, whole_of}
-use Rattle.choice_problem.specs.Trees.{IsWhole, node_count}
+use Rattle.choice_problem.specs.Trees.{IsWhole, node_count, vector_at}
 use Rattle.choice_problem.specs.Driven.{IsDriven}
-use Rattle.choice_problem.specs.Renumbered.{NamesUpTo}
+use Rattle.choice_problem.specs.Roots.{IsRootVector}
+use Rattle.choice_problem.specs.Named.{NamesUpTo}
 use Rattle.dual_bound.specs.Stated.{scale_at}
 use Rattle.search_workers.specs.declared.outcomes.Outcome.{Outcome}
 use Rattle.search_workers.specs.declared.outcomes.Outcome.TheVariants as ends
@@ -31,10 +32,10 @@ use Rattle.series_model.specs.declared.state.UnitState.{UnitState}
 use Rattle.series_model.specs.Options.{options_of}
 use Rattle.series_model.specs.Stages.{stage_units}
 use Rattle.wasg_stages.specs.StageProblems.{IsStageProblem, IsChooserOf, IsAltOf}
-use Rattle.season_run.specs.declared.trials.TheConstants.{SMALL_BUDGET}
 use Rattle.season_run.specs.Ends.{AreStageVectors, IsClosedEnd, IsOpenEnd, IsGreatestFloor, IsLeastOf, IsStageOf, StatesNothing, AreStated, AreKeptOf, MakesStage, undone_ranges, floor_costs}
 use Rattle.season_run.specs.Runs.{IsOpenStage, OpensAs, IsStageRun, IsTriedRun, allotment_count}
-use Rattle.season_run.specs.Steps.{IsTrialEnd, FitsSeason}
+use Rattle.season_run.specs.Searches.{IsEndOfSearches, listed_vectors}
+use Rattle.season_run.specs.Steps.{IsDrivenBy, IsTrialEnd, FitsSeason}
 use Rattle.season_run.proofs.TreeLemmas.{sound_walks, open_count, whole_count, tree_length}
 use Rattle.season_run.proofs.TrialLemmas.{few-prices}
 
@@ -69,6 +70,10 @@ kept-driven : FewerDriven → (p : ProblemView) (searched kept : List (List Pric
 kept-driven fewer p searched kept tree floors cost k d =
     fewer p kept k.behind cost tree k.last.leaves (subst (λ (v : List (List Price)). IsDriven p v cost tree) k.first d)
 
+kept-root : (p : ProblemView) (kept behind : List (List Price)) → (0 < length (kept ++ behind) → IsRootVector p (vector_at (kept ++ behind) 1)) → 0 < length kept → IsRootVector p (vector_at kept 1)
+kept-root p [] behind h l = absurd (omega arith)
+kept-root p (v ∷ kept) behind h l = h (omega arith)
+
 -- ---- one stage
 
 module _ (fewer : FewerDriven) (p : ProblemView) (budget : ℕ) (c : StageCert) (proof : IsProof p c) where
@@ -83,38 +88,44 @@ module _ (fewer : FewerDriven) (p : ProblemView) (budget : ℕ) (c : StageCert) 
     driven-here : IsDriven p vectors cost tree → IsDriven p c.vectors c.cost c.tree
     driven-here d = rw (made.cost_is, made.tree_is) (kept-driven fewer p vectors c.vectors tree c.floors cost made.kept d)
 
-    of-parts : AreStageVectors p vectors → node_count tree ≤ budget → (budget ≤ SMALL_BUDGET → IsDriven p vectors cost tree) → OpensAs p budget c mark → IsStageRun p budget c
-    of-parts listed few small opened = record {
+    of-parts : (o : Outcome) → AreStageVectors p vectors → node_count tree ≤ budget → (budget ≤ 64 → IsDrivenBy p vectors cost tree) → IsEndOfSearches p budget o → MakesStage p o c →
+        OpensAs p budget (listed_vectors o) c mark → IsStageRun p budget c
+    of-parts o listed few small searches made-of opened = record {
       proof = proof;
       nodes = omega (arith, few, nodes-here);
       listed = kept-listed p vectors c.vectors c.tree c.floors kept-here listed proof.vectors;
       named = kept-here.last;
-      small = λ le. driven-here (small le);
-      opened = subst (OpensAs p budget c) (sym made.mark_is) opened;
+      small = λ le. record {
+        driven = driven-here (small le).0;
+        root = kept-root p c.vectors kept-here.behind (subst (λ (v : List (List Price)). 0 < length v → IsRootVector p (vector_at v 1)) kept-here.first (small le).1);
+      };
+      outcome = o;
+      searches = searches;
+      made = made-of;
+      opened = subst (OpensAs p budget (listed_vectors o) c) (sym made.mark_is) opened;
     }
 
   pub stage-run : (o : Outcome) → IsTrialEnd p budget o → MakesStage p o c → IsStageRun p budget c
   stage-run (ends.Optimal choice cost tree vectors) t made =
       let closed : IsClosedEnd p vectors (Some cost) (Some choice) tree = t.end in
-      of-parts marks.Optimal (Some choice) (Some cost) tree vectors made.0 closed.listed t.nodes t.small tt
+      of-parts marks.Optimal (Some choice) (Some cost) tree vectors made.0 (ends.Optimal choice cost tree vectors) closed.listed t.nodes t.small t.searches made tt
   stage-run (ends.Infeasible tree vectors) t made =
       let closed : IsClosedEnd p vectors None None tree = t.end in
-      of-parts marks.Infeasible None None tree vectors made.0 closed.listed t.nodes t.small tt
+      of-parts marks.Infeasible None None tree vectors made.0 (ends.Infeasible tree vectors) closed.listed t.nodes t.small t.searches made tt
   stage-run (ends.Spent best tree vectors) t made =
       let cost = option_map (choice_cost p) best in
       let spent : IsOpenEnd p vectors (option_map (choice_cost p) best) best tree = t.end in
       let listed : AreStageVectors p vectors = record { few = spent.searched.listed.few; each = spent.searched.listed.each; few_prices = spent.searched.listed.few_prices } in
-      let opened : IsOpenStage p budget c = record {
+      let opened : IsOpenStage p budget vectors c = record {
         spent = nodes-here marks.Unsettled best cost tree vectors made.0 ∙ t.nodes;
         undone = λ w. spent.undone (rw made.0.tree_is at w);
         driven = driven-here marks.Unsettled best cost tree vectors made.0 spent.searched.driven;
-        searched = vectors;
         listed = spent.searched.listed;
         root = spent.root;
         kept = kept-here marks.Unsettled best cost tree vectors made.0;
         stated = subst (λ (n : List Node). AreStated p vectors c.cost n c.floors c.bound) (sym made.0.tree_is) made.1;
       } in
-      of-parts marks.Unsettled best cost tree vectors made.0 listed (omega (arith, t.nodes)) t.small opened
+      of-parts marks.Unsettled best cost tree vectors made.0 (ends.Spent best tree vectors) listed (omega (arith, t.nodes)) t.small t.searches made opened
 
 -- what is settled is not OPEN
 pub settled-mark : (p : ProblemView) (o : Outcome) (c : StageCert) → IsSettled o → MakesStage p o c → c.mark ≡ marks.Unsettled → ⊥

@@ -1,6 +1,6 @@
 -- The stages of a run, one after the other.
-use Rattle.std.proofs.Common.{◌≡◌, ℕ, suc, ◌+◌, ◌<◌, ◌≤◌, refl, sym, ◌∙◌, ap, subst, arith, List, [], ◌∷◌, ◌++◌, length, length-append, append_assoc, Bool, true, false, Option, Some, None}
-use Rattle.std.specs.Prelude.{All, is_some, ◌&&◌}
+use Rattle.std.proofs.Common.{◌≡◌, ℕ, ◌+◌, ◌≤◌, refl, sym, ◌∙◌, ap, subst, arith, List, [], ◌∷◌, ◌++◌, length, length-append, append_assoc, Bool, true, false, Option}
+use Rattle.std.specs.Prelude.{All}
 use Rattle.std.specs.List.{AllByRecursion}
 use Rattle.std.proofs.lemmas.List.{append-nil}
 use Rattle.std.proofs.lemmas.List.Elements.{All-cons, All-nil}
@@ -14,34 +14,11 @@ use Rattle.cert_format.specs.Spelling.{is_tried, cert_lines, HoldsNothing}
 use Rattle.cert_format.specs.Printable.{IsPrintable, IsPrintableStage, IsPrintableAs, IsWithinLimits}
 use Rattle.series_model.specs.declared.unit.Unit.{Unit as SlotUnit}
 use Rattle.series_model.specs.declared.state.UnitState.{UnitState}
-use Rattle.series_model.specs.Stages.{first_states, after_stage, after_stages, states_after, may_follow}
+use Rattle.series_model.specs.Stages.{first_states, after_stage, states_after, may_follow, AreStates}
 use Rattle.series_model.specs.Submissions.{SubmissionView}
-use Rattle.wasg_stages.specs.StageProblems.{AreStates}
 use Rattle.wasg_stages.specs.Valid.{IsStageAs, AreStages}
 use Rattle.season_run.specs.Runs.{IsTriedRun, IsRunAs, AreStageRuns, IsRun, AreEnough}
 use Rattle.season_run.specs.Steps.{FitsSeason, AreRunSoFar, IsNextStage}
-
--- ---- one choice more
-
-after-one : (d : Declaration) (stage : ℕ) (states : List UnitState) (choices : List (Option (List ℕ))) (choice : Option (List ℕ)) →
-    after_stages d stage states (choices ++ choice ∷ []) ≡ after_stage d (length choices + stage) (after_stages d stage states choices) choice
-after-one d stage states [] choice =
-    let count : stage ≡ 0 + stage = omega arith in
-    ap (λ (k : ℕ). after_stage d k states choice) count
-after-one d stage states (one ∷ choices) choice =
-    let count : length choices + suc stage ≡ suc (length choices) + stage = omega arith in
-    after-one d (suc stage) (after_stage d stage states one) choices choice
-    ∙ ap (λ (k : ℕ). after_stage d k (after_stages d (suc stage) (after_stage d stage states one) choices) choice) count
-
-follows-one : (earlier : List (Option (List ℕ))) (choice : Option (List ℕ)) (follows next : Bool) → follows ≡ may_follow earlier → (2 < length earlier + 1 → next ≡ follows) →
-    (length earlier + 1 ≤ 2 → next ≡ (follows && is_some choice)) → next ≡ may_follow (earlier ++ choice ∷ [])
-follows-one [] None follows next is late early = early (omega arith) ∙ ap (λ (b : Bool). b && false) is
-follows-one [] (Some x) follows next is late early = early (omega arith) ∙ ap (λ (b : Bool). b && true) is
-follows-one (None ∷ []) None follows next is late early = early (omega arith) ∙ ap (λ (b : Bool). b && false) is
-follows-one (None ∷ []) (Some x) follows next is late early = early (omega arith) ∙ ap (λ (b : Bool). b && true) is
-follows-one (Some y ∷ []) None follows next is late early = early (omega arith) ∙ ap (λ (b : Bool). b && false) is
-follows-one (Some y ∷ []) (Some x) follows next is late early = early (omega arith) ∙ ap (λ (b : Bool). b && true) is
-follows-one (one ∷ other ∷ earlier) choice follows next is late early = late (omega arith) ∙ is
 
 -- ---- the stages so far
 
@@ -76,11 +53,14 @@ next-run d stage states budget c true true t h = h.1
 next-run d stage states budget c true false t h = (let no : true ≡ false = sym t ∙ h in cc)
 next-run d stage states budget c false follows t h = tt
 
-pub so_far_next : (s : SubmissionView) (budget stage : ℕ) (states after : List UnitState) (follows next : Bool) (certs : List StageCert) (c : StageCert) →
+pub so_far_next : ((d : Declaration) (units : List SlotUnit) (choices : List (Option (List ℕ))) (choice : Option (List ℕ)) →
+    states_after d units (choices ++ choice ∷ []) ≡ after_stage d (length choices + 1) (states_after d units choices) choice) →
+    (s : SubmissionView) (budget stage : ℕ) (states after : List UnitState) (follows next : Bool) (certs : List StageCert) (c : StageCert) →
     AreRunSoFar s budget stage states follows certs → IsNextStage s.declaration stage states budget c follows → FitsSeason c →
-    after ≡ after_stage s.declaration stage states c.choice → AreStates s after → (2 < stage → next ≡ follows) → (stage ≤ 2 → next ≡ (follows && is_some c.choice)) →
+    after ≡ after_stage s.declaration stage states c.choice → AreStates s after →
+    ((earlier : List (Option (List ℕ))) → stage ≡ length earlier + 1 → follows ≡ may_follow earlier → next ≡ may_follow (earlier ++ c.choice ∷ [])) →
     AreRunSoFar s budget (stage + 1) after next (certs ++ c ∷ [])
-so_far_next s budget stage states after follows next certs c on stage_next fits after_is fit late early =
+so_far_next one_more s budget stage states after follows next certs c on stage_next fits after_is fit goes_on =
     let d = s.declaration in
     let one = subst (λ (k : ℕ). IsNextStage d k states budget c follows) on.stage_is stage_next in
     let here = subst (λ (st : List UnitState). IsNextStage d (length on.earlier + 1) st budget c follows) on.states_are one in
@@ -89,8 +69,8 @@ so_far_next s budget stage states after follows next certs c on stage_next fits 
       stage_is = omega (arith, on.stage_is, length-append on.earlier (c.choice ∷ []));
       states_are = after_is ∙ ap (λ (st : List UnitState). after_stage d stage st c.choice) on.states_are
           ∙ ap (λ (k : ℕ). after_stage d k (states_after d s.units on.earlier) c.choice) on.stage_is
-          ∙ sym (after-one d 1 (first_states s.units) on.earlier c.choice);
-      follows_is = follows-one on.earlier c.choice follows next on.follows_is (λ lt. late (omega (arith, lt, on.stage_is))) (λ le. early (omega (arith, le, on.stage_is)));
+          ∙ sym (one_more d s.units on.earlier c.choice);
+      follows_is = goes_on on.earlier on.stage_is on.follows_is;
       fit = fit;
       count = omega (arith, on.count, length-append certs (c ∷ []));
       fit_certs = fits-push certs c on.fit_certs fits;

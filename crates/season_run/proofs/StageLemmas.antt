@@ -11,7 +11,7 @@ use Rattle.choice_problem.specs.Choices.{IsFeasible, choice_cost}
 use Rattle.choice_problem.specs.Bounds.{IsVector, Closes, whole_of}
 use Rattle.choice_problem.specs.Trees.{AreSound, IsSound, IsWhole, LeafHolds, vector_at}
 use Rattle.choice_problem.specs.Floors.{AreFloors}
-use Rattle.choice_problem.specs.Renumbered.{NamesUpTo}
+use Rattle.choice_problem.specs.Named.{NamesUpTo}
 use Rattle.search_workers.specs.Outcomes.{IsBestFound}
 use Rattle.cert_format.specs.declared.cert.Floor.{Floor}
 use Rattle.cert_format.specs.declared.cert.Mark.{Mark}

@@ -9,7 +9,7 @@ use Rattle.choice_problem.specs.declared.nodes.Node.TheVariants.{Split, Leaf, Ov
 use Rattle.choice_problem.specs.Problems.{ProblemView}
 use Rattle.choice_problem.specs.Trees.{AreSound, NodeHolds, IsWhole, node_count, parts_of}
 use Rattle.choice_problem.specs.Grafts.{open_ranges}
-use Rattle.choice_problem.specs.Renumbered.{NamesUpTo}
+use Rattle.choice_problem.specs.Named.{NamesUpTo}
 use Rattle.choice_problem.specs.Walks.{CanStand, CanStep, AreWalkable, IsStep}
 use Rattle.cert_format.specs.Spelling.{undone_count}
 use Rattle.season_run.specs.Steps.{undone_at}

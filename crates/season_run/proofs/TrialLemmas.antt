@@ -1,18 +1,24 @@
 -- From what a search answers to the end of a stage's trial.
-use Rattle.std.proofs.Common.{◌≡◌, ℕ, zero, suc, ◌+◌, ◌*◌, ◌<◌, ◌≤◌, refl, subst, arith, List, [], ◌∷◌, length, pos, Option, Some, None}
+use Rattle.std.proofs.Common.{◌≡◌, ℕ, zero, suc, ◌+◌, ◌*◌, ◌<◌, ◌≤◌, refl, ap, subst, arith, List, [], ◌∷◌, length, pos, Option, Some, None, inl, inr}
 use Rattle.std.specs.Prelude.{IfSome}
 use Rattle.std.specs.Option.{option_map}
 use Rattle.std.proofs.lemmas.List.Elements.{All-cons, All-nil}
 use Rattle.choice_problem.specs.declared.vectors.Price.{Price}
 use Rattle.choice_problem.specs.declared.nodes.Node.{Node}
-use Rattle.choice_problem.specs.Problems.{ProblemView, resource_count}
+use Rattle.choice_problem.specs.Problems.{ProblemView, resource_count, unit_count}
 use Rattle.choice_problem.specs.Choices.{IsFeasible, choice_cost}
 use Rattle.choice_problem.specs.Bounds.{IsVector, IsPrice, price_at}
 use Rattle.search_workers.specs.declared.outcomes.Outcome.{Outcome}
 use Rattle.search_workers.specs.declared.outcomes.Outcome.TheVariants as ends
-use Rattle.search_workers.specs.Outcomes.{IsOutcome, IsSettled, IsSearched, AreListed, AreFurther, choice_count}
-use Rattle.season_run.specs.Ends.{AreStageVectors, IsOpenEnd, IsStageEnd}
-use Rattle.season_run.specs.Steps.{TakesNodes, IsDrivenEnd, IsTrialEnd}
+use Rattle.search_workers.specs.Outcomes.{IsBestFound, IsOutcome, IsSettled, IsSearched, AreListed, AreAllOf, AreFurther, choice_count}
+use Rattle.closing_search.specs.Closed.{IsClosed, IsEnding}
+use Rattle.closing_search.specs.declared.closed.Closed.{Closed}
+use Rattle.closing_search.specs.declared.closed.Closed.TheVariants as closed
+use Rattle.closing_search.specs.declared.closed.Ending.{Ending}
+use Rattle.closing_search.specs.declared.closed.Ending.TheVariants as free
+use Rattle.season_run.specs.Ends.{AreStageVectors, IsStageEnd}
+use Rattle.season_run.specs.Searches.{IsFreeSearch, FollowsFree, closed_outcome, found_choice}
+use Rattle.season_run.specs.Steps.{TakesNodes, IsDrivenBy, IsDrivenEnd, IsTrialEnd}
 use Rattle.season_run.proofs.StageLemmas.{found-cost}
 
 listed-any : (p : ProblemView) (given vectors : List (List Price)) → AreListed p given vectors → AreListed p [] vectors
@@ -33,32 +39,91 @@ searched-any p given vectors cost best tree h =
     subst (λ (k : Option ℕ). IsSearched p [] vectors k best tree) (found-cost p cost best h.found)
     (record { found = h.found; driven = h.driven; sound = h.sound; listed = listed-any p given vectors h.listed })
 
+all-some : (p : ProblemView) (given : List (List Price)) (budget : ℕ) (vectors : List (List Price)) → AreAllOf p given budget vectors → 1 ≤ length vectors
+all-some p given budget vectors h =
+    let long = ap (λ (l : List (List Price)). length l) h.begins in
+    omega (arith, long)
+
 pub outcome-end : (p : ProblemView) (given : List (List Price)) (budget : ℕ) (o : Outcome) → 1 ≤ budget → IsOutcome p given budget o → IsStageEnd p o
 outcome-end p given budget (ends.Optimal choice cost tree vectors) some h =
     record { found = h.0.found; listed = stage-vectors p given vectors h.0.listed; sound = h.0.sound; whole = h.1 }
 outcome-end p given budget (ends.Infeasible tree vectors) some h =
     record { found = h.0.found; listed = stage-vectors p given vectors h.0.listed; sound = h.0.sound; whole = h.1 }
 outcome-end p given budget (ends.Spent best tree vectors) some h =
-    let more : length given < length vectors = h.3 some in
-    record { searched = searched-any p given vectors h.0.0 best tree h.0.1; root = omega (arith, more); undone = h.2 }
+    record { searched = searched-any p given vectors h.0.0 best tree h.0.1; root = all-some p given budget vectors (h.3 some); undone = h.2 }
 
 pub outcome-nodes : (p : ProblemView) (given : List (List Price)) (budget : ℕ) (o : Outcome) → IsOutcome p given budget o → TakesNodes budget o
 outcome-nodes p given budget (ends.Optimal choice cost tree vectors) h = h.2
 outcome-nodes p given budget (ends.Infeasible tree vectors) h = h.2
 outcome-nodes p given budget (ends.Spent best tree vectors) h = h.1
 
-pub outcome-driven : (p : ProblemView) (given : List (List Price)) (budget : ℕ) (o : Outcome) → IsOutcome p given budget o → IsDrivenEnd p o
-outcome-driven p given budget (ends.Optimal choice cost tree vectors) h = h.0.driven
-outcome-driven p given budget (ends.Infeasible tree vectors) h = h.0.driven
-outcome-driven p given budget (ends.Spent best tree vectors) h = (searched-any p given vectors h.0.0 best tree h.0.1).driven
+found-is : (p : ProblemView) (cost : Option ℕ) (best : Option (List ℕ)) → IsBestFound p cost best → IfSome best (IsFeasible p)
+found-is p None None h = tt
+found-is p (Some c) None h = tt
+found-is p None (Some x) h = absurd h
+found-is p (Some c) (Some x) h = h.0
 
--- a search with the whole budget
-pub whole-trial : (p : ProblemView) (given : List (List Price)) (budget : ℕ) (o : Outcome) → 1 ≤ budget → IsOutcome p given budget o →
+driven-by : (p : ProblemView) (given vectors : List (List Price)) (cost : Option ℕ) (best : Option (List ℕ)) (tree : List Node) → IsSearched p given vectors cost best tree → IsDrivenBy p vectors cost tree
+driven-by p given vectors cost best tree h = (h.driven, h.listed.root)
+
+pub outcome-driven : (p : ProblemView) (given : List (List Price)) (budget : ℕ) (o : Outcome) → IsOutcome p given budget o → IsDrivenEnd p o
+outcome-driven p given budget (ends.Optimal choice cost tree vectors) h = driven-by p given vectors (Some cost) (Some choice) tree h.0
+outcome-driven p given budget (ends.Infeasible tree vectors) h = driven-by p given vectors None None tree h.0
+outcome-driven p given budget (ends.Spent best tree vectors) h =
+    driven-by p [] vectors (option_map (choice_cost p) best) best tree (searched-any p given vectors h.0.0 best tree h.0.1)
+
+-- the choice that a search found is feasible
+pub found-feasible : (p : ProblemView) (given : List (List Price)) (budget : ℕ) (o : Outcome) → IsOutcome p given budget o → IfSome (found_choice o) (IsFeasible p)
+found-feasible p given budget (ends.Optimal choice cost tree vectors) h = h.0.found.0
+found-feasible p given budget (ends.Infeasible tree vectors) h = tt
+found-feasible p given budget (ends.Spent best tree vectors) h = found-is p h.0.0 best h.0.1.found
+
+-- ---- searches by free splits
+
+closed-end : (p : ProblemView) (budget : ℕ) (a : Closed) → IsClosed p budget a → IsStageEnd p (closed_outcome a)
+closed-end p budget (closed.Optimal choice cost tree vectors) h =
+    record { found = (h.1, h.2); listed = record { few = h.0.few; each = h.0.each; few_prices = h.0.few_prices }; sound = h.0.sound; whole = h.0.whole }
+closed-end p budget (closed.Infeasible tree vectors) h =
+    record { found = tt; listed = record { few = h.0.few; each = h.0.each; few_prices = h.0.few_prices }; sound = h.0.sound; whole = h.0.whole }
+
+closed-nodes : (p : ProblemView) (budget : ℕ) (a : Closed) → IsClosed p budget a → TakesNodes budget (closed_outcome a)
+closed-nodes p budget (closed.Optimal choice cost tree vectors) h = h.0.few_nodes
+closed-nodes p budget (closed.Infeasible tree vectors) h = h.0.few_nodes
+
+follows-end : (p : ProblemView) (budget : ℕ) (e : Ending) (o : Outcome) → 1 ≤ budget → IsEnding p budget e → FollowsFree p budget e o → IsStageEnd p o × TakesNodes budget o
+follows-end p budget (free.Closed a) o some h f = rw f (closed-end p budget a h, closed-nodes p budget a h)
+follows-end p budget (free.Open best vector) o some h f = (outcome-end p (vector ∷ []) budget o some f.0, outcome-nodes p (vector ∷ []) budget o f.0)
+
+-- ---- the ends of all searches
+
+-- a larger problem, with a greater budget
+pub many-trial : (p : ProblemView) (budget : ℕ) (o : Outcome) → 64 < budget → 64 < unit_count p → IsFreeSearch p budget None o →
     (2 * choice_count p ≤ budget + 1 → IsSettled o) → IsTrialEnd p budget o
-whole-trial p given budget o some h settled = record {
-  end = outcome-end p given budget o some h;
-  nodes = outcome-nodes p given budget o h;
-  small = λ le. outcome-driven p given budget o h;
+many-trial p budget o more many f settled =
+    let both = follows-end p budget f.ending o (omega (arith, more)) f.ends f.follows in record {
+      end = both.0;
+      nodes = both.1;
+      small = λ le. absurd (omega (arith, le, more));
+      searches = record {
+        small = λ le. absurd (omega (arith, le, more));
+        few_units = λ lt few. absurd (omega (arith, few, many));
+        many_units = λ lt gt. f;
+      };
+      settled = settled;
+    }
+
+-- a small budget
+pub small-trial : (p : ProblemView) (budget : ℕ) (o : Outcome) → 1 ≤ budget → budget ≤ 64 → IsOutcome p [] budget o →
+    (2 * choice_count p ≤ budget + 1 → IsSettled o) → IsTrialEnd p budget o
+small-trial p budget o some small h settled = record {
+  end = outcome-end p [] budget o some h;
+  nodes = outcome-nodes p [] budget o h;
+  small = λ le. outcome-driven p [] budget o h;
+  searches = record {
+    small = λ le. h;
+    few_units = λ lt few. absurd (omega (arith, lt, small));
+    many_units = λ lt gt. absurd (omega (arith, lt, small));
+  };
   settled = settled;
 }
 
@@ -67,20 +132,35 @@ fewer-nodes less budget (ends.Optimal choice cost tree vectors) le s h = omega (
 fewer-nodes less budget (ends.Infeasible tree vectors) le s h = omega (arith, le, h)
 fewer-nodes less budget (ends.Spent best tree vectors) le s h = absurd s
 
--- a search that ended before the budget
-pub settled-trial : (p : ProblemView) (given : List (List Price)) (less budget : ℕ) (o : Outcome) → 1 ≤ less → less ≤ budget → IsOutcome p given less o → IsSettled o → IsTrialEnd p budget o
-settled-trial p given less budget o some le h s = record {
-  end = outcome-end p given less o some h;
-  nodes = fewer-nodes less budget o le s (outcome-nodes p given less o h);
-  small = λ small. outcome-driven p given less o h;
+-- the first visits settled a problem of few units
+pub first-trial : (p : ProblemView) (budget : ℕ) (o : Outcome) → 64 < budget → unit_count p ≤ 64 → IsOutcome p [] 64 o → IsSettled o → IsTrialEnd p budget o
+first-trial p budget o more few h s = record {
+  end = outcome-end p [] 64 o (omega arith) h;
+  nodes = fewer-nodes 64 budget o (omega (arith, more)) s (outcome-nodes p [] 64 o h);
+  small = λ le. absurd (omega (arith, le, more));
+  searches = record {
+    small = λ le. absurd (omega (arith, le, more));
+    few_units = λ lt le. record { first = o; visits = h; follows = inl (s, refl) };
+    many_units = λ lt gt. absurd (omega (arith, gt, few));
+  };
   settled = λ enough. s;
 }
 
-pub end-feasible : (p : ProblemView) (cost : Option ℕ) (best : Option (List ℕ)) (vectors : List (List Price)) (tree : List Node) → IsOpenEnd p vectors cost best tree → IfSome best (IsFeasible p)
-end-feasible p None None vectors tree h = tt
-end-feasible p (Some c) None vectors tree h = tt
-end-feasible p None (Some x) vectors tree h = absurd h.searched.found
-end-feasible p (Some c) (Some x) vectors tree h = h.searched.found.0
+-- they did not
+pub next-trial : (p : ProblemView) (budget : ℕ) (first o : Outcome) → 64 < budget → unit_count p ≤ 64 → IsOutcome p [] 64 first → (IsSettled first → ⊥) →
+    IsFreeSearch p budget (found_choice first) o → (2 * choice_count p ≤ budget + 1 → IsSettled o) → IsTrialEnd p budget o
+next-trial p budget first o more few h left f settled =
+    let both = follows-end p budget f.ending o (omega (arith, more)) f.ends f.follows in record {
+      end = both.0;
+      nodes = both.1;
+      small = λ le. absurd (omega (arith, le, more));
+      searches = record {
+        small = λ le. absurd (omega (arith, le, more));
+        few_units = λ lt le. record { first = first; visits = h; follows = inr (left, f) };
+        many_units = λ lt gt. absurd (omega (arith, gt, few));
+      };
+      settled = settled;
+    }
 
 -- rising resources are few
 rising-from : (p : ProblemView) (prices : List Price) → IsVector p prices → (k : ℕ) → k < length prices → k ≤ (price_at prices k).resource

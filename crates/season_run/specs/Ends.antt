@@ -10,12 +10,12 @@ use Rattle.choice_problem.specs.Bounds.{IsVector, whole_of}
 use Rattle.choice_problem.specs.Trees.{IsSound, IsWhole}
 use Rattle.choice_problem.specs.Grafts.{open_ranges}
 use Rattle.choice_problem.specs.Floors.{IsAtMost}
-use Rattle.choice_problem.specs.Renumbered.{NamesUpTo}
+use Rattle.choice_problem.specs.Named.{Names, NamesUpTo}
 use Rattle.dual_bound.specs.Stated.{floor_by, scale_at, IsStatedFloor}
-use Rattle.search_workers.specs.Outcomes.{IsBestFound, IsSearched, Names, price_count}
+use Rattle.search_workers.specs.Outcomes.{IsBestFound, IsSearched, price_count}
 use Rattle.search_workers.specs.declared.outcomes.Outcome.{Outcome}
 use Rattle.search_workers.specs.declared.outcomes.Outcome.TheVariants as ends
-use Rattle.cert_format.specs.declared.cert.TheConstants.{MOST_VECTORS, MOST_PRICES}
+use Rattle.choice_problem.specs.declared.vectors.TheConstants.{MOST_VECTORS, MOST_PRICES}
 use Rattle.cert_format.specs.declared.cert.Floor.{Floor}
 use Rattle.cert_format.specs.declared.cert.Mark.{Mark}
 use Rattle.cert_format.specs.declared.cert.Mark.TheVariants as marks

@@ -1,13 +1,15 @@
 -- The certificate of a run of a season: what is promised of each stage beside that the certificate
 -- is valid.
-use Rattle.std.specs.Prelude.{◌≡◌, ℕ, ◌+◌, ◌*◌, ◌≤◌, Bool, true, false, List, [], ◌∷◌, ◌++◌, length, map, All, Option}
+use Rattle.std.specs.Prelude.{◌≡◌, ℕ, ◌+◌, ◌*◌, ◌<◌, ◌≤◌, Bool, true, false, List, [], ◌∷◌, ◌++◌, length, map, All, Option}
 use Rattle.std.specs.List.{AllByRecursion}
 use Rattle.season_days.specs.declared.declaration.Declaration.{Declaration}
 use Rattle.choice_problem.specs.declared.vectors.Price.{Price}
 use Rattle.choice_problem.specs.Problems.{ProblemView}
-use Rattle.choice_problem.specs.Trees.{IsWhole, node_count}
+use Rattle.choice_problem.specs.Trees.{IsWhole, node_count, vector_at}
 use Rattle.choice_problem.specs.Driven.{IsDriven}
+use Rattle.choice_problem.specs.Roots.{IsRootVector}
 use Rattle.search_workers.specs.Outcomes.{AreListed, product_of}
+use Rattle.search_workers.specs.declared.outcomes.Outcome.{Outcome}
 use Rattle.cert_format.specs.declared.cert.Mark.{Mark}
 use Rattle.cert_format.specs.declared.cert.Mark.TheVariants.{Optimal, Infeasible, Unsettled, NotTried}
 use Rattle.cert_format.specs.declared.cert.StageCert.{StageCert}
@@ -22,8 +24,8 @@ use Rattle.series_model.specs.Stages.{stage_units, states_after}
 use Rattle.series_model.specs.Submissions.{SubmissionView}
 use Rattle.wasg_stages.specs.StageProblems.{IsStageProblem}
 use Rattle.wasg_stages.specs.Valid.{IsValid}
-use Rattle.season_run.specs.declared.trials.TheConstants.{SMALL_BUDGET}
-use Rattle.season_run.specs.Ends.{AreStageVectors, AreStated, IsGreatestName, AreKeptOf}
+use Rattle.season_run.specs.Ends.{AreStageVectors, AreStated, IsGreatestName, AreKeptOf, MakesStage}
+use Rattle.season_run.specs.Searches.{IsEndOfSearches, listed_vectors}
 
 -- ---- a stage on its problem
 
@@ -31,31 +33,41 @@ use Rattle.season_run.specs.Ends.{AreStageVectors, AreStated, IsGreatestName, Ar
 -- Its vectors are those of its search, the root vector first, up to the last one that it names; its
 -- floors are the greatest that all vectors of the search give, and its bound is the least of them and
 -- of its cost.
-pub record IsOpenStage (p : ProblemView) (budget : ℕ) (c : StageCert) : Type 0 where
+pub record IsOpenStage (p : ProblemView) (budget : ℕ) (searched : List (List Price))
+    (c : StageCert) : Type 0 where
   pub spent : node_count c.tree ≡ budget
   pub undone : IsWhole c.tree → ⊥
   pub driven : IsDriven p c.vectors c.cost c.tree
-  pub searched : List (List Price)
   pub listed : AreListed p [] searched
   pub root : 1 ≤ length searched
   pub kept : AreKeptOf searched c.tree c.floors c.vectors
   pub stated : AreStated p searched c.cost c.tree c.floors c.bound
 
-abbrev pub OpensAs : ProblemView → ℕ → StageCert → Mark → Type 0
-OpensAs p budget c Optimal = Unit {0}
-OpensAs p budget c Infeasible = Unit {0}
-OpensAs p budget c Unsettled = IsOpenStage p budget c
-OpensAs p budget c NotTried = ⊥
+abbrev pub OpensAs : ProblemView → ℕ → List (List Price) → StageCert → Mark → Type 0
+OpensAs p budget searched c Optimal = Unit {0}
+OpensAs p budget searched c Infeasible = Unit {0}
+OpensAs p budget searched c Unsettled = IsOpenStage p budget searched c
+OpensAs p budget searched c NotTried = ⊥
 
--- the stage's tree has at most the budget's nodes, and no vector is listed behind the last one that
--- is named; with a small budget the tree is driven, whatever the mark is
+-- with a small budget the tree is driven, whatever the mark is, and the first vector, if there is
+-- one, is the root vector
+pub record IsSmallRun (p : ProblemView) (c : StageCert) : Type 0 where
+  pub driven : IsDriven p c.vectors c.cost c.tree
+  pub root : 0 < length c.vectors → IsRootVector p (vector_at c.vectors 1)
+
+-- The stage is made of the end of the problem's searches, each of which goes on from the best choice
+-- that the searches before it found. Its tree has at most the budget's nodes, and no vector is listed
+-- behind the last one that is named.
 pub record IsStageRun (p : ProblemView) (budget : ℕ) (c : StageCert) : Type 0 where
   pub proof : IsProof p c
   pub nodes : node_count c.tree ≤ budget
   pub listed : AreStageVectors p c.vectors
   pub named : IsGreatestName c.tree c.floors (length c.vectors)
-  pub small : budget ≤ SMALL_BUDGET → IsDriven p c.vectors c.cost c.tree
-  pub opened : OpensAs p budget c c.mark
+  pub small : budget ≤ 64 → IsSmallRun p c
+  pub outcome : Outcome
+  pub searches : IsEndOfSearches p budget outcome
+  pub made : MakesStage p outcome c
+  pub opened : OpensAs p budget (listed_vectors outcome) c c.mark
 
 -- ---- a budget that is enough
 

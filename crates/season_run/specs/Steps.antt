@@ -1,5 +1,5 @@
 -- Steps of a run. Contracts of private functions alone cite them.
-use Rattle.std.specs.Prelude.{◌≡◌, ◌⊎◌, ℕ, ◌+◌, ◌*◌, ◌≤◌, min, Bool, true, false, List, [], ◌∷◌, ◌++◌, length, All, Contains, Option, Some, None}
+use Rattle.std.specs.Prelude.{◌≡◌, ◌⊎◌, ℕ, ◌+◌, ◌*◌, ◌<◌, ◌≤◌, min, Bool, true, false, List, [], ◌∷◌, ◌++◌, length, All, Contains, Option, Some, None}
 use Rattle.std.specs.List.{AllZip, AllByRecursion}
 use Rattle.std.specs.Option.{option_map}
 use Rattle.choice_problem.specs.declared.vectors.Price.{Price}
@@ -8,7 +8,8 @@ use Rattle.choice_problem.specs.declared.nodes.Node.TheVariants.{Split, Leaf, Ov
 use Rattle.choice_problem.specs.Problems.{ProblemView}
 use Rattle.choice_problem.specs.Choices.{choice_cost}
 use Rattle.choice_problem.specs.Driven.{IsDriven}
-use Rattle.choice_problem.specs.Trees.{LeafHolds, node_count}
+use Rattle.choice_problem.specs.Trees.{LeafHolds, node_count, vector_at}
+use Rattle.choice_problem.specs.Roots.{IsRootVector}
 use Rattle.search_workers.specs.Outcomes.{IsSettled, choice_count}
 use Rattle.search_workers.specs.declared.outcomes.Outcome.{Outcome}
 use Rattle.search_workers.specs.declared.outcomes.Outcome.TheVariants as ends
@@ -20,14 +21,13 @@ use Rattle.cert_format.specs.Spelling.{is_tried}
 use Rattle.cert_format.specs.Printable.{IsPrintableStage, IsWithinLimits}
 use Rattle.season_days.specs.declared.declaration.Declaration.{Declaration}
 use Rattle.series_model.specs.declared.state.UnitState.{UnitState}
-use Rattle.series_model.specs.Stages.{states_after, may_follow}
+use Rattle.series_model.specs.Stages.{states_after, may_follow, AreStates}
 use Rattle.series_model.specs.Submissions.{SubmissionView}
-use Rattle.wasg_stages.specs.StageProblems.{AreStates}
 use Rattle.wasg_stages.specs.Valid.{AreStages}
 use Rattle.season_run.specs.declared.floors.Stated.{Stated}
-use Rattle.season_run.specs.declared.trials.TheConstants.{SMALL_BUDGET}
 use Rattle.season_run.specs.Ends.{IsGreatestFloor, IsLeastOf, IsStageEnd, floor_cost, floor_costs}
 use Rattle.season_run.specs.Runs.{IsTriedRun, AreStageRuns}
+use Rattle.season_run.specs.Searches.{IsEndOfSearches}
 
 -- ---- floors
 
@@ -87,19 +87,24 @@ TakesNodes budget (ends.Optimal choice cost tree vectors) = node_count tree ≤ 
 TakesNodes budget (ends.Infeasible tree vectors) = node_count tree ≤ budget
 TakesNodes budget (ends.Spent best tree vectors) = node_count tree ≡ budget
 
--- the tree is driven, whatever was found
+-- the tree is driven, whatever was found, and the root vector is the first of the vectors, if any
+abbrev pub IsDrivenBy : ProblemView → List (List Price) → Option ℕ → List Node → Type 0
+IsDrivenBy p vectors cost tree = IsDriven p vectors cost tree
+    × (0 < length vectors → IsRootVector p (vector_at vectors 1))
+
 abbrev pub IsDrivenEnd : ProblemView → Outcome → Type 0
-IsDrivenEnd p (ends.Optimal choice cost tree vectors) = IsDriven p vectors (Some cost) tree
-IsDrivenEnd p (ends.Infeasible tree vectors) = IsDriven p vectors None tree
+IsDrivenEnd p (ends.Optimal choice cost tree vectors) = IsDrivenBy p vectors (Some cost) tree
+IsDrivenEnd p (ends.Infeasible tree vectors) = IsDrivenBy p vectors None tree
 IsDrivenEnd p (ends.Spent best tree vectors) =
-    IsDriven p vectors (option_map (choice_cost p) best) tree
+    IsDrivenBy p vectors (option_map (choice_cost p) best) tree
 
 -- what the trial of a stage gives: an end of a search within the budget, that of a driven tree where
 -- the budget is small, and a whole tree where the budget is enough for the problem's choices
 pub record IsTrialEnd (p : ProblemView) (budget : ℕ) (outcome : Outcome) : Type 0 where
   pub end : IsStageEnd p outcome
   pub nodes : TakesNodes budget outcome
-  pub small : budget ≤ SMALL_BUDGET → IsDrivenEnd p outcome
+  pub small : budget ≤ 64 → IsDrivenEnd p outcome
+  pub searches : IsEndOfSearches p budget outcome
   pub settled : 2 * choice_count p ≤ budget + 1 → IsSettled outcome
 
 -- ---- stages of a certificate

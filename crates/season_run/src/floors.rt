@@ -1,8 +1,8 @@
 //! The floors of a tree's undone nodes, and the bound that they state.
 
-ghost use Rattle.std.specs.Prelude.{◌≡◌, ◌+◌, ◌≤◌, ◌∷◌, ◌++◌, [], ℕ, List, Option, All, IfOk, OnOk, length};
-ghost use Rattle.choice_problem.specs.declared.vectors.TheConstants.{MOST_FURTHER};
-ghost use Rattle.choice_problem.specs.Bounds.{AreRanges, IsVector, whole_of};
+ghost use Rattle.std.specs.Prelude.{◌≡◌, ◌≤◌, ◌∷◌, ◌++◌, [], ℕ, List, Option, All, IfOk, OnOk, length};
+ghost use Rattle.choice_problem.specs.declared.vectors.TheConstants.{MOST_VECTORS};
+ghost use Rattle.choice_problem.specs.Bounds.{AreRanges, whole_of};
 ghost use Rattle.choice_problem.specs.Walks.{AreWalkable};
 ghost use Rattle.price_table.specs.Tables.{IsTableFor, vectors_of};
 ghost use Rattle.dual_bound.specs.Stated.{scale_at};
@@ -10,9 +10,9 @@ ghost use Rattle.season_run.specs.Ends.{undone_ranges};
 ghost use Rattle.season_run.specs.Steps.{AreFound, undone_at, least_with};
 
 use cert_format::Floor;
-use choice_problem::{Node, PRICED_SCALE, Problem, RangeWalk, Ranges, Vector};
+use choice_problem::{Node, PRICED_SCALE, Problem, RangeWalk, Ranges};
 use dual_bound::floor_of;
-use price_table::{PriceTable, price_table};
+use price_table::PriceTable;
 use slot_text::Memory;
 use std::alloc::Global;
 
@@ -21,23 +21,6 @@ use std::alloc::Global;
 pub(crate) struct Stated {
     pub(crate) floors: Vec<Floor>,
     pub(crate) bound: Option<u64>,
-}
-
-// The tables of vectors.
-pub(crate) fn tables_of(
-    alloc: Global,
-    problem: &Problem,
-    vectors: &[Vector],
-) -> Result<Vec<PriceTable>, Memory>
-    requires { All (IsVector problem.now) vectors.now }
-    ensures valid { IfOk result (λ tables. All (IsTableFor problem.now) tables.items) }
-    ensures vectors { IfOk result (λ tables. vectors_of tables.items ≡ vectors.now) }
-{
-    let mut tables = Vec::new(alloc);
-    for vector in vectors {
-        tables.push(price_table(alloc, problem, vector)?)?;
-    }
-    Ok(tables)
 }
 
 // The floors of a tree's undone nodes, in preorder, and the least of a cost and of what they give.
@@ -49,7 +32,7 @@ pub(crate) fn stated_floors(
     cost: Option<u64>,
 ) -> Result<Stated, Memory>
     requires tables { All (IsTableFor problem.now) tables.now }
-    requires few { length tables.now ≤ MOST_FURTHER + 1 }
+    requires few { length tables.now ≤ MOST_VECTORS }
     requires tree { AreWalkable (whole_of problem.now ∷ []) tree.now }
     ensures { IfOk result (λ stated. AreFound problem.now (vectors_of tables.now) cost
         (undone_ranges problem.now tree.now) stated) }
@@ -78,7 +61,7 @@ fn add_floor(
     stated: &mut Stated,
 ) -> Result<(), Memory>
     requires tables { All (IsTableFor problem.now) tables.now }
-    requires few { length tables.now ≤ MOST_FURTHER + 1 }
+    requires few { length tables.now ≤ MOST_VECTORS }
     requires ranges { AreRanges problem.now ranges.now }
     ensures { OnOk result ((cost : Option ℕ) (pieces : List (List (ℕ × ℕ))) →
         AreFound problem.now (vectors_of tables.now) cost pieces stated.old →
@@ -101,7 +84,7 @@ fn push_floor(
     stated: &mut Stated,
 ) -> Result<(), Memory>
     requires tables { All (IsTableFor problem.now) tables.now }
-    requires few { length tables.now ≤ MOST_FURTHER + 1 }
+    requires few { length tables.now ≤ MOST_VECTORS }
     requires ranges { AreRanges problem.now ranges.now }
     ensures { OnOk result ((cost : Option ℕ) (pieces : List (List (ℕ × ℕ))) →
         AreFound problem.now (vectors_of tables.now) cost pieces stated.old →

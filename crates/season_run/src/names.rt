@@ -1,49 +1,22 @@
 //! Which vectors of a search a stage keeps.
 
-ghost use Rattle.std.specs.Prelude.{◌≡◌, ◌⊎◌, ◌≤◌, All, Contains, length, take};
-ghost use Rattle.choice_problem.specs.declared.nodes.Node.{Node};
-ghost use Rattle.choice_problem.specs.Renumbered.{NamesUpTo};
-ghost use Rattle.search_workers.specs.Outcomes.{Names};
+ghost use Rattle.std.specs.Prelude.{◌≡◌, ◌⊎◌, ◌≤◌, take};
 ghost use Rattle.season_run.specs.Ends.{IsGreatestName};
 ghost use Rattle.season_run.specs.Steps.{IsGreatestAtFloors};
 
 use cert_format::Floor;
-use choice_problem::{Node, VectorList};
+use choice_problem::{Node, VectorList, greatest_named};
 
 // The greatest number of a vector that a leaf or a floor names.
 pub(crate) fn greatest_name(tree: &[Node], floors: &[Floor]) -> u32
     ensures { IsGreatestName tree.now floors.now result }
 {
-    let at_leaves = greatest_at_leaves(tree);
+    let at_leaves = greatest_named(tree);
     let at_floors = greatest_at_floors(floors);
     if at_floors < at_leaves {
         at_leaves
     } else {
         at_floors
-    }
-}
-
-// The greatest number that a leaf names.
-fn greatest_at_leaves(tree: &[Node]) -> u32
-    ensures most { All (NamesUpTo result) tree.now }
-    ensures named { (result ≡ 0) ⊎ ((leaf : Node) × Contains tree.now leaf × Names result leaf) }
-{
-    let mut most = 0;
-    for node in tree {
-        most = greater(most, *node);
-    }
-    most
-}
-
-// The greater of a number and the vector that a node may name.
-fn greater(most: u32, node: Node) -> u32
-    ensures least { most ≤ result }
-    ensures names { NamesUpTo result node }
-    ensures which { (result ≡ most) ⊎ Names result node }
-{
-    match node {
-        Node::Leaf { vector, .. } if vector > most => vector,
-        _ => most,
     }
 }
 

@@ -1,29 +1,31 @@
 //! The stages of a season, one after the other.
 
-ghost use Rattle.std.specs.Prelude.{◌≡◌, ◌<◌, ◌≤◌, ◌&&◌, Bool, true, false, None, [], IfOk, is_some, length};
-ghost use Rattle.cert_format.specs.Spelling.{is_tried, HoldsNothing};
+ghost use Rattle.std.specs.Prelude.{◌≡◌, ◌≤◌, true, IfOk};
+ghost use Rattle.cert_format.specs.Spelling.{is_tried};
 ghost use Rattle.cert_format.specs.declared.cert.Mark.TheVariants.{NotTried};
-ghost use Rattle.wasg_stages.specs.StageProblems.{AreStates};
+ghost use Rattle.series_model.specs.Stages.{AreStates};
 ghost use Rattle.season_run.specs.Runs.{IsRun, IsTriedRun};
 ghost use Rattle.season_run.specs.Steps.{FitsSeason, IsNextStage};
 
 use crate::stages::stage_cert;
 use crate::trials::settle_stage;
-use cert_format::{Certificate, FloorList, Mark, StageCert, StageList, line_counts};
-use choice_problem::{Choice, Tree, VectorList, fewer_vectors};
-use series_model::{Submission, UnitState};
+use cert_format::{Certificate, StageCert, StageList, line_counts};
+use choice_problem::fewer_vectors;
+use series_model::laws::one_more_stage;
+use series_model::{Submission, UnitState, after_stage, next_may_follow, states_of};
 use slot_text::Memory;
 use std::alloc::Global;
 use std::thread::Threads;
-use wasg_stages::{after_stage, problem_after, states_of};
+use wasg_stages::problem_after;
 use worker_gate::Gate;
 
 /// The certificate of a season: each stage is allotted after those before it, by a search of at
 /// most `budget` nodes with so many workers, each of which passes the gate before a visit.
 ///
 /// The certificate is valid and of version 2. A stage may stay OPEN where its search spends the
-/// budget: it then states a bound, and `settled_run` says with which budget none does. A small
-/// budget (`SMALL_BUDGET`) is spent on the search from the greedy choice alone.
+/// budget: it then states a bound, and `settled_run` says with which budget none does. A budget of
+/// at most 64 (`SMALL_BUDGET`) is spent on the search by visits alone, from the greedy choice and
+/// with the vectors of that search.
 pub fn run_season<R: Threads + Sync, G: Gate>(
     rt: &R,
     alloc: Global,
@@ -37,6 +39,7 @@ pub fn run_season<R: Threads + Sync, G: Gate>(
     ensures run { IfOk result (IsRun submission.now budget) }
 {
     line_counts();
+    one_more_stage();
     let mut states = states_of(alloc, submission)?;
     let mut follows = true;
     let mut stages = Vec::new(alloc);
@@ -45,7 +48,7 @@ pub fn run_season<R: Threads + Sync, G: Gate>(
             rt, alloc, submission, stage, &states, follows, budget, workers, gate,
         )?;
         states = after_stage(alloc, submission, stage, states, &cert.choice)?;
-        follows = may_follow(follows, stage, &cert.choice);
+        follows = next_may_follow(follows, stage, &cert.choice);
         stages.push(cert)?;
     }
     Ok(Certificate {
@@ -114,25 +117,5 @@ fn untried_stage(alloc: Global) -> StageCert
     ensures mark { result.mark ≡ NotTried }
     ensures fits { FitsSeason result }
 {
-    StageCert {
-        mark: Mark::NotTried,
-        choice: None,
-        cost: None,
-        bound: None,
-        vectors: VectorList::new(Vec::new(alloc)),
-        tree: Tree::new(Vec::new(alloc)),
-        floors: FloorList::new(Vec::new(alloc)),
-    }
-}
-
-// Whether the stage after this one may follow, where this one may or may not.
-fn may_follow(follows: bool, stage: u32, choice: &Option<Choice>) -> bool
-    ensures late { 2 < stage → result ≡ follows }
-    ensures early { stage ≤ 2 → result ≡ (follows && is_some choice.now) }
-{
-    if stage > 2 {
-        follows
-    } else {
-        follows && choice.is_some()
-    }
+    StageCert::not_tried(alloc)
 }

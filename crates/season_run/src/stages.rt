@@ -8,12 +8,13 @@ ghost use Rattle.cert_format.specs.declared.cert.Mark.TheVariants.{Unsettled};
 ghost use Rattle.season_run.specs.Ends.{IsClosedEnd, IsOpenEnd, IsStageEnd, IsStageOf, StatesNothing, AreStated, MakesStage};
 ghost use Rattle.season_run.specs.Steps.{MarksClosed};
 
-use crate::floors::{stated_floors, tables_of};
+use crate::floors::stated_floors;
 use crate::names::{first_vectors, greatest_name};
 use cert_format::{Floor, FloorList, Mark, StageCert};
 use choice_problem::{
     Choice, Problem, Tree, VectorList, closed_ranges, cost_of, fewer_vectors, part_ranges,
 };
+use price_table::tables_of;
 use search_workers::Outcome;
 use slot_text::Memory;
 use std::alloc::Global;

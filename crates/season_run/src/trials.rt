@@ -1,12 +1,11 @@
 //! How a stage is tried: by which searches, and from which start.
 
-ghost use Rattle.std.specs.Prelude.{◌≡◌, ◌+◌, ◌*◌, ◌≤◌, ◌<◌, [], IfOk, IfSome, IsTrue, ◌↔◌};
+ghost use Rattle.std.specs.Prelude.{◌≡◌, ◌+◌, ◌*◌, ◌≤◌, ◌∷◌, [], IfOk, IfSome, IsTrue, ◌↔◌};
 ghost use Rattle.choice_problem.specs.Bounds.{IsVector};
 ghost use Rattle.choice_problem.specs.Choices.{IsFeasible};
-ghost use Rattle.closing_search.specs.Closed.{IsClosed};
 ghost use Rattle.search_workers.specs.Outcomes.{AreFurther, IsOutcome, IsSettled, choice_count};
-ghost use Rattle.season_run.specs.Ends.{IsStageEnd};
-ghost use Rattle.season_run.specs.Steps.{TakesNodes, IsDrivenEnd, IsTrialEnd};
+ghost use Rattle.season_run.specs.Searches.{IsFreeSearch, KeepsKnown, closed_outcome, found_choice};
+ghost use Rattle.season_run.specs.Steps.{IsTrialEnd};
 
 use choice_problem::{Choice, Problem, Vector};
 use closing_search::{Closed, Ending, closing_search};
@@ -36,19 +35,19 @@ pub(crate) fn settle_stage<R: Threads + Sync, G: Gate>(
     requires workers { (1 ≤ workers) × (workers ≤ 16) }
     ensures { IfOk result (IsTrialEnd problem.now budget) }
 {
-    if budget > SMALL_BUDGET && problem.units() > SMALL_BUDGET {
+    if budget <= SMALL_BUDGET {
+        let outcome = search(rt, alloc, problem, budget, workers, gate)?;
+        return Ok(outcome);
+    }
+    if problem.units() > SMALL_BUDGET {
         let outcome = settle_busy(rt, alloc, problem, budget, workers, gate, None)?;
         return Ok(outcome);
     }
-    let visits = budget.min(SMALL_BUDGET);
-    let outcome = search(rt, alloc, problem, visits, workers, gate)?;
-    if visits == budget {
-        return Ok(outcome);
+    let first = search(rt, alloc, problem, SMALL_BUDGET, workers, gate)?;
+    if is_settled(&first) {
+        return Ok(first);
     }
-    if is_settled(&outcome) {
-        return Ok(outcome);
-    }
-    let start = best_of(problem, outcome);
+    let start = found_choice(problem, first);
     let outcome = settle_busy(rt, alloc, problem, budget, workers, gate, start)?;
     Ok(outcome)
 }
@@ -63,13 +62,14 @@ fn settle_busy<R: Threads + Sync, G: Gate>(
     gate: &G,
     start: Option<Choice>,
 ) -> Result<Outcome, Memory>
-    requires budget { SMALL_BUDGET < budget }
     requires workers { (1 ≤ workers) × (workers ≤ 16) }
+    requires budget { 1 ≤ budget }
     requires start { IfSome start (IsFeasible problem.now) }
-    ensures { IfOk result (IsTrialEnd problem.now budget) }
+    ensures searches { IfOk result (IsFreeSearch problem.now budget start) }
+    ensures settled { 2 * choice_count problem.now ≤ budget + 1 → IfOk result IsSettled }
 {
     match closing_search(alloc, problem, start, budget)? {
-        Ending::Closed(closed) => Ok(closed_end(problem, budget, closed)),
+        Ending::Closed(closed) => Ok(closed_outcome(closed)),
         Ending::Open { best, vector } => {
             let outcome = search_known(rt, alloc, problem, budget, workers, gate, best, vector)?;
             Ok(outcome)
@@ -77,11 +77,10 @@ fn settle_busy<R: Threads + Sync, G: Gate>(
     }
 }
 
-// The end of a trial that closed the problem by free splits.
-fn closed_end(_problem: &Problem, _budget: u32, closed: Closed) -> Outcome
-    requires closed { IsClosed _problem.now _budget closed }
-    requires more { SMALL_BUDGET < _budget }
-    ensures { IsTrialEnd _problem.now _budget result }
+// The end of a search by free splits that closed the problem, as an end of searches.
+fn closed_outcome(closed: Closed) -> Outcome
+    ensures value { result ≡ closed_outcome closed }
+    ensures settled { IsSettled result }
 {
     match closed {
         Closed::Optimal {
@@ -110,10 +109,11 @@ fn is_settled(outcome: &Outcome) -> bool
     }
 }
 
-// The best choice that a search found.
-fn best_of(_problem: &Problem, outcome: Outcome) -> Option<Choice>
-    requires { IsStageEnd _problem.now outcome }
-    ensures { IfSome result (IsFeasible _problem.now) }
+// The choice that a search found, if it did.
+fn found_choice(_problem: &Problem, outcome: Outcome) -> Option<Choice>
+    requires { IfSome (found_choice outcome) (IsFeasible _problem.now) }
+    ensures value { result ≡ found_choice outcome }
+    ensures feasible { IfSome result (IsFeasible _problem.now) }
 {
     match outcome {
         Outcome::Optimal { choice, .. } => Some(choice),
@@ -138,7 +138,9 @@ fn search_known<R: Threads + Sync, G: Gate>(
     requires workers { (1 ≤ workers) × (workers ≤ 16) }
     requires best { IfSome best (IsFeasible problem.now) }
     requires vector { IsVector problem.now vector }
-    ensures { IfOk result (IsTrialEnd problem.now budget) }
+    ensures outcome { IfOk result (IsOutcome problem.now (vector ∷ []) budget) }
+    ensures keeps { IfOk result (KeepsKnown problem.now best) }
+    ensures settled { 2 * choice_count problem.now ≤ budget + 1 → IfOk result IsSettled }
 {
     let further = one_vector(alloc, problem, vector)?;
     let outcome = search_from(rt, alloc, problem, budget, workers, gate, best, further)?;
@@ -148,7 +150,8 @@ fn search_known<R: Threads + Sync, G: Gate>(
 // The list of one vector.
 fn one_vector(alloc: Global, problem: &Problem, vector: Vector) -> Result<Vec<Vector>, Memory>
     requires { IsVector problem.now vector }
-    ensures { IfOk result (λ vectors. AreFurther problem.now vectors.items) }
+    ensures further { IfOk result (λ vectors. AreFurther problem.now vectors.items) }
+    ensures one { IfOk result (λ vectors. vectors.items ≡ vector ∷ []) }
 {
     let _resources = problem.resources();
     let mut vectors = Vec::new(alloc);

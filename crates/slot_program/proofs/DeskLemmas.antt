@@ -1,6 +1,7 @@
 -- What the end of a command says of its status.
-use Rattle.std.proofs.Common.{◌≡◌, ℕ, zero, suc, List, [], ◌∷◌, ◌++◌, ◌≤◌, map, Option, Some, None, refl, sym, ap, subst, arith, inl, inr}
+use Rattle.std.proofs.Common.{◌≡◌, ℕ, zero, suc, List, [], ◌∷◌, ◌++◌, ◌≤◌, map, Option, Some, None, refl, sym, ◌∙◌, ap, subst, arith, inl, inr, append_assoc}
 use Rattle.std.specs.Prelude.{◌⊎◌, Contains, IfSome}
+use Rattle.std.proofs.lemmas.List.{map_push}
 use Rattle.std.proofs.lemmas.Option.{none-some}
 use Rattle.desk_outside.specs.Files.{Files}
 use Rattle.wasg_stages.specs.Valid.{IsValid, MarksHold}
@@ -9,9 +10,9 @@ use Rattle.cert_format.specs.declared.cert.Certificate.{Certificate}
 use Rattle.command_words.specs.Words.{Word}
 use Rattle.slot_program.specs.Reports.{Report, Refusal, no_command, refused, unread, unwritten, finished, status_of, text_of, refusal_status, missing, large, out_of_form, over_limit, not_valid}
 use Rattle.slot_program.specs.Judgements.{NamedBytes}
-use Rattle.slot_program.specs.Steps.{AllPass}
+use Rattle.slot_program.specs.Steps.{Step, reads, judges, names_read, PassFrom, AllPass}
 use Rattle.slot_program.specs.Writing.{read_of, written_of}
-use Rattle.slot_program.specs.Jobs.{name_at, check_steps, steps_of, searched_statuses, finishing_of, Works, MarksAreTrue}
+use Rattle.slot_program.specs.Jobs.{AreFilesOf, name_at, check_steps, steps_of, names_written, searched_statuses, finishing_of, Works, MarksAreTrue}
 use Rattle.slot_program.specs.Desk.{World, IsFinished, JobEnds, Ends, IsStatus}
 use Rattle.slot_program.specs.Answers.{ToldExact, IsExact}
 use Rattle.slot_program.proofs.EndLemmas.{works_finishing}
@@ -154,6 +155,43 @@ told_exact o job w report v held e told exact =
 
 -- ---- the headline
 
+append_nil : (names : List Word) → names ++ [] ≡ names
+append_nil [] = refl
+append_nil (name ∷ names) = ap (λ (l : List Word). name ∷ l) (append_nil names)
+
+abbrev named : List NamedBytes → List Word
+named files = map (λ (file : NamedBytes). file.name) files
+
+pass_named : (files : Option Files) (before : List NamedBytes) (steps : List Step) (read : List NamedBytes) → PassFrom files before steps read → named read ≡ named before ++ names_read steps
+pass_named files before [] read e = ap (λ (l : List NamedBytes). named l) e ∙ sym (append_nil (named before))
+pass_named files before (reads name most ∷ steps) read h =
+    let file : NamedBytes = record { name = name; bytes = h.0 } in
+    pass_named files (before ++ file ∷ []) steps read h.2
+    ∙ (ap (λ (l : List Word). l ++ names_read steps) (map_push (λ (f : NamedBytes). f.name) before file)
+    ∙ append_assoc (named before) (name ∷ []) (names_read steps))
+pass_named files before (judges judgement name ∷ steps) read h = pass_named files before steps read h.1
+
+works_named : (job : Job) (inputs writes : List NamedBytes) (status : ℕ) (text : List ℕ) → Works job inputs writes status text → named writes ≡ names_written job
+works_named (Allocate names nodes workers) [] writes status text work = absurd work
+works_named (Allocate names nodes workers) (capacity ∷ []) writes status text work = absurd work
+works_named (Allocate names nodes workers) (capacity ∷ requests ∷ []) writes status text work = ap (λ (l : List NamedBytes). named l) work.written
+works_named (Allocate names nodes workers) (capacity ∷ requests ∷ more ∷ rest) writes status text work = absurd work
+works_named (Check names) [] writes status text work = absurd work
+works_named (Check names) (capacity ∷ []) writes status text work = absurd work
+works_named (Check names) (capacity ∷ requests ∷ []) writes status text work = absurd work
+works_named (Check names) (capacity ∷ requests ∷ certificate ∷ []) writes status text work = ap (λ (l : List NamedBytes). named l) work.1
+works_named (Check names) (capacity ∷ requests ∷ certificate ∷ more ∷ rest) writes status text work = absurd work
+works_named (Make number units names) [] writes status text work = ap (λ (l : List NamedBytes). named l) work.written
+works_named (Make number units names) (file ∷ rest) writes status text work = absurd work
+works_named (Trial number units) [] writes status text work = ap (λ (l : List NamedBytes). named l) work.written
+works_named (Trial number units) (file ∷ rest) writes status text work = absurd work
+
+files_of : (job : Job) (files : Option Files) (inputs writes : List NamedBytes) (status : ℕ) (text : List ℕ) → AllPass files (steps_of job) inputs → Works job inputs writes status text → AreFilesOf job inputs writes
+files_of job files inputs writes status text pass work = record {
+  read = pass_named files [] (steps_of job) inputs pass;
+  written = works_named job inputs writes status text work;
+}
+
 module _ (marks : (s : SubmissionView) (c : Certificate) → IsValid s c → MarksHold s c) where
   check_marks : (names : List Word) (files : Option Files) (done writes : List NamedBytes) (text : List ℕ) → AllPass files (check_steps names) done → writes ≡ [] → MarksAreTrue (Check names) done writes text
   check_marks names files done writes text (one, handed1, (capacity, (two, handed2, (season, (three, handed3, (spelled, ((s, c, made, spells, valid), all))))))) none =
@@ -183,5 +221,8 @@ module _ (marks : (s : SubmissionView) (c : Certificate) → IsValid s c → Mar
   work_marks (Trial number units) files (file ∷ rest) writes status text pass work = absurd work
 
   pub marks_true : (job : Job) (w : World) (status : ℕ) (text : List ℕ) (v : World) → IsFinished job w status text v
-      → (done writes : List NamedBytes) × (v.log ≡ w.log ++ (map read_of done ++ map written_of writes)) × MarksAreTrue job done writes text
-  marks_true job w status text v done = (done.inputs, done.writes, done.log, work_marks job w.files done.inputs done.writes status text done.passed done.work)
+      → (done writes : List NamedBytes) × (v.log ≡ w.log ++ (map read_of done ++ map written_of writes)) × AreFilesOf job done writes × MarksAreTrue job done writes text
+  marks_true job w status text v done = (
+    done.inputs, done.writes, done.log, files_of job w.files done.inputs done.writes status text done.passed done.work,
+    work_marks job w.files done.inputs done.writes status text done.passed done.work,
+  )

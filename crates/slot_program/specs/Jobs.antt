@@ -1,5 +1,5 @@
 -- What each job does, by cases: its steps, the files that it writes, its work, and its statuses.
-use Rattle.std.specs.Prelude.{◌≡◌, ℕ, ◌+◌, ◌≤◌, List, [], ◌∷◌, ◌++◌, length, slice_index_or, codes, Contains}
+use Rattle.std.specs.Prelude.{◌≡◌, ℕ, ◌+◌, ◌≤◌, List, [], ◌∷◌, ◌++◌, length, map, slice_index_or, codes, Contains}
 use Rattle.std.specs.Prelude.{Option}
 use Rattle.std.specs.Fmt.{decimal}
 use Rattle.series_model.specs.Submissions.{SubmissionView}
@@ -13,7 +13,7 @@ use Rattle.command_words.specs.Words.{Word}
 use Rattle.slot_program.specs.StageLines.{mark_lines, marks_status, node_total}
 use Rattle.slot_program.specs.Judgements.{NamedBytes, IsSeasonOf, SpellsCert, capacity_form}
 use Rattle.slot_program.specs.Judgements.{requests_form, certificate_form, valid_certificate}
-use Rattle.slot_program.specs.Steps.{Step, reads, judges, Holds}
+use Rattle.slot_program.specs.Steps.{Step, reads, judges, names_read, Holds}
 use Rattle.slot_program.specs.declared.files.TheConstants.{LONGEST_FILE, LONGEST_CERT_FILE}
 use Rattle.slot_program.specs.declared.trial.TheConstants.{TRIAL_NODES}
 use Rattle.command_words.specs.declared.job.Job.{Job}
@@ -57,6 +57,11 @@ names_written (Allocate names nodes workers) = name_at names 2 ∷ name_at names
 names_written (Check names) = []
 names_written (Make number units names) = name_at names 0 ∷ name_at names 1 ∷ []
 names_written (Trial number units) = []
+
+-- these files are those that the job reads, and those that it writes, by their names and in order
+pub record AreFilesOf (job : Job) (inputs writes : List NamedBytes) : Type 0 where
+  pub read : map (λ (file : NamedBytes). file.name) inputs ≡ names_read (steps_of job)
+  pub written : map (λ (file : NamedBytes). file.name) writes ≡ names_written job
 
 -- ---- the statuses of a job whose work is done
 

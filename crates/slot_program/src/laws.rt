@@ -1,6 +1,6 @@
 //! What `check` answers of what `allocate` wrote. A function does nothing; its contract is the law.
 
-ghost use Rattle.std.specs.Prelude.{◌∷◌, ◌≤◌, [], ℕ, List, Option, length};
+ghost use Rattle.std.specs.Prelude.{◌≡◌, ◌∷◌, ◌≤◌, [], ℕ, List, Option, length};
 ghost use Rattle.desk_outside.specs.Files.{Files};
 ghost use Rattle.command_words.specs.Words.{Word};
 ghost use Rattle.slot_program.specs.Judgements.{NamedBytes, Accepts};
@@ -8,7 +8,16 @@ ghost use Rattle.slot_program.specs.Judgements.{certificate_form, valid_certific
 ghost use Rattle.slot_program.specs.Steps.{AllPass};
 ghost use Rattle.slot_program.specs.Jobs.{IsAllocation, HoldsChecked};
 ghost use Rattle.slot_program.specs.Jobs.{allocate_steps, check_steps, checked_files};
-ghost use Rattle.slot_program.specs.declared.files.TheConstants.{LONGEST_CERT_FILE};
+ghost use Rattle.slot_program.specs.declared.files.TheConstants.{LONGEST_FILE, LONGEST_CERT_FILE};
+ghost use Rattle.slot_program.specs.declared.trial.TheConstants.{TRIAL_NODES};
+
+/// The numbers that clauses of `desk` cite by name: at most 4 MiB are read of a file that is no
+/// certificate, and 512 MiB of a certificate; a trial has 10,000 nodes for each stage.
+pub fn cited_numbers()
+    ensures file { LONGEST_FILE ≡ 4194304 }
+    ensures certificate { LONGEST_CERT_FILE ≡ 536870912 }
+    ensures trial { TRIAL_NODES ≡ 10000 }
+{}
 
 /// A certificate that `allocate` wrote is in its form, valid for the season of the same two files,
 /// and no longer than what `check` reads of one. So each step of `check` passes wherever the

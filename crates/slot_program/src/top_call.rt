@@ -12,7 +12,7 @@ ghost use Rattle.slot_program.specs.Reports.{Report, Refusal, refused, status_of
 ghost use Rattle.slot_program.specs.Judgements.{NamedBytes};
 ghost use Rattle.slot_program.specs.Steps.{AllPass, FirstDue, form_steps};
 ghost use Rattle.slot_program.specs.Writing.{read_of, written_of};
-ghost use Rattle.slot_program.specs.Jobs.{name_at, steps_of, finishing_of, MarksAreTrue};
+ghost use Rattle.slot_program.specs.Jobs.{AreFilesOf, name_at, steps_of, finishing_of, MarksAreTrue};
 ghost use Rattle.slot_program.specs.Jobs.{searched_statuses};
 ghost use Rattle.slot_program.specs.Desk.{World, LogGrew, OnlyOfJob, world_of, Ends, IsFinished};
 ghost use Rattle.slot_program.specs.Desk.{names_changed, IsStatus};
@@ -65,13 +65,14 @@ pub fn desk<R: Threads + Sync, C: Cabinet, S: Sink, G: Gate>(
     ensures statuses { IsStatus result }
 
     // The headline: what the marks of a certificate that was written, found valid, or tried say
-    // of each stage is so. Exactly the files of the job were read and written, and exactly its
-    // text was put, also over a cabinet and a sink that tell nothing.
+    // of each stage is so. Exactly the files of the job, under their names, were read and written,
+    // and exactly its text was put, also over a cabinet and a sink that tell nothing.
     ensures headline { (job : JobValue) → job_of (words_of words.now) ≡ Some job →
         Contains (finishing_of job) result →
         (inputs writes : List NamedBytes) × (text : List ℕ)
         × (C.log cabinet.new ≡ C.log cabinet.old ++ (map read_of inputs ++ map written_of writes))
-        × (S.log out.new ≡ S.log out.old ++ put text ∷ []) × MarksAreTrue job inputs writes text }
+        × (S.log out.new ≡ S.log out.old ++ put text ∷ []) × AreFilesOf job inputs writes
+        × MarksAreTrue job inputs writes text }
 
     // Done: each step passed, the work is that of the files that were read, exactly its files were
     // written, its text was put, and nothing failed.

@@ -1,4 +1,4 @@
-use Rattle.std.proofs.Common.{rules, ◌-◌, ◌<◌, ◌≡◌, length, get_or}
+use Rattle.std.proofs.Common.{rules, ◌-◌, ◌<◌, length}
 use Rattle.std.proofs.lemmas.List.{get_or_read}
 use Rattle.choice_problem.specs.declared.closing.TheConstants.{SCALE_BOUND}
 use Rattle.closing_search.proofs.ExactLemmas.{leaf-listed}

@@ -1,12 +1,13 @@
-use Rattle.std.proofs.Common.{rules, ℕ, ◌≡◌, ◌≤◌, ◌∷◌, ◌∙◌, [], refl, inl, arith, None}
+use Rattle.std.proofs.Common.{rules, ℕ, ◌≡◌, ◌≤◌, ◌∷◌, ◌∙◌, [], arith, None}
 use Rattle.std.proofs.lemmas.List.Elements.{All-cons, All-nil}
 use Rattle.choice_problem.specs.declared.nodes.Node.TheVariants.{Over}
 use Rattle.choice_problem.specs.Bounds.{IsVector, whole_of}
 use Rattle.choice_problem.specs.Driven.{IsDriven}
-use Rattle.choice_problem.specs.Renumbered.{NamesUpTo}
+use Rattle.choice_problem.specs.Named.{NamesUpTo}
 use Rattle.choice_problem.specs.Trees.{IsSound, node_count}
 use Rattle.choice_problem.specs.Choices.{HasNone}
 use Rattle.search_workers.specs.Outcomes.{IsSearched}
+use Rattle.search_workers.proofs.JoinedLemmas.{named-none}
 use Rattle.search_workers.proofs.OutcomeLemmas.{closed_driven, closed_whole, listed_none, whole_ends}
 use Rattle.search_workers.proofs.searches.closed_at_once.Goals as goal
 
@@ -35,7 +36,7 @@ returns-clause-outcome c =
     let tree : c.new-tree.result ≡ leaf ∷ [] = search rules in
     let vectors : c.new-vectors.result ≡ [] = c.new-vectors.ensures ∙ c.new.ensures.items in
     let few : node_count (leaf ∷ []) ≤ c.args._budget = omega (arith, w.1, c.requires.budget) in
-    (whole_ends p given c.args._budget [] (leaf ∷ []) start.cost start.best c.settled.result h w.0 few (inl refl)
+    (whole_ends p given c.args._budget [] (leaf ∷ []) start.cost start.best c.settled.result h w.0 few (named-none p given c.args._budget root (leaf ∷ []) exists.1)
     (λ x f s. c.sound_tree.ensures.best p [] (leaf ∷ []) x (All-nil (IsVector p)) f s w.0)
     (λ s. c.sound_tree.ensures.none p [] (leaf ∷ []) (All-nil (IsVector p)) s w.0)
     (λ x n e f. rw (tree, vectors) at (c.settled.ensures.optimal x n e f))

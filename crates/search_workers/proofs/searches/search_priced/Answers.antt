@@ -1,8 +1,12 @@
-use Rattle.std.proofs.Common.{◌≡◌, ◌≤◌, ◌∙◌, Some, length}
+use Rattle.std.proofs.Common.{◌≡◌, ◌≤◌, ◌∙◌, Some, length, []}
+use Rattle.std.specs.Prelude.{slice_index_or}
 use Rattle.std.proofs.lemmas.Result.{IfOk-weaker}
 use Rattle.choice_problem.specs.Choices.{choice_cost}
+use Rattle.choice_problem.specs.Roots.{IsRootVector}
+use Rattle.choice_problem.specs.Trees.{node_count}
 use Rattle.search_workers.proofs.CostLemmas.{at_most_trans}
 use Rattle.search_workers.proofs.FinishLemmas.{given_wider}
+use Rattle.search_workers.proofs.JoinedLemmas.{all-of}
 use Rattle.search_workers.proofs.searches.search_priced.Goals as goal
 
 pub returns-clause-start : goal.returns-clause-start
@@ -31,3 +35,12 @@ pub returns-clause-outcome : goal.returns-clause-outcome
 returns-clause-outcome g c =
     let same : c.run.new.task.problem ≡ c.args.problem.now = c.in_ok-state-3.ensures.wider.problem ∙ c.in_ok-task.ensures.problem in
     rw same at c.finish.ensures.outcome
+
+pub finish-requires-clause-all : goal.finish-requires-clause-all
+finish-requires-clause-all g c =
+    let was = c.in_ok-task.task in
+    let some : 1 ≤ length was.vectors = rw (← c.task.view_is) c.task.invariant.setting.some in
+    let root : IsRootVector was.problem (slice_index_or was.vectors 0 []) = rw (← c.task.view_is) c.task.invariant.setting.root_is in
+    let w = c.in_ok-state-3.ensures.wider in
+    rw w.problem (all-of was.problem c.args.further.now was.vectors w.more c.run.new.task.vectors c.args.budget (node_count c.in_ok-state-3.state.tree.items)
+    root some c.in_ok-task.ensures.further w.vectors c.in_ok-state-3.ensures.joined)

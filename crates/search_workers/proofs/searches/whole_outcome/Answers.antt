@@ -1,9 +1,10 @@
-use Rattle.std.proofs.Common.{rules, ◌≡◌, ◌∷◌, [], take, ◌⊎◌}
+use Rattle.std.proofs.Common.{rules, ◌≡◌, ◌∷◌, [], take, drop, sym, ◌⊎◌}
 use Rattle.std.specs.Prelude.{All, Contains}
 use Rattle.choice_problem.specs.declared.nodes.Node.{Node}
 use Rattle.choice_problem.specs.Bounds.{whole_of}
-use Rattle.choice_problem.specs.Renumbered.{NamesUpTo}
-use Rattle.search_workers.specs.Outcomes.{Names}
+use Rattle.choice_problem.specs.Named.{Names, NamesUpTo}
+use Rattle.std.proofs.lemmas.List.{take-append-drop}
+use Rattle.search_workers.specs.Outcomes.{AreNamedOf}
 use Rattle.search_workers.proofs.FinishLemmas.{searched_named, named_there, cut_named}
 use Rattle.search_workers.proofs.OutcomeLemmas.{whole_ends}
 use Rattle.search_workers.proofs.searches.whole_outcome.Goals as goal
@@ -22,7 +23,13 @@ returns c =
     let h = searched_named s state.cost state.best tree c.known.ensures r.so_far
     (λ vectors d. c.driven_tree.ensures.sound s.problem vectors state.cost tree d) given m r.given there names
     (λ vectors more n d. c.fewer_vectors.ensures.driven s.problem vectors more state.cost tree n d) in
-    let cut = cut_named s.vectors tree m there named in
+    let cut : AreNamedOf s.problem given c.args._budget (take m s.vectors) tree = record {
+      all = s.vectors;
+      all_of = r.all;
+      behind = drop m s.vectors;
+      first = sym (take-append-drop m s.vectors);
+      last = cut_named s.vectors tree m there named;
+    } in
     whole_ends s.problem given c.args._budget (take m s.vectors) tree state.cost state.best c.settled.result h r.whole r.within cut
     (λ x f k. c.sound_tree.ensures.best s.problem (take m s.vectors) tree x h.listed.each f k r.whole)
     (λ k. c.sound_tree.ensures.none s.problem (take m s.vectors) tree h.listed.each k r.whole)

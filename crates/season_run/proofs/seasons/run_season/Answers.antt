@@ -17,9 +17,9 @@ loop-stage-preserved g c =
     let l = c.loop-stage in
     let pushed : c.push.new.self.items ≡ l.stages.items ++ cert ∷ [] = c.in_ok-push.ensures.items in
     let next = subst (λ (st : List UnitState). IsNextStage s.declaration l.stage st c.args.budget cert l.follows) c.deref.ensures.value c.in_ok-cert.ensures.stage in
-    subst (λ (certs : List StageCert). AreRunSoFar s c.args.budget (l.stage + 1) c.in_ok-states-2.states.items c.may_follow-follows.result certs) (sym pushed)
-    (so_far_next s c.args.budget l.stage l.states.items c.in_ok-states-2.states.items l.follows c.may_follow-follows.result l.stages.items cert l.invariant next c.in_ok-cert.ensures.fits
-    c.in_ok-states-2.ensures.after c.in_ok-states-2.ensures.fit c.may_follow-follows.ensures.late c.may_follow-follows.ensures.early)
+    subst (λ (certs : List StageCert). AreRunSoFar s c.args.budget (l.stage + 1) c.in_ok-states-2.states.items c.next_may_follow-follows.result certs) (sym pushed)
+    (so_far_next c.one_more_stage.ensures s c.args.budget l.stage l.states.items c.in_ok-states-2.states.items l.follows c.next_may_follow-follows.result l.stages.items cert l.invariant next c.in_ok-cert.ensures.fits
+    c.in_ok-states-2.ensures.after c.in_ok-states-2.ensures.fit c.next_may_follow-follows.ensures)
 
 pub returns : goal.returns
 returns g c =

@@ -1,5 +1,7 @@
-use Rattle.season_run.proofs.TrialLemmas.{whole-trial}
 use Rattle.season_run.proofs.trials.search_known.Goals as goal
 
-pub returns : goal.returns
-returns g c = whole-trial c.args.problem.now c.in_ok-further.further.items c.args.budget c.in_ok-outcome.outcome c.requires.budget c.in_ok-outcome.ensures.outcome c.in_ok-outcome.ensures.settled
+pub returns-clause-outcome : goal.returns-clause-outcome
+returns-clause-outcome g c = rw c.in_ok-further.ensures.one at c.in_ok-outcome.ensures.outcome
+
+pub returns-clause-keeps : goal.returns-clause-keeps
+returns-clause-keeps g c = c.in_ok-outcome.ensures.start c.requires.budget

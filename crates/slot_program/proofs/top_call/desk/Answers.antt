@@ -23,7 +23,7 @@ returns-in-Ok-put-clause-headline g c = λ job e one.
     let marked = marks_true c.valid_marks.ensures job w (status_of a.report) (text_of a.report) v
     (is_finished (job_of (words_of c.args.words.now)) job w a.report v e (subst (λ (n : ℕ). Contains (finishing_of job) n) a.status_is one) a.ends) in
     let logs : g.S.Sink.log c.put.new.self ≡ g.S.Sink.log c.args.out.now ++ put (text_of a.report) ∷ [] = search rules in
-    (marked.0, marked.1, text_of a.report, marked.2, logs, marked.3)
+    (marked.0, marked.1, text_of a.report, marked.2, logs, marked.3, marked.4)
 
 pub returns-in-Ok-put-clause-handed : goal.returns-in-Ok-put-clause-handed
 returns-in-Ok-put-clause-handed g c = λ job e one.

@@ -1,0 +1,68 @@
+-- Which searches the problem of a stage gets, and what each hands on to the next one: the best choice
+-- that is known, and a vector.
+use Rattle.std.specs.Prelude.{◌≡◌, ◌⊎◌, ℕ, ◌<◌, ◌≤◌, List, [], ◌∷◌, Option, Some, None, IfSome}
+use Rattle.choice_problem.specs.declared.vectors.Price.{Price}
+use Rattle.choice_problem.specs.Problems.{ProblemView, unit_count}
+use Rattle.choice_problem.specs.Choices.{choice_cost}
+use Rattle.closing_search.specs.Closed.{IsEnding, EndsAtMost}
+use Rattle.closing_search.specs.declared.closed.Closed.{Closed}
+use Rattle.closing_search.specs.declared.closed.Closed.TheVariants as closed
+use Rattle.closing_search.specs.declared.closed.Ending.{Ending}
+use Rattle.closing_search.specs.declared.closed.Ending.TheVariants as free
+use Rattle.search_workers.specs.Outcomes.{IsOutcome, IsSettled, OutcomeCostsAtMost}
+use Rattle.search_workers.specs.declared.outcomes.Outcome.{Outcome}
+use Rattle.search_workers.specs.declared.outcomes.Outcome.TheVariants as ends
+
+-- the choice that a search ended with, if it found one
+abbrev pub found_choice : Outcome → Option (List ℕ)
+found_choice (ends.Optimal choice cost tree vectors) = Some choice
+found_choice (ends.Infeasible tree vectors) = None
+found_choice (ends.Spent best tree vectors) = best
+
+-- all vectors that the end of a search lists
+abbrev pub listed_vectors : Outcome → List (List Price)
+listed_vectors (ends.Optimal choice cost tree vectors) = vectors
+listed_vectors (ends.Infeasible tree vectors) = vectors
+listed_vectors (ends.Spent best tree vectors) = vectors
+
+-- the same end, of a search by free splits that closed the problem
+abbrev pub closed_outcome : Closed → Outcome
+closed_outcome (closed.Optimal choice cost tree vectors) = ends.Optimal choice cost tree vectors
+closed_outcome (closed.Infeasible tree vectors) = ends.Infeasible tree vectors
+
+-- the end of a search costs at most what a known choice does, if one is known
+abbrev pub KeepsKnown : ProblemView → Option (List ℕ) → Outcome → Type 0
+KeepsKnown p known outcome =
+    IfSome known (λ x. OutcomeCostsAtMost p (choice_cost p x) outcome)
+
+-- What follows a search by free splits. Where it closed the problem, that is the end; else the search
+-- by visits has the whole budget, from the best choice that is known by then and with a vector of the
+-- relaxation
+abbrev pub FollowsFree : ProblemView → ℕ → Ending → Outcome → Type 0
+FollowsFree p budget (free.Closed answer) outcome = outcome ≡ closed_outcome answer
+FollowsFree p budget (free.Open best vector) outcome =
+    IsOutcome p (vector ∷ []) budget outcome × KeepsKnown p best outcome
+
+-- a search by free splits from a choice that is known, if one is, and what follows it
+pub record IsFreeSearch (p : ProblemView) (budget : ℕ) (known : Option (List ℕ))
+    (outcome : Outcome) : Type 0 where
+  pub ending : Ending
+  pub ends : IsEnding p budget ending
+  pub keeps : IfSome known (λ x. EndsAtMost p (choice_cost p x) ending)
+  pub follows : FollowsFree p budget ending outcome
+
+-- first a search by 64 visits; where it leaves nodes undone, a search by free splits from the choice
+-- that it found, if any
+pub record IsSmallFirst (p : ProblemView) (budget : ℕ) (outcome : Outcome) : Type 0 where
+  pub first : Outcome
+  pub visits : IsOutcome p [] 64 first
+  pub follows : (IsSettled first × (outcome ≡ first))
+      ⊎ ((IsSettled first → ⊥) × IsFreeSearch p budget (found_choice first) outcome)
+
+-- The end of the searches of a problem. With a budget of at most 64 there is one, by visits, from the
+-- greedy choice and with no vectors of other searches. With a greater one, a problem of at most 64
+-- units is first given to 64 visits, and a larger one at once to free splits
+pub record IsEndOfSearches (p : ProblemView) (budget : ℕ) (outcome : Outcome) : Type 0 where
+  pub small : budget ≤ 64 → IsOutcome p [] budget outcome
+  pub few_units : 64 < budget → unit_count p ≤ 64 → IsSmallFirst p budget outcome
+  pub many_units : 64 < budget → 64 < unit_count p → IsFreeSearch p budget None outcome
