@@ -9,7 +9,8 @@ ghost use Rattle.closing_search.specs.Closed.{ClosesWhole, IsClosed, IsClosedAtM
 use crate::closed::Closed;
 use crate::exact::{is_proof, leaf_tables};
 use choice_problem::{
-    Choice, MOST_PRICES, MOST_VECTORS, Node, Problem, Tree, Vector, VectorList, cost_of, count_nodes, fits, sound_tree,
+    Choice, MOST_PRICES, MOST_VECTORS, Node, Problem, Tree, Vector, VectorList, cost_of,
+    count_nodes, fits, sound_tree,
 };
 use slot_text::Memory;
 use std::alloc::Global;

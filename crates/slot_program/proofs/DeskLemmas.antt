@@ -223,6 +223,9 @@ module _ (marks : (s : SubmissionView) (c : Certificate) → IsValid s c → Mar
   pub marks_true : (job : Job) (w : World) (status : ℕ) (text : List ℕ) (v : World) → IsFinished job w status text v
       → (done writes : List NamedBytes) × (v.log ≡ w.log ++ (map read_of done ++ map written_of writes)) × AreFilesOf job done writes × MarksAreTrue job done writes text
   marks_true job w status text v done = (
-    done.inputs, done.writes, done.log, files_of job w.files done.inputs done.writes status text done.passed done.work,
+    done.inputs,
+    done.writes,
+    done.log,
+    files_of job w.files done.inputs done.writes status text done.passed done.work,
     work_marks job w.files done.inputs done.writes status text done.passed done.work,
   )
