@@ -59,9 +59,9 @@ pub record IsSmallFirst (p : ProblemView) (budget : ℕ) (outcome : Outcome) : T
   pub follows : (IsSettled first × (outcome ≡ first))
       ⊎ ((IsSettled first → ⊥) × IsFreeSearch p budget (found_choice first) outcome)
 
--- The end of the searches of a problem. With a budget of at most 64 there is one, by visits, from the
--- greedy choice and with no vectors of other searches. With a greater one, a problem of at most 64
--- units is first given to 64 visits, and a larger one at once to free splits
+-- The end of the searches of a problem. With a budget of at most 64 there is one, by visits and with
+-- no vectors of other searches. With a greater one, a problem of at most 64 units is first given to 64
+-- visits, and a larger one at once to free splits
 pub record IsEndOfSearches (p : ProblemView) (budget : ℕ) (outcome : Outcome) : Type 0 where
   pub small : budget ≤ 64 → IsOutcome p [] budget outcome
   pub few_units : 64 < budget → unit_count p ≤ 64 → IsSmallFirst p budget outcome

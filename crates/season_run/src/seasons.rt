@@ -24,8 +24,8 @@ use worker_gate::Gate;
 ///
 /// The certificate is valid and of version 2. A stage may stay OPEN where its search spends the
 /// budget: it then states a bound, and `settled_run` says with which budget none does. A budget of
-/// at most 64 (`SMALL_BUDGET`) is spent on the search by visits alone, from the greedy choice and
-/// with the vectors of that search.
+/// at most 64 (`SMALL_BUDGET`) is spent on the search by visits alone, with the vectors of that
+/// search; that it begins with the greedy choice is not in the clauses.
 pub fn run_season<R: Threads + Sync, G: Gate>(
     rt: &R,
     alloc: Global,
