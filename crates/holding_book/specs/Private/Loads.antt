@@ -1,0 +1,62 @@
+-- A declaration, and what each of its resources has left.
+use Rattle.std.specs.Prelude.{◌≡◌, ℕ, ◌+◌, ◌<◌, nat_le, nat_lt, Bool, true, ◌&&◌, if◌then◌else◌, List, length, slice_index, filter, Option, Some, None}
+use Rattle.std.specs.List.{list_all}
+use Rattle.season_days.specs.Capacity.{Capacity, capacity_of, declared_resources, IsDeclaration}
+use Rattle.season_days.specs.declared.declaration.Declaration.{Declaration}
+use Rattle.scr_reader.specs.declared.line.Line.{Line}
+use Rattle.capacity_windows.specs.Counts.{numbers_below}
+use Rattle.capacity_windows.specs.Windows.{window_load, window_limit}
+use Rattle.capacity_windows.specs.declared.movement.Movement.{Movement}
+use Rattle.series_model.specs.declared.times.Times.{Times}
+use Rattle.series_model.specs.Options.{shifts_of}
+use Rattle.series_model.specs.Displacement.{cost_at}
+use Rattle.series_model.specs.Movements.{movements_at}
+use Rattle.holding_book.specs.Books.{first_cheapest}
+
+pub record LoadsView : Type 0 where
+  pub declaration : Declaration
+  pub left : List ℕ
+
+-- what is left of each resource: its limit less the load of the movements, which is at most the
+-- limit
+pub record AreLeft (c : Capacity) (list : List Movement) (left : List ℕ) : Type 0 where
+  pub count : length left ≡ declared_resources c
+  pub each : (r : ℕ) → r < declared_resources c →
+      slice_index left r + window_load c list r ≡ window_limit c r
+
+-- what is kept beside a declaration: its windows, and one number for each resource
+pub record IsLoads (d : Declaration) (c : Capacity) (left : List ℕ) : Type 0 where
+  pub keeps : IsDeclaration d
+  pub declared : c ≡ capacity_of d
+  pub count : length left ≡ declared_resources c
+
+-- ---- a search by what is left
+
+-- each resource has left the load of the movements
+unfoldable pub movements_left : Capacity → List ℕ → List Movement → Bool
+movements_left c left list =
+    list_all (λ r. nat_le (window_load c list r) (slice_index left r))
+    (numbers_below (declared_resources c))
+
+-- each has left that of a line's movements at some times
+abbrev pub fits_left : LoadsView → Line → Times → Bool
+fits_left loads line times =
+    movements_left (capacity_of loads.declaration) loads.left
+    (movements_at loads.declaration.season line times)
+
+-- the cheapest shift that fits, the first of several
+abbrev pub best_left : LoadsView → Line → Option Times
+best_left loads line =
+    first_cheapest (cost_at loads.declaration line)
+    (filter (fits_left loads line) (shifts_of loads.declaration line))
+
+-- less than the best so far, if there is one
+abbrev pub is_cheaper : (Times → ℕ) → Option Times → Times → Bool
+is_cheaper cost None times = true
+is_cheaper cost (Some best) times = nat_lt (cost times) (cost best)
+
+-- the times, if they cost less than the best so far and fit, else the best so far
+abbrev pub better_left : LoadsView → Line → Option Times → Times → Option Times
+better_left loads line best times =
+    if is_cheaper (cost_at loads.declaration line) best times && fits_left loads line times
+    then Some times else best

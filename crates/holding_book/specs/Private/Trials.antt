@@ -1,0 +1,48 @@
+-- What a search has tried of the movements of a line, and what it found.
+use Rattle.std.specs.Prelude.{◌≡◌, ℕ, ◌<◌, ◌↔◌, nat_lt, Bool, true, List, length, slice_index_or, Option, Some, None, All, IsTrue}
+use Rattle.season_days.specs.Capacity.{capacity_of}
+use Rattle.season_days.specs.declared.day.Period.{Period}
+use Rattle.season_days.specs.declared.declaration.Kind.{Kind}
+use Rattle.season_days.specs.declared.declaration.Kind.TheVariants.{Arr, Dep}
+use Rattle.season_days.specs.declared.declaration.Declaration.{Declaration}
+use Rattle.scr_reader.specs.declared.line.Line.{Line}
+use Rattle.scr_reader.specs.declared.line.Stop.{Stop}
+use Rattle.choice_problem.specs.Counts.{HasUses}
+use Rattle.window_counts.specs.Counts.{some_uses}
+use Rattle.series_model.specs.declared.times.Times.{Times}
+use Rattle.series_model.specs.Displacement.{cost_at}
+use Rattle.series_model.specs.Options.{TimesFit}
+use Rattle.holding_book.specs.declared.trials.Found.{Found}
+use Rattle.holding_book.specs.declared.trials.Trial.{Trial}
+use Rattle.holding_book.specs.declared.trials.Trials.{Trials}
+use Rattle.holding_book.specs.Private.Loads.{LoadsView}
+use Rattle.holding_book.specs.Private.Uses.{IsStopPart}
+
+-- the part of a movement at its minute, and whether each resource has left what is used of it
+pub record IsTimesTrial (loads : LoadsView) (kind : Kind) (stop : Option Stop) (period : Period)
+    (trial : Trial) : Type 0 where
+  pub part : IsStopPart (capacity_of loads.declaration) kind stop trial.minute period trial.part
+  pub fits : IsTrue trial.fits ↔ HasUses loads.left (λ r. some_uses trial.part r)
+
+-- those of a line
+pub record AreTrials (loads : LoadsView) (line : Line) (trials : Trials) : Type 0 where
+  pub arrivals : All (IsTimesTrial loads Arr line.arrival line.period) trials.arrivals.items
+  pub departures : All (IsTimesTrial loads Dep line.departure line.period) trials.departures.items
+
+-- the minute was tried there
+pub record IsTrialPlace (minute : ℕ) (trials : List Trial) (place : ℕ) : Type 0 where
+  pub there : place < length trials
+  pub minute_is : (other : Trial) → (slice_index_or trials place other).minute ≡ minute
+
+-- the cost is that of the times
+pub record AreFoundTimes (d : Declaration) (line : Line) (found : Found) : Type 0 where
+  pub cost_is : found.cost ≡ cost_at d line found.times
+  pub near : TimesFit None found.times
+
+abbrev pub found_times : Option Found → Option Times
+found_times None = None
+found_times (Some found) = Some found.times
+
+abbrev pub costs_less : Option Found → ℕ → Bool
+costs_less None cost = true
+costs_less (Some found) cost = nat_lt cost found.cost

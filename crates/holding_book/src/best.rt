@@ -1,0 +1,180 @@
+//! The search for the cheapest times that fit.
+
+ghost use Rattle.std.specs.Prelude.{◌≡◌, ◌<◌, List, All, IfOk, OnOk, IfSome, None};
+ghost use Rattle.std.specs.Option.{ForSome};
+ghost use Rattle.season_days.specs.Capacity.{capacity_of};
+ghost use Rattle.scr_reader.specs.Printed.{LineFits};
+ghost use Rattle.series_model.specs.Options.{TimesFit};
+ghost use Rattle.holding_book.specs.declared.holding.Holding.{Holding as HoldingValue};
+ghost use Rattle.holding_book.specs.Books.{held_movements, best_times};
+ghost use Rattle.holding_book.specs.Private.Loads.{AreLeft, fits_left, best_left, better_left};
+ghost use Rattle.holding_book.specs.Private.Trials.{IsTimesTrial, AreTrials, IsTrialPlace, AreFoundTimes, found_times, costs_less};
+ghost use Rattle.season_days.specs.Seasons.{date_count};
+
+use crate::loads::Loads;
+use crate::trials::{Found, Trial, Trials, place_of};
+use scr_reader::{Line, Stop};
+use season_days::{Kind, Period};
+use series_model::laws::{free_shift, requested_shift, shift_bounds};
+use series_model::{Times, line_displacement, line_times, shifts_of};
+use slot_text::Memory;
+use std::alloc::Global;
+
+impl Loads {
+    /// The cheapest times at which a line fits beside the holdings of which the rest is left, the
+    /// first of several; none where it fits at none. The requested times are tested first.
+    pub fn best_times(&self, alloc: Global, line: &Line) -> Result<Option<Times>, Memory>
+        requires { LineFits self.now.declaration.season line.now }
+        ensures times { IfOk result (λ best. IfSome best (TimesFit None)) }
+        ensures best { (holdings : List HoldingValue) →
+            AreLeft (capacity_of self.now.declaration)
+            (held_movements self.now.declaration.season holdings) self.now.left →
+            IfOk result (λ best. best ≡ best_times (record {
+              declaration = self.now.declaration;
+              holdings = holdings;
+            }) line.now) }
+    {
+        self.least_times(alloc, line)
+    }
+
+    // The cheapest times at which a line fits in what is left.
+    fn least_times(&self, alloc: Global, line: &Line) -> Result<Option<Times>, Memory>
+        requires { LineFits self.now.declaration.season line.now }
+        ensures times { IfOk result (λ best. IfSome best (TimesFit None)) }
+        ensures best { IfOk result (λ best. best ≡ best_left self.now line.now) }
+    {
+        requested_shift();
+        free_shift();
+        shift_bounds();
+        let requested = line_times(line);
+        let mut trials = Trials::new(alloc);
+        let fits = self.fits_at(alloc, line, &mut trials, requested)?;
+        if fits {
+            return Ok(Some(requested));
+        }
+        self.search(alloc, line, trials)
+    }
+
+    // The same, of all shifts in their order.
+    fn search(&self, alloc: Global, line: &Line, trials: Trials) -> Result<Option<Times>, Memory>
+        requires line { LineFits self.now.declaration.season line.now }
+        requires trials { AreTrials self.now line.now trials }
+        ensures times { IfOk result (λ best. IfSome best (TimesFit None)) }
+        ensures best { IfOk result (λ best. best ≡ best_left self.now line.now) }
+    {
+        shift_bounds();
+        let shifts = shifts_of(alloc, line, self.declaration())?;
+        let mut trials = trials;
+        let mut best = None;
+        for times in &shifts {
+            best = self.next_best(alloc, line, &mut trials, best, *times)?;
+        }
+        let Some(found) = best else {
+            return Ok(None);
+        };
+        Ok(Some(found.times))
+    }
+
+    // These times, if they cost less than the best so far and fit, else the best so far. What does
+    // not cost less is not tested.
+    fn next_best(
+        &self,
+        alloc: Global,
+        line: &Line,
+        trials: &mut Trials,
+        best: Option<Found>,
+        times: Times,
+    ) -> Result<Option<Found>, Memory>
+        requires line { LineFits self.now.declaration.season line.now }
+        requires trials { AreTrials self.now line.now trials.old }
+        requires best { ForSome best (AreFoundTimes self.now.declaration line.now) }
+        requires times { TimesFit None times }
+        ensures best { IfOk result (λ next.
+            found_times next ≡ better_left self.now line.now (found_times best) times) }
+        ensures found { IfOk result (λ next.
+            ForSome next (AreFoundTimes self.now.declaration line.now)) }
+        ensures trials { OnOk result (AreTrials self.now line.now trials.new) }
+    {
+        let cost = line_displacement(line, times, self.declaration());
+        if !is_cheaper(best, cost) {
+            return Ok(best);
+        }
+        let fits = self.fits_at(alloc, line, trials, times)?;
+        if fits {
+            return Ok(Some(Found { times, cost }));
+        }
+        Ok(best)
+    }
+
+    // Whether a line fits at some times. Each minute is tried once, and the departure where the
+    // arrival fits.
+    fn fits_at(
+        &self,
+        alloc: Global,
+        line: &Line,
+        trials: &mut Trials,
+        times: Times,
+    ) -> Result<bool, Memory>
+        requires line { LineFits self.now.declaration.season line.now }
+        requires trials { AreTrials self.now line.now trials.old }
+        requires times { TimesFit None times }
+        ensures fits { IfOk result (λ fits. fits ≡ fits_left self.now line.now times) }
+        ensures trials { OnOk result (AreTrials self.now line.now trials.new) }
+    {
+        let Times::At { arrival, departure } = times else {
+            return Ok(false);
+        };
+        let period = line.period;
+        let arrivals = &mut trials.arrivals;
+        let one = self.trial_at(alloc, Kind::Arr, line.arrival, arrival, period, arrivals)?;
+        if self.is_full(line, &trials.arrivals[one]) {
+            return Ok(false);
+        }
+        let departures = &mut trials.departures;
+        let two = self.trial_at(
+            alloc,
+            Kind::Dep,
+            line.departure,
+            departure,
+            period,
+            departures,
+        )?;
+        Ok(self.fits_both(line, &trials.arrivals[one], &trials.departures[two]))
+    }
+
+    // The place of the trial of a movement at a minute, which is made where there is none yet.
+    fn trial_at(
+        &self,
+        alloc: Global,
+        kind: Kind,
+        stop: Option<Stop>,
+        minute: u32,
+        period: Period,
+        trials: &mut Vec<Trial>,
+    ) -> Result<usize, Memory>
+        requires first { period.first.0 < date_count self.now.declaration.season }
+        requires last { period.last.0 < date_count self.now.declaration.season }
+        requires trials { All (IsTimesTrial self.now kind stop period) trials.old.items }
+        ensures trials { OnOk result
+            (All (IsTimesTrial self.now kind stop period) trials.new.items) }
+        ensures place { IfOk result (IsTrialPlace minute trials.new.items) }
+    {
+        if let Some(place) = place_of(trials, minute) {
+            return Ok(place);
+        }
+        let next = trials.len();
+        let trial = self.try_stop(alloc, kind, stop, minute, period)?;
+        trials.push(trial)?;
+        Ok(next)
+    }
+}
+
+// Whether a cost is less than that of the best so far, if there is one.
+fn is_cheaper(best: Option<Found>, cost: u64) -> bool
+    ensures { result ≡ costs_less best cost }
+{
+    match best {
+        Some(found) => cost < found.cost,
+        None => true,
+    }
+}

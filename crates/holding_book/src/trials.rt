@@ -1,0 +1,56 @@
+//! What a search has tried of the movements of a line, and what it found.
+
+ghost use Rattle.std.specs.Prelude.{◌≡◌, [], IfSome};
+ghost use Rattle.holding_book.specs.Private.Trials.{IsTrialPlace};
+
+use choice_problem::Part;
+use series_model::Times;
+use std::alloc::Global;
+
+/// The uses of a movement of a line at a minute from the beginning of the line's date, and whether
+/// they are left.
+#[derive(Drop)]
+pub struct Trial {
+    pub minute: u32,
+    pub part: Option<Part>,
+    pub fits: bool,
+}
+
+/// The minutes that were tried of an arrival, and of a departure.
+#[derive(Drop)]
+pub struct Trials {
+    pub arrivals: Vec<Trial>,
+    pub departures: Vec<Trial>,
+}
+
+impl Trials {
+    /// None yet.
+    pub fn new(alloc: Global) -> Trials
+        ensures arrivals { result.arrivals.items ≡ [] }
+        ensures departures { result.departures.items ≡ [] }
+    {
+        Trials {
+            arrivals: Vec::new(alloc),
+            departures: Vec::new(alloc),
+        }
+    }
+}
+
+/// Times that fit, and what they cost.
+#[derive(Clone, Copy, Debug, PartialEq, Eq)]
+pub struct Found {
+    pub times: Times,
+    pub cost: u64,
+}
+
+/// The place of a minute, if it was tried: one step for each that was.
+pub(crate) fn place_of(trials: &[Trial], minute: u32) -> Option<usize>
+    ensures { IfSome result (IsTrialPlace minute trials.now) }
+{
+    for place in 0..trials.len() {
+        if trials[place].minute == minute {
+            return Some(place);
+        }
+    }
+    None
+}

@@ -1,0 +1,211 @@
+//! A shared history, amended in turn.
+ghost use Rattle.std.specs.Prelude.{◌≡◌, ◌≤◌, ◌<◌, ◌+◌, ◌^◌, [], All, length, IfOk, IfErr, OnOk};
+ghost use Rattle.std.specs.Option.{ForSome};
+ghost use Rattle.turn_lock.specs.Seats.{new_seats, IsAtRest, HasSeen, IsNumber};
+ghost use Rattle.holding_book.specs.Asks.{CanAsk};
+ghost use Rattle.holding_book.specs.Books.{IsBook};
+ghost use Rattle.holding_book.specs.Histories.{replay, IsLegal};
+ghost use Rattle.slot_ledger.specs.Starts.{first_book, entry_caller};
+ghost use Rattle.slot_ledger.specs.Passes.{HasEntered, HasSeenMore, IsStillPass, read_pass};
+ghost use Rattle.slot_ledger.specs.Beside.{RefusedAt};
+ghost use Rattle.slot_ledger.specs.Shared.{IsFoundOnSeen};
+
+use crate::beside::Beside;
+use crate::fault::EnterFault;
+use crate::nothing::Nothing;
+use crate::shared::{Found, Shared};
+use holding_book::{Answer, Book, Entry, asks_new};
+use scr_reader::Item;
+use slot_text::Memory;
+use std::alloc::Global;
+use std::marker::Model;
+use std::sync::Wait;
+use turn_lock::laws::histories;
+use turn_lock::{Turn, TurnSeat};
+
+/// The right of one caller to amend a shared history.
+pub type SharedPass<B> = TurnSeat<Shared<B>>;
+
+/// A book that callers amend in turn, with something kept beside its history.
+///
+/// Contracts see which turn it is, what it was started with, and the number of callers. They speak
+/// of what the list of the turn is read as.
+#[derive(Drop)]
+pub struct SharedLedger<B: Beside> {
+    turn: Turn<Shared<B>>,
+}
+
+impl<B: Beside> Model for SharedLedger<B> {
+    ghost use Rattle.turn_lock.specs.Seats.{TurnView};
+    ghost use Rattle.slot_ledger.specs.declared.shared.Origin.{Origin};
+
+    ghost Value = { TurnView (Origin B.Start) };
+
+    ghost view = { λ l. l.turn };
+}
+
+impl<B: Beside> SharedLedger<B> {
+    /// A ledger over a book with no history, and a pass for each caller, with the numbers from 0 on
+    /// in their order. Where memory runs out the book and what is kept are dropped.
+    pub fn start(
+        alloc: Global,
+        book: Book,
+        beside: B,
+        callers: u32,
+        most: u32,
+    ) -> Result<(SharedLedger<B>, Vec<SharedPass<B>>), Memory>
+        requires callers { 1 ≤ callers }
+        requires most { B.found (B.start beside) + most ≤ 100000 }
+        requires agrees { B.agrees beside [] }
+        requires empty { B.told beside [] ≡ [] }
+        requires few { length book.book.holdings < 2 ^ 31 }
+        ensures first { IfOk result (λ r. first_book r.0.origin.start ≡ book.book) }
+        ensures most { IfOk result (λ r. r.0.origin.start.most ≡ most) }
+        ensures beside { IfOk result (λ r. r.0.origin.beside ≡ B.start beside) }
+        ensures callers { IfOk result (λ r. r.0.callers ≡ callers) }
+        ensures passes { IfOk result (λ r. r.1.items ≡ new_seats r.0.id r.0.origin 0 callers) }
+        ensures rest { IfOk result (λ r. All (IsAtRest r.0) r.1.items) }
+    {
+        let shared = Shared::begin(alloc, book, beside, most)?;
+        let (turn, passes) = Turn::new(alloc, shared, callers)?;
+        Ok((SharedLedger { turn }, passes))
+    }
+
+    /// Answers one ask of the pass's caller on the book as it is in its turn, and enters it.
+    pub fn amend<R: Wait>(
+        &self,
+        rt: &R,
+        alloc: Global,
+        pass: &mut SharedPass<B>,
+        ask: &Item,
+    ) -> Result<Answer, EnterFault>
+        requires rest { IsAtRest self.now pass.old }
+        requires ask { CanAsk self.now.origin.start.declaration ask.now }
+        ensures rest { IsAtRest self.now pass.new }
+        ensures pass { IsStillPass (first_book self.now.origin.start) self.now.origin.start.most
+            (read_pass B.read pass.old) (read_pass B.read pass.new) }
+        ensures entered { IfOk result (λ answer. HasEntered ask.now answer
+            (read_pass B.read pass.old) (read_pass B.read pass.new)) }
+        ensures others { IfErr result (λ _. HasSeenMore (read_pass B.read pass.old)
+            (read_pass B.read pass.new)) }
+        ensures fault { IfErr result (RefusedAt B.read B.broken (B.found self.now.origin.beside)
+            self.now.origin.start.most pass.new.seen) }
+    {
+        histories::<Shared<Nothing>>();
+        let found = self.search(rt, alloc, pass, ask)?;
+        self.enter(rt, alloc, pass, ask, found)
+    }
+
+    // For an N or B ask: takes a copy of the book in a turn, and searches it while others go on.
+    fn search<R: Wait>(
+        &self,
+        rt: &R,
+        alloc: Global,
+        pass: &mut SharedPass<B>,
+        ask: &Item,
+    ) -> Result<Option<Found>, EnterFault>
+        requires rest { IsAtRest self.now pass.old }
+        requires ask { CanAsk self.now.origin.start.declaration ask.now }
+        ensures rest { IsAtRest self.now pass.new }
+        ensures number { pass.new.number ≡ pass.old.number }
+        ensures others { HasSeenMore (read_pass B.read pass.old) (read_pass B.read pass.new) }
+        ensures pass { IfErr result (λ _. IsStillPass (first_book self.now.origin.start)
+            self.now.origin.start.most (read_pass B.read pass.old) (read_pass B.read pass.new)) }
+        ensures found { IfOk result (λ found. ForSome found (λ f. IsFoundOnSeen ask.now f
+            (first_book self.now.origin.start) (B.read pass.new.seen))) }
+        ensures fault { IfErr result (RefusedAt B.read B.broken (B.found self.now.origin.beside)
+            self.now.origin.start.most pass.new.seen) }
+    {
+        if !asks_new(ask) {
+            return Ok(None);
+        }
+        let (copy, length) = self.copy(rt, alloc, pass)?;
+        match copy.hint(alloc, ask)? {
+            Some(hint) => Ok(Some(Found { hint, length })),
+            None => Ok(None),
+        }
+    }
+
+    // A copy of the book, and the length of the history, which the pass has then seen.
+    fn copy<R: Wait>(
+        &self,
+        rt: &R,
+        alloc: Global,
+        pass: &mut SharedPass<B>,
+    ) -> Result<(Book, u64), EnterFault>
+        requires rest { IsAtRest self.now pass.old }
+        ensures rest { IsAtRest self.now pass.new }
+        ensures others { HasSeenMore (read_pass B.read pass.old) (read_pass B.read pass.new) }
+        ensures pass { IsStillPass (first_book self.now.origin.start) self.now.origin.start.most
+            (read_pass B.read pass.old) (read_pass B.read pass.new) }
+        ensures book { IfOk result (λ copy. copy.0.book
+            ≡ replay (first_book self.now.origin.start) (B.read pass.new.seen)) }
+        ensures declared { IfOk result (λ copy. copy.0.book.declaration
+            ≡ self.now.origin.start.declaration) }
+        ensures length { IfOk result (λ copy. copy.1 ≡ length (B.read pass.new.seen)) }
+        ensures room { OnOk result (length (B.read pass.new.seen) < self.now.origin.start.most) }
+        ensures fault { IfErr result (RefusedAt B.read B.broken (B.found self.now.origin.beside)
+            self.now.origin.start.most pass.new.seen) }
+    {
+        let shared = self.turn.take(rt, pass);
+        shared.laws();
+        let copy = shared.copy(alloc);
+        self.turn.give(rt, pass, shared);
+        copy
+    }
+
+    // The one turn in which an ask is answered and entered.
+    fn enter<R: Wait>(
+        &self,
+        rt: &R,
+        alloc: Global,
+        pass: &mut SharedPass<B>,
+        ask: &Item,
+        found: Option<Found>,
+    ) -> Result<Answer, EnterFault>
+        requires rest { IsAtRest self.now pass.old }
+        requires ask { CanAsk self.now.origin.start.declaration ask.now }
+        requires found { ForSome found (λ f. IsFoundOnSeen ask.now f
+            (first_book self.now.origin.start) (B.read pass.old.seen)) }
+        ensures rest { IsAtRest self.now pass.new }
+        ensures pass { IsStillPass (first_book self.now.origin.start) self.now.origin.start.most
+            (read_pass B.read pass.old) (read_pass B.read pass.new) }
+        ensures entered { IfOk result (λ answer. HasEntered ask.now answer
+            (read_pass B.read pass.old) (read_pass B.read pass.new)) }
+        ensures others { IfErr result (λ _. HasSeenMore (read_pass B.read pass.old)
+            (read_pass B.read pass.new)) }
+        ensures fault { IfErr result (RefusedAt B.read B.broken (B.found self.now.origin.beside)
+            self.now.origin.start.most pass.new.seen) }
+    {
+        histories::<Shared<Nothing>>();
+        let mut shared = self.turn.take(rt, pass);
+        shared.laws();
+        let answer = shared.enter(alloc, pass.number(), ask, found);
+        shared.laws();
+        self.turn.give(rt, pass, shared);
+        answer
+    }
+
+    /// Ends the ledger. The passes are all that were made with it, in any order.
+    ///
+    /// The history is legal from the first book, and the book is its replay, which fits. What each
+    /// pass has seen begins the history, and its own calls are the entries of its number.
+    pub fn close(self, passes: Vec<SharedPass<B>>) -> (Book, Vec<Entry>, B)
+        requires all { length passes.items ≡ self.callers }
+        requires rest { All (IsAtRest self) passes.items }
+        ensures book { result.0.book ≡ replay (first_book self.origin.start) result.1.items }
+        ensures fits { IsBook result.0.book }
+        ensures legal { IsLegal (first_book self.origin.start) result.1.items }
+        ensures few { length result.1.items ≤ self.origin.start.most }
+        ensures seen { All (λ pass. HasSeen entry_caller result.1.items (read_pass B.read pass))
+            passes.items }
+        ensures callers { All (λ entry. IsNumber passes.items entry.caller) result.1.items }
+        ensures start { B.start result.2 ≡ self.origin.beside }
+        ensures agrees { B.agrees result.2 result.1.items }
+        ensures told { All (HasSeen B.number (B.told result.2 result.1.items)) passes.items }
+    {
+        let shared = self.turn.close(passes);
+        shared.laws();
+        shared.into_parts()
+    }
+}
