@@ -1,4 +1,4 @@
-use Rattle.wasg_stages.specs.StageProblems.{AreStates}
+use Rattle.series_model.specs.Stages.{AreStates}
 use Rattle.desk_bench.proofs.stages.four_stages.Given as goal
 
 abbrev pub invariant-loop-stage : goal.invariant-loop-stage
