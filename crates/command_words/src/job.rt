@@ -1,3 +1,5 @@
+//! What a command line asks for: the commands with their names and numbers.
+
 ghost use Rattle.std.specs.Prelude.{◌≡◌, Some};
 ghost use Rattle.std.specs.String.{string_bytes};
 ghost use Rattle.command_words.specs.Faults.{word_fault_text};

@@ -1,3 +1,5 @@
+//! The generator of numbers that seasons are drawn by.
+
 ghost use Rattle.std.specs.Prelude.{◌≡◌, ◌<◌, ◌%◌, ◌+◌, ◌*◌};
 ghost use Rattle.season_maker.specs.Draws.{next_state, state_after};
 

@@ -1,3 +1,5 @@
+//! The texts of a generated season: its capacity file and its requests.
+
 ghost use Rattle.std.specs.Prelude.{◌≡◌, ◌<◌, ◌≤◌, ◌+◌, ◌++◌, ℕ, IfOk, OnOk};
 ghost use Rattle.scr_reader.specs.Printed.{item_text};
 ghost use Rattle.scr_reader.specs.Messages.{header_of};

@@ -1,3 +1,5 @@
+//! The lines of a generated season, drawn one after the other.
+
 ghost use Rattle.std.specs.Prelude.{◌≡◌, ◌<◌, ◌≤◌, ◌%◌, ◌+◌, ◌*◌, ℕ, Some};
 ghost use Rattle.season_maker.specs.Draws.{next_state, drawn, state_after};
 ghost use Rattle.scr_reader.specs.Printed.{LineFits};

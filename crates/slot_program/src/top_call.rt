@@ -1,3 +1,5 @@
+//! The desk as one call: words, files, output, and the status.
+
 ghost use Rattle.std.specs.Prelude.{◌≡◌, ◌≢◌, ◌⊎◌, ◌++◌, ◌∷◌, [], ◌≤◌, ℕ, List, Option, Some, None};
 ghost use Rattle.std.specs.Prelude.{IfOk, Contains, map};
 ghost use Rattle.std.specs.String.{string_bytes};

@@ -1,3 +1,5 @@
+//! Blanks: space and tab, and lines of nothing else.
+
 ghost use Rattle.std.specs.Prelude.{◌≡◌, ◌↔◌, IsTrue};
 ghost use Rattle.slot_text.specs.Fields.{is_blank, is_blank_line, IsTrimmed};
 

@@ -1,3 +1,5 @@
+//! Boards of a search: seats that draw pieces, by one and by several threads.
+
 ghost use Rattle.std.specs.Prelude.{◌≡◌, ◌+◌, ◌≤◌, IfOk};
 ghost use Rattle.std.specs.Thread.{IsSync};
 ghost use Rattle.incumbent_word.specs.Seats.{IsSeatOf};
