@@ -1,4 +1,5 @@
-//! Tests of the text crates, of the words of a command line and of generated seasons: worked rows, as tables of text.
+//! Tests of the text crates, of the outside with its links and disks, of the words of a command
+//! line and of generated seasons: worked rows, as tables of text.
 #![tactic(auto)]
 
 #[cfg(test)]
@@ -6,7 +7,11 @@ mod calendar_rows;
 #[cfg(test)]
 mod capacity_rows;
 #[cfg(test)]
+mod disk_rows;
+#[cfg(test)]
 mod generated_rows;
+#[cfg(test)]
+mod link_rows;
 #[cfg(test)]
 mod message_rows;
 #[cfg(test)]

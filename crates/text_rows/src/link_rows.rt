@@ -1,0 +1,159 @@
+//! Links and doors in memory, whose listed calls fail, and those of the real system.
+ghost use Rattle.std.specs.Prelude.{All, IfOk};
+ghost use Rattle.desk_links.specs.LinksInMemory.{IsUnused};
+
+use crate::rows::{Case, cut, number, say, walk};
+use desk_links::{Door, DoorFault, Link, MemoryDoor, MemoryLink, RealDoor};
+use desk_outside::Failure;
+use std::alloc::Global;
+use std::io::{Read, Write};
+use std::net::{OpenListener, Shutdown, TcpListener, TcpStream};
+use std::test::Fail;
+use std::thread;
+
+/// Calls of a link, one a row: `take` with the room of the caller, `put` with bytes. Each answers
+/// the bytes that were taken, or `put`, or `fault`; then the count of faults, and whether the input
+/// has ended.
+#[derive(Drop)]
+struct LinkCalls<L: Link> {
+    link: L,
+}
+
+impl<L: Link> Case for LinkCalls<L> {
+    fn find(&mut self, alloc: Global, given: &[u8], out: &mut Vec<u8>) -> Result<(), Fail> {
+        let (call, rest) = cut(given, b' ');
+        match call {
+            b"take" => {
+                let mut into = [0u8; 16];
+                let room = (number(rest, 1)? as usize).clamp(1, 16);
+                match self.link.take(&mut into[..room]) {
+                    Ok(n) => out.extend_from_slice(&into[..n.min(16)])?,
+                    Err(_) => out.extend_from_slice(b"fault")?,
+                }
+            }
+            b"put" => match self.link.put(rest) {
+                Ok(()) => out.extend_from_slice(b"put")?,
+                Err(_) => out.extend_from_slice(b"fault")?,
+            },
+            _ => return Err("no such call".into()),
+        }
+        let (faults, ended) = (self.link.faults(), self.link.ended());
+        say(alloc, out, format_args!(" {faults} {ended}"))
+    }
+}
+
+// The input `abcdefgh` in pieces of 3, 0 (which is 1) and 9 bytes, then as they fit; room for 4
+// bytes that are put. Calls count from 0, and these fail: 1; 5 after 1 byte.
+const LINK_CALLS: &[u8] = b"\
+take 16|abc 0 false
+take 16|fault 1 false
+take 16|d 1 false
+put xy|put 1 false
+take 2|ef 1 false
+put zz|fault 2 false
+take 16|gh 2 false
+put z|put 2 false
+put z|fault 3 false
+take 16| 3 true
+take 16| 3 true
+put |put 3 true
+";
+
+#[test]
+fn a_link_comes_in_its_pieces(rt: HostRuntime) -> Result<(), Fail> {
+    let alloc = rt.alloc();
+    let input = Vec::from_slice(alloc, b"abcdefgh")?;
+    let sizes = [3, 0, 9].to_vec(alloc)?;
+    let failing = [Failure::at(1), Failure::after(5, 1)].to_vec(alloc)?;
+    let mut calls = LinkCalls {
+        link: MemoryLink::new(alloc, input, sizes, 4, failing)?,
+    };
+    walk(alloc, &mut calls, LINK_CALLS)?;
+    assert_eq!(rt; calls.link.sent(), b"xyzz".as_slice());
+    Ok(())
+}
+
+fn link_of(alloc: Global, input: &[u8]) -> Result<MemoryLink, Fail>
+    ensures { IfOk result IsUnused }
+{
+    let input = Vec::from_slice(alloc, input)?;
+    Ok(MemoryLink::new(alloc, input, Vec::new(alloc), 9, Vec::new(alloc))?)
+}
+
+fn two_links(alloc: Global) -> Result<Vec<MemoryLink>, Fail>
+    ensures { IfOk result (λ links. All IsUnused links.items) }
+{
+    let mut links = Vec::new(alloc);
+    links.push(link_of(alloc, b"one")?)?;
+    links.push(link_of(alloc, b"two")?)?;
+    Ok(links)
+}
+
+/// Accepts a link, puts the bytes over it, and hands it back.
+fn serve<D: Door>(door: &mut D, bytes: &[u8]) -> &'static str {
+    match door.accept() {
+        Ok(Some(mut link)) => {
+            let answer = if link.put(bytes).is_ok() {
+                "served"
+            } else {
+                "fault"
+            };
+            door.finish(link);
+            answer
+        }
+        Ok(None) => "none",
+        Err(DoorFault) => "no link",
+    }
+}
+
+// Two links, room for two; the second accept fails.
+#[test]
+fn a_door_hands_out_its_links(rt: HostRuntime) -> Result<(), Fail> {
+    let alloc = rt.alloc();
+    let failing = [Failure::at(1)].to_vec(alloc)?;
+    let mut door = MemoryDoor::new(alloc, two_links(alloc)?, 2, failing)?;
+    assert_eq!(rt; serve(&mut door, b"1"), "served");
+    assert_eq!(rt; serve(&mut door, b"-"), "no link");
+    assert_eq!(rt; serve(&mut door, b"2"), "served");
+    assert_eq!(rt; serve(&mut door, b"3"), "none");
+    assert_eq!(rt; door.faults(), 1);
+    assert_eq!(rt; door.kept().len(), 2);
+    assert_eq!(rt; door.kept()[1].sent(), b"2".as_slice());
+    // more links than there is room for
+    let mut full = MemoryDoor::new(alloc, two_links(alloc)?, 1, Vec::new(alloc))?;
+    assert_eq!(rt; serve(&mut full, b"1"), "served");
+    assert_eq!(rt; serve(&mut full, b"2"), "no link");
+    Ok(())
+}
+
+// A door over a listener of the system: a client that sends and half-closes gets what is put; a
+// door without a listener fails.
+#[test]
+fn the_system_has_links(rt: HostRuntime) -> Result<(), Fail> {
+    let alloc = rt.alloc();
+    let listener = TcpListener::bind(&rt, "127.0.0.1:0")?;
+    let address = listener.local_addr()?;
+    let mut door = RealDoor::new(alloc, Some(listener), 1)?;
+    let mut client = TcpStream::connect(&rt, address)?;
+    client.write_all(b"abc")?;
+    client.shutdown(Shutdown::Write)?;
+    let Some(link) = door.accept().map_err(|_| "no link")? else {
+        return Err("no link comes".into());
+    };
+    let mut calls = LinkCalls { link };
+    walk(
+        alloc,
+        &mut calls,
+        b"take 16|abc 0 false\ntake 16| 0 true\nput xy|put 0 true\n",
+    )?;
+    let LinkCalls { link } = calls;
+    door.finish(link);
+    let mut got = Vec::new(alloc);
+    client.read_to_end(&mut got)?;
+    assert_eq!(rt; got.as_slice(), b"xy".as_slice());
+    assert!(rt; door.accept().is_err());
+    let mut unbound = RealDoor::<TcpListener>::new(alloc, None, 1)?;
+    assert!(rt; unbound.accept().is_err());
+    assert_eq!(rt; unbound.faults(), 1);
+    Ok(())
+}
