@@ -42,6 +42,7 @@ fn say_job(alloc: Global, out: &mut Vec<u8>, job: &Job) -> Result<(), Fail> {
             say_numbers(alloc, out, *nodes, *workers)
         }
         Job::Check { names } => say_names(alloc, out, "check", names),
+        Job::Amend { names } => say_names(alloc, out, "amend", names),
         Job::Make {
             number,
             units,
@@ -176,7 +177,18 @@ help check|no
 -h|no
 --version|no
 -V|no
-amend A B C D E|no
+amend A B C D E|amend A,B,C,D,E
+amend A B C D|no
+amend A B C D E F|no
+amend|no
+amend A B C D E --nodes 5|no
+amend A B C D E --workers=2|no
+amend     |amend ,,,,
+amend -- -a B C D -e|amend -a,B,C,D,-e
+amend A - B -- -- C|amend A,-,B,--,C
+amend -A B C D E|no
+Amend A B C D E|no
+amend A B C D E --|amend A,B,C,D,E
 serve A B C D|no
 "
             .as_bytes(),
