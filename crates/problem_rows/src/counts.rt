@@ -4,7 +4,7 @@ ghost use Rattle.std.specs.Prelude.{◌≡◌, ℕ, ◌≤◌, length, IfOk, IsT
 ghost use Rattle.choice_problem.specs.Strips.{part_uses, IsPartInRange};
 
 use crate::problems::{limits, strips};
-use crate::texts::{Case, numbers, piece, walk};
+use crate::texts::{Case, numbers, piece, small_at, walk};
 use choice_problem::{Part, Strip, strip_list};
 use std::alloc::Global;
 use std::test::Fail;
@@ -115,4 +115,41 @@ const LIMITS: &str = "1 2 6 1 0 1 = true None
 #[test]
 fn parts_fit_up_to_the_limit(rt: HostRuntime) -> Result<(), Fail> {
     walk(rt.alloc(), &mut FittingCase, LIMITS)
+}
+
+// Whether what is left has one use for a part, and two for each resource that it shares with another
+// part; the same of the numbers copied over other counts.
+#[derive(Drop)]
+struct LeftCase;
+
+impl Case for LeftCase {
+    fn find(&mut self, alloc: Global, row: &str) -> Result<String, Fail> {
+        let first = part(alloc, "0 2 1 3")?;
+        let second = part(alloc, "2 1 0 1 5 1 0 1")?;
+        let given = numbers(alloc, row)?;
+        let mut left = Vec::new(alloc);
+        for place in 0..6 {
+            left.push(small_at(&given, place))?;
+        }
+        if left.len() != 6 {
+            return Err("six numbers".into());
+        }
+        let left = Counts::with(left);
+        let mut kept = Counts::of(alloc, &[], 6)?;
+        kept.copy_from(&left);
+        let one = left.has_one(&first);
+        let two = kept.has_two(&first, &second);
+        Ok(format!(in alloc; "{one} {two} {}", kept.count(5))?)
+    }
+}
+
+// The first part uses resources 0 to 3, the second 2 and 5, so both share resource 2.
+const LEFT: &str = "1 1 2 1 0 0 = true true 0
+1 1 1 1 0 9 = true false 9
+1 1 2 0 0 1 = false true 1
+0 1 0 1 5 5 = false false 5";
+
+#[test]
+fn what_is_left_serves_parts(rt: HostRuntime) -> Result<(), Fail> {
+    walk(rt.alloc(), &mut LeftCase, LEFT)
 }
