@@ -1,15 +1,15 @@
 -- One message more that was answered.
-use Rattle.std.proofs.Common.{◌≡◌, ◌⊎◌, ℕ, ◌+◌, Bool, true, false, List, [], ◌∷◌, ◌++◌, length, refl, sym, ap, subst, ◌∙◌, append_assoc, append-nil, inl, inr, Result, Ok, Err, arith}
+use Rattle.std.proofs.Common.{◌≡◌, ℕ, List, [], ◌∷◌, ◌++◌, length, refl, sym, ap, ◌∙◌, append_assoc, append-nil, inl, inr, Result, Ok, Err, arith}
 use Rattle.std.specs.Prelude.{OnOk, IfErr}
 use Rattle.slot_text.specs.Lines.{lines_of}
-use Rattle.scr_reader.specs.Streams.{complete_messages, served_messages, is_broken}
-use Rattle.desk_outside.specs.Passages.{Passage, took, put, put_failed}
+use Rattle.scr_reader.specs.Streams.{complete_messages}
+use Rattle.desk_outside.specs.Passages.{Passage, took, put}
 use Rattle.desk_links.specs.Links.{taken_of, puts_of}
 use Rattle.session_desk.specs.Answered.{AreAnswered}
 use Rattle.session_desk.specs.Passed.{InOrder}
-use Rattle.session_desk.specs.Sessions.{HasAnswered, HasAnsweredFirst, HasBegun, HasNotSent}
+use Rattle.session_desk.specs.Sessions.{HasAnswered, HasBegun}
 use Rattle.session_desk.specs.Private.Held.{IsHeld}
-use Rattle.session_desk.specs.Private.Reading.{IsAt, HasStopped, StopsRight, IsPut, IsGivenUp, AnswerStops}
+use Rattle.session_desk.specs.Private.Reading.{IsAt, HasStopped, IsPut, IsGivenUp, AnswerStops}
 use Rattle.session_desk.specs.declared.pending.Pending.{Pending}
 use Rattle.session_desk.specs.declared.responder.AnswerFault.{AnswerFault}
 use Rattle.session_desk.specs.declared.responder.AnswerFault.TheVariants as stops

@@ -1,5 +1,5 @@
 -- What is kept of a message under way, after one more byte and where none comes any more.
-use Rattle.std.proofs.Common.{◌≡◌, ◌⊎◌, ℕ, ◌+◌, ◌≤◌, Bool, true, false, ◌||◌, ◌&&◌, not, eqb, ltb, List, [], ◌∷◌, ◌++◌, length, take, refl, sym, ap, ◌∙◌, append_assoc, append-nil, length-append, inl, inr, arith}
+use Rattle.std.proofs.Common.{◌≡◌, ℕ, ◌+◌, Bool, true, false, ◌||◌, ◌&&◌, not, eqb, ltb, List, [], ◌∷◌, ◌++◌, length, take, refl, sym, ap, ◌∙◌, append_assoc, append-nil, length-append, inl, inr, arith}
 use Rattle.std.specs.Prelude.{if◌then◌else◌}
 use Rattle.std.proofs.lemmas.Bool.{cases_Bool, or_parts, ltb-true, ltb-false, not-true}
 use Rattle.std.proofs.lemmas.List.{take_all}
@@ -13,7 +13,7 @@ use Rattle.session_desk.specs.Private.Laws.{StreamLaws}
 use Rattle.session_desk.specs.Private.Held.{ends_with_cr, fills_line, length_with, breaks_with, breaks_at_end, is_under_way, HasLastLf, IsHeld, IsEnded}
 use Rattle.session_desk.specs.declared.pending.Pending.{Pending}
 use Rattle.session_desk.proofs.LineLemmas.{cr_last, blank_nothing, nothing_left, left_length, blank_at_end, full_after, blank_before, not_full, is_full}
-use Rattle.session_desk.proofs.LimitLemmas.{some_append, long_now, long_after, one_fine, under_blank, under_full, last_fine, open_fine, open_breaks}
+use Rattle.session_desk.proofs.LimitLemmas.{some_append, long_now, long_after, under_blank, under_full, last_fine, open_fine, open_breaks}
 
 pub nothing_open : (open_lines [] ≡ []) × (open_bytes [] ≡ []) × (is_broken [] ≡ false)
 unfolding up_to_last after_last lines_of without_last_cr messages_in

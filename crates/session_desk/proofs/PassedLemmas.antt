@@ -3,7 +3,7 @@ use Rattle.std.proofs.Common.{◌≡◌, ℕ, ◌+◌, Bool, true, false, ◌||�
 use Rattle.scr_reader.specs.Streams.{complete_messages}
 use Rattle.desk_outside.specs.Passages.{Passage, read, wrote, write_failed, took, put, put_failed}
 use Rattle.desk_links.specs.Links.{Transcript, LinkView, taken_of, puts_of, HasTaken, SendsBytes, FollowSent}
-use Rattle.session_desk.specs.Passed.{InOrder, NoneFailed, WereSent, TellsPassed, HasPassed}
+use Rattle.session_desk.specs.Passed.{InOrder, NoneFailed, WereSent, HasPassed}
 
 -- how takes and puts add up over logs that are joined
 abbrev pub TakenJoin : Type 0

@@ -1,10 +1,9 @@
 -- Sessions of a worker, one after the other.
-use Rattle.std.proofs.Common.{◌≡◌, ◌⊎◌, ℕ, ◌+◌, ◌≤◌, List, [], ◌∷◌, ◌++◌, length, map, refl, sym, ap, subst, ◌∙◌, append_assoc, append-nil, length-append, inl, inr, Option, Some, None, Result, Ok, Err, arith}
+use Rattle.std.proofs.Common.{◌≡◌, ◌⊎◌, ℕ, ◌+◌, ◌≤◌, List, [], ◌∷◌, ◌++◌, length, refl, sym, ap, subst, ◌∙◌, append_assoc, append-nil, length-append, inl, inr, Option, Some, None, Result, Err, arith}
 use Rattle.std.proofs.lemmas.List.{map-append}
 use Rattle.std.proofs.lemmas.List.Elements.{All-append, All-nil, All-cons}
-use Rattle.std.specs.Prelude.{All, IfSome, IfNone}
-use Rattle.desk_outside.specs.Cause.{Rose}
-use Rattle.desk_links.specs.Links.{LinkView, Transcript}
+use Rattle.std.specs.Prelude.{IfSome, IfNone}
+use Rattle.desk_links.specs.Links.{LinkView}
 use Rattle.desk_links.specs.Doors.{DoorView, NoneComes, IsNextLink, HasAdmitted, with_kept}
 use Rattle.session_desk.specs.Passed.{HasPassed}
 use Rattle.session_desk.specs.Sessions.{HasSessionCause, IsSession}

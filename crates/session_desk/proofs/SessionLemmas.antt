@@ -1,5 +1,5 @@
 -- A session from its first take to its end.
-use Rattle.std.proofs.Common.{◌≡◌, ◌⊎◌, ℕ, ◌+◌, Bool, true, false, List, [], ◌∷◌, ◌++◌, length, refl, sym, ap, subst, ◌∙◌, append_assoc, inl, inr, Result, Ok, Err}
+use Rattle.std.proofs.Common.{◌≡◌, ℕ, true, List, [], ◌∷◌, ◌++◌, refl, sym, ap, ◌∙◌, append_assoc, inl, inr, Result, Ok, Err}
 use Rattle.slot_text.specs.Lines.{lines_of}
 use Rattle.scr_reader.specs.Cuts.{up_to_last}
 use Rattle.scr_reader.specs.Streams.{messages_in, complete_messages, served_messages, is_broken}

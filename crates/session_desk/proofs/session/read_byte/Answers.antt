@@ -1,6 +1,6 @@
-use Rattle.std.proofs.Common.{◌≡◌, ℕ, List, [], ◌∷◌, ◌++◌}
+use Rattle.std.proofs.Common.{ℕ, List, [], ◌∷◌, ◌++◌}
 use Rattle.session_desk.specs.Private.Held.{IsHeld, MakesProgress}
-use Rattle.session_desk.specs.declared.pending.Progress.TheVariants.{More, Complete, TooLong}
+use Rattle.session_desk.specs.declared.pending.Progress.TheVariants.{More, Complete}
 use Rattle.session_desk.proofs.AnsweredLemmas.{on_ok, both_ok, on_err, message_put, message_stopped, nothing_begun, byte_read}
 use Rattle.session_desk.proofs.session.read_byte.Goals as goal
 

@@ -1,6 +1,6 @@
-use Rattle.std.proofs.Common.{◌≡◌, ℕ, ◌+◌, ◌<◌, List, [], ◌∷◌, ◌++◌, length, get_or, take, drop, refl, sym, ap, subst, ◌∙◌, append_assoc, append-nil, Err}
+use Rattle.std.proofs.Common.{◌≡◌, ℕ, ◌+◌, ◌<◌, List, [], ◌∷◌, ◌++◌, length, get_or, take, drop, sym, ap, subst, ◌∙◌, append_assoc}
 use Rattle.std.proofs.lemmas.List.{take_all, take_more, take-append-drop}
-use Rattle.session_desk.specs.Private.Reading.{IsAt, HasStoppedWithin, HasStopped}
+use Rattle.session_desk.specs.Private.Reading.{IsAt, HasStopped}
 use Rattle.session_desk.proofs.session.read_piece.Goals as goal
 
 one_more : (seen piece : List ℕ) (i : ℕ) → i < length piece → (seen ++ take i piece) ++ get_or piece i 0 ∷ [] ≡ seen ++ take (i + 1) piece

@@ -1,4 +1,4 @@
-use Rattle.std.proofs.Common.{◌≡◌, ◌≤◌, ◌++◌, List, ℕ, take, Option}
+use Rattle.std.proofs.Common.{◌≡◌, ◌++◌, List, ℕ, take, Option}
 use Rattle.desk_links.specs.Links.{Transcript, taken_of}
 use Rattle.session_desk.specs.Passed.{HasPassed}
 use Rattle.session_desk.specs.Private.Held.{IsSized, IsHeld}

@@ -1,6 +1,5 @@
-use Rattle.std.proofs.Common.{◌≡◌, ℕ, ◌+◌, ◌≤◌, List, [], ◌∷◌, ◌++◌, length, take, refl, sym, ap, subst, ◌∙◌, append-nil, Err, arith}
+use Rattle.std.proofs.Common.{◌≡◌, ℕ, List, ◌++◌, take, refl, sym, ap, ◌∙◌, append-nil, arith}
 use Rattle.desk_links.specs.Links.{taken_of}
-use Rattle.session_desk.specs.Private.Reading.{IsAt}
 use Rattle.session_desk.proofs.PassedLemmas.{took_taken, nothing_passed, passed_took, passed_same, ended_now}
 use Rattle.session_desk.proofs.AnsweredLemmas.{piece_taken}
 use Rattle.session_desk.proofs.SessionLemmas.{session_start, session_end, session_failed, session_stopped, cause_since}

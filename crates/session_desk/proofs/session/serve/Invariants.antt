@@ -1,4 +1,4 @@
-use Rattle.std.proofs.Common.{◌≡◌, ◌≤◌, ◌++◌, List, ℕ, length}
+use Rattle.std.proofs.Common.{◌≡◌, length}
 use Rattle.desk_links.specs.Links.{taken_of}
 use Rattle.session_desk.specs.Passed.{HasPassed}
 use Rattle.session_desk.specs.Private.Held.{IsSized}

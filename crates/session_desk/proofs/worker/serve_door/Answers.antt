@@ -1,5 +1,5 @@
-use Rattle.std.proofs.Common.{◌≡◌, ◌+◌, ◌-◌, arith}
-use Rattle.session_desk.proofs.ServedLemmas.{nothing_served, gone_on, served_last, all_served}
+use Rattle.std.proofs.Common.{◌-◌, arith}
+use Rattle.session_desk.proofs.ServedLemmas.{nothing_served, gone_on, served_last}
 use Rattle.session_desk.proofs.worker.serve_door.Goals as goal
 
 pub loop-served-init : goal.loop-served-init

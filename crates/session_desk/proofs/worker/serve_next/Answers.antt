@@ -1,4 +1,3 @@
-use Rattle.session_desk.specs.Served.{GoesOn}
 use Rattle.session_desk.proofs.ServedLemmas.{if_none, both_some, one_served, one_gone_on, one_ended}
 use Rattle.session_desk.proofs.worker.serve_next.Goals as goal
 

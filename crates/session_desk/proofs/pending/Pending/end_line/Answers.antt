@@ -1,4 +1,4 @@
-use Rattle.std.proofs.Common.{refl, sym, ◌∙◌, ap, List, ℕ, [], ◌∷◌, ◌++◌}
+use Rattle.std.proofs.Common.{refl, ◌∙◌, ap, List, ℕ, [], ◌∷◌, ◌++◌}
 use Rattle.session_desk.proofs.HeldLemmas.{nothing_ended, message_ended, line_ended, no_line_more, message_whole}
 use Rattle.session_desk.proofs.pending.Pending.end_line.Goals as goal
 
