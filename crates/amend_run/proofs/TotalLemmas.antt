@@ -1,5 +1,5 @@
 -- Messages have no more lines than their text, and this no more than bytes.
-use Rattle.std.proofs.Common.{◌≡◌, ℕ, suc, ◌+◌, ◌≤◌, ◌==◌, ◌&&◌, Bool, true, false, arith, List, [], ◌∷◌, length}
+use Rattle.std.proofs.Common.{◌≡◌, ℕ, suc, ◌≤◌, ◌==◌, ◌&&◌, Bool, true, false, arith, List, [], ◌∷◌, length}
 use Rattle.std.specs.Prelude.{if◌then◌else◌}
 use Rattle.slot_text.specs.Fields.{is_blank_line}
 use Rattle.slot_text.specs.Lines.{lines_of, onto_first, starts_with_lf}

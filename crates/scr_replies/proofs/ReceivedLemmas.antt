@@ -1,12 +1,13 @@
 -- One message, or its bad line: what is received of lines is one thing, and its items can be asked.
-use Rattle.std.proofs.Common.{◌≡◌, ◌≢◌, ℕ, zero, suc, ◌+◌, ◌≤◌, ◌⊎◌, inl, inr, refl, sym, ◌∙◌, ap, subst, arith, List, [], ◌∷◌, length, drop}
+use Rattle.std.proofs.Common.{◌≡◌, ℕ, suc, ◌+◌, ◌≤◌, ◌⊎◌, inl, inr, refl, sym, ◌∙◌, ap, subst, arith, List, [], ◌∷◌, length}
 use Rattle.std.specs.Prelude.{Option, Some, None, All}
 use Rattle.std.proofs.lemmas.List.{length-drop}
 use Rattle.std.proofs.lemmas.List.Elements.{All-nil, All-cons}
 use Rattle.slot_text.specs.declared.station.Station.{Station}
 use Rattle.season_days.specs.Term.{Term}
 use Rattle.season_days.specs.declared.declaration.Declaration.{Declaration}
-use Rattle.scr_reader.specs.Messages.{run_from, IsMessage, IsMessageFault, body_of, header_length, place, row_item, items_of}
+use Rattle.slot_text.specs.Lines.{lines_of}
+use Rattle.scr_reader.specs.Messages.{run_from, IsMessage, IsMessageFault, HasMessageFault, body_of, header_length, place, row_item, items_of}
 use Rattle.scr_reader.specs.Rows.{Row, AreRows}
 use Rattle.scr_reader.specs.Printed.{ItemsFit}
 use Rattle.scr_reader.specs.Faults.{fault_line}
@@ -17,13 +18,14 @@ use Rattle.scr_reader.specs.declared.line.Item.TheVariants.{One, Pair, Query}
 use Rattle.scr_reader.specs.declared.message.Placed.{Placed}
 use Rattle.scr_reader.specs.declared.message.Message.{Message}
 use Rattle.scr_reader.specs.declared.fault.ScrFault.{ScrFault}
+use Rattle.scr_reader.specs.declared.fault.ScrFault.TheVariants.{Memory}
 use Rattle.scr_reader.specs.declared.stray.StrayLine.{StrayLine}
 use Rattle.scr_reader.specs.declared.stray.StrayLine.TheVariants.{Season, Airport}
 use Rattle.series_model.specs.Submissions.{ItemPairs}
 use Rattle.holding_book.specs.Asks.{CanAsk}
 use Rattle.scr_replies.specs.declared.received.Received.{Received}
 use Rattle.scr_replies.specs.declared.received.Received.TheVariants.{Good, Bad}
-use Rattle.scr_replies.specs.Received.{IsGoodMessage, IsUnreadAt, IsStrayAt, IsBadAt, IsReceived, CanAskAll}
+use Rattle.scr_replies.specs.Received.{IsGoodMessage, IsBadAt, IsReceived}
 
 -- ---- items that were read can be asked
 
@@ -86,6 +88,9 @@ stray_once season airport m (Season a) (Airport b) one other = absurd (one.0 oth
 stray_once season airport m (Airport a) (Season b) one other = absurd (other.0 one.0)
 stray_once season airport m (Airport a) (Airport b) one other = one.2 ∙ sym other.2
 
+none_some : (n : ℕ) → None ≡ Some n → ⊥
+none_some n e = cc
+
 some_once : (n k : ℕ) → Some n ≡ Some k → n ≡ k
 some_once n k e = cc
 
@@ -105,3 +110,12 @@ received_once season airport lines (Good m) (Good n) once one other = ap (λ (k 
 received_once season airport lines (Good m) (Bad n) once one other = absurd (never_bad season airport lines m n once one other)
 received_once season airport lines (Bad n) (Good m) once one other = absurd (never_bad season airport lines m n once other one)
 received_once season airport lines (Bad n) (Bad k) once one other = ap (λ (l : ℕ). Bad l) (bad_once season airport lines n k once one other)
+
+-- a fault that names a line is one of these lines
+pub unread_at : (season : Term) (airport : Station) (bytes : List ℕ) (fault : ScrFault) (line : ℕ) →
+    (HasMessageFault bytes fault → IsMessageFault (run_from 1 (lines_of bytes)) fault) → HasMessageFault bytes fault ⊎ (fault ≡ Memory) → fault_line fault ≡ Some line →
+    IsBadAt season airport (lines_of bytes) line
+unread_at season airport bytes fault line reads (inl has) number = inl (record { fault = fault; unread = reads has; number = number })
+unread_at season airport bytes fault line reads (inr none) number =
+    let never : fault_line Memory ≡ Some line = subst (λ (f : ScrFault). fault_line f ≡ Some line) none number in
+    absurd (none_some line never)

@@ -1,7 +1,7 @@
 -- What a desk receives: the lines of one message, which it reads, or whose bad line it names; and
 -- what it answers to them. A message is good that can be read and is of the desk's season and
 -- airport.
-use Rattle.std.specs.Prelude.{◌≡◌, ◌⊎◌, ℕ, List, [], length, map, All, Some}
+use Rattle.std.specs.Prelude.{◌≡◌, ◌⊎◌, ℕ, List, [], map, All, Some}
 use Rattle.slot_text.specs.declared.station.Station.{Station}
 use Rattle.season_days.specs.Term.{Term}
 use Rattle.season_days.specs.declared.declaration.Declaration.{Declaration}

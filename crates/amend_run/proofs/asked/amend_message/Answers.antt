@@ -1,4 +1,4 @@
-use Rattle.std.proofs.Common.{◌≡◌, sym, ap, subst, arith, length}
+use Rattle.std.proofs.Common.{sym, ap, subst, arith, length}
 use Rattle.slot_text.specs.Lines.{lines_of}
 use Rattle.season_days.specs.declared.declaration.Declaration.{Declaration}
 use Rattle.holding_book.specs.Books.{SlotBook}

@@ -1,6 +1,6 @@
-use Rattle.std.proofs.Common.{◌≡◌, ◌≤◌, sym, ◌∙◌, ap, subst, List, length, map, ℕ}
+use Rattle.std.proofs.Common.{◌≡◌, ◌≤◌, sym, ◌∙◌, ap, subst, List, length, ℕ}
 use Rattle.std.specs.Prelude.{All}
-use Rattle.scr_reader.specs.Streams.{HoldsMessage, piece_lines, messages_at_end}
+use Rattle.scr_reader.specs.Streams.{HoldsMessage, messages_at_end}
 use Rattle.scr_reader.specs.declared.message.Piece.{Piece}
 use Rattle.amend_run.specs.Private.Due.{line_total}
 use Rattle.amend_run.proofs.TotalLemmas.{total_few}

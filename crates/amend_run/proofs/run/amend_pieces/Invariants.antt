@@ -1,4 +1,4 @@
-use Rattle.std.proofs.Common.{◌≡◌, ◌+◌, ◌*◌, ◌≤◌, length, drop, map}
+use Rattle.std.proofs.Common.{◌+◌, ◌*◌, ◌≤◌, length, drop, map}
 use Rattle.scr_reader.specs.Streams.{piece_lines}
 use Rattle.amend_run.specs.Private.Due.{line_total}
 use Rattle.amend_run.proofs.RunLemmas.{RunsOn}

@@ -1,4 +1,4 @@
-use Rattle.scr_replies.proofs.AnswerLemmas.{answer_there, lines_here, AreLeft, left_next}
+use Rattle.scr_replies.proofs.AnswerLemmas.{answer_there, lines_here, left_next}
 use Rattle.scr_replies.proofs.reply.put_answers.Goals as goal
 
 pub bounds-answers-i : goal.bounds-answers-i
