@@ -1,5 +1,5 @@
 -- The book with which amendments begin has at most one holding a unit.
-use Rattle.std.proofs.Common.{◌≡◌, ℕ, suc, ◌≤◌, List, [], ◌∷◌, length, map, Option, Some, None, refl, ap, ◌∙◌, arith, inl, inr}
+use Rattle.std.proofs.Common.{◌≡◌, ℕ, suc, ◌≤◌, List, [], ◌∷◌, length, Option, Some, None, refl, ap, ◌∙◌, arith, inl, inr}
 use Rattle.std.specs.List.{filter_map, cons_option}
 use Rattle.std.proofs.lemmas.Bool.{cases_Bool}
 use Rattle.season_days.specs.declared.declaration.Declaration.{Declaration}
@@ -7,7 +7,7 @@ use Rattle.series_model.specs.declared.unit.Unit.{Unit as SlotUnit}
 use Rattle.series_model.specs.declared.times.Times.{Times}
 use Rattle.series_model.specs.declared.state.UnitState.{UnitState}
 use Rattle.series_model.specs.Submissions.{SubmissionView}
-use Rattle.series_model.specs.Stages.{is_due_state, after_allotment, after_stage, after_stages, first_state, first_states, states_after, stage_times}
+use Rattle.series_model.specs.Stages.{is_due_state, after_allotment, after_stage, after_stages, first_states, states_after, stage_times}
 use Rattle.cert_format.specs.declared.cert.Certificate.{Certificate}
 use Rattle.cert_format.specs.Choices.{choices_of}
 use Rattle.holding_book.specs.Starts.{holding_of, start_book}
