@@ -1,4 +1,5 @@
 mod HistoryLemmas
+mod RepliedLemmas
 mod GrowthLemmas
 mod FlightLemmas
 mod PlacesLemmas
