@@ -7,8 +7,8 @@ use Rattle.clap.specs.Simple.{App, Shape, new_rule, new_shape}
 use Rattle.clap.specs.declared.builder.ArgAction.TheVariants.{Set, Append}
 use Rattle.clap.specs.declared.parser.matches.ArgMatches.{ArgMatches}
 use Rattle.command_words.specs.Words.{Word}
-use Rattle.command_words.specs.Jobs.{Command, allocate_command, check_command, commands}
-use Rattle.command_words.specs.Jobs.{command_named, job_of}
+use Rattle.command_words.specs.Jobs.{Command, allocate_command, check_command, amend_command}
+use Rattle.command_words.specs.Jobs.{commands, command_named, job_of}
 use Rattle.command_words.specs.declared.job.Job.{Job}
 
 -- an option with one value
@@ -46,7 +46,7 @@ bare_app = record { top = record desk_top { is_leaf = true }; subs = [] }
 abbrev pub reading_app : App
 reading_app = record {
   top = desk_top;
-  subs = map command_shape (allocate_command ∷ check_command ∷ []);
+  subs = map command_shape (allocate_command ∷ check_command ∷ amend_command ∷ []);
 }
 
 abbrev pub desk_app : App

@@ -7,7 +7,8 @@ use Rattle.command_words.specs.Uses.{Use, uses_of, once_after}
 use Rattle.command_words.specs.Values.{names_in, values_given, names_exactly, number_within}
 use Rattle.command_words.specs.Values.{number_or}
 use Rattle.command_words.specs.declared.job.Job.{Job}
-use Rattle.command_words.specs.declared.job.Job.TheVariants.{Allocate, Check, Make, Trial}
+use Rattle.command_words.specs.declared.job.Job.TheVariants.{Allocate, Check, Amend}
+use Rattle.command_words.specs.declared.job.Job.TheVariants.{Make, Trial}
 
 -- A command: its word, the names of its options, and the job that it makes of the names and of what
 -- each option is given.
@@ -29,6 +30,11 @@ allocate_job words _ = None
 abbrev pub check_job : List Word → List (Option Word) → Option Job
 check_job words [] = option_map Check (names_exactly 3 words)
 check_job words (value ∷ values) = None
+
+-- `amend CAP SCR CERT ASKS ANSWERS`
+abbrev pub amend_job : List Word → List (Option Word) → Option Job
+amend_job words [] = option_map Amend (names_exactly 5 words)
+amend_job words (value ∷ values) = None
 
 -- What a command makes of the number of a generated season, from 0 to 65536, how many units it has,
 -- from 1 to 4096, and the words behind these two, which are so many names.
@@ -61,6 +67,9 @@ allocate_command = record {
 abbrev pub check_command : Command
 check_command = record { word = codes "check"; options = []; job = check_job }
 
+abbrev pub amend_command : Command
+amend_command = record { word = codes "amend"; options = []; job = amend_job }
+
 abbrev pub make_command : Command
 make_command = record { word = codes "make"; options = []; job = make_job }
 
@@ -69,7 +78,8 @@ trial_command = record { word = codes "trial"; options = []; job = trial_job }
 
 -- the commands that are served
 abbrev pub commands : List Command
-commands = allocate_command ∷ check_command ∷ make_command ∷ trial_command ∷ []
+commands =
+    allocate_command ∷ check_command ∷ amend_command ∷ make_command ∷ trial_command ∷ []
 
 abbrev pub command_named : List Command → Word → Option Command
 command_named cs word = find (λ c. bytes_eq c.word word) cs
@@ -91,6 +101,7 @@ abbrev pub IsJob : Job → Type 0
 IsJob (Allocate names nodes workers) = (length names ≡ 4) × ((1 ≤ nodes) × (nodes ≤ 1000000))
     × ((1 ≤ workers) × (workers ≤ 16))
 IsJob (Check names) = length names ≡ 3
+IsJob (Amend names) = length names ≡ 5
 IsJob (Make number units names) = (number ≤ 65536) × ((1 ≤ units) × (units ≤ 4096))
     × (length names ≡ 2)
 IsJob (Trial number units) = (number ≤ 65536) × ((1 ≤ units) × (units ≤ 4096))

@@ -5,7 +5,7 @@ ghost use Rattle.clap.specs.Words.{app_of, shape_of, FailsBy, fault_of, HasMatch
 ghost use Rattle.clap.specs.declared.builder.command.Command.TheViews.{out-Command};
 ghost use Rattle.command_words.specs.Words.{words_of};
 ghost use Rattle.command_words.specs.Jobs.{allocate_command, check_command};
-ghost use Rattle.command_words.specs.Jobs.{make_command, trial_command};
+ghost use Rattle.command_words.specs.Jobs.{amend_command, make_command, trial_command};
 ghost use Rattle.command_words.specs.App.{option_arg, names_arg, command_shape, bare_app, reading_app};
 ghost use Rattle.command_words.specs.App.{desk_app};
 
@@ -45,6 +45,13 @@ fn check<'a>(alloc: Global) -> Result<Command<'a>, AllocError>
     Command::new(alloc, "check").arg(names(alloc))
 }
 
+fn amend<'a>(alloc: Global) -> Result<Command<'a>, AllocError>
+    ensures shape { IfOk result (λ c. shape_of c ≡ command_shape amend_command) }
+    ensures local { IfOk result (λ c. (out-Command c).has_globals ≡ false) }
+{
+    Command::new(alloc, "amend").arg(names(alloc))
+}
+
 fn make<'a>(alloc: Global) -> Result<Command<'a>, AllocError>
     ensures shape { IfOk result (λ c. shape_of c ≡ command_shape make_command) }
     ensures local { IfOk result (λ c. (out-Command c).has_globals ≡ false) }
@@ -75,7 +82,11 @@ fn reading_desk<'a>(alloc: Global) -> Result<Command<'a>, AllocError>
 {
     let allocate = allocate(alloc)?;
     let check = check(alloc)?;
-    bare(alloc).subcommand(allocate)?.subcommand(check)
+    let amend = amend(alloc)?;
+    bare(alloc)
+        .subcommand(allocate)?
+        .subcommand(check)?
+        .subcommand(amend)
 }
 
 fn desk<'a>(alloc: Global) -> Result<Command<'a>, AllocError>

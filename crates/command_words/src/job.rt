@@ -87,6 +87,11 @@ pub enum Job {
     Check {
         names: NameList,
     },
+    /// Answer amendments, one after the other, from the book of a certificate. The names are those
+    /// of the capacity file, the requests, the certificate, the asks and the answers.
+    Amend {
+        names: NameList,
+    },
     /// Make a generated season, and write it. The names are those of the capacity file and the
     /// requests.
     Make {

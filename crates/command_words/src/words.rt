@@ -9,7 +9,8 @@ ghost use Rattle.command_words.specs.declared.job.Job.{Job};
 ghost use Rattle.command_words.specs.Words.{Word, words_of};
 ghost use Rattle.command_words.specs.Values.{names_exactly, number_within, number_or};
 ghost use Rattle.command_words.specs.Jobs.{job_of, IsJob, allocate_command, check_command};
-ghost use Rattle.command_words.specs.Jobs.{make_command, trial_command, make_job, trial_job};
+ghost use Rattle.command_words.specs.Jobs.{amend_command, make_command, trial_command};
+ghost use Rattle.command_words.specs.Jobs.{make_job, trial_job};
 ghost use Rattle.command_words.specs.App.{names_held, job_by_rows, job_named, AsksFor};
 ghost use Rattle.command_words.specs.Answers.{Answers};
 
@@ -81,6 +82,7 @@ fn read_job(alloc: Global, name: &str, found: &ArgMatches<'_>) -> Result<Job, Wo
     match name {
         "allocate" => read_allocate(alloc, found),
         "check" => read_check(alloc, found),
+        "amend" => read_amend(alloc, found),
         "make" => read_make(alloc, found),
         "trial" => read_trial(found),
         _ => Err(WordFault::Words),
@@ -105,6 +107,13 @@ fn read_check(alloc: Global, found: &ArgMatches<'_>) -> Result<Job, WordFault>
 {
     let names = read_names(alloc, found, 3)?;
     Ok(Job::Check { names })
+}
+
+fn read_amend(alloc: Global, found: &ArgMatches<'_>) -> Result<Job, WordFault>
+    ensures { Answers (job_by_rows amend_command (rows_of (found_of found.now))) result }
+{
+    let names = read_names(alloc, found, 5)?;
+    Ok(Job::Amend { names })
 }
 
 fn read_make(alloc: Global, found: &ArgMatches<'_>) -> Result<Job, WordFault>
