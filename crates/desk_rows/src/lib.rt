@@ -4,6 +4,8 @@
 #[cfg(test)]
 mod allocate_rows;
 #[cfg(test)]
+mod amend_rows;
+#[cfg(test)]
 mod check_rows;
 #[cfg(test)]
 mod desk_calls;

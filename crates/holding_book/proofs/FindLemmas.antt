@@ -2,6 +2,7 @@
 use Rattle.std.proofs.Common.{◌≡◌, ℕ, zero, suc, ◌+◌, ◌<◌, ◌≤◌, Bool, true, false, cond, List, [], ◌∷◌, ◌++◌, length, take, get_or, refl, sym, ap, ◌∙◌, arith, Option, Some, None}
 use Rattle.std.proofs.Common.{add-one}
 use Rattle.std.proofs.Math.Seq.{take-suc, take-length}
+use Rattle.std.specs.Prelude.{IfSome}
 use Rattle.std.specs.Option.{option_map}
 use Rattle.std.specs.List.{slice_get}
 use Rattle.std.proofs.lemmas.Option.{get_or_from_slice_get}
@@ -47,6 +48,18 @@ module _ (test : Holding → Bool) where
         | true ↦ λ e. (omega arith, e)
         | false ↦ λ e. behind-there x xs d (first_place test xs) (first-there xs d)
       ] refl
+
+  below-more : (x : Holding) (xs : List Holding) (place : Option ℕ) → IfSome place (λ n. n < length xs) → IfSome (option_map (λ n. suc n) place) (λ n. n < length (x ∷ xs))
+  below-more x xs None lt = tt
+  below-more x xs (Some n) lt = omega (arith, lt)
+
+  pub first-below : (xs : List Holding) → IfSome (first_place test xs) (λ n. n < length xs)
+  first-below [] = tt
+  first-below (x ∷ xs) =
+      elim (test x) as (λ b. IfSome (cond b (Some 0) (option_map (λ n. suc n) (first_place test xs))) (λ n. n < length (x ∷ xs))) [
+        | true ↦ omega arith
+        | false ↦ below-more x xs (first_place test xs) (first-below xs)
+      ]
 
   module _ (others : Holding → List Holding) where
     pub replaced-none : (xs : List Holding) → first_place test xs ≡ None → replace_first test others xs ≡ None

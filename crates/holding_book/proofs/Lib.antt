@@ -1,4 +1,5 @@
 mod HistoryLemmas
+mod RepliedLemmas
 mod GrowthLemmas
 mod FlightLemmas
 mod PlacesLemmas
@@ -8,6 +9,7 @@ mod NextLemmas
 mod ChangeLemmas
 mod MovedLemmas
 mod FindLemmas
+mod FoundLemmas
 mod ListingLemmas
 mod BookLemmas
 mod RowLemmas
@@ -16,4 +18,5 @@ mod AskLemmas
 mod KeptLemmas
 mod StartLemmas
 mod TakeLemmas
+mod ApartLemmas
 mod SearchLemmas

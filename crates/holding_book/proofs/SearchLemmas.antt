@@ -25,9 +25,10 @@ use Rattle.series_model.specs.declared.times.Times.TheVariants.{At}
 use Rattle.series_model.specs.Movements.{movements_at}
 use Rattle.series_model.specs.declared.times.Times.{Times}
 use Rattle.holding_book.specs.Books.{movements_fit, cheaper, first_cheapest}
-use Rattle.holding_book.specs.Private.Loads.{LoadsView, IsLoads, AreLeft, movements_left, fits_left, is_cheaper}
+use Rattle.holding_book.specs.Private.Loads.{LoadsView, IsLoads, AreLeft, movements_left, fits_left, is_cheaper, can_share}
 use Rattle.holding_book.specs.Private.Trials.{IsTimesTrial}
 use Rattle.holding_book.specs.declared.trials.Trial.{Trial}
+use Rattle.holding_book.proofs.ApartLemmas.{stops_apart}
 use Rattle.holding_book.proofs.LoadLemmas.{MovementLoads}
 use Rattle.holding_book.proofs.FitLemmas.{below_pass, movements_fit-true}
 
@@ -110,6 +111,16 @@ module _ (law : MovementLoads) (loads : LoadsView) (count : IsCounted loads) (li
 
   pub full-two : IsTimesTrial loads Dep line.departure line.period two → two.fits ≡ false → false ≡ fits_left loads line (At one.minute two.minute)
   full-two second full = fits-together second false (λ t. absurd (cc t), λ has. sym full ∙ second.fits.1 (λ r lt. omega (arith, has r lt)))
+
+  -- what fits alone fits with another movement with which it can share nothing
+  pub apart-fit : IsTimesTrial loads Dep line.departure line.period two → can_share (capacity_of loads.declaration) ≡ false → one.fits ≡ true → two.fits ≡ true → true ≡ fits_left loads line (At one.minute two.minute)
+  apart-fit second apart f g =
+      let c = capacity_of loads.declaration in
+      let has : HasUses loads.left (λ r. both_uses one.part two.part r) = λ r lt. elim (stops_apart c apart line.arrival line.departure one.minute two.minute line.period r) [
+        | inl none ↦ omega (arith, none, first.part.loads r, second.fits.0 g r lt)
+        | inr none ↦ omega (arith, none, second.part.loads r, first.fits.0 f r lt)
+      ] in
+      fits-together second true (λ t. has, λ h. refl)
 
 -- ---- the best so far
 

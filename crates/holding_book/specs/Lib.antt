@@ -1,6 +1,7 @@
 pub mod Lines
 pub mod Books
 pub mod Asks
+pub mod Replied
 pub mod Rooms
 pub mod Hints
 pub mod Histories

@@ -9,3 +9,4 @@ pub mod Changes
 pub mod Steps
 pub mod Ready
 pub mod Given
+pub mod Found

@@ -22,7 +22,11 @@ use std::alloc::Global;
 
 impl Loads {
     /// The cheapest times at which a line fits beside the holdings of which the rest is left, the
-    /// first of several; none where it fits at none. The requested times are tested first.
+    /// first of several; none where it fits at none.
+    ///
+    /// The requested times are tested first: two tests. Else each minute of a movement is tested
+    /// once at most, one step a use, and none where it could not make the line cheaper; two that fit
+    /// alone are tested together where they can share a resource. A few steps for each alternative.
     pub fn best_times(&self, alloc: Global, line: &Line) -> Result<Option<Times>, Memory>
         requires { LineFits self.now.declaration.season line.now }
         ensures times { IfOk result (λ best. IfSome best (TimesFit None)) }
@@ -124,25 +128,74 @@ impl Loads {
         let Times::At { arrival, departure } = times else {
             return Ok(false);
         };
-        let period = line.period;
-        let arrivals = &mut trials.arrivals;
-        let one = self.trial_at(alloc, Kind::Arr, line.arrival, arrival, period, arrivals)?;
+        let one = self.try_arrival(alloc, line, trials, arrival)?;
         if self.is_full(line, &trials.arrivals[one]) {
             return Ok(false);
         }
-        let departures = &mut trials.departures;
-        let two = self.trial_at(
-            alloc,
-            Kind::Dep,
-            line.departure,
-            departure,
-            period,
-            departures,
-        )?;
+        let two = self.try_departure(alloc, line, trials, departure)?;
         Ok(self.fits_both(line, &trials.arrivals[one], &trials.departures[two]))
     }
 
-    // The place of the trial of a movement at a minute, which is made where there is none yet.
+    // The place of the trial of an arrival: shifts come by arrivals, so it is mostly the last one.
+    fn try_arrival(
+        &self,
+        alloc: Global,
+        line: &Line,
+        trials: &mut Trials,
+        minute: u32,
+    ) -> Result<usize, Memory>
+        requires line { LineFits self.now.declaration.season line.now }
+        requires trials { AreTrials self.now line.now trials.old }
+        ensures trials { OnOk result (AreTrials self.now line.now trials.new) }
+        ensures place { IfOk result (IsTrialPlace minute trials.new.arrivals.items) }
+    {
+        let first = trials.arrival;
+        let arrivals = &mut trials.arrivals;
+        let place = self.trial_at(
+            alloc,
+            Kind::Arr,
+            line.arrival,
+            minute,
+            line.period,
+            first,
+            arrivals,
+        )?;
+        trials.arrival = place;
+        Ok(place)
+    }
+
+    // The place of the trial of a departure: after each arrival they rise, so it is mostly the one
+    // behind the last.
+    fn try_departure(
+        &self,
+        alloc: Global,
+        line: &Line,
+        trials: &mut Trials,
+        minute: u32,
+    ) -> Result<usize, Memory>
+        requires line { LineFits self.now.declaration.season line.now }
+        requires trials { AreTrials self.now line.now trials.old }
+        ensures trials { OnOk result (AreTrials self.now line.now trials.new) }
+        ensures arrivals { OnOk result (trials.new.arrivals ≡ trials.old.arrivals) }
+        ensures place { IfOk result (IsTrialPlace minute trials.new.departures.items) }
+    {
+        let first = trials.departure;
+        let departures = &mut trials.departures;
+        let place = self.trial_at(
+            alloc,
+            Kind::Dep,
+            line.departure,
+            minute,
+            line.period,
+            first,
+            departures,
+        )?;
+        trials.departure = place + 1;
+        Ok(place)
+    }
+
+    // The place of the trial of a movement at a minute, looked for at one place first. It is made
+    // where there is none yet.
     fn trial_at(
         &self,
         alloc: Global,
@@ -150,6 +203,7 @@ impl Loads {
         stop: Option<Stop>,
         minute: u32,
         period: Period,
+        first: usize,
         trials: &mut Vec<Trial>,
     ) -> Result<usize, Memory>
         requires first { period.first.0 < date_count self.now.declaration.season }
@@ -159,7 +213,7 @@ impl Loads {
             (All (IsTimesTrial self.now kind stop period) trials.new.items) }
         ensures place { IfOk result (IsTrialPlace minute trials.new.items) }
     {
-        if let Some(place) = place_of(trials, minute) {
+        if let Some(place) = place_of(trials, first, minute) {
             return Ok(place);
         }
         let next = trials.len();

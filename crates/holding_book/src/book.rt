@@ -6,6 +6,7 @@ ghost use Rattle.scr_reader.specs.Printed.{LineFits};
 ghost use Rattle.holding_book.specs.declared.book.TheConstants.{MOST_NEW_FLIGHTS};
 ghost use Rattle.holding_book.specs.Books.{SlotBook, IsBook, places_of};
 ghost use Rattle.holding_book.specs.Asks.{CanAsk, outcome, reply, next};
+ghost use Rattle.holding_book.specs.Replied.{HasAnswerLines};
 ghost use Rattle.holding_book.specs.Private.Steps.{IsAskStep};
 ghost use Rattle.holding_book.specs.Hints.{new_line, best_line};
 ghost use Rattle.holding_book.specs.Private.Changes.{changed_book, IsChange};
@@ -14,7 +15,7 @@ ghost use Rattle.holding_book.specs.Starts.{start_book, HasFeasibleChoices};
 use crate::answer::Answer;
 use crate::change::{Change, put_lists};
 use crate::holding::Holding;
-use crate::laws::next_fits;
+use crate::laws::{answer_lines, next_fits};
 use crate::loads::Loads;
 use crate::places::Places;
 use crate::room::Room;
@@ -199,7 +200,7 @@ impl Book {
         ensures ask { IfOk result (λ room. room.ask ≡ ask.now) }
         ensures spare { OnOk result (MOST_NEW_FLIGHTS ≤ self.new.spare) }
     {
-        let step = step_of(alloc, &mut self.loads, &self.holdings, ask)?;
+        let step = step_of(alloc, &mut self.loads, &self.holdings, &self.places, ask)?;
         self.make_room(ask, step)
     }
 
@@ -218,7 +219,14 @@ impl Book {
         let Some(line) = new_line(ask) else {
             unreachable!()
         };
-        let step = hinted_step(alloc, &self.loads, &self.holdings, &line, hint.best)?;
+        let step = hinted_step(
+            alloc,
+            &self.loads,
+            &self.holdings,
+            &self.places,
+            &line,
+            hint.best,
+        )?;
         self.make_room(ask, step)
     }
 
@@ -270,9 +278,13 @@ impl Book {
         requires ask { CanAsk self.old.book.declaration ask.now }
         requires few { length self.old.book.holdings + 4 < 2 ^ 32 }
         ensures answer { IfOk result (λ answer. answer ≡ reply self.old.book ask.now) }
+        ensures lines { IfOk result (λ answer.
+            HasAnswerLines self.old.book.declaration.season ask.now answer) }
         ensures book { OnOk result (self.new.book ≡ next self.old.book ask.now) }
         ensures stays { IfErr result (λ _. self.new.book ≡ self.old.book) }
     {
+        answer_lines();
+        self.declaration();
         let room = self.prepare(alloc, ask)?;
         Ok(self.apply_with(ask, room))
     }

@@ -5,6 +5,7 @@ ghost use Rattle.scr_reader.specs.declared.line.Item.{Item as ItemValue};
 ghost use Rattle.holding_book.specs.declared.answer.Entry.{Entry as EntryValue};
 ghost use Rattle.holding_book.specs.Books.{SlotBook, IsBook, BookFits};
 ghost use Rattle.holding_book.specs.Asks.{CanAsk, reply, next};
+ghost use Rattle.holding_book.specs.Replied.{HasAnswerLines};
 ghost use Rattle.holding_book.specs.Histories.{replay, IsLegal};
 
 use season_days::laws::{cut_counts, cut_parts};
@@ -52,5 +53,19 @@ pub fn replays_fit()
         All (λ (entry : EntryValue). CanAsk b.declaration entry.ask) history →
         IsBook (replay b history) }
 {
+    next_fits();
+}
+
+/// The answer that is due is one that its ask can have, and all lines that are printed of both have
+/// a spelling: the line or the lines of the ask, the offered one, and those that a query lists.
+pub fn answer_lines()
+    ensures reply { (b : SlotBook) (ask : ItemValue) → IsBook b → CanAsk b.declaration ask →
+        HasAnswerLines b.declaration.season ask (reply b ask) }
+    ensures history { (b : SlotBook) (history : List EntryValue) → IsBook b → IsLegal b history →
+        All (λ (entry : EntryValue). CanAsk b.declaration entry.ask) history →
+        All (λ (entry : EntryValue).
+        HasAnswerLines b.declaration.season entry.ask entry.answer) history }
+{
+    shift_bounds();
     next_fits();
 }

@@ -3,6 +3,8 @@
 ghost use Rattle.std.specs.Prelude.{◌≡◌, ◌↔◌, ℕ, ◌+◌, ◌<◌, ◌≤◌, ◌^◌, false, [], length, slice_index, None, IsTrue, IfOk, OnOk};
 ghost use Rattle.season_days.specs.Capacity.{capacity_of, declared_resources, IsDeclaration};
 ghost use Rattle.season_days.specs.Seasons.{date_count};
+ghost use Rattle.season_days.specs.declared.declaration.Rule.{Rule as RuleValue};
+ghost use Rattle.std.specs.List.{list_any};
 ghost use Rattle.scr_reader.specs.Printed.{LineFits};
 ghost use Rattle.series_model.specs.Options.{TimesFit};
 ghost use Rattle.series_model.specs.Movements.{movements_at};
@@ -10,7 +12,7 @@ ghost use Rattle.series_model.specs.TimedLines.{line_movements};
 ghost use Rattle.capacity_windows.specs.Windows.{window_limit};
 ghost use Rattle.season_days.specs.declared.declaration.TheConstants.{HIGHEST_NIGHT_LIMIT};
 ghost use Rattle.choice_problem.specs.Counts.{GrowsBy, HasRoom, HasUses};
-ghost use Rattle.holding_book.specs.Private.Loads.{AreLeft, fits_left};
+ghost use Rattle.holding_book.specs.Private.Loads.{AreLeft, fits_left, can_share, is_tot};
 ghost use Rattle.holding_book.specs.Private.Trials.{IsTimesTrial};
 ghost use Rattle.season_days.specs.declared.declaration.Kind.TheVariants.{Arr, Dep};
 ghost use Rattle.series_model.specs.declared.times.Times.TheVariants.{At as at_times};
@@ -21,7 +23,7 @@ use crate::uses::{Uses, give_back, has_both, has_uses, no_uses, take_away};
 use capacity_windows::Windows;
 use choice_problem::Part;
 use scr_reader::{Line, Stop};
-use season_days::{Declaration, Kind, MINUTES_OF_DAY, Period};
+use season_days::{Declaration, Kind, MINUTES_OF_DAY, Period, Rule};
 use series_model::laws::{movement_loads, requested_shift, shift_bounds};
 use series_model::{Times, line_times};
 use slot_text::Memory;
@@ -172,7 +174,7 @@ impl Loads {
     }
 
     /// Whether a line fits at the minutes of two trials of its movements: whether each fits alone,
-    /// and both together.
+    /// and both together. Their uses are looked at only where they may share a resource.
     pub fn fits_both(&self, line: &Line, one: &Trial, two: &Trial) -> bool
         requires one { IsTimesTrial self.now Arr line.now.arrival line.now.period one.now }
         requires two { IsTimesTrial self.now Dep line.now.departure line.now.period two.now }
@@ -185,6 +187,9 @@ impl Loads {
         }
         if !two.fits {
             return false;
+        }
+        if !can_share(&self.declaration) {
+            return true;
         }
         has_both(&self.left, &one.part, &two.part, night)
     }
@@ -240,4 +245,25 @@ impl Loads {
     {
         take_away(&mut self.left, uses);
     }
+}
+
+// Whether a resource may hold both an arrival and a departure: the night quota, or the windows of a
+// capacity line for both kinds.
+fn can_share(declaration: &Declaration) -> bool
+    ensures { result ≡ can_share (capacity_of declaration.now) }
+{
+    declaration.night.is_some() || has_tot(declaration.rules.items())
+}
+
+// Whether a capacity line is for both kinds.
+fn has_tot(rules: &[Rule]) -> bool
+    ensures { result ≡ list_any (λ (rule : RuleValue). is_tot rule.kind) rules.now }
+{
+    rules.iter().any(|rule| is_tot(rule.kind))
+}
+
+fn is_tot(kind: Kind) -> bool
+    ensures { result ≡ is_tot kind }
+{
+    matches!(kind, Kind::Tot)
 }

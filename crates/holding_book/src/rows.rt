@@ -10,16 +10,17 @@ ghost use Rattle.holding_book.specs.Lines.{has_flight};
 ghost use Rattle.season_days.specs.declared.declaration.Declaration.{Declaration as DeclarationValue};
 ghost use Rattle.holding_book.specs.Asks.{offer_outcome, release_outcome, change_outcome, accept_outcome, query_outcome};
 ghost use Rattle.holding_book.specs.Hints.{best_line};
+ghost use Rattle.holding_book.specs.Private.Kept.{ArePlacesKept};
 ghost use Rattle.holding_book.specs.Private.Loads.{AreLeft};
 ghost use Rattle.holding_book.specs.Private.Steps.{book_with, held_book, replaced_at, IsAskStep};
 
 use crate::answer::Answer;
 use crate::cuts::{cut_holding, in_period};
-use crate::finding::{clashes_with, first_match, holding_at};
+use crate::finding::{clashes_after, first_match, holding_at, holdings_of};
 use crate::holding::{Holding, HoldingList, State};
-use crate::lines::has_flight;
 use crate::listing::{append_change, replace_change, swap_change};
 use crate::loads::Loads;
+use crate::places::Places;
 use crate::step::{AskStep, stays};
 use crate::uses::no_uses;
 use scr_reader::{Flight, Line};
@@ -35,18 +36,20 @@ pub(crate) fn release(
     alloc: Global,
     loads: &Loads,
     holdings: &[Holding],
+    places: &Places,
     state: State,
     line: &Line,
 ) -> Result<AskStep, Memory>
     requires line { LineFits loads.now.declaration.season line.now }
     requires few { length holdings.now + 4 < 2 ^ 32 }
+    requires kept { ArePlacesKept places.now holdings.now }
     ensures { IfOk result (λ step. let b = held_book loads.now holdings.now in
         IsAskStep b (release_outcome b state line.now) step) }
 {
     movement_loads();
     cut_counts();
     let season = &loads.declaration().season;
-    let Some(at) = first_match(season, state, line, holdings) else {
+    let Some(at) = first_match(season, state, line, holdings, places) else {
         return Ok(stays(Answer::W));
     };
     let held = holding_at(holdings, at);
@@ -64,17 +67,19 @@ pub(crate) fn accept(
     alloc: Global,
     loads: &Loads,
     holdings: &[Holding],
+    places: &Places,
     line: &Line,
 ) -> Result<AskStep, Memory>
     requires line { LineFits loads.now.declaration.season line.now }
     requires few { length holdings.now + 4 < 2 ^ 32 }
+    requires kept { ArePlacesKept places.now holdings.now }
     ensures { IfOk result (λ step. let b = held_book loads.now holdings.now in
         IsAskStep b (accept_outcome b line.now) step) }
 {
     movement_loads();
     cut_counts();
     let season = &loads.declaration().season;
-    let Some(at) = first_match(season, State::Offered, line, holdings) else {
+    let Some(at) = first_match(season, State::Offered, line, holdings, places) else {
         return Ok(stays(Answer::W));
     };
     let held = holding_at(holdings, at);
@@ -92,12 +97,14 @@ pub(crate) fn exchange(
     alloc: Global,
     loads: &mut Loads,
     holdings: &[Holding],
+    places: &Places,
     historic: &Line,
     request: &Line,
 ) -> Result<AskStep, Memory>
     requires historic { LineFits loads.old.declaration.season historic.now }
     requires request { LineFits loads.old.declaration.season request.now }
     requires few { length holdings.now + 4 < 2 ^ 32 }
+    requires kept { ArePlacesKept places.now holdings.now }
     requires left { AreLeft (capacity_of loads.old.declaration)
         (held_movements loads.old.declaration.season holdings.now) loads.old.left }
     requires limits { (r : ℕ) →
@@ -109,12 +116,12 @@ pub(crate) fn exchange(
     movement_loads();
     cut_counts();
     let season = loads.declaration().season;
-    let Some(at) = first_match(&season, State::Confirmed, historic, holdings) else {
+    let Some(at) = first_match(&season, State::Confirmed, historic, holdings, places) else {
         return Ok(stays(Answer::W));
     };
     let held = holding_at(holdings, at);
     let rest = cut_holding(alloc, &season, &held, historic.period)?;
-    if clashes_after(&season, request, holdings, at, &rest) {
+    if clashes_after(&season, request, holdings, places, at, &rest) {
         return Ok(stays(Answer::W));
     }
     let freed = loads.parts_of(alloc, historic)?;
@@ -187,50 +194,20 @@ fn append_step(
     })
 }
 
-// Whether a line clashes with the holdings of which the one at a place is replaced by others.
-fn clashes_after(
-    season: &Season,
-    line: &Line,
-    holdings: &[Holding],
-    at: u32,
-    others: &[Holding],
-) -> bool
-    requires { at < length holdings.now }
-    ensures { result ≡ clashes_with season.now line.now
-        (replaced_at at others.now holdings.now) }
-{
-    let place = at as usize;
-    clashes_with(season, line, &holdings[..place])
-        || clashes_with(season, line, others)
-        || clashes_with(season, line, &holdings[place + 1..])
-}
-
 /// The holdings that have a flight as arrival or departure.
 pub(crate) fn list_flight(
     alloc: Global,
     holdings: &[Holding],
+    places: &Places,
     flight: &Flight,
 ) -> Result<AskStep, Memory>
+    requires kept { ArePlacesKept places.now holdings.now }
     ensures { IfOk result (λ step. (d : DeclarationValue) → let b = book_with d holdings.now in
         IsAskStep b (query_outcome b flight.now) step) }
 {
-    let found = holdings_of(alloc, holdings, flight)?;
+    let found = holdings_of(alloc, holdings, places, flight)?;
     if found.is_empty() {
         return Ok(stays(Answer::W));
     }
     Ok(stays(Answer::Listed(HoldingList::new(found))))
-}
-
-// The holdings that have a flight, one step a holding.
-fn holdings_of(alloc: Global, holdings: &[Holding], flight: &Flight) -> Result<Vec<Holding>, Memory>
-    ensures { IfOk result (λ found. found.items
-        ≡ filter (λ holding. has_flight flight.now holding.line) holdings.now) }
-{
-    let mut found = Vec::new(alloc);
-    for holding in holdings {
-        if has_flight(flight, &holding.line) {
-            found.push(*holding)?;
-        }
-    }
-    Ok(found)
 }

@@ -8,13 +8,15 @@ ghost use Rattle.capacity_windows.specs.Windows.{window_limit};
 ghost use Rattle.holding_book.specs.Books.{held_movements};
 ghost use Rattle.holding_book.specs.Asks.{CanAsk, new_outcome, line_outcome, outcome};
 ghost use Rattle.holding_book.specs.Hints.{best_line};
+ghost use Rattle.holding_book.specs.Private.Kept.{ArePlacesKept};
 ghost use Rattle.holding_book.specs.Private.Loads.{AreLeft};
 ghost use Rattle.holding_book.specs.Private.Steps.{held_book, IsAskStep};
 
 use crate::answer::Answer;
-use crate::finding::clashes_with;
+use crate::finding::clashes_with_held;
 use crate::holding::{Holding, State};
 use crate::loads::Loads;
+use crate::places::Places;
 use crate::rows::{accept, exchange, list_flight, place_new, release};
 use crate::step::{AskStep, stays};
 use scr_reader::{Code, Item, Line};
@@ -46,16 +48,18 @@ pub(crate) fn hinted_step(
     alloc: Global,
     loads: &Loads,
     holdings: &[Holding],
+    places: &Places,
     line: &Line,
     best: Option<Line>,
 ) -> Result<AskStep, Memory>
     requires line { LineFits loads.now.declaration.season line.now }
     requires few { length holdings.now + 4 < 2 ^ 32 }
+    requires kept { ArePlacesKept places.now holdings.now }
     requires best { best ≡ best_line (held_book loads.now holdings.now) line.now }
     ensures { IfOk result (λ step. let b = held_book loads.now holdings.now in
         IsAskStep b (new_outcome b line.now) step) }
 {
-    if clashes_with(&loads.declaration().season, line, holdings) {
+    if clashes_with_held(&loads.declaration().season, line, holdings, places) {
         return Ok(stays(Answer::W));
     }
     place_new(alloc, loads, holdings, line, best)
@@ -66,16 +70,18 @@ fn new_step(
     alloc: Global,
     loads: &Loads,
     holdings: &[Holding],
+    places: &Places,
     line: &Line,
 ) -> Result<AskStep, Memory>
     requires line { LineFits loads.now.declaration.season line.now }
     requires few { length holdings.now + 4 < 2 ^ 32 }
+    requires kept { ArePlacesKept places.now holdings.now }
     requires left { AreLeft (capacity_of loads.now.declaration)
         (held_movements loads.now.declaration.season holdings.now) loads.now.left }
     ensures { IfOk result (λ step. let b = held_book loads.now holdings.now in
         IsAskStep b (new_outcome b line.now) step) }
 {
-    if clashes_with(&loads.declaration().season, line, holdings) {
+    if clashes_with_held(&loads.declaration().season, line, holdings, places) {
         return Ok(stays(Answer::W));
     }
     let best = best_line(alloc, loads, holdings, line)?;
@@ -87,20 +93,22 @@ fn line_step(
     alloc: Global,
     loads: &Loads,
     holdings: &[Holding],
+    places: &Places,
     line: &Line,
 ) -> Result<AskStep, Memory>
     requires line { LineFits loads.now.declaration.season line.now }
     requires few { length holdings.now + 4 < 2 ^ 32 }
+    requires kept { ArePlacesKept places.now holdings.now }
     requires left { AreLeft (capacity_of loads.now.declaration)
         (held_movements loads.now.declaration.season holdings.now) loads.now.left }
     ensures { IfOk result (λ step. let b = held_book loads.now holdings.now in
         IsAskStep b (line_outcome b line.now line.now.code) step) }
 {
     match line.code {
-        Code::N | Code::B => new_step(alloc, loads, holdings, line),
-        Code::D => release(alloc, loads, holdings, State::Confirmed, line),
-        Code::Z => release(alloc, loads, holdings, State::Offered, line),
-        Code::A => accept(alloc, loads, holdings, line),
+        Code::N | Code::B => new_step(alloc, loads, holdings, places, line),
+        Code::D => release(alloc, loads, holdings, places, State::Confirmed, line),
+        Code::Z => release(alloc, loads, holdings, places, State::Offered, line),
+        Code::A => accept(alloc, loads, holdings, places, line),
         _ => Ok(stays(Answer::W)),
     }
 }
@@ -111,10 +119,12 @@ pub(crate) fn step_of(
     alloc: Global,
     loads: &mut Loads,
     holdings: &[Holding],
+    places: &Places,
     ask: &Item,
 ) -> Result<AskStep, Memory>
     requires ask { CanAsk loads.old.declaration ask.now }
     requires few { length holdings.now + 4 < 2 ^ 32 }
+    requires kept { ArePlacesKept places.now holdings.now }
     requires left { AreLeft (capacity_of loads.old.declaration)
         (held_movements loads.old.declaration.season holdings.now) loads.old.left }
     requires limits { (r : ℕ) →
@@ -124,10 +134,12 @@ pub(crate) fn step_of(
         IsAskStep b (outcome b ask.now) step) }
 {
     match ask {
-        Item::One(line) => line_step(alloc, loads, holdings, line),
-        Item::Pair(historic, request) => exchange(alloc, loads, holdings, historic, request),
+        Item::One(line) => line_step(alloc, loads, holdings, places, line),
+        Item::Pair(historic, request) => exchange(
+            alloc, loads, holdings, places, historic, request,
+        ),
         Item::Query(flight) => {
-            let step = list_flight(alloc, holdings, flight)?;
+            let step = list_flight(alloc, holdings, places, flight)?;
             Ok(step)
         }
     }

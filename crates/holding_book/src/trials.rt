@@ -16,11 +16,14 @@ pub struct Trial {
     pub fits: bool,
 }
 
-/// The minutes that were tried of an arrival, and of a departure.
+/// The minutes that were tried of an arrival, and of a departure, and the places where the next ones
+/// are looked for first.
 #[derive(Drop)]
 pub struct Trials {
     pub arrivals: Vec<Trial>,
     pub departures: Vec<Trial>,
+    pub arrival: usize,
+    pub departure: usize,
 }
 
 impl Trials {
@@ -32,6 +35,8 @@ impl Trials {
         Trials {
             arrivals: Vec::new(alloc),
             departures: Vec::new(alloc),
+            arrival: 0,
+            departure: 0,
         }
     }
 }
@@ -43,10 +48,14 @@ pub struct Found {
     pub cost: u64,
 }
 
-/// The place of a minute, if it was tried: one step for each that was.
-pub(crate) fn place_of(trials: &[Trial], minute: u32) -> Option<usize>
+/// The place of a minute, if it was tried: one step where it is the first place to look at, else one
+/// for each minute that was tried.
+pub(crate) fn place_of(trials: &[Trial], first: usize, minute: u32) -> Option<usize>
     ensures { IfSome result (IsTrialPlace minute trials.now) }
 {
+    if first < trials.len() && trials[first].minute == minute {
+        return Some(first);
+    }
     for place in 0..trials.len() {
         if trials[place].minute == minute {
             return Some(place);

@@ -1,1 +1,3 @@
 mod StateLemmas
+mod ReceivedLemmas
+mod AnswerLemmas

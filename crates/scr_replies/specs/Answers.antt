@@ -1,13 +1,15 @@
 -- The text of replies: the lines of the answer to one line or pair, and the reply to a message. See
--- SSIM, chapter 6, on the codes: K confirms, U refuses, O offers, H holds.
+-- SSIM, chapter 6, on the codes: K confirms, U refuses, O offers, H holds, X cancels, and W says
+-- that nothing was processed.
 use Rattle.std.specs.Prelude.{ℕ, List, [], ◌∷◌, ◌++◌}
 use Rattle.slot_text.specs.Ended.{ended}
 use Rattle.season_days.specs.Term.{Term}
-use Rattle.scr_reader.specs.Printed.{header_lines, line_text}
+use Rattle.scr_reader.specs.Printed.{header_lines, line_text, flight_text}
 use Rattle.scr_reader.specs.declared.header.Header.{Header}
+use Rattle.scr_reader.specs.declared.line.Flight.{Flight}
 use Rattle.scr_reader.specs.declared.line.Line.{Line}
 use Rattle.scr_reader.specs.declared.line.Code.{Code}
-use Rattle.scr_reader.specs.declared.line.Code.TheVariants.{K, H, O, U}
+use Rattle.scr_reader.specs.declared.line.Code.TheVariants.{K, H, O, U, W, X}
 
 -- a line in its printed spelling with a code, and its end
 abbrev pub coded_line : Term → Code → Line → List ℕ
@@ -30,6 +32,18 @@ offer_answer season request offered = coded_line season U request ++ coded_line 
 -- the historic line of a pair is held, as its C line asks
 abbrev pub held_answer : Term → Line → Line → List ℕ
 held_answer season request historic = coded_line season U request ++ coded_line season H historic
+
+-- cancelled
+abbrev pub cancelled_answer : Term → Line → List ℕ
+cancelled_answer season request = coded_line season X request
+
+-- not processed
+abbrev pub unprocessed_answer : Term → Line → List ℕ
+unprocessed_answer season request = coded_line season W request
+
+-- a flight that was asked about has no holding
+abbrev pub unknown_answer : Flight → List ℕ
+unknown_answer flight = 87 ∷ (flight_text flight ++ 10 ∷ [])
 
 -- ---- the reply to a message
 

@@ -2,15 +2,15 @@
 
 ghost use Rattle.std.specs.Prelude.{◌≡◌, ◌++◌, ◌∷◌, [], OnOk};
 ghost use Rattle.scr_reader.specs.Printed.{LineFits};
-ghost use Rattle.scr_replies.specs.Answers.{coded_line, confirmed_answer, refused_answer, offer_answer, held_answer};
+ghost use Rattle.scr_replies.specs.Answers.{coded_line, confirmed_answer, refused_answer, offer_answer, held_answer, cancelled_answer, unprocessed_answer, unknown_answer};
 
-use scr_reader::{Code, Line, print_line};
+use scr_reader::{Code, Flight, Line, print_flight, print_line};
 use season_days::Season;
 use slot_text::Memory;
 use std::alloc::Global;
 
-// Appends a line with a code, and its end.
-fn put_coded(
+/// Appends a line with a code, and its end.
+pub(crate) fn put_coded(
     alloc: Global,
     out: &mut Vec<u8>,
     season: &Season,
@@ -86,4 +86,42 @@ pub(crate) fn put_held(
 {
     put_coded(alloc, out, season, Code::U, request)?;
     put_coded(alloc, out, season, Code::H, historic)
+}
+
+/// Appends that slots are cancelled.
+pub(crate) fn put_cancelled(
+    alloc: Global,
+    out: &mut Vec<u8>,
+    season: &Season,
+    request: &Line,
+) -> Result<(), Memory>
+    requires { LineFits season.now request.now }
+    ensures { OnOk result
+        (out.new.items ≡ out.old.items ++ cancelled_answer season.now request.now) }
+{
+    put_coded(alloc, out, season, Code::X, request)
+}
+
+/// Appends that a line is not processed.
+pub(crate) fn put_unprocessed(
+    alloc: Global,
+    out: &mut Vec<u8>,
+    season: &Season,
+    request: &Line,
+) -> Result<(), Memory>
+    requires { LineFits season.now request.now }
+    ensures { OnOk result
+        (out.new.items ≡ out.old.items ++ unprocessed_answer season.now request.now) }
+{
+    put_coded(alloc, out, season, Code::W, request)
+}
+
+/// Appends that a flight has no holding.
+pub(crate) fn put_unknown(alloc: Global, out: &mut Vec<u8>, flight: Flight) -> Result<(), Memory>
+    ensures { OnOk result (out.new.items ≡ out.old.items ++ unknown_answer flight) }
+{
+    out.push(b'W')?;
+    print_flight(alloc, out, flight)?;
+    out.push(b'\n')?;
+    Ok(())
 }

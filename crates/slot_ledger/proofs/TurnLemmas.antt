@@ -25,7 +25,7 @@ module _ {X : Type 0} (read : List X → List Entry) (done : Entry → X) (numbe
   pub keep_refused : (broken : List X → ℕ → Type 0) (found most : ℕ) (xs : List X) (fault : EnterFault) → IsKeepFault broken xs fault → (fault ≡ Memory → length (read xs) < most) → RefusedAt read broken found most xs fault
   keep_refused broken found most xs (Full n) h room = absurd h
   keep_refused broken found most xs (Broken n) h room = h
-  keep_refused broken found most xs Memory h room = room refl
+  keep_refused broken found most xs Memory h room = (room refl, h)
 
 module _ {X O : Type 0} (read : List X → List Entry) (done : Entry → X) (number : X → ℕ) (parts : ReadsParts read) (entries : ReadsEntries read done number) (owns : ReadsOwn read number) where
   -- the seat before its turn, with the turn, and after it; and the turn's list before and after

@@ -32,17 +32,21 @@ module _ {X : Type 0} where
   MayMark read number caller xs ys = (ys ≡ xs)
       ⊎ ((mark : X) × (ys ≡ xs ++ mark ∷ []) × (number mark ≡ caller) × (read (mark ∷ []) ≡ []))
 
+  -- the list says of no failure
+  pub record IsUnbroken (broken : List X → ℕ → Type 0) (xs : List X) : Type 0 where
+    pub never : (faults : ℕ) → broken xs faults → ⊥
+
   -- why an ask was not kept, by what the list is then
   abbrev pub IsKeepFault : (List X → ℕ → Type 0) → List X → EnterFault → Type 0
   IsKeepFault broken xs (Full count) = ⊥
   IsKeepFault broken xs (Broken faults) = broken xs faults
-  IsKeepFault broken xs Memory = Unit {0}
+  IsKeepFault broken xs Memory = IsUnbroken broken xs
 
-  -- Why an ask was not entered, by what the list is then. Full exactly where it is read as so many
-  -- entries as it may be; its number counts those too that were found before.
+  -- Why an ask was not entered, by what the list is then: a failure first, and then that it is read
+  -- as so many entries as it may be. The number of Full counts those too that were found before.
   abbrev pub RefusedAt : (List X → List Entry) → (List X → ℕ → Type 0) → ℕ → ℕ → List X
       → EnterFault → Type 0
   RefusedAt read broken found most xs (Full count) =
-      (count ≡ found + length (read xs)) × (length (read xs) ≡ most)
+      (count ≡ found + length (read xs)) × (length (read xs) ≡ most) × IsUnbroken broken xs
   RefusedAt read broken found most xs (Broken faults) = broken xs faults
-  RefusedAt read broken found most xs Memory = length (read xs) < most
+  RefusedAt read broken found most xs Memory = (length (read xs) < most) × IsUnbroken broken xs

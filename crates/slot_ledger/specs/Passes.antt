@@ -1,11 +1,14 @@
--- One history of amendments that callers share: what a caller has seen of it after an ask of its own.
+-- One history of amendments that callers share: what a caller has seen of it after an ask of its
+-- own.
 use Rattle.std.specs.Prelude.{◌≡◌, ℕ, ◌<◌, ◌≤◌, List, [], ◌∷◌, ◌++◌, length}
 use Rattle.turn_lock.specs.History.{GoesOnFrom, own}
 use Rattle.turn_lock.specs.Seats.{SeatView}
+use Rattle.season_days.specs.declared.declaration.Declaration.{Declaration}
 use Rattle.scr_reader.specs.declared.line.Item.{Item}
 use Rattle.holding_book.specs.declared.answer.Answer.{Answer}
 use Rattle.holding_book.specs.declared.answer.Entry.{Entry}
-use Rattle.holding_book.specs.Books.{SlotBook}
+use Rattle.holding_book.specs.Books.{SlotBook, IsBook}
+use Rattle.holding_book.specs.Asks.{reply}
 use Rattle.holding_book.specs.Histories.{IsLegal}
 use Rattle.slot_ledger.specs.Starts.{entry_caller, new_entry}
 use Rattle.slot_ledger.specs.declared.fault.LedgerFault.{LedgerFault}
@@ -16,6 +19,13 @@ use Rattle.slot_ledger.specs.declared.fault.LedgerFault.TheVariants.{Full, Memor
 abbrev pub IsFullAt : ℕ → List Entry → LedgerFault → Type 0
 IsFullAt most history (Full count) = (count ≡ length history) × (length history ≡ most)
 IsFullAt most history Memory = length history < most
+
+-- the answer that is due to the ask on a book of this declaration, which keeps what each book keeps
+pub record IsDue (d : Declaration) (ask : Item) (answer : Answer) : Type 0 where
+  pub on : SlotBook
+  pub is_book : IsBook on
+  pub declared : on.declaration ≡ d
+  pub reply_is : answer ≡ reply on ask
 
 module _ {O : Type 0} where
   -- What the pass had seen, then entries of other callers, then the ask with its answer. The own

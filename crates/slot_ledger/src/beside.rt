@@ -1,10 +1,11 @@
 //! What may be kept beside a history, in the same turn.
-ghost use Rattle.std.specs.Prelude.{◌≡◌, ◌≤◌, ◌<◌, ◌+◌, ◌++◌, ◌∷◌, [], List, ℕ, length, IfErr, IfNone, IfSome, OnOk};
+ghost use Rattle.std.specs.Prelude.{◌≡◌, ◌≤◌, ◌<◌, ◌+◌, ◌++◌, ◌∷◌, [], List, ℕ, length};
+ghost use Rattle.std.specs.Prelude.{IfErr, IfNone, IfSome, OnOk};
 ghost use Rattle.holding_book.specs.declared.answer.Answer.{Answer as AnswerValue};
 ghost use Rattle.holding_book.specs.declared.answer.Entry.{Entry as EntryValue};
 ghost use Rattle.slot_ledger.specs.Starts.{new_entry};
 ghost use Rattle.slot_ledger.specs.Beside.{ReadsParts, ReadsEntries, ReadsOwn, TellsNext};
-ghost use Rattle.slot_ledger.specs.Beside.{MayMark, IsKeepFault};
+ghost use Rattle.slot_ledger.specs.Beside.{MayMark, IsKeepFault, IsUnbroken};
 
 use crate::fault::EnterFault;
 use scr_reader::Item;
@@ -15,6 +16,7 @@ use std::alloc::Global;
 /// The turn has one list: the entries of the history, and behind them a mark where what is kept has
 /// failed. How that list is read as the history is for the type to say.
 pub trait Beside: Drop {
+    ghost use Rattle.scr_reader.specs.declared.line.Item.{Item as ItemValue};
     ghost use Rattle.holding_book.specs.declared.answer.Entry.{Entry as EntryValue};
 
     /// How it was when the ledger began. Proofs alone have values of it.
@@ -27,6 +29,9 @@ pub trait Beside: Drop {
 
     /// How many entries were found when the ledger began.
     ghost found: { Self.Start → ℕ };
+
+    /// It keeps such an ask of a caller of this number.
+    ghost takes: { Self.Start → ℕ → ItemValue → Type 0 };
 
     /// The turn's list, by the history.
     ghost told: { Self → List EntryValue → List Self.Told };
@@ -67,12 +72,17 @@ pub trait Beside: Drop {
     /// The count of faults with which it has failed. Until then each entry is told behind the list.
     fn failed(&self) -> Option<u64>
         ensures open { IfNone result (TellsNext done (told self.now) (told self.now)) }
+        ensures unbroken { IfNone result ((history : List EntryValue)
+            → IsUnbroken broken (told self.now history)) }
         ensures broken { IfSome result (λ faults. (history : List EntryValue)
             → broken (told self.now history) faults) };
 
     /// Keeps the ask of a caller, before it is entered. Once it has failed it marks the list.
     fn keep(&mut self, alloc: Global, caller: u32, ask: &Item) -> Result<(), EnterFault>
+        requires takes { takes (start self.old) caller ask.now }
         requires open { TellsNext done (told self.old) (told self.old) }
+        requires unbroken { (history : List EntryValue)
+            → IsUnbroken broken (told self.old history) }
         requires agrees { (history : List EntryValue) × agrees self.old history
             × (found (start self.old) + length history < 100000) }
         ensures start { start self.new ≡ start self.old }

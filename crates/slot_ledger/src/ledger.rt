@@ -5,7 +5,7 @@ ghost use Rattle.holding_book.specs.Asks.{CanAsk};
 ghost use Rattle.holding_book.specs.Books.{IsBook};
 ghost use Rattle.holding_book.specs.Histories.{replay, IsLegal};
 ghost use Rattle.slot_ledger.specs.Starts.{first_book, entry_caller};
-ghost use Rattle.slot_ledger.specs.Passes.{HasEntered, HasSeenMore, IsStillPass, IsFullAt};
+ghost use Rattle.slot_ledger.specs.Passes.{HasEntered, HasSeenMore, IsStillPass, IsFullAt, IsDue};
 
 use crate::fault::{EnterFault, LedgerFault};
 use crate::nothing::Nothing;
@@ -61,8 +61,8 @@ impl Ledger {
     /// Answers one ask of the pass's caller on the book as it is in its turn, and enters it. It may
     /// wait for its turn.
     ///
-    /// The new history is what the pass had seen, then entries of other callers, then this one. It is
-    /// legal from the book at the start. After a fault nothing was entered.
+    /// The new history is what the pass had seen, then entries of other callers, then this one. It
+    /// is legal from the book at the start. After a fault nothing was entered.
     pub fn amend<R: Wait>(
         &self,
         rt: &R,
@@ -76,6 +76,7 @@ impl Ledger {
         ensures pass { IsStillPass (first_book self.now.origin.start) self.now.origin.start.most
             pass.old pass.new }
         ensures entered { IfOk result (λ answer. HasEntered ask.now answer pass.old pass.new) }
+        ensures due { IfOk result (IsDue self.now.origin.start.declaration ask.now) }
         ensures others { IfErr result (λ _. HasSeenMore pass.old pass.new) }
         ensures fault { IfErr result (IsFullAt self.now.origin.start.most pass.new.seen) }
     {
@@ -87,10 +88,17 @@ impl Ledger {
         }
     }
 
+    /// The same ledger, as one that keeps something beside its history.
+    pub fn shared(&self) -> &SharedLedger<Nothing>
+        ensures { result.now ≡ self.now }
+    {
+        &self.shared
+    }
+
     /// Ends the ledger. The passes are all that were made with it, in any order.
     ///
-    /// The history is legal from the book at the start, and the book is its replay, which fits. What
-    /// each pass has seen begins the history, and its own calls are the entries of its number.
+    /// The history is legal from the book at the start, and the book is its replay, which fits.
+    /// What each pass has seen begins the history, and its own calls are the entries of its number.
     pub fn close(self, passes: Vec<Pass>) -> (Book, Vec<Entry>)
         requires all { length passes.items ≡ self.callers }
         requires rest { All (IsAtRest self) passes.items }
@@ -98,6 +106,8 @@ impl Ledger {
         ensures fits { IsBook result.0.book }
         ensures legal { IsLegal (first_book self.origin.start) result.1.items }
         ensures few { length result.1.items ≤ self.origin.start.most }
+        ensures asked { All (λ entry. CanAsk self.origin.start.declaration entry.ask)
+            result.1.items }
         ensures seen { All (HasSeen entry_caller result.1.items) passes.items }
         ensures callers { All (λ entry. IsNumber passes.items entry.caller) result.1.items }
     {

@@ -22,6 +22,8 @@ impl Beside for Nothing {
 
     ghost found = { λ _. 0 };
 
+    ghost takes = { λ _ _ _. Unit {0} };
+
     ghost told = { λ _ history. history };
 
     ghost done = { λ entry. entry };

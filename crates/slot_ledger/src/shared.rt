@@ -1,13 +1,16 @@
 //! What lies behind the turn.
-ghost use Rattle.std.specs.Prelude.{◌≡◌, ◌+◌, ◌<◌, ◌≤◌, ◌^◌, ◌++◌, ◌∷◌, [], length, IfOk, IfErr, OnOk};
+ghost use Rattle.std.specs.Prelude.{◌≡◌, ◌+◌, ◌<◌, ◌≤◌, ◌^◌, ◌++◌, ◌∷◌, [], List, length, All};
+ghost use Rattle.std.specs.Prelude.{IfOk, IfErr, OnOk};
 ghost use Rattle.std.specs.Option.{ForSome};
 ghost use Rattle.holding_book.specs.Asks.{CanAsk};
 ghost use Rattle.holding_book.specs.Books.{IsBook};
 ghost use Rattle.holding_book.specs.Histories.{replay, IsLegal};
+ghost use Rattle.holding_book.specs.declared.answer.Entry.{Entry as EntryValue};
 ghost use Rattle.holding_book.specs.declared.book.TheConstants.{MOST_NEW_FLIGHTS};
 ghost use Rattle.slot_ledger.specs.Starts.{first_book, new_entry};
-ghost use Rattle.slot_ledger.specs.Beside.{MayMark, RefusedAt, TellsNext};
+ghost use Rattle.slot_ledger.specs.Beside.{MayMark, RefusedAt, TellsNext, IsUnbroken};
 ghost use Rattle.slot_ledger.specs.Beside.{ReadsParts, ReadsEntries, ReadsOwn};
+ghost use Rattle.slot_ledger.specs.Passes.{IsDue};
 ghost use Rattle.slot_ledger.specs.Shared.{IsHintFor, IsFoundOn};
 
 use crate::beside::Beside;
@@ -132,6 +135,8 @@ impl<B: Beside> Shared<B> {
         ensures room { OnOk result (length self.now.history < self.now.start.most) }
         ensures next { OnOk result (TellsNext B.done (B.told self.now.beside)
             (B.told self.now.beside)) }
+        ensures unbroken { OnOk result ((history : List EntryValue)
+            → IsUnbroken B.broken (B.told self.now.beside history)) }
         ensures fault { IfErr result (RefusedAt B.read B.broken (B.found (B.start self.now.beside))
             self.now.start.most (B.told self.now.beside self.now.history)) }
     {
@@ -157,6 +162,8 @@ impl<B: Beside> Shared<B> {
             ≡ self.now.start.declaration) }
         ensures length { IfOk result (λ copy. copy.1 ≡ length self.now.history) }
         ensures room { OnOk result (length self.now.history < self.now.start.most) }
+        ensures unbroken { OnOk result (IsUnbroken B.broken
+            (B.told self.now.beside self.now.history)) }
         ensures fault { IfErr result (RefusedAt B.read B.broken (B.found (B.start self.now.beside))
             self.now.start.most (B.told self.now.beside self.now.history)) }
         ensures legal { IsLegal (first_book self.now.start) self.now.history }
@@ -176,15 +183,16 @@ impl<B: Beside> Shared<B> {
         ensures agrees { B.agrees self.beside self.history }
         ensures legal { IsLegal (first_book self.start) self.history }
         ensures few { length self.history ≤ self.start.most }
+        ensures asked { All (λ entry. CanAsk self.start.declaration entry.ask) self.history }
         ensures fits { IsBook result.0.book }
     {
         let _ = self.book.declaration();
         (self.book, self.history, self.beside)
     }
 
-    /// Answers an ask of a caller and enters it. What was found on a copy is taken where the history
-    /// has not grown since. All memory is taken, and the ask is kept, before the book changes; after
-    /// a fault the history is as before.
+    /// Answers an ask of a caller and enters it. What was found on a copy is taken where the
+    /// history has not grown since. All memory is taken, and the ask is kept, before the book
+    /// changes; after a fault the history is as before.
     pub(crate) fn enter(
         &mut self,
         alloc: Global,
@@ -193,12 +201,14 @@ impl<B: Beside> Shared<B> {
         found: Option<Found>,
     ) -> Result<Answer, EnterFault>
         requires ask { CanAsk self.old.start.declaration ask.now }
+        requires takes { B.takes (B.start self.old.beside) caller ask.now }
         requires found { ForSome found (λ f.
             IsFoundOn ask.now f (first_book self.old.start) self.old.history) }
         ensures start { self.new.start ≡ self.old.start }
         ensures beside { B.start self.new.beside ≡ B.start self.old.beside }
         ensures entered { IfOk result (λ answer. self.new.history
             ≡ self.old.history ++ new_entry caller ask.now answer ∷ []) }
+        ensures due { IfOk result (IsDue self.old.start.declaration ask.now) }
         ensures told { IfOk result (λ answer. B.told self.new.beside self.new.history
             ≡ B.told self.old.beside self.old.history
             ++ B.done (new_entry caller ask.now answer) ∷ []) }
@@ -213,6 +223,7 @@ impl<B: Beside> Shared<B> {
         self.beside.laws();
         next_books();
         one_more();
+        let _ = self.book.declaration();
         let length = self.open()?;
         let room = make_room(&mut self.book, alloc, ask, found, length)?;
         let answer = room.answer().copy(alloc)?;

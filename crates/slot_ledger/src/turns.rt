@@ -1,13 +1,14 @@
 //! A shared history, amended in turn.
-ghost use Rattle.std.specs.Prelude.{◌≡◌, ◌≤◌, ◌<◌, ◌+◌, ◌^◌, [], All, length, IfOk, IfErr, OnOk};
+ghost use Rattle.std.specs.Prelude.{◌≡◌, ◌≤◌, ◌<◌, ◌+◌, ◌^◌, [], All, Any, length};
+ghost use Rattle.std.specs.Prelude.{IfOk, IfErr, OnOk};
 ghost use Rattle.std.specs.Option.{ForSome};
 ghost use Rattle.turn_lock.specs.Seats.{new_seats, IsAtRest, HasSeen, IsNumber};
 ghost use Rattle.holding_book.specs.Asks.{CanAsk};
 ghost use Rattle.holding_book.specs.Books.{IsBook};
 ghost use Rattle.holding_book.specs.Histories.{replay, IsLegal};
 ghost use Rattle.slot_ledger.specs.Starts.{first_book, entry_caller};
-ghost use Rattle.slot_ledger.specs.Passes.{HasEntered, HasSeenMore, IsStillPass, read_pass};
-ghost use Rattle.slot_ledger.specs.Beside.{RefusedAt};
+ghost use Rattle.slot_ledger.specs.Passes.{HasEntered, HasSeenMore, IsStillPass, IsDue, read_pass};
+ghost use Rattle.slot_ledger.specs.Beside.{RefusedAt, IsUnbroken};
 ghost use Rattle.slot_ledger.specs.Shared.{IsFoundOnSeen};
 
 use crate::beside::Beside;
@@ -81,11 +82,13 @@ impl<B: Beside> SharedLedger<B> {
     ) -> Result<Answer, EnterFault>
         requires rest { IsAtRest self.now pass.old }
         requires ask { CanAsk self.now.origin.start.declaration ask.now }
+        requires takes { B.takes self.now.origin.beside pass.old.number ask.now }
         ensures rest { IsAtRest self.now pass.new }
         ensures pass { IsStillPass (first_book self.now.origin.start) self.now.origin.start.most
             (read_pass B.read pass.old) (read_pass B.read pass.new) }
         ensures entered { IfOk result (λ answer. HasEntered ask.now answer
             (read_pass B.read pass.old) (read_pass B.read pass.new)) }
+        ensures due { IfOk result (IsDue self.now.origin.start.declaration ask.now) }
         ensures others { IfErr result (λ _. HasSeenMore (read_pass B.read pass.old)
             (read_pass B.read pass.new)) }
         ensures fault { IfErr result (RefusedAt B.read B.broken (B.found self.now.origin.beside)
@@ -144,6 +147,7 @@ impl<B: Beside> SharedLedger<B> {
             ≡ self.now.origin.start.declaration) }
         ensures length { IfOk result (λ copy. copy.1 ≡ length (B.read pass.new.seen)) }
         ensures room { OnOk result (length (B.read pass.new.seen) < self.now.origin.start.most) }
+        ensures unbroken { OnOk result (IsUnbroken B.broken pass.new.seen) }
         ensures fault { IfErr result (RefusedAt B.read B.broken (B.found self.now.origin.beside)
             self.now.origin.start.most pass.new.seen) }
     {
@@ -165,6 +169,7 @@ impl<B: Beside> SharedLedger<B> {
     ) -> Result<Answer, EnterFault>
         requires rest { IsAtRest self.now pass.old }
         requires ask { CanAsk self.now.origin.start.declaration ask.now }
+        requires takes { B.takes self.now.origin.beside pass.old.number ask.now }
         requires found { ForSome found (λ f. IsFoundOnSeen ask.now f
             (first_book self.now.origin.start) (B.read pass.old.seen)) }
         ensures rest { IsAtRest self.now pass.new }
@@ -172,6 +177,7 @@ impl<B: Beside> SharedLedger<B> {
             (read_pass B.read pass.old) (read_pass B.read pass.new) }
         ensures entered { IfOk result (λ answer. HasEntered ask.now answer
             (read_pass B.read pass.old) (read_pass B.read pass.new)) }
+        ensures due { IfOk result (IsDue self.now.origin.start.declaration ask.now) }
         ensures others { IfErr result (λ _. HasSeenMore (read_pass B.read pass.old)
             (read_pass B.read pass.new)) }
         ensures fault { IfErr result (RefusedAt B.read B.broken (B.found self.now.origin.beside)
@@ -197,12 +203,15 @@ impl<B: Beside> SharedLedger<B> {
         ensures fits { IsBook result.0.book }
         ensures legal { IsLegal (first_book self.origin.start) result.1.items }
         ensures few { length result.1.items ≤ self.origin.start.most }
+        ensures asked { All (λ entry. CanAsk self.origin.start.declaration entry.ask)
+            result.1.items }
         ensures seen { All (λ pass. HasSeen entry_caller result.1.items (read_pass B.read pass))
             passes.items }
         ensures callers { All (λ entry. IsNumber passes.items entry.caller) result.1.items }
         ensures start { B.start result.2 ≡ self.origin.beside }
         ensures agrees { B.agrees result.2 result.1.items }
         ensures told { All (HasSeen B.number (B.told result.2 result.1.items)) passes.items }
+        ensures whole { Any (λ pass. pass.seen ≡ B.told result.2 result.1.items) passes.items }
     {
         let shared = self.turn.close(passes);
         shared.laws();

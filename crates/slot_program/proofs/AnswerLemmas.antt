@@ -1,9 +1,9 @@
 -- How a command ends, from how its job went on or stopped.
-use Rattle.std.proofs.Common.{◌≡◌, ℕ, List, [], ◌∷◌, ◌++◌, map, Option, Some, None, refl, sym, ap, subst, arith, inl, inr, codes}
+use Rattle.std.proofs.Common.{◌≡◌, ℕ, List, [], map, Option, Some, None, refl, sym, ap, subst, inl, inr}
 use Rattle.std.specs.Prelude.{All, Contains, IfSome}
 use Rattle.std.proofs.lemmas.Option.{none-some, same_Some}
 use Rattle.std.proofs.lemmas.List.{append-nil}
-use Rattle.std.proofs.lemmas.List.Elements.{All-nil, All-cons, All-append, All-map}
+use Rattle.std.proofs.lemmas.List.Elements.{All-nil, All-map}
 use Rattle.desk_outside.specs.Cause.{Rose}
 use Rattle.desk_outside.specs.Files.{Files}
 use Rattle.desk_outside.specs.Passages.{Passage}
@@ -12,9 +12,9 @@ use Rattle.slot_program.specs.Reports.{Report, Refusal, refused, unread, unwritt
 use Rattle.slot_program.specs.Judgements.{NamedBytes}
 use Rattle.slot_program.specs.Steps.{Step, names_read}
 use Rattle.slot_program.specs.Writing.{read_of}
-use Rattle.slot_program.specs.Jobs.{name_at, steps_of, names_written, finishing_of}
+use Rattle.slot_program.specs.Jobs.{steps_of, names_written, finishing_of}
 use Rattle.slot_program.specs.Desk.{World, JobEnds, LogGrew, IsOfFiles, OnlyOfJob}
-use Rattle.slot_program.specs.Leads.{ToldLead, Leads, ToldRefused, RefusedLead, UnreadLead}
+use Rattle.slot_program.specs.Leads.{ToldLead, ToldRefused, RefusedLead, UnreadLead}
 use Rattle.slot_program.specs.Stops.{report_of, StopLeads}
 use Rattle.slot_program.specs.Ends.{IsDone, IsCutShort, JobStops}
 use Rattle.slot_program.specs.Answers.{ToldExact, IsAnswer}

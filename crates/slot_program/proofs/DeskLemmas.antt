@@ -12,12 +12,12 @@ use Rattle.slot_program.specs.Reports.{Report, Refusal, no_command, refused, unr
 use Rattle.slot_program.specs.Judgements.{NamedBytes}
 use Rattle.slot_program.specs.Steps.{Step, reads, judges, names_read, PassFrom, AllPass}
 use Rattle.slot_program.specs.Writing.{read_of, written_of}
-use Rattle.slot_program.specs.Jobs.{AreFilesOf, name_at, check_steps, steps_of, names_written, searched_statuses, finishing_of, Works, MarksAreTrue}
+use Rattle.slot_program.specs.Jobs.{AreFilesOf, name_at, check_steps, steps_of, names_written, searched_statuses, finishing_of, Works, HeadlineHolds}
 use Rattle.slot_program.specs.Desk.{World, IsFinished, JobEnds, Ends, IsStatus}
 use Rattle.slot_program.specs.Answers.{ToldExact, IsExact}
 use Rattle.slot_program.proofs.EndLemmas.{works_finishing}
 use Rattle.command_words.specs.declared.job.Job.{Job}
-use Rattle.command_words.specs.declared.job.Job.TheVariants.{Allocate, Check, Make, Trial}
+use Rattle.command_words.specs.declared.job.Job.TheVariants.{Allocate, Check, Amend, Make, Trial}
 
 -- ---- statuses of work that is done
 
@@ -34,6 +34,7 @@ among_zero n (suc k, lt, is) = absurd (omega (arith, lt))
 pub finishing_searched : (job : Job) (n : ℕ) → Contains (finishing_of job) n → Contains searched_statuses n
 finishing_searched (Allocate names nodes workers) n one = one
 finishing_searched (Check names) n one = among_zero n one
+finishing_searched (Amend names) n one = among_zero n one
 finishing_searched (Make number units names) n one = among_zero n one
 finishing_searched (Trial number units) n one = one
 
@@ -181,6 +182,12 @@ works_named (Check names) (capacity ∷ []) writes status text work = absurd wor
 works_named (Check names) (capacity ∷ requests ∷ []) writes status text work = absurd work
 works_named (Check names) (capacity ∷ requests ∷ certificate ∷ []) writes status text work = ap (λ (l : List NamedBytes). named l) work.1
 works_named (Check names) (capacity ∷ requests ∷ certificate ∷ more ∷ rest) writes status text work = absurd work
+works_named (Amend names) [] writes status text work = absurd work
+works_named (Amend names) (capacity ∷ []) writes status text work = absurd work
+works_named (Amend names) (capacity ∷ requests ∷ []) writes status text work = absurd work
+works_named (Amend names) (capacity ∷ requests ∷ certificate ∷ []) writes status text work = absurd work
+works_named (Amend names) (capacity ∷ requests ∷ certificate ∷ asks ∷ []) writes status text work = ap (λ (l : List NamedBytes). named l) work.written
+works_named (Amend names) (capacity ∷ requests ∷ certificate ∷ asks ∷ more ∷ rest) writes status text work = absurd work
 works_named (Make number units names) [] writes status text work = ap (λ (l : List NamedBytes). named l) work.written
 works_named (Make number units names) (file ∷ rest) writes status text work = absurd work
 works_named (Trial number units) [] writes status text work = ap (λ (l : List NamedBytes). named l) work.written
@@ -193,20 +200,20 @@ files_of job files inputs writes status text pass work = record {
 }
 
 module _ (marks : (s : SubmissionView) (c : Certificate) → IsValid s c → MarksHold s c) where
-  check_marks : (names : List Word) (files : Option Files) (done writes : List NamedBytes) (text : List ℕ) → AllPass files (check_steps names) done → writes ≡ [] → MarksAreTrue (Check names) done writes text
+  check_marks : (names : List Word) (files : Option Files) (done writes : List NamedBytes) (text : List ℕ) → AllPass files (check_steps names) done → writes ≡ [] → HeadlineHolds (Check names) done writes text
   check_marks names files done writes text (one, handed1, (capacity, (two, handed2, (season, (three, handed3, (spelled, ((s, c, made, spells, valid), all))))))) none =
       let a : NamedBytes = record { name = name_at names 0; bytes = one } in
       let b : NamedBytes = record { name = name_at names 1; bytes = two } in
       let d : NamedBytes = record { name = name_at names 2; bytes = three } in
-      subst (λ (l : List NamedBytes). MarksAreTrue (Check names) l writes text) (sym all)
-      (subst (λ (l : List NamedBytes). MarksAreTrue (Check names) (a ∷ b ∷ d ∷ []) l text) (sym none) (s, c, spells, record { made = made; valid = valid; marks = marks s c valid }))
+      subst (λ (l : List NamedBytes). HeadlineHolds (Check names) l writes text) (sym all)
+      (subst (λ (l : List NamedBytes). HeadlineHolds (Check names) (a ∷ b ∷ d ∷ []) l text) (sym none) (s, c, spells, record { made = made; valid = valid; marks = marks s c valid }))
 
-  work_marks : (job : Job) (files : Option Files) (done writes : List NamedBytes) (status : ℕ) (text : List ℕ) → AllPass files (steps_of job) done → Works job done writes status text → MarksAreTrue job done writes text
+  work_marks : (job : Job) (files : Option Files) (done writes : List NamedBytes) (status : ℕ) (text : List ℕ) → AllPass files (steps_of job) done → Works job done writes status text → HeadlineHolds job done writes text
   work_marks (Allocate names nodes workers) files [] writes status text pass work = absurd work
   work_marks (Allocate names nodes workers) files (capacity ∷ []) writes status text pass work = absurd work
   work_marks (Allocate names nodes workers) files (capacity ∷ requests ∷ []) writes status text pass work =
       let out = work.output in
-      subst (λ (l : List NamedBytes). MarksAreTrue (Allocate names nodes workers) (capacity ∷ requests ∷ []) l text) (sym work.written)
+      subst (λ (l : List NamedBytes). HeadlineHolds (Allocate names nodes workers) (capacity ∷ requests ∷ []) l text) (sym work.written)
       (work.season, out.proved, out.spelled, out.printed, record { made = work.made; valid = out.run.valid; marks = marks work.season out.proved out.run.valid })
   work_marks (Allocate names nodes workers) files (capacity ∷ requests ∷ more ∷ rest) writes status text pass work = absurd work
   work_marks (Check names) files [] writes status text pass work = absurd work
@@ -214,14 +221,22 @@ module _ (marks : (s : SubmissionView) (c : Certificate) → IsValid s c → Mar
   work_marks (Check names) files (capacity ∷ requests ∷ []) writes status text pass work = absurd work
   work_marks (Check names) files (capacity ∷ requests ∷ certificate ∷ []) writes status text pass work = check_marks names files (capacity ∷ requests ∷ certificate ∷ []) writes text pass work.1
   work_marks (Check names) files (capacity ∷ requests ∷ certificate ∷ more ∷ rest) writes status text pass work = absurd work
+  work_marks (Amend names) files [] writes status text pass work = absurd work
+  work_marks (Amend names) files (capacity ∷ []) writes status text pass work = absurd work
+  work_marks (Amend names) files (capacity ∷ requests ∷ []) writes status text pass work = absurd work
+  work_marks (Amend names) files (capacity ∷ requests ∷ certificate ∷ []) writes status text pass work = absurd work
+  work_marks (Amend names) files (capacity ∷ requests ∷ certificate ∷ asks ∷ []) writes status text pass work =
+      subst (λ (l : List NamedBytes). HeadlineHolds (Amend names) (capacity ∷ requests ∷ certificate ∷ asks ∷ []) l text) (sym work.written)
+      (work.season, work.proved, work.spelled, record { made = work.made; valid = work.valid; marks = marks work.season work.proved work.valid }, work.output)
+  work_marks (Amend names) files (capacity ∷ requests ∷ certificate ∷ asks ∷ more ∷ rest) writes status text pass work = absurd work
   work_marks (Make number units names) files done writes status text pass work = tt
   work_marks (Trial number units) files [] writes status text pass work =
-      subst (λ (l : List NamedBytes). MarksAreTrue (Trial number units) [] l text) (sym work.written)
+      subst (λ (l : List NamedBytes). HeadlineHolds (Trial number units) [] l text) (sym work.written)
       (work.season, work.proved, work.printed, record { made = work.made; valid = work.valid; marks = marks work.season work.proved work.valid })
   work_marks (Trial number units) files (file ∷ rest) writes status text pass work = absurd work
 
   pub marks_true : (job : Job) (w : World) (status : ℕ) (text : List ℕ) (v : World) → IsFinished job w status text v
-      → (done writes : List NamedBytes) × (v.log ≡ w.log ++ (map read_of done ++ map written_of writes)) × AreFilesOf job done writes × MarksAreTrue job done writes text
+      → (done writes : List NamedBytes) × (v.log ≡ w.log ++ (map read_of done ++ map written_of writes)) × AreFilesOf job done writes × HeadlineHolds job done writes text
   marks_true job w status text v done = (
     done.inputs,
     done.writes,

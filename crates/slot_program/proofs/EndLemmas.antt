@@ -1,6 +1,6 @@
 -- The work of a job is done, or its writes are cut short.
 use Rattle.std.proofs.Common.{◌≡◌, ℕ, ◌+◌, List, [], ◌∷◌, ◌++◌, map, Option, Some, None, refl, sym, ap, ◌∙◌, subst, append_assoc, arith, inl, inr}
-use Rattle.std.specs.Prelude.{All, Contains, IfSome}
+use Rattle.std.specs.Prelude.{All, Contains}
 use Rattle.std.proofs.lemmas.List.{append-nil}
 use Rattle.std.proofs.lemmas.List.Elements.{All-nil, All-cons, All-append, All-map}
 use Rattle.desk_outside.specs.Cause.{Rose}
@@ -10,14 +10,14 @@ use Rattle.command_words.specs.Words.{Word}
 use Rattle.slot_program.specs.Judgements.{NamedBytes}
 use Rattle.slot_program.specs.Steps.{names_read}
 use Rattle.slot_program.specs.Writing.{read_of, AreWritten}
-use Rattle.slot_program.specs.Jobs.{name_at, two_files, steps_of, names_written, finishing_of, Works}
+use Rattle.slot_program.specs.Jobs.{name_at, one_file, two_files, steps_of, names_written, finishing_of, Works}
 use Rattle.slot_program.specs.Desk.{World, LogGrew, OnlyOfJob, IsOfFiles}
 use Rattle.slot_program.specs.Leads.{Leads}
 use Rattle.slot_program.specs.Ends.{IsDone, IsCutShort, JobStops}
 use Rattle.slot_program.specs.Stops.{StopLeads}
 use Rattle.slot_program.proofs.StageLemmas.{marks_among}
 use Rattle.command_words.specs.declared.job.Job.{Job}
-use Rattle.command_words.specs.declared.job.Job.TheVariants.{Allocate, Check, Make, Trial}
+use Rattle.command_words.specs.declared.job.Job.TheVariants.{Allocate, Check, Amend, Make, Trial}
 use Rattle.slot_program.specs.declared.stop.Stop.{Stop}
 use Rattle.slot_program.specs.declared.stop.Stop.TheVariants as stops
 
@@ -37,6 +37,12 @@ works_finishing (Check names) (capacity ∷ []) writes status text work = absurd
 works_finishing (Check names) (capacity ∷ requests ∷ []) writes status text work = absurd work
 works_finishing (Check names) (capacity ∷ requests ∷ certificate ∷ []) writes status text work = only_zero status work.0
 works_finishing (Check names) (capacity ∷ requests ∷ certificate ∷ more ∷ rest) writes status text work = absurd work
+works_finishing (Amend names) [] writes status text work = absurd work
+works_finishing (Amend names) (capacity ∷ []) writes status text work = absurd work
+works_finishing (Amend names) (capacity ∷ requests ∷ []) writes status text work = absurd work
+works_finishing (Amend names) (capacity ∷ requests ∷ certificate ∷ []) writes status text work = absurd work
+works_finishing (Amend names) (capacity ∷ requests ∷ certificate ∷ asks ∷ []) writes status text work = only_zero status work.status_is
+works_finishing (Amend names) (capacity ∷ requests ∷ certificate ∷ asks ∷ more ∷ rest) writes status text work = absurd work
 works_finishing (Make number units names) [] writes status text work = only_zero status work.status_is
 works_finishing (Make number units names) (file ∷ rest) writes status text work = absurd work
 works_finishing (Trial number units) [] writes status text work =
@@ -55,7 +61,10 @@ stop_job names job w v (stops.OverLimit limit number) lead = lead
 stop_job names job w v (stops.NotValid line reason) lead = lead
 stop_job names job w v stops.Memory lead = lead
 
--- ---- names of two files
+-- ---- names of files
+
+pub only_name : (name : Word) → Contains (name ∷ []) name
+only_name name = (0, omega arith, refl)
 
 pub first_of_two : (one two : Word) → Contains (one ∷ two ∷ []) one
 first_of_two one two = (0, omega arith, refl)
@@ -93,6 +102,64 @@ module _ (job : Job) (w v : World) (inputs : List NamedBytes) (lead : Leads w (s
     told = lead.told;
   }
 
+  log_on : (u : World) (passed : List Passage) → u.log ≡ v.log ++ passed → u.log ≡ w.log ++ (map read_of inputs ++ passed)
+  log_on u passed e = e ∙ (ap (λ (l : List Passage). l ++ passed) lead.log ∙ append_assoc w.log (map read_of inputs) passed)
+
+  rose_from : (u : World) → Rose v.faults u.faults → Rose w.faults u.faults
+  rose_from u rose = subst (λ (n : ℕ). Rose n u.faults) lead.faults rose
+
+  one_passed : (passage : Passage) → P passage → All P (passage ∷ [])
+  one_passed passage is = All-cons P passage [] is (All-nil P)
+
+  grew : (u : World) (passed : List Passage) → u.log ≡ v.log ++ passed → All P passed → LogGrew w.log (OnlyOfJob (Some job)) u.log
+  grew u passed e all = (map read_of inputs ++ passed, log_on u passed e, All-append P (map read_of inputs) passed reads_asked all)
+
+  -- one file is written
+  module _ (status : ℕ) (text : List ℕ) (names : List Word) (place : ℕ) (bytes : List ℕ) (named : names_written job ≡ name_at names place ∷ []) (work : Works job inputs (one_file names place bytes) status text) where
+    is_named : Contains (names_written job) (name_at names place)
+    is_named = subst (λ (l : List Word). Contains l (name_at names place)) (sym named) (only_name (name_at names place))
+
+    pub only_failed : (u : World) → WritesPart v.files (name_at names place) bytes u.files → Rose v.faults u.faults → u.log ≡ v.log ++ write_failed (name_at names place) bytes ∷ [] → IsCutShort job w (name_at names place) u
+    only_failed u part rose log =
+        let failed : Passage = write_failed (name_at names place) bytes in
+        record {
+          unwritten = record {
+            inputs = inputs;
+            writes = one_file names place bytes;
+            status = status;
+            text = text;
+            tried = failed ∷ [];
+            passed = lead.pass inputs refl;
+            work = work;
+            rose = rose_from u rose;
+            stops = inl (refl, subst (λ (o : Option Files). WritesPart o (name_at names place) bytes u.files) lead.files part, refl);
+            log = log_on u (failed ∷ []) log;
+          };
+          asked = grew u (failed ∷ []) log (one_passed failed is_named);
+        }
+
+    is_written : (before after : Option Files) (name : Word) → Writes before name bytes after → AreWritten before (record { name = name; bytes = bytes } ∷ []) after
+    is_written None after name x = tt
+    is_written (Some held) after name x = x
+
+    pub only_written : (u : World) → Writes v.files (name_at names place) bytes u.files → u.faults ≡ v.faults → u.log ≡ v.log ++ wrote (name_at names place) bytes ∷ [] → IsDone job w status text u
+    only_written u done quiet log =
+        let passed : Passage = wrote (name_at names place) bytes in
+        record {
+          finished = record {
+            inputs = inputs;
+            writes = one_file names place bytes;
+            passed = lead.pass inputs refl;
+            work = work;
+            calm = quiet ∙ lead.faults;
+            log = log_on u (passed ∷ []) log;
+            files = is_written w.files u.files (name_at names place) (subst (λ (o : Option Files). Writes o (name_at names place) bytes u.files) lead.files done);
+          };
+          finishing = works_finishing job inputs (one_file names place bytes) status text work;
+          asked = grew u (passed ∷ []) log (one_passed passed is_named);
+          told = lead.told;
+        }
+
   -- two files are written
   module _ (status : ℕ) (text : List ℕ) (names : List Word) (place : ℕ) (one two : List ℕ) (named : names_written job ≡ name_at names place ∷ name_at names (place + 1) ∷ []) (work : Works job inputs (two_files names place one two) status text) where
     abbrev first : Word
@@ -115,18 +182,6 @@ module _ (job : Job) (w v : World) (inputs : List NamedBytes) (lead : Leads w (s
 
     second_tried : P (write_failed second two)
     second_tried = kept second (second_of_two first second)
-
-    one_passed : (passage : Passage) → P passage → All P (passage ∷ [])
-    one_passed passage is = All-cons P passage [] is (All-nil P)
-
-    log_on : (u : World) (passed : List Passage) → u.log ≡ v.log ++ passed → u.log ≡ w.log ++ (map read_of inputs ++ passed)
-    log_on u passed e = e ∙ (ap (λ (l : List Passage). l ++ passed) lead.log ∙ append_assoc w.log (map read_of inputs) passed)
-
-    rose_from : (u : World) → Rose v.faults u.faults → Rose w.faults u.faults
-    rose_from u rose = subst (λ (n : ℕ). Rose n u.faults) lead.faults rose
-
-    grew : (u : World) (passed : List Passage) → u.log ≡ v.log ++ passed → All P passed → LogGrew w.log (OnlyOfJob (Some job)) u.log
-    grew u passed e all = (map read_of inputs ++ passed, log_on u passed e, All-append P (map read_of inputs) passed reads_asked all)
 
     pub first_failed : (u : World) → WritesPart v.files first one u.files → Rose v.faults u.faults → u.log ≡ v.log ++ write_failed first one ∷ [] → IsCutShort job w first u
     first_failed u part rose log = record {

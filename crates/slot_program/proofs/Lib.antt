@@ -6,3 +6,4 @@ mod EndLemmas
 mod AnswerLemmas
 mod DeskLemmas
 mod CheckLemmas
+mod AmendLemmas

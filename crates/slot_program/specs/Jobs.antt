@@ -8,16 +8,19 @@ use Rattle.wasg_stages.specs.Valid.{IsValid, MarksHold}
 use Rattle.season_run.specs.Runs.{IsRun, IsEnoughFor}
 use Rattle.scr_replies.specs.SeasonReplies.{replies_text}
 use Rattle.season_maker.specs.Texts.{generated_capacity, generated_requests}
+use Rattle.holding_book.specs.Starts.{start_book}
 use Rattle.desk_outside.specs.Files.{Files}
 use Rattle.command_words.specs.Words.{Word}
 use Rattle.slot_program.specs.StageLines.{mark_lines, marks_status, node_total}
 use Rattle.slot_program.specs.Judgements.{NamedBytes, IsSeasonOf, SpellsCert, capacity_form}
 use Rattle.slot_program.specs.Judgements.{requests_form, certificate_form, valid_certificate}
+use Rattle.slot_program.specs.Amendments.{AmendsLegally}
 use Rattle.slot_program.specs.Steps.{Step, reads, judges, names_read, Holds}
 use Rattle.slot_program.specs.declared.files.TheConstants.{LONGEST_FILE, LONGEST_CERT_FILE}
 use Rattle.slot_program.specs.declared.trial.TheConstants.{TRIAL_NODES}
 use Rattle.command_words.specs.declared.job.Job.{Job}
-use Rattle.command_words.specs.declared.job.Job.TheVariants.{Allocate, Check, Make, Trial}
+use Rattle.command_words.specs.declared.job.Job.TheVariants.{Allocate, Check, Amend}
+use Rattle.command_words.specs.declared.job.Job.TheVariants.{Make, Trial}
 
 -- the name of this number, counted from 0, in the order in which the command takes names
 abbrev pub name_at : List Word → ℕ → Word
@@ -43,10 +46,16 @@ allocate_steps names = season_steps names []
 abbrev pub check_steps : List Word → List Step
 check_steps names = season_steps names (certificate_steps names [])
 
+-- behind a certificate that is valid the asks are read; whatever they are, they are answered
+abbrev pub amend_steps : List Word → List Step
+amend_steps names =
+    season_steps names (certificate_steps names (reads (name_at names 3) LONGEST_FILE ∷ []))
+
 -- a generated season is not read
 abbrev pub steps_of : Job → List Step
 steps_of (Allocate names nodes workers) = allocate_steps names
 steps_of (Check names) = check_steps names
+steps_of (Amend names) = amend_steps names
 steps_of (Make number units names) = []
 steps_of (Trial number units) = []
 
@@ -55,6 +64,7 @@ steps_of (Trial number units) = []
 abbrev pub names_written : Job → List Word
 names_written (Allocate names nodes workers) = name_at names 2 ∷ name_at names 3 ∷ []
 names_written (Check names) = []
+names_written (Amend names) = name_at names 4 ∷ []
 names_written (Make number units names) = name_at names 0 ∷ name_at names 1 ∷ []
 names_written (Trial number units) = []
 
@@ -72,10 +82,15 @@ searched_statuses = 0 ∷ 8 ∷ 9 ∷ []
 abbrev pub finishing_of : Job → List ℕ
 finishing_of (Allocate names nodes workers) = searched_statuses
 finishing_of (Check names) = 0 ∷ []
+finishing_of (Amend names) = 0 ∷ []
 finishing_of (Make number units names) = 0 ∷ []
 finishing_of (Trial number units) = searched_statuses
 
 -- ---- the work
+
+-- one file, under the name of this number
+abbrev pub one_file : List Word → ℕ → List ℕ → List NamedBytes
+one_file names place bytes = record { name = name_at names place; bytes = bytes } ∷ []
 
 -- two files in the order in which they are written, the first under the name of this number
 abbrev pub two_files : List Word → ℕ → List ℕ → List ℕ → List NamedBytes
@@ -112,6 +127,20 @@ pub record IsAllocation (names : List Word) (nodes : ℕ) (capacity requests : L
   pub output : IsRunOutput season nodes certificate replies status text
   pub written : writes ≡ two_files names 2 certificate replies
 
+-- The certificate that was read is valid for the season, and the asks are answered one after the
+-- other, from the book with the slots that it gives.
+pub record IsAmendment (names : List Word) (capacity requests certificate asks : List ℕ)
+    (writes : List NamedBytes) (status : ℕ) (text : List ℕ) : Type 0 where
+  pub season : SubmissionView
+  pub proved : Certificate
+  pub answers : List ℕ
+  pub made : IsSeasonOf capacity requests season
+  pub spelled : SpellsCert certificate proved
+  pub valid : IsValid season proved
+  pub output : AmendsLegally (start_book season proved) asks answers text
+  pub written : writes ≡ one_file names 4 answers
+  pub status_is : status ≡ 0
+
 -- the capacity file of a generated season is written before its requests, and nothing is printed
 pub record IsMade (number units : ℕ) (names : List Word) (writes : List NamedBytes) (status : ℕ)
     (text : List ℕ) : Type 0 where
@@ -146,6 +175,8 @@ Works (Allocate names nodes workers) (capacity ∷ requests ∷ []) writes statu
     IsAllocation names nodes capacity.bytes requests.bytes writes status text
 Works (Check names) (capacity ∷ requests ∷ certificate ∷ []) writes status text =
     (status ≡ 0) × (writes ≡ []) × (text ≡ codes "YES\n")
+Works (Amend names) (capacity ∷ requests ∷ certificate ∷ asks ∷ []) writes status text =
+    IsAmendment names capacity.bytes requests.bytes certificate.bytes asks.bytes writes status text
 Works (Make number units names) [] writes status text =
     IsMade number units names writes status text
 Works (Trial number units) [] writes status text = IsTrial number units writes status text
@@ -179,19 +210,24 @@ pub record MarksAreProved (capacity requests : List ℕ) (s : SubmissionView) (c
   pub valid : IsValid s c
   pub marks : MarksHold s c
 
--- Of `allocate`: of the certificate that is written, whose stage lines are printed, for the season
--- that was read. Of `check`: of the certificate that was read. Of `trial`: of the one whose lines
--- are printed, for the generated season. `make` proves nothing.
-abbrev pub MarksAreTrue : Job → List NamedBytes → List NamedBytes → List ℕ → Type 0
-MarksAreTrue (Allocate names nodes workers) (capacity ∷ requests ∷ [])
+-- The marks are true. Of `allocate`: of the certificate that is written, whose stage lines are
+-- printed, for the season that was read. Of `check` and `amend`: of the certificate that was read.
+-- Of `trial`: of the one whose lines are printed, for the generated season. `make` proves nothing.
+-- And of `amend`: what is written are the answers of one legal history from the certificate's book.
+abbrev pub HeadlineHolds : Job → List NamedBytes → List NamedBytes → List ℕ → Type 0
+HeadlineHolds (Allocate names nodes workers) (capacity ∷ requests ∷ [])
     (certificate ∷ replies ∷ []) text =
     (s : SubmissionView) × (c : Certificate) × SpellsCert certificate.bytes c
     × (text ≡ mark_lines 1 c.stages) × MarksAreProved capacity.bytes requests.bytes s c
-MarksAreTrue (Check names) (capacity ∷ requests ∷ certificate ∷ []) [] text =
+HeadlineHolds (Check names) (capacity ∷ requests ∷ certificate ∷ []) [] text =
     (s : SubmissionView) × (c : Certificate) × SpellsCert certificate.bytes c
     × MarksAreProved capacity.bytes requests.bytes s c
-MarksAreTrue (Make number units names) inputs writes text = Unit {0}
-MarksAreTrue (Trial number units) [] [] text =
+HeadlineHolds (Amend names) (capacity ∷ requests ∷ certificate ∷ asks ∷ []) (answers ∷ []) text =
+    (s : SubmissionView) × (c : Certificate) × SpellsCert certificate.bytes c
+    × MarksAreProved capacity.bytes requests.bytes s c
+    × AmendsLegally (start_book s c) asks.bytes answers.bytes text
+HeadlineHolds (Make number units names) inputs writes text = Unit {0}
+HeadlineHolds (Trial number units) [] [] text =
     (s : SubmissionView) × (c : Certificate) × (text ≡ trial_text c)
     × MarksAreProved (generated_capacity units) (generated_requests number units) s c
-MarksAreTrue job inputs writes text = ⊥
+HeadlineHolds job inputs writes text = ⊥

@@ -3,6 +3,7 @@ pub mod Judgements
 pub mod Steps
 pub mod Writing
 pub mod StageLines
+pub mod Amendments
 pub mod Jobs
 pub mod Desk
 pub mod Leads

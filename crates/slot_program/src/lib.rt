@@ -3,6 +3,7 @@
 #![tactic(auto)]
 
 mod allocate;
+mod amend;
 mod check;
 mod files;
 mod finish;

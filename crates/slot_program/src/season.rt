@@ -15,6 +15,7 @@ ghost use Rattle.series_model.specs.declared.fault.ModelFault.TheVariants.{Memor
 ghost use Rattle.scr_reader.specs.Messages.{ReadsAll, HasScrFault};
 ghost use Rattle.scr_reader.specs.declared.fault.ScrFault.{ScrFault as ScrFaultValue};
 ghost use Rattle.scr_reader.specs.declared.fault.ScrFault.TheVariants.{Memory as no_message};
+ghost use Rattle.wasg_stages.specs.Valid.{IsValid};
 ghost use Rattle.command_words.specs.Words.{Word};
 ghost use Rattle.slot_program.specs.Judgements.{NamedBytes, IsSeasonOf, SpellsCert};
 ghost use Rattle.slot_program.specs.Judgements.{IsCapacityRefusal, IsMessageRefusal};
@@ -82,6 +83,7 @@ pub(crate) fn read_certificate<C: Cabinet>(
         (certificate : NamedBytes) × SpellsCert certificate.bytes c
         × Leads w all (capacity ∷ requests ∷ certificate ∷ []) steps
         (world_of C.files C.fault_count C.log cabinet.new)) }
+    ensures valid { IfOk result (IsValid submission.now) }
     ensures stop { IfErr result (λ stop. (w : World) (all : List Step) (steps : List Step)
         (capacity requests : NamedBytes) →
         IsSeasonOf capacity.bytes requests.bytes submission.now →
@@ -270,6 +272,7 @@ fn judge_validity(
         SpellsCert spelled.bytes certificate.now →
         ((other : CertificateValue) → SpellsCert spelled.bytes other → other ≡ certificate.now) →
         AcceptsAlone valid_certificate name (capacity ∷ requests ∷ spelled ∷ rest)) }
+    ensures valid { OnOk result (IsValid submission.now certificate.now) }
     ensures stop { IfErr result (λ stop. (names : List Word) (name : Word)
         (capacity requests spelled : NamedBytes) (rest : List NamedBytes) →
         IsSeasonOf capacity.bytes requests.bytes submission.now →

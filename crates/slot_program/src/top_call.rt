@@ -14,7 +14,7 @@ ghost use Rattle.slot_program.specs.Reports.{Report, Refusal, refused, status_of
 ghost use Rattle.slot_program.specs.Judgements.{NamedBytes};
 ghost use Rattle.slot_program.specs.Steps.{AllPass, FirstDue, form_steps};
 ghost use Rattle.slot_program.specs.Writing.{read_of, written_of};
-ghost use Rattle.slot_program.specs.Jobs.{AreFilesOf, name_at, steps_of, finishing_of, MarksAreTrue};
+ghost use Rattle.slot_program.specs.Jobs.{AreFilesOf, name_at, steps_of, finishing_of, HeadlineHolds};
 ghost use Rattle.slot_program.specs.Jobs.{searched_statuses};
 ghost use Rattle.slot_program.specs.Desk.{World, LogGrew, OnlyOfJob, world_of, Ends, IsFinished};
 ghost use Rattle.slot_program.specs.Desk.{names_changed, IsStatus};
@@ -22,10 +22,12 @@ ghost use Rattle.slot_program.specs.Answers.{IsAnswer};
 ghost use Rattle.command_words.specs.declared.job.Job.{Job as JobValue};
 ghost use Rattle.command_words.specs.declared.job.Job.TheVariants.{Allocate as AllocateJob};
 ghost use Rattle.command_words.specs.declared.job.Job.TheVariants.{Check as CheckJob};
+ghost use Rattle.command_words.specs.declared.job.Job.TheVariants.{Amend as AmendJob};
 ghost use Rattle.command_words.specs.declared.job.Job.TheVariants.{Make as MakeJob};
 ghost use Rattle.command_words.specs.declared.job.Job.TheVariants.{Trial as TrialJob};
 
 use crate::allocate::allocate;
+use crate::amend::amend;
 use crate::check::check;
 use crate::finish::finish;
 use crate::make::make;
@@ -42,8 +44,8 @@ use worker_gate::Gate;
 /// Does what the words of a command line ask, on the files of a cabinet, and says the result to a
 /// sink. Where stages are searched, each worker passes the gate before it visits a node.
 ///
-/// The answer is the status of the program: 0 where the work is done; 1 where the certificate is
-/// not valid; 2 where the words are no command's; 3 where a file is not in its form; 4 where a limit
+/// The answer is the status of the program: 0 where the work is done; 1 where the certificate that
+/// was read is not valid; 2 where the words are no command's; 3 where a file is not in its form; 4 where a limit
 /// is passed; 5 where the cabinet failed, or has no such file or one of more bytes than are read; 6
 /// where the sink failed; 7 for want of memory; and where the work is done but not each stage is
 /// settled with an allotment, 8 where a stage is INFEASIBLE, and else 9 where one is OPEN. The
@@ -67,14 +69,15 @@ pub fn desk<R: Threads + Sync, C: Cabinet, S: Sink, G: Gate>(
     ensures statuses { IsStatus result }
 
     // The headline: what the marks of a certificate that was written, found valid, or tried say
-    // of each stage is so. Exactly the files of the job, under their names, were read and written,
+    // of each stage is so; and amendments are answered by one legal history from the book of such a
+    // certificate, each by its own place, and the book fits after each. Exactly the files of the job, under their names, were read and written,
     // and exactly its text was put, also over a cabinet and a sink that tell nothing.
     ensures headline { (job : JobValue) → job_of (words_of words.now) ≡ Some job →
         Contains (finishing_of job) result →
         (inputs writes : List NamedBytes) × (text : List ℕ)
         × (C.log cabinet.new ≡ C.log cabinet.old ++ (map read_of inputs ++ map written_of writes))
         × (S.log out.new ≡ S.log out.old ++ put text ∷ []) × AreFilesOf job inputs writes
-        × MarksAreTrue job inputs writes text }
+        × HeadlineHolds job inputs writes text }
 
     // Done: each step passed, the work is that of the files that were read, exactly its files were
     // written, its text was put, and nothing failed.
@@ -180,6 +183,7 @@ fn carry_out<R: Threads + Sync, C: Cabinet, G: Gate>(
             },
         ) => carry_out_allocate(rt, alloc, &names, nodes, workers, cabinet, gate),
         Ok(Job::Check { names }) => carry_out_check(alloc, &names, cabinet),
+        Ok(Job::Amend { names }) => carry_out_amend(alloc, &names, cabinet),
         Ok(
             Job::Make {
                 number,
@@ -234,6 +238,24 @@ fn carry_out_check<C: Cabinet>(
         (C.log cabinet.new) }
 {
     let ended = check(alloc, names, cabinet);
+    finish(alloc, names, ended)
+}
+
+/// Answers amendments, and gives what is to be said.
+fn carry_out_amend<C: Cabinet>(
+    alloc: Global,
+    names: &NameList,
+    cabinet: &mut C,
+) -> Result<Answer, Memory>
+    ensures answer { IfOk result (λ a. IsAnswer (Some (AmendJob names.now))
+        (world_of C.files C.fault_count C.log cabinet.old) a.status (string_bytes a.text)
+        (world_of C.files C.fault_count C.log cabinet.new)) }
+    ensures others { ChangesOnly (C.files cabinet.old) (name_at names.now 4 ∷ [])
+        (C.files cabinet.new) }
+    ensures asked { LogGrew (C.log cabinet.old) (OnlyOfJob (Some (AmendJob names.now)))
+        (C.log cabinet.new) }
+{
+    let ended = amend(alloc, names, cabinet);
     finish(alloc, names, ended)
 }
 

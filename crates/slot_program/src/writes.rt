@@ -1,10 +1,11 @@
-//! The two files that a job writes, one after the other.
+//! The files that a job writes: one, or two one after the other.
 
 ghost use Rattle.std.specs.Prelude.{◌≡◌, ◌<◌, ◌+◌, ◌∷◌, [], ℕ, List, OnOk, IfErr};
 ghost use Rattle.desk_outside.specs.Files.{ChangesOnly};
 ghost use Rattle.command_words.specs.declared.job.Job.{Job as JobValue};
 ghost use Rattle.slot_program.specs.Judgements.{NamedBytes};
-ghost use Rattle.slot_program.specs.Jobs.{name_at, two_files, steps_of, names_written, Works};
+ghost use Rattle.slot_program.specs.Jobs.{name_at, one_file, two_files, steps_of};
+ghost use Rattle.slot_program.specs.Jobs.{names_written, Works};
 ghost use Rattle.slot_program.specs.Desk.{World, world_of};
 ghost use Rattle.slot_program.specs.Leads.{Leads};
 ghost use Rattle.slot_program.specs.Ends.{IsDone, JobStops};
@@ -14,6 +15,35 @@ use crate::stop::Stop;
 use command_words::NameList;
 use desk_outside::Cabinet;
 use desk_outside::laws::file_changes;
+
+/// Writes the file of this name, which ends the work of a job.
+pub(crate) fn write_one<C: Cabinet>(
+    names: &NameList,
+    place: usize,
+    bytes: &[u8],
+    cabinet: &mut C,
+) -> Result<(), Stop>
+    ensures done { OnOk result ((job : JobValue) (w : World) (inputs : List NamedBytes)
+        (status : ℕ) (text : List ℕ) →
+        names_written job ≡ name_at names.now place ∷ [] →
+        Leads w (steps_of job) inputs []
+        (world_of C.files C.fault_count C.log cabinet.old) →
+        Works job inputs (one_file names.now place bytes.now) status text →
+        IsDone job w status text (world_of C.files C.fault_count C.log cabinet.new)) }
+    ensures stop { IfErr result (λ stop. (job : JobValue) (w : World) (inputs : List NamedBytes)
+        (status : ℕ) (text : List ℕ) →
+        names_written job ≡ name_at names.now place ∷ [] →
+        Leads w (steps_of job) inputs []
+        (world_of C.files C.fault_count C.log cabinet.old) →
+        Works job inputs (one_file names.now place bytes.now) status text →
+        JobStops names.now job w stop (world_of C.files C.fault_count C.log cabinet.new)) }
+    ensures others { ChangesOnly (C.files cabinet.old) (name_at names.now place ∷ [])
+        (C.files cabinet.new) }
+{
+    file_changes();
+    write_file(names, place, bytes, cabinet)?;
+    Ok(())
+}
 
 /// Writes the file of this name, and then that of the next one, which ends the work of a job.
 pub(crate) fn write_two<C: Cabinet>(

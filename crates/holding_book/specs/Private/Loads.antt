@@ -1,8 +1,11 @@
 -- A declaration, and what each of its resources has left.
-use Rattle.std.specs.Prelude.{◌≡◌, ℕ, ◌+◌, ◌<◌, nat_le, nat_lt, Bool, true, ◌&&◌, if◌then◌else◌, List, length, slice_index, filter, Option, Some, None}
-use Rattle.std.specs.List.{list_all}
+use Rattle.std.specs.Prelude.{◌≡◌, ℕ, ◌+◌, ◌<◌, nat_le, nat_lt, Bool, true, false, ◌&&◌, ◌||◌, is_some, if◌then◌else◌, List, length, slice_index, filter, Option, Some, None}
+use Rattle.std.specs.List.{list_all, list_any}
 use Rattle.season_days.specs.Capacity.{Capacity, capacity_of, declared_resources, IsDeclaration}
 use Rattle.season_days.specs.declared.declaration.Declaration.{Declaration}
+use Rattle.season_days.specs.declared.declaration.Kind.{Kind}
+use Rattle.season_days.specs.declared.declaration.Kind.TheVariants.{Arr, Dep, Tot}
+use Rattle.season_days.specs.declared.declaration.Rule.{Rule}
 use Rattle.scr_reader.specs.declared.line.Line.{Line}
 use Rattle.capacity_windows.specs.Counts.{numbers_below}
 use Rattle.capacity_windows.specs.Windows.{window_load, window_limit}
@@ -29,6 +32,17 @@ pub record IsLoads (d : Declaration) (c : Capacity) (left : List ℕ) : Type 0 w
   pub keeps : IsDeclaration d
   pub declared : c ≡ capacity_of d
   pub count : length left ≡ declared_resources c
+
+-- ---- resources that an arrival and a departure may share
+
+abbrev pub is_tot : Kind → Bool
+is_tot Arr = false
+is_tot Dep = false
+is_tot Tot = true
+
+-- the night quota, or the windows of a capacity line for both kinds
+abbrev pub can_share : Capacity → Bool
+can_share c = is_some c.night || list_any (λ (rule : Rule). is_tot rule.kind) c.rules
 
 -- ---- a search by what is left
 

@@ -11,6 +11,11 @@ returns-in-Ok-Allocate-clause-asked g c =
     subst (λ (o : Option Job). LogGrew (g.C.Cabinet.log c.args.cabinet.now) (OnlyOfJob o) (g.C.Cabinet.log c.carry_out_allocate.new.cabinet)) (sym (c.in-Ok-Allocate.ensures.found ∙ ap Some c.in-Ok-Allocate.field-0-is))
     c.carry_out_allocate.ensures.asked
 
+pub returns-in-Ok-Amend-clause-asked : goal.returns-in-Ok-Amend-clause-asked
+returns-in-Ok-Amend-clause-asked g c =
+    subst (λ (o : Option Job). LogGrew (g.C.Cabinet.log c.args.cabinet.now) (OnlyOfJob o) (g.C.Cabinet.log c.carry_out_amend.new.cabinet)) (sym (c.in-Ok-Amend.ensures.found ∙ ap Some c.in-Ok-Amend.field-0-is))
+    c.carry_out_amend.ensures.asked
+
 pub returns-in-Ok-Make-clause-asked : goal.returns-in-Ok-Make-clause-asked
 returns-in-Ok-Make-clause-asked g c =
     subst (λ (o : Option Job). LogGrew (g.C.Cabinet.log c.args.cabinet.now) (OnlyOfJob o) (g.C.Cabinet.log c.carry_out_make.new.cabinet)) (sym (c.in-Ok-Make.ensures.found ∙ ap Some c.in-Ok-Make.field-0-is))

@@ -1,9 +1,10 @@
-use Rattle.std.proofs.Common.{◌≡◌, ◌↔◌, ℕ, List, ap, subst}
+use Rattle.std.proofs.Common.{◌≡◌, ◌↔◌, ℕ, List, false, sym, ap, ◌∙◌, subst}
 use Rattle.std.specs.Prelude.{IsTrue}
+use Rattle.season_days.specs.Capacity.{capacity_of}
 use Rattle.choice_problem.specs.Counts.{HasUses}
 use Rattle.window_counts.specs.Counts.{both_uses}
-use Rattle.holding_book.specs.Private.Loads.{LoadsView}
-use Rattle.holding_book.proofs.SearchLemmas.{counted, within, fits-together, full-one, full-two}
+use Rattle.holding_book.specs.Private.Loads.{LoadsView, can_share}
+use Rattle.holding_book.proofs.SearchLemmas.{counted, within, apart-fit, fits-together, full-one, full-two}
 use Rattle.holding_book.proofs.loads.Loads.fits_both.Goals as goal
 
 pub returns : goal.returns
@@ -28,3 +29,9 @@ returns-then-not-two c =
 
 pub has_both-requires-clause-there : goal.has_both-requires-clause-there
 has_both-requires-clause-there c = within c.self.inside.declaration c.self.inside.windows c.self.inside.left c.args.self.now c.self.view_is c.self.invariant c.args.one.now.part c.requires.one.part.there
+
+pub returns-then-not-can_share : goal.returns-then-not-can_share
+returns-then-not-can_share c =
+    let count = counted c.self.inside.declaration c.self.inside.windows c.self.inside.left c.args.self.now c.self.view_is c.self.invariant in
+    let apart : can_share (capacity_of c.args.self.now.declaration) ≡ false = sym (c.can_share.ensures ∙ ap (λ (v : LoadsView). can_share (capacity_of v.declaration)) c.self.view_is) ∙ c.if-not-can_share.true in
+    apart-fit c.movement_loads.ensures c.args.self.now count c.args.line.now c.args.one.now c.args.two.now c.requires.one c.requires.two apart c.if-not-one.false c.if-not-two.false

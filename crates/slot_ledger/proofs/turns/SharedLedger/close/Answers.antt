@@ -15,3 +15,6 @@ returns-clause-callers g c =
 
 pub returns-clause-told : goal.returns-clause-told
 returns-clause-told g c = rw (c.into_parts.ensures.beside, c.into_parts.ensures.history) c.close-shared.ensures.seen
+
+pub returns-clause-whole : goal.returns-clause-whole
+returns-clause-whole g c = rw (c.into_parts.ensures.beside, c.into_parts.ensures.history) c.close-shared.ensures.whole

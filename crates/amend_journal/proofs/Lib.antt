@@ -1,0 +1,7 @@
+mod MomentLemmas
+mod PutLemmas
+mod FormatLemmas
+mod OpenLemmas
+mod ReadLemmas
+mod StandingLemmas
+mod JournalLemmas

@@ -1,0 +1,5 @@
+pub mod Format
+pub mod Standing
+pub mod Durable
+pub mod Faults
+pub mod Private

@@ -1,0 +1,7 @@
+mod LineLemmas
+mod LimitLemmas
+mod HeldLemmas
+mod PassedLemmas
+mod AnsweredLemmas
+mod SessionLemmas
+mod ServedLemmas

@@ -1,0 +1,5 @@
+pub mod Answered
+pub mod Passed
+pub mod Sessions
+pub mod Served
+pub mod Private

@@ -1,0 +1,12 @@
+//! Sessions over links: messages that come in pieces of any size are answered one after the other,
+//! and workers serve the links of their doors.
+#![tactic(auto)]
+
+mod pending;
+mod responder;
+mod session;
+mod worker;
+
+pub use responder::AnswerFault;
+pub use session::{SessionEnd, SessionFault};
+pub use worker::{DoorEnd, DoorWork};

@@ -1,0 +1,19 @@
+use Rattle.std.proofs.Common.{◌≡◌, ◌≤◌, List, length, refl, ap, arith}
+use Rattle.choice_problem.specs.declared.problems.TheConstants.{MOST_UNITS}
+use Rattle.series_model.specs.declared.unit.Unit.{Unit as SlotUnit}
+use Rattle.holding_book.specs.Books.{SlotBook}
+use Rattle.holding_book.specs.Starts.{start_book}
+use Rattle.slot_program.specs.declared.files.TheConstants.{LONGEST_FILE}
+use Rattle.slot_program.proofs.AmendLemmas.{start_few}
+use Rattle.slot_program.proofs.amend.amend_output.Goals as goal
+
+pub amend_messages-requires : goal.amend_messages-requires
+amend_messages-requires c =
+    let s = c.args.submission.now in
+    let start : SlotBook = start_book s c.args.certificate.now in
+    let held : length c.in_ok-book.book.book.holdings ≡ length start.holdings = ap (λ (b : SlotBook). length b.holdings) c.in_ok-book.ensures in
+    let few : length start.holdings ≤ length s.units = start_few s c.args.certificate.now in
+    let units : length c.units-units.result.now ≡ length s.units = ap (λ (l : List SlotUnit). length l) c.units-units.ensures.value in
+    let most : MOST_UNITS ≡ 4096 = refl in
+    let longest : LONGEST_FILE ≡ 4194304 = refl in
+    record { few = omega (arith, held, few, units, most, longest, c.units-units.ensures.few, c.requires.short) }
