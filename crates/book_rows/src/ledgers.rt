@@ -1,0 +1,581 @@
+//! Asks of one caller and of two, one after the other and on threads of their own, to a ledger.
+
+ghost use Rattle.std.specs.Prelude.{◌≡◌, All, IfOk};
+ghost use Rattle.turn_lock.specs.Seats.{IsAtRest};
+ghost use Rattle.holding_book.specs.Asks.{CanAsk};
+
+use crate::answers::{ask, fit_items_pair, put_answer, spelled};
+use crate::books::start_book;
+use crate::lines::data_lines;
+use holding_book::{Answer, Book, Entry};
+use scr_reader::{Item, read_item};
+use season_days::Declaration;
+use slot_ledger::{Ledger, LedgerFault, Pass};
+use std::alloc::Global;
+use std::sync::Wait;
+use std::test::Fail;
+use std::thread;
+use std::thread::Threads;
+
+// A caller, what it was answered, and the lines of its asks.
+#[derive(Drop)]
+struct Caller {
+    pass: Pass,
+    said: Said,
+    asks: String,
+}
+
+// The entries of a caller as it knows them, the lengths of the history where it was full, and
+// whether something else went wrong.
+#[derive(Drop)]
+struct Said {
+    entries: Vec<Entry>,
+    full: Vec<u64>,
+    failed: bool,
+}
+
+impl Said {
+    // Keeps what was answered to an ask of this caller.
+    fn note(&mut self, caller: u32, ask: Item, answer: Result<Answer, LedgerFault>) {
+        let kept = match answer {
+            Ok(answer) => {
+                let entry = Entry {
+                    caller,
+                    ask,
+                    answer,
+                };
+                self.entries.push(entry).is_ok()
+            }
+            Err(LedgerFault::Full { length }) => self.full.push(length).is_ok(),
+            Err(LedgerFault::Memory) => false,
+        };
+        if !kept {
+            self.failed = true;
+        }
+    }
+}
+
+// Puts the ask of which this is the text to the ledger, and keeps what is said.
+fn put_ask<R: Wait>(
+    rt: &R,
+    alloc: Global,
+    ledger: &Ledger,
+    declaration: &Declaration,
+    pass: &mut Pass,
+    said: &mut Said,
+    text: &str,
+)
+    requires rest { IsAtRest ledger.now pass.old }
+    requires declared { declaration.now ≡ ledger.now.origin.start.declaration }
+    ensures { IsAtRest ledger.now pass.new }
+{
+    let Ok(Some(ask)) = read_item(alloc, &declaration.season, text.as_bytes()) else {
+        said.failed = true;
+        return;
+    };
+    fit_items_pair(&ask);
+    let answer = ledger.amend(rt, alloc, pass, &ask);
+    said.note(pass.number(), ask, answer);
+}
+
+// Puts the asks of two callers to the ledger one after the other, with a stroke between two lines.
+// Those of the second caller begin with `2`.
+fn put_in_order<R: Wait>(
+    rt: &R,
+    alloc: Global,
+    ledger: &Ledger,
+    declaration: &Declaration,
+    first: &mut Caller,
+    second: &mut Caller,
+    asks: &str,
+) -> Result<(), Fail>
+    requires first { IsAtRest ledger.now first.old.pass }
+    requires second { IsAtRest ledger.now second.old.pass }
+    requires declared { declaration.now ≡ ledger.now.origin.start.declaration }
+    ensures first { IsAtRest ledger.now first.new.pass }
+    ensures second { IsAtRest ledger.now second.new.pass }
+{
+    for part in asks.split('/') {
+        put_next(rt, alloc, ledger, declaration, first, second, part)?;
+    }
+    Ok(())
+}
+
+fn put_next<R: Wait>(
+    rt: &R,
+    alloc: Global,
+    ledger: &Ledger,
+    declaration: &Declaration,
+    first: &mut Caller,
+    second: &mut Caller,
+    part: &str,
+) -> Result<(), Fail>
+    requires first { IsAtRest ledger.now first.old.pass }
+    requires second { IsAtRest ledger.now second.old.pass }
+    requires declared { declaration.now ≡ ledger.now.origin.start.declaration }
+    ensures first { IsAtRest ledger.now first.new.pass }
+    ensures second { IsAtRest ledger.now second.new.pass }
+{
+    match part.strip_prefix('2') {
+        Some(line) => {
+            let text = data_lines(alloc, line)?;
+            put_ask(
+                rt,
+                alloc,
+                ledger,
+                declaration,
+                &mut second.pass,
+                &mut second.said,
+                &text,
+            );
+        }
+        None => {
+            let text = data_lines(alloc, part)?;
+            put_ask(
+                rt,
+                alloc,
+                ledger,
+                declaration,
+                &mut first.pass,
+                &mut first.said,
+                &text,
+            );
+        }
+    }
+    Ok(())
+}
+
+// Puts the asks of one caller to the ledger.
+fn put_own<R: Wait>(
+    rt: &R,
+    alloc: Global,
+    ledger: &Ledger,
+    declaration: &Declaration,
+    caller: &mut Caller,
+)
+    requires rest { IsAtRest ledger.now caller.old.pass }
+    requires declared { declaration.now ≡ ledger.now.origin.start.declaration }
+    ensures { IsAtRest ledger.now caller.new.pass }
+{
+    put_lines(
+        rt,
+        alloc,
+        ledger,
+        declaration,
+        &mut caller.pass,
+        &mut caller.said,
+        &caller.asks,
+    );
+}
+
+fn put_lines<R: Wait>(
+    rt: &R,
+    alloc: Global,
+    ledger: &Ledger,
+    declaration: &Declaration,
+    pass: &mut Pass,
+    said: &mut Said,
+    asks: &str,
+)
+    requires rest { IsAtRest ledger.now pass.old }
+    requires declared { declaration.now ≡ ledger.now.origin.start.declaration }
+    ensures { IsAtRest ledger.now pass.new }
+{
+    for line in asks.split_inclusive('\n') {
+        put_ask(rt, alloc, ledger, declaration, pass, said, line);
+    }
+}
+
+// Each caller puts its asks to the ledger on a thread of its own.
+fn put_on_threads<R: Threads + Wait + Sync>(
+    rt: &R,
+    alloc: Global,
+    ledger: &Ledger,
+    declaration: &Declaration,
+    callers: &mut [Caller],
+)
+    requires rest { All (λ (caller : Caller). IsAtRest ledger.now caller.pass) callers.old }
+    requires declared { declaration.now ≡ ledger.now.origin.start.declaration }
+    ensures { All (λ (caller : Caller). IsAtRest ledger.now caller.pass) callers.new }
+{
+    thread::for_each_mut(
+        rt,
+        callers,
+        2,
+        &|_, caller| { put_own(rt, alloc, ledger, declaration, caller) },
+    );
+}
+
+// The lines of the answers of all entries, or of those of one caller.
+fn entry_lines(
+    alloc: Global,
+    declaration: &Declaration,
+    history: &[Entry],
+    caller: Option<u32>,
+) -> Result<Vec<u8>, Fail> {
+    let mut out = Vec::new(alloc);
+    for entry in history {
+        if caller.is_none() || caller == Some(entry.caller) {
+            put_answer(
+                alloc,
+                &mut out,
+                &declaration.season,
+                &entry.ask,
+                &entry.answer,
+            )?;
+        }
+    }
+    Ok(out)
+}
+
+// What the book answers to the asks of a history, one after the other.
+fn replay(alloc: Global, book: &mut Book, history: &[Entry]) -> Result<Vec<u8>, Fail> {
+    let mut out = Vec::new(alloc);
+    for entry in history {
+        replay_one(alloc, book, &mut out, &entry.ask)?;
+    }
+    Ok(out)
+}
+
+fn replay_one(alloc: Global, book: &mut Book, out: &mut Vec<u8>, ask: &Item) -> Result<(), Fail> {
+    let Some(ask) = spelled(alloc, book.declaration(), ask)? else {
+        return Err("an ask without a spelling".into());
+    };
+    if book.count() > 1_000_000 {
+        return Err("too many holdings".into());
+    }
+    let answer = book.apply(alloc, &ask)?;
+    put_answer(alloc, out, &book.declaration().season, &ask, &answer)
+}
+
+// What there is when a ledger of two callers has ended.
+#[derive(Drop)]
+struct Ended {
+    book: Book,
+    history: Vec<Entry>,
+    first: Said,
+    second: Said,
+}
+
+// A ledger of two callers over the book, closed after their asks: in this order, or each its own on
+// a thread.
+fn run_ledger<R: Threads + Wait + Sync>(
+    rt: &R,
+    alloc: Global,
+    book: &Book,
+    most: u32,
+    asks: &str,
+    own: Option<(&str, &str)>,
+) -> Result<Ended, Fail> {
+    let copy = book.copy(alloc)?;
+    if copy.count() > 1_000_000 || most > 100_000 {
+        return Err("too many".into());
+    }
+    let (ledger, mut passes) = Ledger::start(alloc, copy, 2, most)?;
+    let second = passes.pop().ok_or("a pass")?;
+    let first = passes.pop().ok_or("a pass")?;
+    let (one, two) = own.unwrap_or(("", ""));
+    let mut first = new_caller(alloc, first, one)?;
+    let mut second = new_caller(alloc, second, two)?;
+    if own.is_none() {
+        put_in_order(
+            rt,
+            alloc,
+            &ledger,
+            book.declaration(),
+            &mut first,
+            &mut second,
+            asks,
+        )?;
+        return closed(alloc, ledger, first, second);
+    }
+    let mut callers = vec![in alloc; first, second]?;
+    put_on_threads(
+        rt,
+        alloc,
+        &ledger,
+        book.declaration(),
+        callers.as_mut_slice(),
+    );
+    let second = callers.pop().ok_or("a caller")?;
+    let first = callers.pop().ok_or("a caller")?;
+    closed(alloc, ledger, first, second)
+}
+
+// A caller with these asks, which was answered nothing yet.
+fn new_caller(alloc: Global, pass: Pass, asks: &str) -> Result<Caller, Fail>
+    ensures { IfOk result (λ caller. caller.pass ≡ pass) }
+{
+    Ok(Caller {
+        pass,
+        said: Said {
+            entries: Vec::new(alloc),
+            full: Vec::new(alloc),
+            failed: false,
+        },
+        asks: data_lines(alloc, asks)?,
+    })
+}
+
+fn closed(alloc: Global, ledger: Ledger, first: Caller, second: Caller) -> Result<Ended, Fail>
+    requires callers { ledger.callers ≡ 2 }
+    requires first { IsAtRest ledger first.pass }
+    requires second { IsAtRest ledger second.pass }
+{
+    let Caller {
+        pass: one,
+        said: first,
+        asks: _,
+    } = first;
+    let Caller {
+        pass: two,
+        said: second,
+        asks: _,
+    } = second;
+    let passes = vec![in alloc; one, two]?;
+    let (book, history) = ledger.close(passes);
+    Ok(Ended {
+        book,
+        history,
+        first,
+        second,
+    })
+}
+
+// Whether each caller was answered what its entries have, and the history is what the book answers
+// to its asks, with the holdings after them.
+fn is_one_history(alloc: Global, book: &mut Book, ended: &Ended) -> Result<bool, Fail> {
+    let declaration = ended.book.declaration();
+    let all = entry_lines(alloc, declaration, &ended.history, None)?;
+    let replayed = replay(alloc, book, &ended.history)?;
+    Ok(
+        replayed.as_slice() == all.as_slice()
+            && book.holdings() == ended.book.holdings()
+            && has_entries(alloc, ended, 0, &ended.first)?
+            && has_entries(alloc, ended, 1, &ended.second)?,
+    )
+}
+
+// Whether a caller was answered what its entries have, and nothing went wrong.
+fn has_entries(alloc: Global, ended: &Ended, number: u32, said: &Said) -> Result<bool, Fail> {
+    let declaration = ended.book.declaration();
+    let own = entry_lines(alloc, declaration, &ended.history, Some(number))?;
+    let known = entry_lines(alloc, declaration, &said.entries, Some(number))?;
+    Ok(own.as_slice() == known.as_slice() && !said.failed)
+}
+
+// Rows: the lines of the capacity file, of a season with the series BA001 at 0610; the greatest
+// length of the history; the asks; the lines that are answered; and how often the history was full,
+// to the first and the second caller.
+//
+// The third arrival of the hour gets 0700, as worked for the book. What one caller was offered the
+// other may accept, and of two that ask for the last place the first one has it, and the other an
+// offer, or nothing where no shift fits.
+const ROWS: &str = "\
+CAP ARR 60 0600 0600 1234567 2|100000|NBA002 0620/NBA003 0630/ABA003 0700/DBA002 01JUN30JUN 1234567 \
+    0620/QBA002/ZBA009 0700|KBA002 0620;UBA003 0630;OBA003 0700;KBA003 0700;XBA002 01JUN30JUN \
+    1234567 0620;HBA002 30MAR31MAY 1234567 0620;HBA002 01JUL25OCT 1234567 0620;WBA009 0700|0 0
+CAP ARR 60 0600 0600 1234567 2|100000|NBA001 05MAY05MAY 1000000 0800/ABA001 0610/FBA009 0900\
+    |WBA001 05MAY05MAY 1000000 0800;WBA001 0610;WBA009 0900|0 0
+CAP ARR 60 0600 0600 1234567 2|2|NBA002 0620/2QBA002/NBA003 0630/2QBA001/2QBA099\
+    |KBA002 0620;HBA002 0620|1 2
+CAP ARR 60 0600 0600 1234567 2|1|2QBA001/NBA002 0620/2NBA002 0620|HBA001 0610|1 1
+CAP ARR 60 0600 0600 1234567 2|0|NBA002 0620/2QBA001||1 1
+CAP ARR 60 0600 0600 1234567 1|100000|NBA002 0610/2ABA002 0555/ZBA002 0555/2DBA002 0555/QBA002\
+    |UBA002 0610;OBA002 0555;KBA002 0555;WBA002 0555;XBA002 0555;WBA002|0 0
+CAP ARR 60 0600 0600 1234567 2|100000|NBA002 0620/2NBA003 0630\
+    |KBA002 0620;UBA003 0630;OBA003 0700|0 0
+CAP ARR 60 0600 0600 1234567 2|100000|2NBA003 0630/NBA002 0620\
+    |KBA003 0630;UBA002 0620;OBA002 0555|0 0
+FLEX 25;REFUSE NONE;CAP ARR 60 0600 0600 1234567 2|100000|2NBA003 0630/NBA002 0630\
+    |KBA003 0630;UBA002 0630|0 0";
+
+#[test]
+fn callers_have_one_history(rt: HostRuntime) -> Result<(), Fail> {
+    for row in ROWS.lines() {
+        assert!(rt; is_as_wanted(&rt, rt.alloc(), row)?, "{row}");
+    }
+    Ok(())
+}
+
+// Whether a ledger answers as a row wants.
+fn is_as_wanted<R: Threads + Wait + Sync>(rt: &R, alloc: Global, row: &str) -> Result<bool, Fail> {
+    let (given, wanted) = row.rsplit_once('|').ok_or("a row")?;
+    let (given, answers) = given.rsplit_once('|').ok_or("answers")?;
+    let (given, asks) = given.rsplit_once('|').ok_or("asks")?;
+    let (capacity, most) = given.split_once('|').ok_or("a length")?;
+    let most = most.parse::<u32>()?;
+    let mut book = start_book(alloc, capacity, "FBA001 0610", "0;;;")?;
+    let ended = run_ledger(rt, alloc, &book, most, asks, None)?;
+    Ok(
+        has_answers(alloc, &ended, most, answers, wanted)?
+            && is_one_history(alloc, &mut book, &ended)?,
+    )
+}
+
+// Whether these lines were answered, and the history was full so often.
+fn has_answers(
+    alloc: Global,
+    ended: &Ended,
+    most: u32,
+    answers: &str,
+    wanted: &str,
+) -> Result<bool, Fail> {
+    let found = entry_lines(alloc, ended.book.declaration(), &ended.history, None)?;
+    let due = data_lines(alloc, answers)?;
+    let full = format!(in alloc; "{} {}", ended.first.full.len(), ended.second.full.len())?;
+    Ok(
+        found.as_slice() == due.as_bytes()
+            && full.as_str() == wanted
+            && are_all(&ended.first.full, most)
+            && are_all(&ended.second.full, most),
+    )
+}
+
+fn are_all(lengths: &[u64], most: u32) -> bool {
+    for length in lengths {
+        if *length != u64::from(most) {
+            return false;
+        }
+    }
+    true
+}
+
+#[test]
+fn callers_on_threads_have_one_history(rt: HostRuntime) -> Result<(), Fail> {
+    for _ in 0..20 {
+        assert!(rt; is_shared(&rt, rt.alloc())?);
+    }
+    Ok(())
+}
+
+// Whether two callers on threads have one history, in which one of them has the last place.
+fn is_shared<R: Threads + Wait + Sync>(rt: &R, alloc: Global) -> Result<bool, Fail> {
+    let mut book = start_book(
+        alloc,
+        "CAP ARR 60 0600 0600 1234567 2",
+        "FBA001 0610",
+        "0;;;",
+    )?;
+    let own = (
+        "QBA001;NBA002 0620;QBA099;DBA001 05MAY05MAY 1000000 0610",
+        "QBA001;NBA003 0630;QBA099;DBA001 05MAY05MAY 1000000 0610",
+    );
+    let ended = run_ledger(rt, alloc, &book, 8, "", Some(own))?;
+    Ok(
+        ended.history.len() == 8
+            && ended.first.full.is_empty()
+            && ended.second.full.is_empty()
+            && has_last_place(alloc, &ended)?
+            && is_one_history(alloc, &mut book, &ended)?,
+    )
+}
+
+// Whether one of the two got the last place of the hour, and the other an offer.
+fn has_last_place(alloc: Global, ended: &Ended) -> Result<bool, Fail> {
+    Ok(
+        have_second(alloc, ended, "KBA002 0620", "UBA003 0630;OBA003 0700")?
+            || have_second(alloc, ended, "UBA002 0620;OBA002 0555", "KBA003 0630")?,
+    )
+}
+
+// Whether these lines are the second answers of the two callers.
+fn have_second(alloc: Global, ended: &Ended, first: &str, second: &str) -> Result<bool, Fail> {
+    let declaration = ended.book.declaration();
+    let one = second_answer(alloc, declaration, &ended.first)?;
+    let two = second_answer(alloc, declaration, &ended.second)?;
+    let first = data_lines(alloc, first)?;
+    let second = data_lines(alloc, second)?;
+    Ok(one.as_slice() == first.as_bytes() && two.as_slice() == second.as_bytes())
+}
+
+// The lines of the second answer of a caller.
+fn second_answer(alloc: Global, declaration: &Declaration, said: &Said) -> Result<Vec<u8>, Fail> {
+    let mut out = Vec::new(alloc);
+    let entry = said.entries.get(1).ok_or("a second entry")?;
+    put_answer(
+        alloc,
+        &mut out,
+        &declaration.season,
+        &entry.ask,
+        &entry.answer,
+    )?;
+    Ok(out)
+}
+
+#[test]
+fn a_full_history_stays(rt: HostRuntime) -> Result<(), Fail> {
+    let alloc = rt.alloc();
+    for most in [0, 1, 2, 100_000] {
+        let book = start_book(
+            alloc,
+            "CAP ARR 60 0600 0600 1234567 2",
+            "FBA001 0610",
+            "0;;;",
+        )?;
+        let (after, history, end) = filled(&rt, alloc, &book, most)?;
+        assert_eq!(rt; end, Some(u64::from(most)));
+        assert_eq!(rt; history.len() as u64, u64::from(most));
+        for entry in history.iter() {
+            assert!(rt; entry.caller == 0 && matches!(entry.answer, Answer::W));
+        }
+        assert!(rt; after.holdings() == book.holdings());
+    }
+    Ok(())
+}
+
+// The ledger of one caller after so many questions and a request more, which is not entered: its
+// book, its history, and the length that the last fault named.
+fn filled<R: Wait>(
+    rt: &R,
+    alloc: Global,
+    book: &Book,
+    most: u32,
+) -> Result<(Book, Vec<Entry>, Option<u64>), Fail> {
+    let question = ask(alloc, book.declaration(), "QBA099")?;
+    let request = ask(alloc, book.declaration(), "NBA002 0620")?;
+    let copy = book.copy(alloc)?;
+    if copy.count() > 1_000_000 || most > 100_000 {
+        return Err("too many".into());
+    }
+    let (ledger, mut passes) = Ledger::start(alloc, copy, 1, most)?;
+    let mut pass = passes.pop().ok_or("a pass")?;
+    ask_often(
+        rt,
+        alloc,
+        &ledger,
+        book.declaration(),
+        &mut pass,
+        &question,
+        most,
+    );
+    let end = match ledger.amend(rt, alloc, &mut pass, &request) {
+        Err(LedgerFault::Full { length }) => Some(length),
+        _ => None,
+    };
+    let passes = vec![in alloc; pass]?;
+    let (book, history) = ledger.close(passes);
+    Ok((book, history, end))
+}
+
+// Puts one ask to the ledger so often.
+fn ask_often<R: Wait>(
+    rt: &R,
+    alloc: Global,
+    ledger: &Ledger,
+    declaration: &Declaration,
+    pass: &mut Pass,
+    ask: &Item,
+    count: u32,
+)
+    requires rest { IsAtRest ledger.now pass.old }
+    requires declared { declaration.now ≡ ledger.now.origin.start.declaration }
+    requires ask { CanAsk declaration.now ask.now }
+    ensures { IsAtRest ledger.now pass.new }
+{
+    for _ in 0..count {
+        if ledger.amend(rt, alloc, pass, ask).is_err() {
+            return;
+        }
+    }
+}
