@@ -1,6 +1,7 @@
 //! Asks of one caller and of two, one after the other and on threads of their own, to a ledger.
 
-ghost use Rattle.std.specs.Prelude.{◌≡◌, All, IfOk};
+ghost use Rattle.std.specs.Prelude.{◌≡◌, IfOk};
+ghost use Rattle.std.specs.Thread.{IsSync};
 ghost use Rattle.turn_lock.specs.Seats.{IsAtRest};
 ghost use Rattle.holding_book.specs.Asks.{CanAsk};
 
@@ -14,8 +15,7 @@ use slot_ledger::{Ledger, LedgerFault, Pass};
 use std::alloc::Global;
 use std::sync::Wait;
 use std::test::Fail;
-use std::thread;
-use std::thread::Threads;
+use std::thread::{Threads, join};
 
 // A caller, what it was answered, and the lines of its asks.
 #[derive(Drop)]
@@ -151,6 +151,22 @@ fn put_own<R: Wait>(
     alloc: Global,
     ledger: &Ledger,
     declaration: &Declaration,
+    caller: Caller,
+) -> Caller
+    requires rest { IsAtRest ledger.now caller.pass }
+    requires declared { declaration.now ≡ ledger.now.origin.start.declaration }
+    ensures { IsAtRest ledger.now result.pass }
+{
+    let mut caller = caller;
+    put_all(rt, alloc, ledger, declaration, &mut caller);
+    caller
+}
+
+fn put_all<R: Wait>(
+    rt: &R,
+    alloc: Global,
+    ledger: &Ledger,
+    declaration: &Declaration,
     caller: &mut Caller,
 )
     requires rest { IsAtRest ledger.now caller.old.pass }
@@ -184,26 +200,6 @@ fn put_lines<R: Wait>(
     for line in asks.split_inclusive('\n') {
         put_ask(rt, alloc, ledger, declaration, pass, said, line);
     }
-}
-
-// Each caller puts its asks to the ledger on a thread of its own.
-fn put_on_threads<R: Threads + Wait + Sync>(
-    rt: &R,
-    alloc: Global,
-    ledger: &Ledger,
-    declaration: &Declaration,
-    callers: &mut [Caller],
-)
-    requires rest { All (λ (caller : Caller). IsAtRest ledger.now caller.pass) callers.old }
-    requires declared { declaration.now ≡ ledger.now.origin.start.declaration }
-    ensures { All (λ (caller : Caller). IsAtRest ledger.now caller.pass) callers.new }
-{
-    thread::for_each_mut(
-        rt,
-        callers,
-        2,
-        &|_, caller| { put_own(rt, alloc, ledger, declaration, caller) },
-    );
 }
 
 // The lines of the answers of all entries, or of those of one caller.
@@ -289,17 +285,38 @@ fn run_ledger<R: Threads + Wait + Sync>(
         )?;
         return closed(alloc, ledger, first, second);
     }
-    let mut callers = vec![in alloc; first, second]?;
-    put_on_threads(
-        rt,
-        alloc,
-        &ledger,
-        book.declaration(),
-        callers.as_mut_slice(),
-    );
-    let second = callers.pop().ok_or("a caller")?;
-    let first = callers.pop().ok_or("a caller")?;
+    let (first, second) = on_threads(rt, alloc, &ledger, book.declaration(), first, second);
     closed(alloc, ledger, first, second)
+}
+
+// Each caller puts its asks to the ledger on a thread of its own.
+fn on_threads<R: Threads + Wait + Sync>(
+    rt: &R,
+    alloc: Global,
+    ledger: &Ledger,
+    declaration: &Declaration,
+    first: Caller,
+    second: Caller,
+) -> (Caller, Caller)
+    requires first { IsAtRest ledger.now first.pass }
+    requires second { IsAtRest ledger.now second.pass }
+    requires declared { declaration.now ≡ ledger.now.origin.start.declaration }
+    ensures first { IsAtRest ledger.now result.0.pass }
+    ensures second { IsAtRest ledger.now result.1.pass }
+{
+    join(
+        rt,
+        || -> Caller
+            requires { IsSync R.row × IsAtRest ledger.now first.pass
+                × (declaration.now ≡ ledger.now.origin.start.declaration) }
+            ensures { IsAtRest ledger.entry.now result.pass }
+        { put_own(rt, alloc, ledger, declaration, first) },
+        || -> Caller
+            requires { IsSync R.row × IsAtRest ledger.now second.pass
+                × (declaration.now ≡ ledger.now.origin.start.declaration) }
+            ensures { IsAtRest ledger.entry.now result.pass }
+        { put_own(rt, alloc, ledger, declaration, second) },
+    )
 }
 
 // A caller with these asks, which was answered nothing yet.
