@@ -1,0 +1,60 @@
+//! Benchmarks of amendments. `amend_bench WORD` runs the one that the word names at full size, and
+//! prints counts and times; `amend_bench short` runs both at a small size and prints counts alone.
+#![tactic(auto)]
+
+mod asks;
+mod books;
+mod callers;
+mod draws;
+mod report;
+
+use books::book_of;
+use holding_book::Book;
+use report::Size;
+use std::alloc::Global;
+use std::env;
+use std::io::Print;
+use std::sync::Wait;
+use std::thread::Threads;
+use std::time::Clock;
+
+fn main(rt: HostRuntime) -> anyhow::Result<()> {
+    let alloc = rt.alloc();
+    let mut names = Vec::new(alloc);
+    for word in env::args(&rt)?.skip(1) {
+        names.push(word)?;
+    }
+    let word = names.first().map_or("", |word| word.as_str());
+    let size = if word == "short" {
+        Size::Short
+    } else {
+        Size::Full
+    };
+    let Some(book) = book_of(&rt, alloc, size, &names)? else {
+        println!(rt; "no book")?;
+        return Ok(());
+    };
+    run(&rt, alloc, size, word, &book)
+}
+
+// Runs the benchmark that a word names, or both. Where it names none, prints the words that do.
+fn run<R: Threads + Wait + Sync + Print + Clock>(
+    rt: &R,
+    alloc: Global,
+    size: Size,
+    word: &str,
+    book: &Book,
+) -> anyhow::Result<()> {
+    match word {
+        "asks" => asks::run(rt, alloc, size, book),
+        "ledger" => callers::run(rt, alloc, size, book),
+        "short" => {
+            asks::run(rt, alloc, size, book)?;
+            callers::run(rt, alloc, size, book)
+        }
+        _ => {
+            println!(rt; "amend_bench WORD: asks [CAP SCR], ledger [CAP SCR], short")?;
+            Ok(())
+        }
+    }
+}
