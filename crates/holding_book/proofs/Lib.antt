@@ -20,3 +20,4 @@ mod StartLemmas
 mod TakeLemmas
 mod ApartLemmas
 mod SearchLemmas
+mod LevelLemmas

@@ -48,7 +48,7 @@ cheaper_is : (P : Times → Type 0) (cost : Times → ℕ) (x : Times) (best : O
 cheaper_is P cost x None px later = px
 cheaper_is P cost x (Some t) px later = elim (nat_le (cost x) (cost t)) as (λ b. P (cond b x t)) [ true ↦ px | false ↦ later t refl ]
 
-cheapest_is : (P : Times → Type 0) (cost : Times → ℕ) (xs : List Times) → All P xs → (t : Times) → first_cheapest cost xs ≡ Some t → P t
+pub cheapest_is : (P : Times → Type 0) (cost : Times → ℕ) (xs : List Times) → All P xs → (t : Times) → first_cheapest cost xs ≡ Some t → P t
 cheapest_is P cost [] all t e = cc
 cheapest_is P cost (x ∷ xs) all t e =
     let p = cheaper_is P cost x (first_cheapest cost xs) (first_all P x xs all) (cheapest_is P cost xs (rest_all P x xs all)) in

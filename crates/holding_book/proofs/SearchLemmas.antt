@@ -1,11 +1,10 @@
--- What a search by the uses that are left finds: the tests are those by listing, and the best so far
--- is the first cheapest of the options so far.
-use Rattle.std.proofs.Common.{◌≡◌, ℕ, zero, suc, ◌+◌, ◌<◌, ◌≤◌, ◌&&◌, nat_le, nat_lt, Bool, true, false, cond, List, [], ◌∷◌, ◌++◌, length, refl, sym, ap, ◌∙◌, subst, arith, filter, take, get_or, append-nil, inl, inr, Option, Some, None, ◌↔◌}
+-- What a search by the uses that are left finds: the tests are those by listing.
+use Rattle.std.proofs.Common.{◌≡◌, ℕ, zero, suc, ◌+◌, ◌<◌, ◌≤◌, ◌&&◌, nat_le, Bool, true, false, cond, List, [], ◌∷◌, ◌++◌, length, refl, sym, ap, ◌∙◌, subst, arith, filter, take, get_or, append-nil, inl, inr, Option, Some, None, ◌↔◌}
 use Rattle.std.specs.Prelude.{All, IsTrue, slice_index}
 use Rattle.std.specs.List.{list_all}
 use Rattle.std.proofs.lemmas.Bool.{cases_Bool, leb-true}
 use Rattle.std.proofs.lemmas.Bool.Decides.{same_from_decides}
-use Rattle.std.proofs.lemmas.List.Elements.{filter_more, All-head, All-tail}
+use Rattle.std.proofs.lemmas.List.Elements.{All-head, All-tail}
 use Rattle.std.proofs.lemmas.List.Folds.{list_all-append}
 use Rattle.std.proofs.lemmas.Grind.{same_number_lists}
 use Rattle.std.proofs.lemmas.List.Sums.{sum_by-append}
@@ -25,7 +24,7 @@ use Rattle.series_model.specs.declared.times.Times.TheVariants.{At}
 use Rattle.series_model.specs.Movements.{movements_at}
 use Rattle.series_model.specs.declared.times.Times.{Times}
 use Rattle.holding_book.specs.Books.{movements_fit, cheaper, first_cheapest}
-use Rattle.holding_book.specs.Private.Loads.{LoadsView, IsLoads, AreLeft, movements_left, fits_left, is_cheaper, can_share}
+use Rattle.holding_book.specs.Private.Loads.{LoadsView, IsLoads, AreLeft, movements_left, fits_left, can_share}
 use Rattle.holding_book.specs.Private.Trials.{IsTimesTrial}
 use Rattle.holding_book.specs.declared.trials.Trial.{Trial}
 use Rattle.holding_book.proofs.ApartLemmas.{stops_apart}
@@ -122,39 +121,7 @@ module _ (law : MovementLoads) (loads : LoadsView) (count : IsCounted loads) (li
       ] in
       fits-together second true (λ t. has, λ h. refl)
 
--- ---- the best so far
-
-abbrev pub or_better : (Times → ℕ) → Option Times → Times → Times
-or_better cost None times = times
-or_better cost (Some best) times = cond (nat_lt (cost times) (cost best)) times best
-
-pub cheapest-more : (cost : Times → ℕ) (options : List Times) (times : Times) → first_cheapest cost (options ++ times ∷ []) ≡ Some (or_better cost (first_cheapest cost options) times)
-cheapest-more cost [] times = refl
-cheapest-more cost (first ∷ options) times = rw (cheapest-more cost options times) (ap Some (joined cost first times (first_cheapest cost options)))
-  where
-    joined : (cost : Times → ℕ) (first times : Times) (best : Option Times) → cheaper cost first (Some (or_better cost best times)) ≡ or_better cost (Some (cheaper cost first best)) times
-    joined cost first times None = grind arith
-    joined cost first times (Some best) = grind arith
-
-next_kept : (cost : Times → ℕ) (best : Option Times) (times : Times) → cond (is_cheaper cost best times && true) (Some times) best ≡ Some (or_better cost best times)
-next_kept cost None times = refl
-next_kept cost (Some best) times = elim (nat_lt (cost times) (cost best)) as (λ b. cond (b && true) (Some times) (Some best) ≡ Some (cond b times best)) [
-  | true ↦ refl
-  | false ↦ refl
-]
-
-pub not_both : (b : Bool) (times : Times) (best : Option Times) → cond (b && false) (Some times) best ≡ best
-not_both true times best = refl
-not_both false times best = refl
-
-pub cheapest-next : (cost : Times → ℕ) (fits : Times → Bool) (shifts : List Times) (i : ℕ) (d : Times) (best : Option Times) → i < length shifts → best ≡ first_cheapest cost (filter fits (take i shifts)) → cond (is_cheaper cost best (get_or shifts i d) && fits (get_or shifts i d)) (Some (get_or shifts i d)) best ≡ first_cheapest cost (filter fits (take (i + 1) shifts))
-cheapest-next cost fits shifts i d best lt e =
-    let times = get_or shifts i d in
-    let before = filter fits (take i shifts) in
-    rw (filter_more fits shifts i d lt) (elim (cases_Bool (fits times)) [
-      | inl fit ↦ rw fit (next_kept cost best times ∙ ap (λ (b : Option Times). Some (or_better cost b times)) e ∙ sym (cheapest-more cost before times))
-      | inr full ↦ rw full (not_both (is_cheaper cost best times) times best ∙ e ∙ ap (λ (xs : List Times). first_cheapest cost xs) (sym (append-nil before)))
-    ])
+-- ---- times that cost nothing
 
 -- times that cost nothing are the first cheapest, where no others do
 free_cheaper : (cost : Times → ℕ) (times : Times) (best : Option Times) → cost times ≡ 0 → cheaper cost times best ≡ times

@@ -10,3 +10,4 @@ pub mod Steps
 pub mod Ready
 pub mod Given
 pub mod Found
+pub mod Levels

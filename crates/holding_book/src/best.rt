@@ -1,22 +1,24 @@
 //! The search for the cheapest times that fit.
 
-ghost use Rattle.std.specs.Prelude.{◌≡◌, ◌<◌, List, All, IfOk, OnOk, IfSome, None};
-ghost use Rattle.std.specs.Option.{ForSome};
+ghost use Rattle.std.specs.Prelude.{◌≡◌, ◌<◌, ◌==◌, ◌&&◌, List, All, IfOk, OnOk, IfSome, None, map};
 ghost use Rattle.season_days.specs.Capacity.{capacity_of};
 ghost use Rattle.scr_reader.specs.Printed.{LineFits};
-ghost use Rattle.series_model.specs.Options.{TimesFit};
+ghost use Rattle.series_model.specs.Displacement.{cost_at};
+ghost use Rattle.series_model.specs.Options.{TimesFit, shifts_of};
 ghost use Rattle.holding_book.specs.declared.holding.Holding.{Holding as HoldingValue};
 ghost use Rattle.holding_book.specs.Books.{held_movements, best_times};
-ghost use Rattle.holding_book.specs.Private.Loads.{AreLeft, fits_left, best_left, better_left};
-ghost use Rattle.holding_book.specs.Private.Trials.{IsTimesTrial, AreTrials, IsTrialPlace, AreFoundTimes, found_times, costs_less};
+ghost use Rattle.holding_book.specs.Private.Levels.{first_at_level};
+ghost use Rattle.holding_book.specs.Private.Loads.{AreLeft, fits_left, best_left};
+ghost use Rattle.holding_book.specs.Private.Trials.{IsTimesTrial, AreTrials, IsTrialPlace};
 ghost use Rattle.season_days.specs.Seasons.{date_count};
 
+use crate::levels::{costs_of, next_level};
 use crate::loads::Loads;
-use crate::trials::{Found, Trial, Trials, place_of};
+use crate::trials::{Trial, Trials, place_of};
 use scr_reader::{Line, Stop};
 use season_days::{Kind, Period};
 use series_model::laws::{free_shift, requested_shift, shift_bounds};
-use series_model::{Times, line_displacement, line_times, shifts_of};
+use series_model::{Times, line_times, shifts_of};
 use slot_text::Memory;
 use std::alloc::Global;
 
@@ -25,8 +27,9 @@ impl Loads {
     /// first of several; none where it fits at none.
     ///
     /// The requested times are tested first: two tests. Else each minute of a movement is tested
-    /// once at most, one step a use, and none where it could not make the line cheaper; two that fit
-    /// alone are tested together where they can share a resource. A few steps for each alternative.
+    /// once at most, one step a use, and none that costs more than the answer; two that fit alone
+    /// are tested together where they can share a resource. One step for each alternative and each
+    /// cost.
     pub fn best_times(&self, alloc: Global, line: &Line) -> Result<Option<Times>, Memory>
         requires { LineFits self.now.declaration.season line.now }
         ensures times { IfOk result (λ best. IfSome best (TimesFit None)) }
@@ -59,55 +62,100 @@ impl Loads {
         self.search(alloc, line, trials)
     }
 
-    // The same, of all shifts in their order.
+    // The same, of all shifts.
     fn search(&self, alloc: Global, line: &Line, trials: Trials) -> Result<Option<Times>, Memory>
         requires line { LineFits self.now.declaration.season line.now }
         requires trials { AreTrials self.now line.now trials }
         ensures times { IfOk result (λ best. IfSome best (TimesFit None)) }
         ensures best { IfOk result (λ best. best ≡ best_left self.now line.now) }
     {
-        shift_bounds();
         let shifts = shifts_of(alloc, line, self.declaration())?;
+        let costs = costs_of(alloc, line, &shifts, self.declaration())?;
         let mut trials = trials;
-        let mut best = None;
-        for times in &shifts {
-            best = self.next_best(alloc, line, &mut trials, best, *times)?;
-        }
-        let Some(found) = best else {
-            return Ok(None);
-        };
-        Ok(Some(found.times))
+        self.by_levels(alloc, line, &mut trials, &shifts, &costs)
     }
 
-    // These times, if they cost less than the best so far and fit, else the best so far. What does
-    // not cost less is not tested.
-    fn next_best(
+    // The same, of the shifts and their costs: by rising cost, and of those of one cost in their
+    // order.
+    fn by_levels(
         &self,
         alloc: Global,
         line: &Line,
         trials: &mut Trials,
-        best: Option<Found>,
-        times: Times,
-    ) -> Result<Option<Found>, Memory>
+        shifts: &[Times],
+        costs: &[u64],
+    ) -> Result<Option<Times>, Memory>
         requires line { LineFits self.now.declaration.season line.now }
         requires trials { AreTrials self.now line.now trials.old }
-        requires best { ForSome best (AreFoundTimes self.now.declaration line.now) }
-        requires times { TimesFit None times }
-        ensures best { IfOk result (λ next.
-            found_times next ≡ better_left self.now line.now (found_times best) times) }
-        ensures found { IfOk result (λ next.
-            ForSome next (AreFoundTimes self.now.declaration line.now)) }
+        requires shifts { shifts.now ≡ shifts_of self.now.declaration line.now }
+        requires costs { costs.now ≡ map (cost_at self.now.declaration line.now) shifts.now }
+        ensures times { IfOk result (λ best. IfSome best (TimesFit None)) }
+        ensures best { IfOk result (λ best. best ≡ best_left self.now line.now) }
+    {
+        shift_bounds();
+        let mut level = next_level(costs, None);
+        while let Some(cost) = level {
+            let best = self.first_at_level(alloc, line, trials, shifts, costs, cost)?;
+            if best.is_some() {
+                return Ok(best);
+            }
+            level = next_level(costs, Some(cost));
+        }
+        Ok(None)
+    }
+
+    // The first shift of a cost at which a line fits.
+    fn first_at_level(
+        &self,
+        alloc: Global,
+        line: &Line,
+        trials: &mut Trials,
+        shifts: &[Times],
+        costs: &[u64],
+        level: u64,
+    ) -> Result<Option<Times>, Memory>
+        requires line { LineFits self.now.declaration.season line.now }
+        requires trials { AreTrials self.now line.now trials.old }
+        requires shifts { All (TimesFit None) shifts.now }
+        requires costs { costs.now ≡ map (cost_at self.now.declaration line.now) shifts.now }
+        ensures best { IfOk result (λ best. best
+            ≡ first_at_level (cost_at self.now.declaration line.now) (fits_left self.now line.now)
+            level shifts.now) }
+        ensures times { IfOk result (λ best. IfSome best (TimesFit None)) }
         ensures trials { OnOk result (AreTrials self.now line.now trials.new) }
     {
-        let cost = line_displacement(line, times, self.declaration());
-        if !is_cheaper(best, cost) {
-            return Ok(best);
+        for n in 0..shifts.len() {
+            let fits = self.fits_for(alloc, line, trials, shifts[n], costs[n], level)?;
+            if fits {
+                return Ok(Some(shifts[n]));
+            }
+        }
+        Ok(None)
+    }
+
+    // Whether the cost of times is that of a level and a line fits at them, which is tried only
+    // then.
+    fn fits_for(
+        &self,
+        alloc: Global,
+        line: &Line,
+        trials: &mut Trials,
+        times: Times,
+        cost: u64,
+        level: u64,
+    ) -> Result<bool, Memory>
+        requires line { LineFits self.now.declaration.season line.now }
+        requires trials { AreTrials self.now line.now trials.old }
+        requires times { TimesFit None times }
+        ensures fits { IfOk result (λ fits.
+            fits ≡ (cost == level && fits_left self.now line.now times)) }
+        ensures trials { OnOk result (AreTrials self.now line.now trials.new) }
+    {
+        if cost != level {
+            return Ok(false);
         }
         let fits = self.fits_at(alloc, line, trials, times)?;
-        if fits {
-            return Ok(Some(Found { times, cost }));
-        }
-        Ok(best)
+        Ok(fits)
     }
 
     // Whether a line fits at some times. Each minute is tried once, and the departure where the
@@ -220,15 +268,5 @@ impl Loads {
         let trial = self.try_stop(alloc, kind, stop, minute, period)?;
         trials.push(trial)?;
         Ok(next)
-    }
-}
-
-// Whether a cost is less than that of the best so far, if there is one.
-fn is_cheaper(best: Option<Found>, cost: u64) -> bool
-    ensures { result ≡ costs_less best cost }
-{
-    match best {
-        Some(found) => cost < found.cost,
-        None => true,
     }
 }

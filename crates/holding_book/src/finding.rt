@@ -1,5 +1,5 @@
-//! The holdings that clash with a line, that match it, or that have a flight: all are looked for among
-//! those at the places of a flight.
+//! The holdings that clash with a line, that match it, or that have a flight: all are looked for
+//! among those at the places of a flight.
 
 ghost use Rattle.std.specs.Prelude.{◌≡◌, ◌<◌, ◌≤◌, ◌^◌, ◌&&◌, ◌||◌, not, [], All, length, filter, slice_get, Some, None, IfSome, IfOk};
 ghost use Rattle.std.specs.List.{list_any, flat_map};
@@ -121,7 +121,8 @@ pub(crate) fn clashes_with_held(
     clashes_at(season, line, holdings, places, line.departure, None)
 }
 
-/// Whether a line clashes with one of the holdings, of which the one at a place is replaced by others.
+/// Whether a line clashes with one of the holdings, of which the one at a place is replaced by
+/// others.
 pub(crate) fn clashes_after(
     season: &Season,
     line: &Line,

@@ -10,6 +10,7 @@ mod cuts;
 mod finding;
 mod holding;
 pub mod laws;
+mod levels;
 mod lines;
 mod listing;
 mod loads;

@@ -194,8 +194,8 @@ impl Loads {
         has_both(&self.left, &one.part, &two.part, night)
     }
 
-    /// Whether a line fits at no times with the minute of a trial of its arrival, since that does not
-    /// fit alone.
+    /// Whether a line fits at no times with the minute of a trial of its arrival, since that does
+    /// not fit alone.
     pub fn is_full(&self, line: &Line, one: &Trial) -> bool
         requires { IsTimesTrial self.now Arr line.now.arrival line.now.period one.now }
         ensures { IsTrue result → (departure : ℕ) →
@@ -206,8 +206,8 @@ impl Loads {
         !one.fits
     }
 
-    /// Whether each resource would have left what is used of it, if other uses were given back before.
-    /// All is left as it was.
+    /// Whether each resource would have left what is used of it, if other uses were given back
+    /// before. All is left as it was.
     pub fn fits_instead(&mut self, freed: &Uses, taken: &Uses) -> bool
         requires freed { AreInRange (length self.old.left) freed.now }
         requires taken { AreInRange (length self.old.left) taken.now }

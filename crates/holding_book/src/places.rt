@@ -105,8 +105,8 @@ impl Places {
         Ok(())
     }
 
-    // Adds a place behind those of the flight of a stop, if there is one, and if another stop is not
-    // of the same flight.
+    // Adds a place behind those of the flight of a stop, if there is one, and if another stop is
+    // not of the same flight.
     fn add_stop(
         &mut self,
         alloc: Global,

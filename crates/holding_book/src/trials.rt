@@ -1,10 +1,9 @@
-//! What a search has tried of the movements of a line, and what it found.
+//! What a search has tried of the movements of a line.
 
 ghost use Rattle.std.specs.Prelude.{◌≡◌, [], IfSome};
 ghost use Rattle.holding_book.specs.Private.Trials.{IsTrialPlace};
 
 use choice_problem::Part;
-use series_model::Times;
 use std::alloc::Global;
 
 /// The uses of a movement of a line at a minute from the beginning of the line's date, and whether
@@ -16,8 +15,8 @@ pub struct Trial {
     pub fits: bool,
 }
 
-/// The minutes that were tried of an arrival, and of a departure, and the places where the next ones
-/// are looked for first.
+/// The minutes that were tried of an arrival, and of a departure, and the places where the next
+/// ones are looked for first.
 #[derive(Drop)]
 pub struct Trials {
     pub arrivals: Vec<Trial>,
@@ -41,15 +40,8 @@ impl Trials {
     }
 }
 
-/// Times that fit, and what they cost.
-#[derive(Clone, Copy, Debug, PartialEq, Eq)]
-pub struct Found {
-    pub times: Times,
-    pub cost: u64,
-}
-
-/// The place of a minute, if it was tried: one step where it is the first place to look at, else one
-/// for each minute that was tried.
+/// The place of a minute, if it was tried: one step where it is the first place to look at, else
+/// one for each minute that was tried.
 pub(crate) fn place_of(trials: &[Trial], first: usize, minute: u32) -> Option<usize>
     ensures { IfSome result (IsTrialPlace minute trials.now) }
 {

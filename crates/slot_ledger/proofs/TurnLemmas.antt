@@ -88,20 +88,3 @@ module _ {X O : Type 0} (read : List X → List Entry) (done : Entry → X) (num
           seen = ap read seen_is ∙ ap read is ∙ added old;
           grew = ap read (t.grew.1 (done e) (is ∙ ap (λ (xs : List X). xs ++ done e ∷ []) (sym mid_seen))) ∙ added mid.own ∙ ap (λ (es : List Entry). es ++ e ∷ []) (ap read mid_own);
         }
-
--- two turns: others' entries in the first, then those of the second
-pub entered_after : {O : Type 0} → ((number : ℕ) (seen middle history : List Entry) → GoesOnFrom entry_caller number seen middle → GoesOnFrom entry_caller number middle history → GoesOnFrom entry_caller number seen history)
-    → (ask : Item) (answer : Answer) (before mid after : SeatView O Entry) → mid.number ≡ before.number → HasSeenMore before mid → HasEntered ask answer mid after → HasEntered ask answer before after
-entered_after chain ask answer before mid after same first then = record {
-  between = then.between;
-  goes_on = chain before.number before.seen mid.seen then.between first.goes_on (rw same at then.goes_on);
-  seen = rw same at then.seen;
-  grew = rw (same, first.own_stays) at then.grew;
-}
-
-pub seen_after : {O : Type 0} → ((number : ℕ) (seen middle history : List Entry) → GoesOnFrom entry_caller number seen middle → GoesOnFrom entry_caller number middle history → GoesOnFrom entry_caller number seen history)
-    → (before mid after : SeatView O Entry) → mid.number ≡ before.number → HasSeenMore before mid → HasSeenMore mid after → HasSeenMore before after
-seen_after chain before mid after same first then = record {
-  goes_on = chain before.number before.seen mid.seen after.seen first.goes_on (rw same at then.goes_on);
-  own_stays = then.own_stays ∙ first.own_stays;
-}

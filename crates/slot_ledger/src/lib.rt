@@ -1,8 +1,8 @@
 //! The shared book: amendments of several callers in one history.
 //!
 //! A caller holds a pass. Each ask is answered in one turn on the book as it then is, and becomes
-//! the next entry of the one history. The alternatives of a new request are searched on a copy,
-//! while other callers go on. What a journal adds is kept beside the history, in the same turn.
+//! the next entry of the one history. What a journal adds is kept beside the history, in the same
+//! turn.
 #![tactic(auto)]
 
 mod beside;

@@ -1,22 +1,19 @@
 //! What lies behind the turn.
 ghost use Rattle.std.specs.Prelude.{◌≡◌, ◌+◌, ◌<◌, ◌≤◌, ◌^◌, ◌++◌, ◌∷◌, [], List, length, All};
 ghost use Rattle.std.specs.Prelude.{IfOk, IfErr, OnOk};
-ghost use Rattle.std.specs.Option.{ForSome};
 ghost use Rattle.holding_book.specs.Asks.{CanAsk};
 ghost use Rattle.holding_book.specs.Books.{IsBook};
 ghost use Rattle.holding_book.specs.Histories.{replay, IsLegal};
 ghost use Rattle.holding_book.specs.declared.answer.Entry.{Entry as EntryValue};
-ghost use Rattle.holding_book.specs.declared.book.TheConstants.{MOST_NEW_FLIGHTS};
 ghost use Rattle.slot_ledger.specs.Starts.{first_book, new_entry};
 ghost use Rattle.slot_ledger.specs.Beside.{MayMark, RefusedAt, TellsNext, IsUnbroken};
 ghost use Rattle.slot_ledger.specs.Beside.{ReadsParts, ReadsEntries, ReadsOwn};
 ghost use Rattle.slot_ledger.specs.Passes.{IsDue};
-ghost use Rattle.slot_ledger.specs.Shared.{IsHintFor, IsFoundOn};
 
 use crate::beside::Beside;
 use crate::fault::EnterFault;
 use holding_book::laws::{next_books, one_more};
-use holding_book::{Answer, Book, Entry, Hint, HoldingList, Room};
+use holding_book::{Answer, Book, Entry, HoldingList};
 use scr_reader::Item;
 use season_days::Declaration;
 use slot_text::Memory;
@@ -83,13 +80,6 @@ impl<B: Beside> Story for Shared<B> {
     }
 }
 
-/// What was searched on a copy of the book, and how long the history was then.
-#[derive(Drop)]
-pub(crate) struct Found {
-    pub hint: Hint,
-    pub length: u64,
-}
-
 impl<B: Beside> Shared<B> {
     /// A book with no history. What it began with is copied.
     pub(crate) fn begin(
@@ -129,9 +119,8 @@ impl<B: Beside> Shared<B> {
         self.beside.laws();
     }
 
-    /// Refused where nothing more may be entered; else the length of the history.
-    fn open(&self) -> Result<u64, EnterFault>
-        ensures length { IfOk result (λ count. count ≡ length self.now.history) }
+    // Refused where nothing more may be entered.
+    fn open(&self) -> Result<(), EnterFault>
         ensures room { OnOk result (length self.now.history < self.now.start.most) }
         ensures next { OnOk result (TellsNext B.done (B.told self.now.beside)
             (B.told self.now.beside)) }
@@ -151,28 +140,7 @@ impl<B: Beside> Shared<B> {
                 length: found + length,
             });
         }
-        Ok(length)
-    }
-
-    /// The book again, to search on, and how long the history is, where it may hold more.
-    pub(crate) fn copy(&self, alloc: Global) -> Result<(Book, u64), EnterFault>
-        ensures book { IfOk result (λ copy. copy.0.book
-            ≡ replay (first_book self.now.start) self.now.history) }
-        ensures declared { IfOk result (λ copy. copy.0.book.declaration
-            ≡ self.now.start.declaration) }
-        ensures length { IfOk result (λ copy. copy.1 ≡ length self.now.history) }
-        ensures room { OnOk result (length self.now.history < self.now.start.most) }
-        ensures unbroken { OnOk result (IsUnbroken B.broken
-            (B.told self.now.beside self.now.history)) }
-        ensures fault { IfErr result (RefusedAt B.read B.broken (B.found (B.start self.now.beside))
-            self.now.start.most (B.told self.now.beside self.now.history)) }
-        ensures legal { IsLegal (first_book self.now.start) self.now.history }
-        ensures few { length self.now.history ≤ self.now.start.most }
-    {
-        self.beside.laws();
-        let length = self.open()?;
-        let book = self.book.copy(alloc)?;
-        Ok((book, length))
+        Ok(())
     }
 
     /// The book, the history, and what was kept beside it.
@@ -190,20 +158,16 @@ impl<B: Beside> Shared<B> {
         (self.book, self.history, self.beside)
     }
 
-    /// Answers an ask of a caller and enters it. What was found on a copy is taken where the
-    /// history has not grown since. All memory is taken, and the ask is kept, before the book
-    /// changes; after a fault the history is as before.
+    /// Answers an ask of a caller and enters it. All memory is taken, and the ask is kept, before
+    /// the book changes; after a fault the history is as before.
     pub(crate) fn enter(
         &mut self,
         alloc: Global,
         caller: u32,
         ask: &Item,
-        found: Option<Found>,
     ) -> Result<Answer, EnterFault>
         requires ask { CanAsk self.old.start.declaration ask.now }
         requires takes { B.takes (B.start self.old.beside) caller ask.now }
-        requires found { ForSome found (λ f.
-            IsFoundOn ask.now f (first_book self.old.start) self.old.history) }
         ensures start { self.new.start ≡ self.old.start }
         ensures beside { B.start self.new.beside ≡ B.start self.old.beside }
         ensures entered { IfOk result (λ answer. self.new.history
@@ -224,8 +188,8 @@ impl<B: Beside> Shared<B> {
         next_books();
         one_more();
         let _ = self.book.declaration();
-        let length = self.open()?;
-        let room = make_room(&mut self.book, alloc, ask, found, length)?;
+        self.open()?;
+        let room = self.book.prepare(alloc, ask)?;
         let answer = room.answer().copy(alloc)?;
         self.history.reserve(1)?;
         match self.beside.keep(alloc, caller, ask) {
@@ -239,28 +203,5 @@ impl<B: Beside> Shared<B> {
             answer,
         });
         Ok(given)
-    }
-}
-
-// Makes the book ready for the ask, with what was found where it was found on this history.
-fn make_room(
-    book: &mut Book,
-    alloc: Global,
-    ask: &Item,
-    found: Option<Found>,
-    entries: u64,
-) -> Result<Room, Memory>
-    requires ask { CanAsk book.old.book.declaration ask.now }
-    requires few { length book.old.book.holdings + 4 < 2 ^ 32 }
-    requires found { ForSome found (λ f. f.length ≡ entries →
-        IsHintFor ask.now f.hint book.old.book) }
-    ensures stays { book.new.book ≡ book.old.book }
-    ensures book { IfOk result (λ room. room.book ≡ book.old.book) }
-    ensures ask { IfOk result (λ room. room.ask ≡ ask.now) }
-    ensures spare { OnOk result (MOST_NEW_FLIGHTS ≤ book.new.spare) }
-{
-    match found {
-        Some(found) if found.length == entries => book.prepare_with(alloc, ask, found.hint),
-        _ => book.prepare(alloc, ask),
     }
 }

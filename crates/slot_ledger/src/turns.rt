@@ -1,27 +1,23 @@
 //! A shared history, amended in turn.
 ghost use Rattle.std.specs.Prelude.{◌≡◌, ◌≤◌, ◌<◌, ◌+◌, ◌^◌, [], All, Any, length};
-ghost use Rattle.std.specs.Prelude.{IfOk, IfErr, OnOk};
-ghost use Rattle.std.specs.Option.{ForSome};
+ghost use Rattle.std.specs.Prelude.{IfOk, IfErr};
 ghost use Rattle.turn_lock.specs.Seats.{new_seats, IsAtRest, HasSeen, IsNumber};
 ghost use Rattle.holding_book.specs.Asks.{CanAsk};
 ghost use Rattle.holding_book.specs.Books.{IsBook};
 ghost use Rattle.holding_book.specs.Histories.{replay, IsLegal};
 ghost use Rattle.slot_ledger.specs.Starts.{first_book, entry_caller};
 ghost use Rattle.slot_ledger.specs.Passes.{HasEntered, HasSeenMore, IsStillPass, IsDue, read_pass};
-ghost use Rattle.slot_ledger.specs.Beside.{RefusedAt, IsUnbroken};
-ghost use Rattle.slot_ledger.specs.Shared.{IsFoundOnSeen};
+ghost use Rattle.slot_ledger.specs.Beside.{RefusedAt};
 
 use crate::beside::Beside;
 use crate::fault::EnterFault;
-use crate::nothing::Nothing;
-use crate::shared::{Found, Shared};
-use holding_book::{Answer, Book, Entry, asks_new};
+use crate::shared::Shared;
+use holding_book::{Answer, Book, Entry};
 use scr_reader::Item;
 use slot_text::Memory;
 use std::alloc::Global;
 use std::marker::Model;
 use std::sync::Wait;
-use turn_lock::laws::histories;
 use turn_lock::{Turn, TurnSeat};
 
 /// The right of one caller to amend a shared history.
@@ -72,7 +68,8 @@ impl<B: Beside> SharedLedger<B> {
         Ok((SharedLedger { turn }, passes))
     }
 
-    /// Answers one ask of the pass's caller on the book as it is in its turn, and enters it.
+    /// Answers one ask of the pass's caller on the book as it is in its turn, and enters it. In
+    /// that one turn the times of an N or B ask are searched too.
     pub fn amend<R: Wait>(
         &self,
         rt: &R,
@@ -94,99 +91,9 @@ impl<B: Beside> SharedLedger<B> {
         ensures fault { IfErr result (RefusedAt B.read B.broken (B.found self.now.origin.beside)
             self.now.origin.start.most pass.new.seen) }
     {
-        histories::<Shared<Nothing>>();
-        let found = self.search(rt, alloc, pass, ask)?;
-        self.enter(rt, alloc, pass, ask, found)
-    }
-
-    // For an N or B ask: takes a copy of the book in a turn, and searches it while others go on.
-    fn search<R: Wait>(
-        &self,
-        rt: &R,
-        alloc: Global,
-        pass: &mut SharedPass<B>,
-        ask: &Item,
-    ) -> Result<Option<Found>, EnterFault>
-        requires rest { IsAtRest self.now pass.old }
-        requires ask { CanAsk self.now.origin.start.declaration ask.now }
-        ensures rest { IsAtRest self.now pass.new }
-        ensures number { pass.new.number ≡ pass.old.number }
-        ensures others { HasSeenMore (read_pass B.read pass.old) (read_pass B.read pass.new) }
-        ensures pass { IfErr result (λ _. IsStillPass (first_book self.now.origin.start)
-            self.now.origin.start.most (read_pass B.read pass.old) (read_pass B.read pass.new)) }
-        ensures found { IfOk result (λ found. ForSome found (λ f. IsFoundOnSeen ask.now f
-            (first_book self.now.origin.start) (B.read pass.new.seen))) }
-        ensures fault { IfErr result (RefusedAt B.read B.broken (B.found self.now.origin.beside)
-            self.now.origin.start.most pass.new.seen) }
-    {
-        if !asks_new(ask) {
-            return Ok(None);
-        }
-        let (copy, length) = self.copy(rt, alloc, pass)?;
-        match copy.hint(alloc, ask)? {
-            Some(hint) => Ok(Some(Found { hint, length })),
-            None => Ok(None),
-        }
-    }
-
-    // A copy of the book, and the length of the history, which the pass has then seen.
-    fn copy<R: Wait>(
-        &self,
-        rt: &R,
-        alloc: Global,
-        pass: &mut SharedPass<B>,
-    ) -> Result<(Book, u64), EnterFault>
-        requires rest { IsAtRest self.now pass.old }
-        ensures rest { IsAtRest self.now pass.new }
-        ensures others { HasSeenMore (read_pass B.read pass.old) (read_pass B.read pass.new) }
-        ensures pass { IsStillPass (first_book self.now.origin.start) self.now.origin.start.most
-            (read_pass B.read pass.old) (read_pass B.read pass.new) }
-        ensures book { IfOk result (λ copy. copy.0.book
-            ≡ replay (first_book self.now.origin.start) (B.read pass.new.seen)) }
-        ensures declared { IfOk result (λ copy. copy.0.book.declaration
-            ≡ self.now.origin.start.declaration) }
-        ensures length { IfOk result (λ copy. copy.1 ≡ length (B.read pass.new.seen)) }
-        ensures room { OnOk result (length (B.read pass.new.seen) < self.now.origin.start.most) }
-        ensures unbroken { OnOk result (IsUnbroken B.broken pass.new.seen) }
-        ensures fault { IfErr result (RefusedAt B.read B.broken (B.found self.now.origin.beside)
-            self.now.origin.start.most pass.new.seen) }
-    {
-        let shared = self.turn.take(rt, pass);
-        shared.laws();
-        let copy = shared.copy(alloc);
-        self.turn.give(rt, pass, shared);
-        copy
-    }
-
-    // The one turn in which an ask is answered and entered.
-    fn enter<R: Wait>(
-        &self,
-        rt: &R,
-        alloc: Global,
-        pass: &mut SharedPass<B>,
-        ask: &Item,
-        found: Option<Found>,
-    ) -> Result<Answer, EnterFault>
-        requires rest { IsAtRest self.now pass.old }
-        requires ask { CanAsk self.now.origin.start.declaration ask.now }
-        requires takes { B.takes self.now.origin.beside pass.old.number ask.now }
-        requires found { ForSome found (λ f. IsFoundOnSeen ask.now f
-            (first_book self.now.origin.start) (B.read pass.old.seen)) }
-        ensures rest { IsAtRest self.now pass.new }
-        ensures pass { IsStillPass (first_book self.now.origin.start) self.now.origin.start.most
-            (read_pass B.read pass.old) (read_pass B.read pass.new) }
-        ensures entered { IfOk result (λ answer. HasEntered ask.now answer
-            (read_pass B.read pass.old) (read_pass B.read pass.new)) }
-        ensures due { IfOk result (IsDue self.now.origin.start.declaration ask.now) }
-        ensures others { IfErr result (λ _. HasSeenMore (read_pass B.read pass.old)
-            (read_pass B.read pass.new)) }
-        ensures fault { IfErr result (RefusedAt B.read B.broken (B.found self.now.origin.beside)
-            self.now.origin.start.most pass.new.seen) }
-    {
-        histories::<Shared<Nothing>>();
         let mut shared = self.turn.take(rt, pass);
         shared.laws();
-        let answer = shared.enter(alloc, pass.number(), ask, found);
+        let answer = shared.enter(alloc, pass.number(), ask);
         shared.laws();
         self.turn.give(rt, pass, shared);
         answer

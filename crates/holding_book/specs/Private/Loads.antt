@@ -63,14 +63,3 @@ abbrev pub best_left : LoadsView → Line → Option Times
 best_left loads line =
     first_cheapest (cost_at loads.declaration line)
     (filter (fits_left loads line) (shifts_of loads.declaration line))
-
--- less than the best so far, if there is one
-abbrev pub is_cheaper : (Times → ℕ) → Option Times → Times → Bool
-is_cheaper cost None times = true
-is_cheaper cost (Some best) times = nat_lt (cost times) (cost best)
-
--- the times, if they cost less than the best so far and fit, else the best so far
-abbrev pub better_left : LoadsView → Line → Option Times → Times → Option Times
-better_left loads line best times =
-    if is_cheaper (cost_at loads.declaration line) best times && fits_left loads line times
-    then Some times else best

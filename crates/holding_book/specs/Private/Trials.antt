@@ -1,4 +1,4 @@
--- What a search has tried of the movements of a line, and what it found.
+-- What a search has tried of the movements of a line.
 use Rattle.std.specs.Prelude.{◌≡◌, ℕ, ◌<◌, ◌↔◌, nat_lt, Bool, true, List, length, slice_index_or, Option, Some, None, All, IsTrue}
 use Rattle.season_days.specs.Capacity.{capacity_of}
 use Rattle.season_days.specs.declared.day.Period.{Period}
@@ -12,7 +12,6 @@ use Rattle.window_counts.specs.Counts.{some_uses}
 use Rattle.series_model.specs.declared.times.Times.{Times}
 use Rattle.series_model.specs.Displacement.{cost_at}
 use Rattle.series_model.specs.Options.{TimesFit}
-use Rattle.holding_book.specs.declared.trials.Found.{Found}
 use Rattle.holding_book.specs.declared.trials.Trial.{Trial}
 use Rattle.holding_book.specs.declared.trials.Trials.{Trials}
 use Rattle.holding_book.specs.Private.Loads.{LoadsView}
@@ -33,16 +32,3 @@ pub record AreTrials (loads : LoadsView) (line : Line) (trials : Trials) : Type 
 pub record IsTrialPlace (minute : ℕ) (trials : List Trial) (place : ℕ) : Type 0 where
   pub there : place < length trials
   pub minute_is : (other : Trial) → (slice_index_or trials place other).minute ≡ minute
-
--- the cost is that of the times
-pub record AreFoundTimes (d : Declaration) (line : Line) (found : Found) : Type 0 where
-  pub cost_is : found.cost ≡ cost_at d line found.times
-  pub near : TimesFit None found.times
-
-abbrev pub found_times : Option Found → Option Times
-found_times None = None
-found_times (Some found) = Some found.times
-
-abbrev pub costs_less : Option Found → ℕ → Bool
-costs_less None cost = true
-costs_less (Some found) cost = nat_lt cost found.cost
