@@ -42,7 +42,7 @@ desk_top = record (new_shape (codes "desk")) {
 abbrev pub bare_app : App
 bare_app = record { top = record desk_top { is_leaf = true }; subs = [] }
 
--- before the commands are added that make a season
+-- with the first of the commands that read a season
 abbrev pub reading_app : App
 reading_app = record {
   top = desk_top;

@@ -5,7 +5,8 @@ ghost use Rattle.clap.specs.Words.{app_of, shape_of, FailsBy, fault_of, HasMatch
 ghost use Rattle.clap.specs.declared.builder.command.Command.TheViews.{out-Command};
 ghost use Rattle.command_words.specs.Words.{words_of};
 ghost use Rattle.command_words.specs.Jobs.{allocate_command, check_command};
-ghost use Rattle.command_words.specs.Jobs.{amend_command, make_command, trial_command};
+ghost use Rattle.command_words.specs.Jobs.{amend_command, serve_command};
+ghost use Rattle.command_words.specs.Jobs.{make_command, trial_command};
 ghost use Rattle.command_words.specs.App.{option_arg, names_arg, command_shape, bare_app, reading_app};
 ghost use Rattle.command_words.specs.App.{desk_app};
 
@@ -52,6 +53,17 @@ fn amend<'a>(alloc: Global) -> Result<Command<'a>, AllocError>
     Command::new(alloc, "amend").arg(names(alloc))
 }
 
+fn serve<'a>(alloc: Global) -> Result<Command<'a>, AllocError>
+    ensures shape { IfOk result (λ c. shape_of c ≡ command_shape serve_command) }
+    ensures local { IfOk result (λ c. (out-Command c).has_globals ≡ false) }
+{
+    Command::new(alloc, "serve")
+        .arg(option(alloc, "links"))?
+        .arg(option(alloc, "port"))?
+        .arg(option(alloc, "workers"))?
+        .arg(names(alloc))
+}
+
 fn make<'a>(alloc: Global) -> Result<Command<'a>, AllocError>
     ensures shape { IfOk result (λ c. shape_of c ≡ command_shape make_command) }
     ensures local { IfOk result (λ c. (out-Command c).has_globals ≡ false) }
@@ -76,7 +88,7 @@ fn bare<'a>(alloc: Global) -> Command<'a>
         .subcommand_required(true)
 }
 
-/// The desk with the commands that read a season's files.
+/// The desk with the first of the commands that read a season's files.
 fn reading_desk<'a>(alloc: Global) -> Result<Command<'a>, AllocError>
     ensures { IfOk result (λ c. app_of c ≡ reading_app) }
 {
@@ -92,9 +104,13 @@ fn reading_desk<'a>(alloc: Global) -> Result<Command<'a>, AllocError>
 fn desk<'a>(alloc: Global) -> Result<Command<'a>, AllocError>
     ensures { IfOk result (λ c. app_of c ≡ desk_app) }
 {
+    let serve = serve(alloc)?;
     let make = make(alloc)?;
     let trial = trial(alloc)?;
-    reading_desk(alloc)?.subcommand(make)?.subcommand(trial)
+    reading_desk(alloc)?
+        .subcommand(serve)?
+        .subcommand(make)?
+        .subcommand(trial)
 }
 
 /// What `clap` finds in the words.

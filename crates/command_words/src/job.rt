@@ -92,6 +92,17 @@ pub enum Job {
     Amend {
         names: NameList,
     },
+    /// Serve clients from the book of a certificate, and write what was asked and answered. The
+    /// names are those of the capacity file, the requests, the certificate and the record.
+    Serve {
+        names: NameList,
+        /// How many links each worker serves, from 1 to 1,000.
+        links: u32,
+        /// The port at which clients come, from 1 to 65,535.
+        port: u32,
+        /// How many workers serve, from 1 to 16.
+        workers: u32,
+    },
     /// Make a generated season, and write it. The names are those of the capacity file and the
     /// requests.
     Make {

@@ -1,19 +1,17 @@
-//! Calls of the desk over files and an output in memory.
+//! Calls of the desk over files, an output and doors in memory.
 
-use crate::texts::folded;
+ghost use Rattle.std.specs.Prelude.{All, IfOk};
+ghost use Rattle.desk_links.specs.LinksInMemory.{IsUnused};
+
+use crate::texts::{folded, spelled_out};
+use desk_links::{MemoryDoor, MemoryLink};
 use desk_outside::{Failure, MemoryCabinet, MemorySink};
 use slot_program::desk;
 use std::alloc::{AllocError, Global};
+use std::sync::Wait;
 use std::test::Fail;
 use std::thread::Threads;
-use worker_gate::RealGate;
-
-/// One call of the cabinet and one of the output, each of which is to fail.
-#[derive(Clone, Copy)]
-pub(crate) struct Failing {
-    pub(crate) cabinet: Option<Failure>,
-    pub(crate) sink: Option<Failure>,
-}
+use worker_gate::Gate;
 
 /// An empty cabinet with room for six files.
 pub(crate) fn new_cabinet(
@@ -42,17 +40,76 @@ fn split_words(alloc: Global, words: &str) -> Result<Vec<String>, AllocError> {
 
 /// Runs the desk on these words, with a blank between two. Gives the status, a blank, and what was
 /// printed.
-pub(crate) fn call_desk<R: Threads + Sync>(
+pub(crate) fn call_desk<R: Threads + Wait + Sync, G: Gate>(
     rt: &R,
     alloc: Global,
     words: &str,
     cabinet: &mut MemoryCabinet,
     failing: Option<Failure>,
+    doors: &mut Vec<MemoryDoor>,
+    gate: &G,
 ) -> Result<String, Fail> {
+    if doors.len() > 16 {
+        return Err("more than 16 doors".into());
+    }
     let list = split_words(alloc, words)?;
     let mut sink = MemorySink::new(alloc, 1000, list_of(alloc, failing)?)?;
-    let status = desk(rt, alloc, &list, cabinet, &mut sink, &RealGate);
+    let status = desk(rt, alloc, &list, cabinet, &mut sink, doors, gate);
     let mut said = format!(in alloc; "{status} ")?;
     said.push_str(folded(alloc, sink.bytes())?.as_str())?;
     Ok(said)
+}
+
+/// A link with this input, which is handed out in pieces of so many bytes, or whole where that is 0,
+/// and one call of which is to fail.
+fn link_of(
+    alloc: Global,
+    text: &str,
+    piece: usize,
+    failing: Option<Failure>,
+) -> Result<MemoryLink, Fail>
+    ensures { IfOk result IsUnused }
+{
+    let input = spelled_out(alloc, text)?;
+    let takes = if piece == 0 { 0 } else { input.len() + 1 };
+    let sizes = vec![in alloc; piece; takes]?;
+    let failing = list_of(alloc, failing)?;
+    Ok(MemoryLink::new(alloc, input, sizes, 300_000, failing)?)
+}
+
+/// The links of a door: their inputs, at most three, stand between bars. A call of the first one is
+/// to fail.
+fn links_of(
+    alloc: Global,
+    texts: &str,
+    piece: usize,
+    failing: Option<Failure>,
+) -> Result<Vec<MemoryLink>, Fail>
+    ensures { IfOk result (λ links. All IsUnused links.items) }
+{
+    let mut links = Vec::new(alloc);
+    let (first, rest) = texts.split_once('|').unwrap_or((texts, ""));
+    links.push(link_of(alloc, first, piece, failing)?)?;
+    if rest.is_empty() {
+        return Ok(links);
+    }
+    let (second, third) = rest.split_once('|').unwrap_or((rest, ""));
+    links.push(link_of(alloc, second, piece, None)?)?;
+    if !third.is_empty() {
+        links.push(link_of(alloc, third, piece, None)?)?;
+    }
+    Ok(links)
+}
+
+/// A door with these links, an accept of which is to fail.
+pub(crate) fn door_of(
+    alloc: Global,
+    texts: &str,
+    piece: usize,
+    call: Option<Failure>,
+    accept: Option<Failure>,
+) -> Result<MemoryDoor, Fail> {
+    let links = links_of(alloc, texts, piece, call)?;
+    let failing = list_of(alloc, accept)?;
+    Ok(MemoryDoor::new(alloc, links, 9, failing)?)
 }

@@ -12,4 +12,6 @@ mod desk_calls;
 #[cfg(test)]
 mod play;
 #[cfg(test)]
+mod serve_rows;
+#[cfg(test)]
 mod texts;

@@ -14,15 +14,23 @@
 //!   whole.
 //! - `holds NAME TEXT` wants this text of a file after the last run, `(none)` where there is none.
 //! - `take NAME` puts this file, as the last run left it, into the cabinet of each run below.
+//! - `door INPUT|INPUT` gives each run below one door more, with links of these inputs, at most three;
+//!   `shut` takes all doors away; `piece N` lets each take of a link give N bytes at most, 0 all.
+//! - `accept CALL|SAID` and `link CALL|SAID` run it where this accept of the first door fails, or
+//!   this call of that door's first link.
+//! - `sent DOOR LINK TEXT` wants that this link was sent this text in the last run.
 //!
 //! In what is wanted `*` stands for any text. Each certificate that a run wrote is checked.
 
-use crate::desk_calls::{Failing, call_desk, new_cabinet};
+use crate::desk_calls::{call_desk, door_of, new_cabinet};
 use crate::texts::{edited, fits, folded, spelled_out};
+use desk_links::MemoryDoor;
 use desk_outside::{Failure, MemoryCabinet};
 use std::alloc::{AllocError, Global};
+use std::sync::Wait;
 use std::test::Fail;
 use std::thread::Threads;
+use worker_gate::RealGate;
 
 /// A file of a script, by its text.
 #[derive(Drop)]
@@ -38,10 +46,13 @@ struct Play {
     words: String,
     said: String,
     cabinet: MemoryCabinet,
+    clients: Vec<String>,
+    piece: usize,
+    doors: Vec<MemoryDoor>,
 }
 
 /// Plays a script, and fails with the first of its lines that is not as it says.
-pub(crate) fn play_script<R: Threads + Sync>(
+pub(crate) fn play_script<R: Threads + Wait + Sync>(
     rt: &R,
     alloc: Global,
     script: &str,
@@ -51,6 +62,9 @@ pub(crate) fn play_script<R: Threads + Sync>(
         words: String::new(alloc),
         said: String::new(alloc),
         cabinet: new_cabinet(alloc, 0, None)?,
+        clients: Vec::new(alloc),
+        piece: 0,
+        doors: Vec::new(alloc),
     };
     for line in script.split('\n') {
         if !play_line(rt, alloc, &mut play, line)? {
@@ -60,7 +74,7 @@ pub(crate) fn play_script<R: Threads + Sync>(
     Ok(())
 }
 
-fn play_line<R: Threads + Sync>(
+fn play_line<R: Threads + Wait + Sync>(
     rt: &R,
     alloc: Global,
     play: &mut Play,
@@ -74,6 +88,8 @@ fn play_line<R: Threads + Sync>(
         "take" => take_file(alloc, play, rest),
         "holds" => compare_file(alloc, play, rest),
         "fronts" => play_fronts(rt, alloc, play, rest),
+        "door" | "shut" | "piece" => set_clients(alloc, play, word, rest),
+        "sent" => compare_sent(alloc, play, rest),
         _ => play_run(rt, alloc, play, word, rest),
     }
 }
@@ -123,6 +139,42 @@ fn compare_file(alloc: Global, play: &mut Play, rest: &str) -> Result<bool, Fail
     Ok(fits(play.said.as_str(), wanted))
 }
 
+/// Sets what the doors of each run below have.
+fn set_clients(alloc: Global, play: &mut Play, word: &str, rest: &str) -> Result<bool, Fail> {
+    match word {
+        "door" => play.clients.push(String::from_str(alloc, rest)?)?,
+        "shut" => play.clients = Vec::new(alloc),
+        _ => play.piece = rest.parse()?,
+    }
+    Ok(true)
+}
+
+/// Whether a link of the last run was sent this text.
+fn compare_sent(alloc: Global, play: &mut Play, rest: &str) -> Result<bool, Fail> {
+    let (door, rest) = rest.split_once(' ').ok_or("a link")?;
+    let (link, wanted) = rest.split_once(' ').unwrap_or((rest, ""));
+    let door: usize = door.parse()?;
+    let link: usize = link.parse()?;
+    let door = play.doors.get(door).ok_or("no such door")?;
+    let link = door.kept().get(link).ok_or("no such link")?;
+    let sent = folded(alloc, link.sent())?;
+    let is_sent = fits(sent.as_str(), wanted);
+    play.said = sent;
+    Ok(is_sent)
+}
+
+/// The doors of a run.
+fn made_doors(alloc: Global, play: &Play, run: &Run<'_>) -> Result<Vec<MemoryDoor>, Fail> {
+    let mut doors = Vec::new(alloc);
+    for clients in &play.clients {
+        let is_first = doors.is_empty();
+        let call = if is_first { run.link } else { None };
+        let accept = if is_first { run.accept } else { None };
+        doors.push(door_of(alloc, clients.as_str(), play.piece, call, accept)?)?;
+    }
+    Ok(doors)
+}
+
 /// A run: the lines that stand in place of others, the calls that fail, and what it is to say.
 #[derive(Clone, Copy)]
 struct Run<'a> {
@@ -130,6 +182,8 @@ struct Run<'a> {
     new: &'a str,
     cabinet: Option<Failure>,
     sink: Option<Failure>,
+    accept: Option<Failure>,
+    link: Option<Failure>,
     said: &'a str,
 }
 
@@ -140,11 +194,13 @@ fn plain(said: &str) -> Run<'_> {
         new: "",
         cabinet: None,
         sink: None,
+        accept: None,
+        link: None,
         said,
     }
 }
 
-fn play_run<R: Threads + Sync>(
+fn play_run<R: Threads + Wait + Sync>(
     rt: &R,
     alloc: Global,
     play: &mut Play,
@@ -176,6 +232,16 @@ fn changed_run<'a>(word: &str, rest: &'a str) -> Result<Run<'a>, Fail> {
             run.sink = Some(read_failure(what)?);
             Ok(run)
         }
+        "accept" => {
+            let mut run = plain(said);
+            run.accept = Some(read_failure(what)?);
+            Ok(run)
+        }
+        "link" => {
+            let mut run = plain(said);
+            run.link = Some(read_failure(what)?);
+            Ok(run)
+        }
         _ => Err("a line begins with no word of a script".into()),
     }
 }
@@ -197,18 +263,29 @@ fn read_failure(text: &str) -> Result<Failure, Fail> {
 }
 
 /// Runs the desk, and says whether it says what it is to say.
-fn run_desk<R: Threads + Sync>(
+fn run_desk<R: Threads + Wait + Sync>(
     rt: &R,
     alloc: Global,
     play: &mut Play,
     run: &Run<'_>,
 ) -> Result<bool, Fail> {
     let mut cabinet = filled_cabinet(alloc, &play.files, run)?;
-    let said = call_desk(rt, alloc, play.words.as_str(), &mut cabinet, run.sink)?;
+    let mut doors = made_doors(alloc, play, run)?;
+    let words = play.words.as_str();
+    let said = call_desk(
+        rt,
+        alloc,
+        words,
+        &mut cabinet,
+        run.sink,
+        &mut doors,
+        &RealGate,
+    )?;
     let is_said = fits(said.as_str(), run.said);
     let is_checked = has_valid_certificate(rt, alloc, play.words.as_str(), &said, &mut cabinet)?;
     play.said = said;
     play.cabinet = cabinet;
+    play.doors = doors;
     Ok(is_said && is_checked)
 }
 
@@ -237,7 +314,7 @@ fn room_for(files: &[File]) -> usize {
 }
 
 /// Whether the certificate is valid that these words wrote, where they wrote one.
-fn has_valid_certificate<R: Threads + Sync>(
+fn has_valid_certificate<R: Threads + Wait + Sync>(
     rt: &R,
     alloc: Global,
     words: &str,
@@ -247,12 +324,20 @@ fn has_valid_certificate<R: Threads + Sync>(
     if !words.starts_with("allocate CAP SCR CERT ") || !said.contains("STAGE 4") {
         return Ok(true);
     }
-    let verdict = call_desk(rt, alloc, "check CAP SCR CERT", cabinet, None)?;
+    let verdict = call_desk(
+        rt,
+        alloc,
+        "check CAP SCR CERT",
+        cabinet,
+        None,
+        &mut Vec::new(alloc),
+        &RealGate,
+    )?;
     Ok(verdict.as_str() == "0 YES;")
 }
 
 /// Whether the form of a file fails at its first line that is not whole, for each front of it.
-fn play_fronts<R: Threads + Sync>(
+fn play_fronts<R: Threads + Wait + Sync>(
     rt: &R,
     alloc: Global,
     play: &mut Play,
@@ -263,7 +348,15 @@ fn play_fronts<R: Threads + Sync>(
     for end in 0..bytes.len() {
         let mut cabinet = filled_cabinet(alloc, &play.files, &plain(""))?;
         let _ = cabinet.load(name, &bytes[..end]);
-        let said = call_desk(rt, alloc, play.words.as_str(), &mut cabinet, None)?;
+        let said = call_desk(
+            rt,
+            alloc,
+            play.words.as_str(),
+            &mut cabinet,
+            None,
+            &mut Vec::new(alloc),
+            &RealGate,
+        )?;
         let line = whole_lines(&bytes[..end]).saturating_add(1);
         let due = format!(in alloc; "3 FORM {name} {line};")?;
         if said.as_str() != due.as_str() {

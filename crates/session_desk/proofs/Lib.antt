@@ -5,3 +5,5 @@ mod PassedLemmas
 mod AnsweredLemmas
 mod SessionLemmas
 mod ServedLemmas
+mod JoinLemmas
+mod AmendLemmas

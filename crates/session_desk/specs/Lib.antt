@@ -2,4 +2,5 @@ pub mod Answered
 pub mod Passed
 pub mod Sessions
 pub mod Served
+pub mod Begun
 pub mod Private

@@ -3,3 +3,4 @@ pub mod Laws
 pub mod Held
 pub mod Reading
 pub mod Serving
+pub mod Amended

@@ -13,10 +13,11 @@ use Rattle.slot_program.specs.Judgements.{NamedBytes}
 use Rattle.slot_program.specs.Steps.{Step, names_read}
 use Rattle.slot_program.specs.Writing.{read_of}
 use Rattle.slot_program.specs.Jobs.{steps_of, names_written, finishing_of}
+use Rattle.slot_program.specs.Outside.{OutsideChange, IsStill}
 use Rattle.slot_program.specs.Desk.{World, JobEnds, LogGrew, IsOfFiles, OnlyOfJob}
 use Rattle.slot_program.specs.Leads.{ToldLead, ToldRefused, RefusedLead, UnreadLead}
 use Rattle.slot_program.specs.Stops.{report_of, StopLeads}
-use Rattle.slot_program.specs.Ends.{IsDone, IsCutShort, JobStops}
+use Rattle.slot_program.specs.Ends.{IsDoneBy, IsCutShort, JobStopsBy}
 use Rattle.slot_program.specs.Answers.{ToldExact, IsAnswer}
 use Rattle.command_words.specs.declared.job.Job.{Job}
 use Rattle.slot_program.specs.declared.stop.Stop.{Stop}
@@ -24,9 +25,9 @@ use Rattle.slot_program.specs.declared.stop.Stop.TheVariants as stops
 
 -- ---- what is reported, and that nothing else was due
 
-module _ (job : Job) (w v : World) where
+module _ (job : Job) (w : World) (change : OutsideChange) (v : World) where
   abbrev pub Ended : Report → Type 0
-  Ended report = JobEnds job w report v × IfSome w.files (λ held. ToldExact held job w report v)
+  Ended report = JobEnds job w change report v × IfSome w.files (λ held. ToldExact held job w report v)
 
   refused_exact : (files : Option Files) (refusal : Refusal) → IfSome files (λ held. ToldRefused held (steps_of job) refusal) → IfSome files (λ held. ToldExact held job w (refused refusal) v)
   refused_exact None refusal told = tt
@@ -37,9 +38,9 @@ module _ (job : Job) (w v : World) where
         forms = λ done h. inl (told.forms done h);
       }
 
-  refused_ended : (refusal : Refusal) → RefusedLead w (steps_of job) refusal v → Ended (refused refusal)
-  refused_ended refusal lead =
-      (record { inputs = lead.inputs; due = lead.due; log = lead.log; files = lead.files }, refused_exact w.files refusal lead.told)
+  refused_ended : IsStill change → (refusal : Refusal) → RefusedLead w (steps_of job) refusal v → Ended (refused refusal)
+  refused_ended same refusal lead =
+      ((same, record { inputs = lead.inputs; due = lead.due; log = lead.log; files = lead.files }), refused_exact w.files refusal lead.told)
 
   -- after a call that failed anything may have been due
   rose_exact : (files : Option Files) (report : Report) → status_of report ≡ 5 → Rose w.faults v.faults → IfSome files (λ held. ToldExact held job w report v)
@@ -51,22 +52,22 @@ module _ (job : Job) (w v : World) where
         forms = λ done h. inr (inr rose);
       }
 
-  unread_ended : (name : Word) → UnreadLead w (steps_of job) name v → Ended (unread name)
-  unread_ended name lead =
-      (record { inputs = lead.inputs; reached = lead.reached; rose = lead.rose; log = lead.log; files = lead.files }, rose_exact w.files (unread name) refl lead.rose)
+  unread_ended : IsStill change → (name : Word) → UnreadLead w (steps_of job) name v → Ended (unread name)
+  unread_ended same name lead =
+      ((same, record { inputs = lead.inputs; reached = lead.reached; rose = lead.rose; log = lead.log; files = lead.files }), rose_exact w.files (unread name) refl lead.rose)
 
   ended_by : (one other : Report) → Some one ≡ Some other → Ended one → Ended other
   ended_by one other e ended = subst Ended (same_Some one other e) ended
 
-  pub stop_ended : (names : List Word) (stop : Stop) (report : Report) → StopLeads names w (steps_of job) stop v → report_of names stop ≡ Some report → Ended report
-  stop_ended names (stops.Missing place) report lead e = ended_by _ report e (refused_ended _ lead)
-  stop_ended names (stops.Large place) report lead e = ended_by _ report e (refused_ended _ lead)
-  stop_ended names (stops.Unread place) report lead e = ended_by _ report e (unread_ended _ lead)
-  stop_ended names (stops.Unwritten place) report lead e = absurd lead
-  stop_ended names (stops.OutOfForm place line) report lead e = ended_by _ report e (refused_ended _ lead)
-  stop_ended names (stops.OverLimit limit number) report lead e = ended_by _ report e (refused_ended _ lead)
-  stop_ended names (stops.NotValid line reason) report lead e = ended_by _ report e (refused_ended _ lead)
-  stop_ended names stops.Memory report lead e = absurd (none-some report e)
+  pub stop_ended : (names : List Word) (stop : Stop) (report : Report) → IsStill change → StopLeads names w (steps_of job) stop v → report_of names stop ≡ Some report → Ended report
+  stop_ended names (stops.Missing place) report same lead e = ended_by _ report e (refused_ended same _ lead)
+  stop_ended names (stops.Large place) report same lead e = ended_by _ report e (refused_ended same _ lead)
+  stop_ended names (stops.Unread place) report same lead e = ended_by _ report e (unread_ended same _ lead)
+  stop_ended names (stops.Unwritten place) report same lead e = absurd lead
+  stop_ended names (stops.OutOfForm place line) report same lead e = ended_by _ report e (refused_ended same _ lead)
+  stop_ended names (stops.OverLimit limit number) report same lead e = ended_by _ report e (refused_ended same _ lead)
+  stop_ended names (stops.NotValid line reason) report same lead e = ended_by _ report e (refused_ended same _ lead)
+  stop_ended names stops.Memory report same lead e = absurd (none-some report e)
 
   pub finished_exact : (files : Option Files) (done : List NamedBytes) (status : ℕ) (text : List ℕ) → IfSome files (λ held. ToldLead held (steps_of job) done []) → Contains (finishing_of job) status
       → IfSome files (λ held. ToldExact held job w (finished status text) v)
@@ -95,38 +96,38 @@ stop_asked names w v all written stops.Memory lead = (map read_of lead.inputs, l
 
 -- ---- the end of a job
 
-module _ (job : Job) (w v : World) where
-  pub done_answer : (status : ℕ) (text : List ℕ) → IsDone job w status text v → IsAnswer (Some job) w status text v
+module _ (job : Job) (w : World) (change : OutsideChange) (v : World) where
+  pub done_answer : (status : ℕ) (text : List ℕ) → IsDoneBy job w change status text v → IsAnswer (Some job) w change status text v
   done_answer status text done =
       record {
         report = finished status text;
         status_is = refl;
         text_is = refl;
         ends = done.finished;
-        exact = finished_exact job w v w.files done.finished.inputs status text done.told done.finishing;
+        exact = finished_exact job w change v w.files done.finished.inputs status text done.told done.finishing;
       }
 
-  cut_ended : (name : Word) → IsCutShort job w name v → Ended job w v (unwritten name)
-  cut_ended name cut = (cut.unwritten, rose_exact job w v w.files (unwritten name) refl cut.unwritten.rose)
+  cut_ended : (name : Word) → IsCutShort job w change name v → Ended job w change v (unwritten name)
+  cut_ended name cut = (cut.unwritten, rose_exact job w change v w.files (unwritten name) refl cut.unwritten.rose)
 
-  pub job_stop_ended : (names : List Word) (stop : Stop) (report : Report) → JobStops names job w stop v → report_of names stop ≡ Some report → Ended job w v report
-  job_stop_ended names (stops.Unwritten place) report cut e = ended_by job w v _ report e (cut_ended _ cut)
-  job_stop_ended names (stops.Missing place) report lead e = stop_ended job w v names (stops.Missing place) report lead e
-  job_stop_ended names (stops.Large place) report lead e = stop_ended job w v names (stops.Large place) report lead e
-  job_stop_ended names (stops.Unread place) report lead e = stop_ended job w v names (stops.Unread place) report lead e
-  job_stop_ended names (stops.OutOfForm place line) report lead e = stop_ended job w v names (stops.OutOfForm place line) report lead e
-  job_stop_ended names (stops.OverLimit limit number) report lead e = stop_ended job w v names (stops.OverLimit limit number) report lead e
-  job_stop_ended names (stops.NotValid line reason) report lead e = stop_ended job w v names (stops.NotValid line reason) report lead e
-  job_stop_ended names stops.Memory report lead e = stop_ended job w v names stops.Memory report lead e
+  pub job_stop_ended : (names : List Word) (stop : Stop) (report : Report) → JobStopsBy names job w change stop v → report_of names stop ≡ Some report → Ended job w change v report
+  job_stop_ended names (stops.Unwritten place) report cut e = ended_by job w change v _ report e (cut_ended _ cut)
+  job_stop_ended names (stops.Missing place) report h e = stop_ended job w change v names (stops.Missing place) report h.0 h.1 e
+  job_stop_ended names (stops.Large place) report h e = stop_ended job w change v names (stops.Large place) report h.0 h.1 e
+  job_stop_ended names (stops.Unread place) report h e = stop_ended job w change v names (stops.Unread place) report h.0 h.1 e
+  job_stop_ended names (stops.OutOfForm place line) report h e = stop_ended job w change v names (stops.OutOfForm place line) report h.0 h.1 e
+  job_stop_ended names (stops.OverLimit limit number) report h e = stop_ended job w change v names (stops.OverLimit limit number) report h.0 h.1 e
+  job_stop_ended names (stops.NotValid line reason) report h e = stop_ended job w change v names (stops.NotValid line reason) report h.0 h.1 e
+  job_stop_ended names stops.Memory report lead e = absurd (none-some report e)
 
-  pub job_stop_asked : (names : List Word) (stop : Stop) → JobStops names job w stop v → LogGrew w.log (OnlyOfJob (Some job)) v.log
+  pub job_stop_asked : (names : List Word) (stop : Stop) → JobStopsBy names job w change stop v → LogGrew w.log (OnlyOfJob (Some job)) v.log
   job_stop_asked names (stops.Unwritten place) cut = cut.asked
-  job_stop_asked names (stops.Missing place) lead = stop_asked names w v (steps_of job) (names_written job) (stops.Missing place) lead
-  job_stop_asked names (stops.Large place) lead = stop_asked names w v (steps_of job) (names_written job) (stops.Large place) lead
-  job_stop_asked names (stops.Unread place) lead = stop_asked names w v (steps_of job) (names_written job) (stops.Unread place) lead
-  job_stop_asked names (stops.OutOfForm place line) lead = stop_asked names w v (steps_of job) (names_written job) (stops.OutOfForm place line) lead
-  job_stop_asked names (stops.OverLimit limit number) lead = stop_asked names w v (steps_of job) (names_written job) (stops.OverLimit limit number) lead
-  job_stop_asked names (stops.NotValid line reason) lead = stop_asked names w v (steps_of job) (names_written job) (stops.NotValid line reason) lead
+  job_stop_asked names (stops.Missing place) h = stop_asked names w v (steps_of job) (names_written job) (stops.Missing place) h.1
+  job_stop_asked names (stops.Large place) h = stop_asked names w v (steps_of job) (names_written job) (stops.Large place) h.1
+  job_stop_asked names (stops.Unread place) h = stop_asked names w v (steps_of job) (names_written job) (stops.Unread place) h.1
+  job_stop_asked names (stops.OutOfForm place line) h = stop_asked names w v (steps_of job) (names_written job) (stops.OutOfForm place line) h.1
+  job_stop_asked names (stops.OverLimit limit number) h = stop_asked names w v (steps_of job) (names_written job) (stops.OverLimit limit number) h.1
+  job_stop_asked names (stops.NotValid line reason) h = stop_asked names w v (steps_of job) (names_written job) (stops.NotValid line reason) h.1
   job_stop_asked names stops.Memory lead = stop_asked names w v (steps_of job) (names_written job) stops.Memory lead
 
 -- ---- nothing passed

@@ -1,6 +1,7 @@
 -- The work of a job is done, or its writes are cut short.
 use Rattle.std.proofs.Common.{◌≡◌, ℕ, ◌+◌, List, [], ◌∷◌, ◌++◌, map, Option, Some, None, refl, sym, ap, ◌∙◌, subst, append_assoc, arith, inl, inr}
 use Rattle.std.specs.Prelude.{All, Contains}
+use Rattle.std.proofs.lemmas.Bool.{cases_Bool}
 use Rattle.std.proofs.lemmas.List.{append-nil}
 use Rattle.std.proofs.lemmas.List.Elements.{All-nil, All-cons, All-append, All-map}
 use Rattle.desk_outside.specs.Cause.{Rose}
@@ -10,14 +11,17 @@ use Rattle.command_words.specs.Words.{Word}
 use Rattle.slot_program.specs.Judgements.{NamedBytes}
 use Rattle.slot_program.specs.Steps.{names_read}
 use Rattle.slot_program.specs.Writing.{read_of, AreWritten}
-use Rattle.slot_program.specs.Jobs.{name_at, one_file, two_files, steps_of, names_written, finishing_of, Works}
+use Rattle.slot_program.specs.Jobs.{name_at, one_file, two_files, steps_of, names_written, served_statuses, finishing_of, FileWorks, ServiceWorks, Works}
+use Rattle.slot_program.specs.Outside.{OutsideChange, still, IsStill}
+use Rattle.slot_program.specs.Services.{some_ended, is_door_end, is_full_end, served_status}
+use Rattle.session_desk.specs.declared.worker.DoorWork.{DoorWork}
 use Rattle.slot_program.specs.Desk.{World, LogGrew, OnlyOfJob, IsOfFiles}
 use Rattle.slot_program.specs.Leads.{Leads}
-use Rattle.slot_program.specs.Ends.{IsDone, IsCutShort, JobStops}
+use Rattle.slot_program.specs.Ends.{IsDoneBy, IsCutShort, JobStopsBy, JobStops}
 use Rattle.slot_program.specs.Stops.{StopLeads}
 use Rattle.slot_program.proofs.StageLemmas.{marks_among}
 use Rattle.command_words.specs.declared.job.Job.{Job}
-use Rattle.command_words.specs.declared.job.Job.TheVariants.{Allocate, Check, Amend, Make, Trial}
+use Rattle.command_words.specs.declared.job.Job.TheVariants.{Allocate, Check, Amend, Serve, Make, Trial}
 use Rattle.slot_program.specs.declared.stop.Stop.{Stop}
 use Rattle.slot_program.specs.declared.stop.Stop.TheVariants as stops
 
@@ -26,40 +30,70 @@ use Rattle.slot_program.specs.declared.stop.Stop.TheVariants as stops
 only_zero : (n : ℕ) → n ≡ 0 → Contains {X = ℕ} (0 ∷ []) n
 only_zero n e = subst (λ (k : ℕ). Contains {X = ℕ} (0 ∷ []) k) (sym e) (0, omega arith, refl)
 
-pub works_finishing : (job : Job) (inputs writes : List NamedBytes) (status : ℕ) (text : List ℕ) → Works job inputs writes status text → Contains (finishing_of job) status
-works_finishing (Allocate names nodes workers) [] writes status text work = absurd work
-works_finishing (Allocate names nodes workers) (capacity ∷ []) writes status text work = absurd work
-works_finishing (Allocate names nodes workers) (capacity ∷ requests ∷ []) writes status text work =
+file_finishing : (job : Job) (inputs writes : List NamedBytes) (status : ℕ) (text : List ℕ) → FileWorks job inputs writes status text → Contains (finishing_of job) status
+file_finishing (Allocate names nodes workers) [] writes status text work = absurd work
+file_finishing (Allocate names nodes workers) (capacity ∷ []) writes status text work = absurd work
+file_finishing (Allocate names nodes workers) (capacity ∷ requests ∷ []) writes status text work =
     subst (λ (n : ℕ). Contains (finishing_of (Allocate names nodes workers)) n) (sym work.output.status_is) (marks_among work.output.proved.stages)
-works_finishing (Allocate names nodes workers) (capacity ∷ requests ∷ more ∷ rest) writes status text work = absurd work
-works_finishing (Check names) [] writes status text work = absurd work
-works_finishing (Check names) (capacity ∷ []) writes status text work = absurd work
-works_finishing (Check names) (capacity ∷ requests ∷ []) writes status text work = absurd work
-works_finishing (Check names) (capacity ∷ requests ∷ certificate ∷ []) writes status text work = only_zero status work.0
-works_finishing (Check names) (capacity ∷ requests ∷ certificate ∷ more ∷ rest) writes status text work = absurd work
-works_finishing (Amend names) [] writes status text work = absurd work
-works_finishing (Amend names) (capacity ∷ []) writes status text work = absurd work
-works_finishing (Amend names) (capacity ∷ requests ∷ []) writes status text work = absurd work
-works_finishing (Amend names) (capacity ∷ requests ∷ certificate ∷ []) writes status text work = absurd work
-works_finishing (Amend names) (capacity ∷ requests ∷ certificate ∷ asks ∷ []) writes status text work = only_zero status work.status_is
-works_finishing (Amend names) (capacity ∷ requests ∷ certificate ∷ asks ∷ more ∷ rest) writes status text work = absurd work
-works_finishing (Make number units names) [] writes status text work = only_zero status work.status_is
-works_finishing (Make number units names) (file ∷ rest) writes status text work = absurd work
-works_finishing (Trial number units) [] writes status text work =
+file_finishing (Allocate names nodes workers) (capacity ∷ requests ∷ more ∷ rest) writes status text work = absurd work
+file_finishing (Check names) [] writes status text work = absurd work
+file_finishing (Check names) (capacity ∷ []) writes status text work = absurd work
+file_finishing (Check names) (capacity ∷ requests ∷ []) writes status text work = absurd work
+file_finishing (Check names) (capacity ∷ requests ∷ certificate ∷ []) writes status text work = only_zero status work.0
+file_finishing (Check names) (capacity ∷ requests ∷ certificate ∷ more ∷ rest) writes status text work = absurd work
+file_finishing (Amend names) [] writes status text work = absurd work
+file_finishing (Amend names) (capacity ∷ []) writes status text work = absurd work
+file_finishing (Amend names) (capacity ∷ requests ∷ []) writes status text work = absurd work
+file_finishing (Amend names) (capacity ∷ requests ∷ certificate ∷ []) writes status text work = absurd work
+file_finishing (Amend names) (capacity ∷ requests ∷ certificate ∷ asks ∷ []) writes status text work = only_zero status work.status_is
+file_finishing (Amend names) (capacity ∷ requests ∷ certificate ∷ asks ∷ more ∷ rest) writes status text work = absurd work
+file_finishing (Serve names links port workers) inputs writes status text work = absurd work
+file_finishing (Make number units names) [] writes status text work = only_zero status work.status_is
+file_finishing (Make number units names) (file ∷ rest) writes status text work = absurd work
+file_finishing (Trial number units) [] writes status text work =
     subst (λ (n : ℕ). Contains (finishing_of (Trial number units)) n) (sym work.status_is) (marks_among work.proved.stages)
-works_finishing (Trial number units) (file ∷ rest) writes status text work = absurd work
+file_finishing (Trial number units) (file ∷ rest) writes status text work = absurd work
+
+served_among : (works : List DoorWork) → Contains served_statuses (served_status works)
+served_among works =
+    elim (cases_Bool (some_ended is_door_end works)) [
+      | inl door ↦ rw door (1, omega arith, refl)
+      | inr calm ↦ elim (cases_Bool (some_ended is_full_end works)) [
+        | inl full ↦ rw (calm, full) (2, omega arith, refl)
+        | inr free ↦ rw (calm, free) (0, omega arith, refl)
+      ]
+    ]
+
+service_finishing : (names : List Word) (links : ℕ) (inputs writes : List NamedBytes) (change : OutsideChange) (status : ℕ) (text : List ℕ) → ServiceWorks names links inputs writes change status text → Contains served_statuses status
+service_finishing names links [] writes change status text work = absurd work
+service_finishing names links (capacity ∷ []) writes change status text work = absurd work
+service_finishing names links (capacity ∷ requests ∷ []) writes change status text work = absurd work
+service_finishing names links (capacity ∷ requests ∷ certificate ∷ []) writes change status text work =
+    subst (λ (n : ℕ). Contains served_statuses n) (sym work.output.status_is) (served_among work.output.works)
+service_finishing names links (capacity ∷ requests ∷ certificate ∷ more ∷ rest) writes change status text work = absurd work
+
+pub works_finishing : (job : Job) (inputs writes : List NamedBytes) (change : OutsideChange) (status : ℕ) (text : List ℕ) → Works job inputs writes change status text → Contains (finishing_of job) status
+works_finishing (Allocate names nodes workers) inputs writes change status text work = file_finishing (Allocate names nodes workers) inputs writes status text work.1
+works_finishing (Check names) inputs writes change status text work = file_finishing (Check names) inputs writes status text work.1
+works_finishing (Amend names) inputs writes change status text work = file_finishing (Amend names) inputs writes status text work.1
+works_finishing (Serve names links port workers) inputs writes change status text work = service_finishing names links inputs writes change status text work
+works_finishing (Make number units names) inputs writes change status text work = file_finishing (Make number units names) inputs writes status text work.1
+works_finishing (Trial number units) inputs writes change status text work = file_finishing (Trial number units) inputs writes status text work.1
 
 -- ---- a job stops as it does where nothing was written
 
+pub stop_job_by : (names : List Word) (job : Job) (w : World) (change : OutsideChange) (v : World) (stop : Stop) → IsStill change → StopLeads names w (steps_of job) stop v → JobStopsBy names job w change stop v
+stop_job_by names job w change v (stops.Missing place) same lead = (same, lead)
+stop_job_by names job w change v (stops.Large place) same lead = (same, lead)
+stop_job_by names job w change v (stops.Unread place) same lead = (same, lead)
+stop_job_by names job w change v (stops.Unwritten place) same lead = absurd lead
+stop_job_by names job w change v (stops.OutOfForm place line) same lead = (same, lead)
+stop_job_by names job w change v (stops.OverLimit limit number) same lead = (same, lead)
+stop_job_by names job w change v (stops.NotValid line reason) same lead = (same, lead)
+stop_job_by names job w change v stops.Memory same lead = lead
+
 pub stop_job : (names : List Word) (job : Job) (w v : World) (stop : Stop) → StopLeads names w (steps_of job) stop v → JobStops names job w stop v
-stop_job names job w v (stops.Missing place) lead = lead
-stop_job names job w v (stops.Large place) lead = lead
-stop_job names job w v (stops.Unread place) lead = lead
-stop_job names job w v (stops.Unwritten place) lead = absurd lead
-stop_job names job w v (stops.OutOfForm place line) lead = lead
-stop_job names job w v (stops.OverLimit limit number) lead = lead
-stop_job names job w v (stops.NotValid line reason) lead = lead
-stop_job names job w v stops.Memory lead = lead
+stop_job names job w v stop lead = λ o. stop_job_by names job w (still o) v stop refl lead
 
 -- ---- names of files
 
@@ -74,7 +108,7 @@ second_of_two one two = (1, omega arith, refl)
 
 -- ---- all steps passed, and the files are these
 
-module _ (job : Job) (w v : World) (inputs : List NamedBytes) (lead : Leads w (steps_of job) inputs [] v) where
+module _ (job : Job) (w v : World) (inputs : List NamedBytes) (lead : Leads w (steps_of job) inputs [] v) (change : OutsideChange) where
   abbrev P : Passage → Type 0
   P = IsOfFiles (names_read (steps_of job)) (names_written job)
 
@@ -86,7 +120,7 @@ module _ (job : Job) (w v : World) (inputs : List NamedBytes) (lead : Leads w (s
   none_written (Some held) after e = e
 
   -- nothing is written
-  pub read_done : (status : ℕ) (text : List ℕ) → Works job inputs [] status text → IsDone job w status text v
+  pub read_done : (status : ℕ) (text : List ℕ) → Works job inputs [] change status text → IsDoneBy job w change status text v
   read_done status text work = record {
     finished = record {
       inputs = inputs;
@@ -97,7 +131,7 @@ module _ (job : Job) (w v : World) (inputs : List NamedBytes) (lead : Leads w (s
       log = lead.log ∙ ap (λ (l : List Passage). w.log ++ l) (sym (append-nil (map read_of inputs)));
       files = none_written w.files v.files lead.files;
     };
-    finishing = works_finishing job inputs [] status text work;
+    finishing = works_finishing job inputs [] change status text work;
     asked = (map read_of inputs, lead.log, reads_asked);
     told = lead.told;
   }
@@ -115,11 +149,11 @@ module _ (job : Job) (w v : World) (inputs : List NamedBytes) (lead : Leads w (s
   grew u passed e all = (map read_of inputs ++ passed, log_on u passed e, All-append P (map read_of inputs) passed reads_asked all)
 
   -- one file is written
-  module _ (status : ℕ) (text : List ℕ) (names : List Word) (place : ℕ) (bytes : List ℕ) (named : names_written job ≡ name_at names place ∷ []) (work : Works job inputs (one_file names place bytes) status text) where
+  module _ (status : ℕ) (text : List ℕ) (names : List Word) (place : ℕ) (bytes : List ℕ) (named : names_written job ≡ name_at names place ∷ []) (work : Works job inputs (one_file names place bytes) change status text) where
     is_named : Contains (names_written job) (name_at names place)
     is_named = subst (λ (l : List Word). Contains l (name_at names place)) (sym named) (only_name (name_at names place))
 
-    pub only_failed : (u : World) → WritesPart v.files (name_at names place) bytes u.files → Rose v.faults u.faults → u.log ≡ v.log ++ write_failed (name_at names place) bytes ∷ [] → IsCutShort job w (name_at names place) u
+    pub only_failed : (u : World) → WritesPart v.files (name_at names place) bytes u.files → Rose v.faults u.faults → u.log ≡ v.log ++ write_failed (name_at names place) bytes ∷ [] → IsCutShort job w change (name_at names place) u
     only_failed u part rose log =
         let failed : Passage = write_failed (name_at names place) bytes in
         record {
@@ -142,7 +176,7 @@ module _ (job : Job) (w v : World) (inputs : List NamedBytes) (lead : Leads w (s
     is_written None after name x = tt
     is_written (Some held) after name x = x
 
-    pub only_written : (u : World) → Writes v.files (name_at names place) bytes u.files → u.faults ≡ v.faults → u.log ≡ v.log ++ wrote (name_at names place) bytes ∷ [] → IsDone job w status text u
+    pub only_written : (u : World) → Writes v.files (name_at names place) bytes u.files → u.faults ≡ v.faults → u.log ≡ v.log ++ wrote (name_at names place) bytes ∷ [] → IsDoneBy job w change status text u
     only_written u done quiet log =
         let passed : Passage = wrote (name_at names place) bytes in
         record {
@@ -155,13 +189,13 @@ module _ (job : Job) (w v : World) (inputs : List NamedBytes) (lead : Leads w (s
             log = log_on u (passed ∷ []) log;
             files = is_written w.files u.files (name_at names place) (subst (λ (o : Option Files). Writes o (name_at names place) bytes u.files) lead.files done);
           };
-          finishing = works_finishing job inputs (one_file names place bytes) status text work;
+          finishing = works_finishing job inputs (one_file names place bytes) change status text work;
           asked = grew u (passed ∷ []) log (one_passed passed is_named);
           told = lead.told;
         }
 
   -- two files are written
-  module _ (status : ℕ) (text : List ℕ) (names : List Word) (place : ℕ) (one two : List ℕ) (named : names_written job ≡ name_at names place ∷ name_at names (place + 1) ∷ []) (work : Works job inputs (two_files names place one two) status text) where
+  module _ (status : ℕ) (text : List ℕ) (names : List Word) (place : ℕ) (one two : List ℕ) (named : names_written job ≡ name_at names place ∷ name_at names (place + 1) ∷ []) (work : Works job inputs (two_files names place one two) change status text) where
     abbrev first : Word
     first = name_at names place
 
@@ -183,7 +217,7 @@ module _ (job : Job) (w v : World) (inputs : List NamedBytes) (lead : Leads w (s
     second_tried : P (write_failed second two)
     second_tried = kept second (second_of_two first second)
 
-    pub first_failed : (u : World) → WritesPart v.files first one u.files → Rose v.faults u.faults → u.log ≡ v.log ++ write_failed first one ∷ [] → IsCutShort job w first u
+    pub first_failed : (u : World) → WritesPart v.files first one u.files → Rose v.faults u.faults → u.log ≡ v.log ++ write_failed first one ∷ [] → IsCutShort job w change first u
     first_failed u part rose log = record {
       unwritten = record {
         inputs = inputs;
@@ -208,7 +242,7 @@ module _ (job : Job) (w v : World) (inputs : List NamedBytes) (lead : Leads w (s
       written_here : Writes w.files first one x.files
       written_here = subst (λ (o : Option Files). Writes o first one x.files) lead.files written
 
-      pub second_failed : (u : World) → WritesPart x.files second two u.files → Rose x.faults u.faults → u.log ≡ x.log ++ write_failed second two ∷ [] → IsCutShort job w second u
+      pub second_failed : (u : World) → WritesPart x.files second two u.files → Rose x.faults u.faults → u.log ≡ x.log ++ write_failed second two ∷ [] → IsCutShort job w change second u
       second_failed u part rose more = record {
         unwritten = record {
           inputs = inputs;
@@ -230,7 +264,7 @@ module _ (job : Job) (w v : World) (inputs : List NamedBytes) (lead : Leads w (s
       are_written None between after a b x y = tt
       are_written (Some held) between after a b x y = subst (λ (o : Option Files). Writes o b.name b.bytes after) x y
 
-      pub both_written : (u : World) → Writes x.files second two u.files → u.faults ≡ x.faults → u.log ≡ x.log ++ wrote second two ∷ [] → IsDone job w status text u
+      pub both_written : (u : World) → Writes x.files second two u.files → u.faults ≡ x.faults → u.log ≡ x.log ++ wrote second two ∷ [] → IsDoneBy job w change status text u
       both_written u done quiet more = record {
         finished = record {
           inputs = inputs;
@@ -241,7 +275,7 @@ module _ (job : Job) (w v : World) (inputs : List NamedBytes) (lead : Leads w (s
           log = log_on u (wrote first one ∷ wrote second two ∷ []) (log_after u (wrote second two) more);
           files = are_written w.files x.files u.files (record { name = first; bytes = one }) (record { name = second; bytes = two }) written_here done;
         };
-        finishing = works_finishing job inputs (two_files names place one two) status text work;
+        finishing = works_finishing job inputs (two_files names place one two) change status text work;
         asked = grew u (wrote first one ∷ wrote second two ∷ []) (log_after u (wrote second two) more)
             (All-cons P (wrote first one) (wrote second two ∷ []) first_wrote (one_passed (wrote second two) second_wrote));
         told = lead.told;

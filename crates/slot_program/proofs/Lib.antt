@@ -1,4 +1,6 @@
 mod TextLemmas
+mod OutsideLemmas
+mod ServiceLemmas
 mod StageLemmas
 mod LeadLemmas
 mod JudgementLemmas

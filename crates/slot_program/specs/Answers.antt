@@ -6,6 +6,7 @@ use Rattle.slot_program.specs.Reports.{Report, Refusal, refused, status_of, text
 use Rattle.slot_program.specs.Judgements.{NamedBytes}
 use Rattle.slot_program.specs.Steps.{AllPass, FirstDue, form_steps}
 use Rattle.slot_program.specs.Jobs.{steps_of, finishing_of}
+use Rattle.slot_program.specs.Outside.{OutsideChange}
 use Rattle.slot_program.specs.Desk.{World, Ends}
 use Rattle.command_words.specs.declared.job.Job.{Job}
 
@@ -25,10 +26,10 @@ IsExact None w report v = Unit {0}
 IsExact (Some job) w report v = IfSome w.files (λ held. ToldExact held job w report v)
 
 -- the command ends with a report of this status and text
-pub record IsAnswer (job : Option Job) (w : World) (status : ℕ) (text : List ℕ) (v : World) : Type 0
-  where
-    pub report : Report
-    pub status_is : status ≡ status_of report
-    pub text_is : text ≡ text_of report
-    pub ends : Ends job w report v
-    pub exact : IsExact job w report v
+pub record IsAnswer (job : Option Job) (w : World) (change : OutsideChange) (status : ℕ)
+    (text : List ℕ) (v : World) : Type 0 where
+  pub report : Report
+  pub status_is : status ≡ status_of report
+  pub text_is : text ≡ text_of report
+  pub ends : Ends job w change report v
+  pub exact : IsExact job w report v

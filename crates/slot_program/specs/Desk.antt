@@ -1,5 +1,5 @@
--- How a command ends: what it reports, why, what passed between it and the cabinet, and which files
--- it leaves.
+-- How a command ends: what it reports, why, what passed between it and the cabinet, which files it
+-- leaves, and how it leaves what else is outside.
 use Rattle.std.specs.Prelude.{◌≡◌, ℕ, List, [], ◌∷◌, ◌++◌, map, Option, Some, None, All}
 use Rattle.std.specs.Prelude.{Contains}
 use Rattle.desk_outside.specs.Cause.{Rose}
@@ -12,6 +12,7 @@ use Rattle.slot_program.specs.Judgements.{NamedBytes}
 use Rattle.slot_program.specs.Steps.{names_read, AllPass, RefuseFrom, ReachFrom}
 use Rattle.slot_program.specs.Writing.{read_of, written_of, AreWritten, StopsAt}
 use Rattle.slot_program.specs.Jobs.{steps_of, names_written, Works}
+use Rattle.slot_program.specs.Outside.{OutsideChange, IsStill}
 use Rattle.command_words.specs.declared.job.Job.{Job}
 
 -- what contracts see of a cabinet: its files, where they are told, the count of its faults, and
@@ -30,15 +31,15 @@ world_of files faults log cabinet =
 
 -- its steps passed, and its work is done: exactly these files were read and then written, and no
 -- call failed
-pub record IsFinished (job : Job) (w : World) (status : ℕ) (text : List ℕ) (v : World) : Type 0
-  where
-    pub inputs : List NamedBytes
-    pub writes : List NamedBytes
-    pub passed : AllPass w.files (steps_of job) inputs
-    pub work : Works job inputs writes status text
-    pub calm : v.faults ≡ w.faults
-    pub log : v.log ≡ w.log ++ (map read_of inputs ++ map written_of writes)
-    pub files : AreWritten w.files writes v.files
+pub record IsFinished (job : Job) (w : World) (change : OutsideChange) (status : ℕ)
+    (text : List ℕ) (v : World) : Type 0 where
+  pub inputs : List NamedBytes
+  pub writes : List NamedBytes
+  pub passed : AllPass w.files (steps_of job) inputs
+  pub work : Works job inputs writes change status text
+  pub calm : v.faults ≡ w.faults
+  pub log : v.log ≡ w.log ++ (map read_of inputs ++ map written_of writes)
+  pub files : AreWritten w.files writes v.files
 
 -- a step refused: exactly the files of the steps before it were read, and none is changed
 pub record IsRefused (job : Job) (w : World) (refusal : Refusal) (v : World) : Type 0 where
@@ -55,32 +56,33 @@ pub record IsUnread (job : Job) (w : World) (name : Word) (v : World) : Type 0 w
   pub log : v.log ≡ w.log ++ map read_of inputs
   pub files : v.files ≡ w.files
 
--- a write failed, after all steps passed and the writes before it were made
-pub record IsUnwritten (job : Job) (w : World) (name : Word) (v : World) : Type 0 where
+-- a write failed, after all steps passed, the work was done and the writes before it were made
+pub record IsUnwritten (job : Job) (w : World) (change : OutsideChange) (name : Word) (v : World)
+    : Type 0 where
   pub inputs : List NamedBytes
   pub writes : List NamedBytes
   pub status : ℕ
   pub text : List ℕ
   pub tried : List Passage
   pub passed : AllPass w.files (steps_of job) inputs
-  pub work : Works job inputs writes status text
+  pub work : Works job inputs writes change status text
   pub rose : Rose w.faults v.faults
   pub stops : StopsAt w.files writes name v.files tried
   pub log : v.log ≡ w.log ++ (map read_of inputs ++ tried)
 
-abbrev pub JobEnds : Job → World → Report → World → Type 0
-JobEnds job w no_command v = ⊥
-JobEnds job w (refused refusal) v = IsRefused job w refusal v
-JobEnds job w (unread name) v = IsUnread job w name v
-JobEnds job w (unwritten name) v = IsUnwritten job w name v
-JobEnds job w (finished status text) v = IsFinished job w status text v
+abbrev pub JobEnds : Job → World → OutsideChange → Report → World → Type 0
+JobEnds job w change no_command v = ⊥
+JobEnds job w change (refused refusal) v = IsStill change × IsRefused job w refusal v
+JobEnds job w change (unread name) v = IsStill change × IsUnread job w name v
+JobEnds job w change (unwritten name) v = IsUnwritten job w change name v
+JobEnds job w change (finished status text) v = IsFinished job w change status text v
 
 -- ---- any command line
 
 -- words that are no job's are refused, and leave all as it is
-abbrev pub Ends : Option Job → World → Report → World → Type 0
-Ends None w report v = (report ≡ no_command) × (v ≡ w)
-Ends (Some job) w report v = JobEnds job w report v
+abbrev pub Ends : Option Job → World → OutsideChange → Report → World → Type 0
+Ends None w change report v = (report ≡ no_command) × (v ≡ w) × IsStill change
+Ends (Some job) w change report v = JobEnds job w change report v
 
 -- the log of an object grew by passages with the property
 abbrev pub LogGrew : List Passage → (List Passage → Type 0) → List Passage → Type 0
@@ -106,4 +108,5 @@ names_changed None = []
 names_changed (Some job) = names_written job
 
 abbrev pub IsStatus : ℕ → Type 0
-IsStatus status = Contains (0 ∷ 1 ∷ 2 ∷ 3 ∷ 4 ∷ 5 ∷ 6 ∷ 7 ∷ 8 ∷ 9 ∷ []) status
+IsStatus status =
+    Contains (0 ∷ 1 ∷ 2 ∷ 3 ∷ 4 ∷ 5 ∷ 6 ∷ 7 ∷ 8 ∷ 9 ∷ 10 ∷ 11 ∷ []) status

@@ -2,6 +2,7 @@
 use Rattle.std.specs.Prelude.{ℕ, List, [], Some, IfSome, Contains}
 use Rattle.command_words.specs.Words.{Word}
 use Rattle.slot_program.specs.Jobs.{name_at, steps_of, finishing_of}
+use Rattle.slot_program.specs.Outside.{Outside, OutsideChange, still, IsStill}
 use Rattle.slot_program.specs.Desk.{World, LogGrew, OnlyOfJob, IsFinished, IsUnwritten}
 use Rattle.slot_program.specs.Leads.{ToldLead}
 use Rattle.slot_program.specs.Stops.{StopLeads}
@@ -10,18 +11,30 @@ use Rattle.slot_program.specs.declared.stop.Stop.{Stop}
 use Rattle.slot_program.specs.declared.stop.Stop.TheVariants as stops
 
 -- the work is done, only files of the job passed, and where files are told nothing else was due
-pub record IsDone (job : Job) (w : World) (status : ℕ) (text : List ℕ) (v : World) : Type 0 where
-  pub finished : IsFinished job w status text v
+pub record IsDoneBy (job : Job) (w : World) (change : OutsideChange) (status : ℕ) (text : List ℕ)
+    (v : World) : Type 0 where
+  pub finished : IsFinished job w change status text v
   pub finishing : Contains (finishing_of job) status
   pub asked : LogGrew w.log (OnlyOfJob (Some job)) v.log
   pub told : IfSome w.files (λ held. ToldLead held (steps_of job) finished.inputs [])
 
 -- a write failed after all steps passed, and only files of the job passed
-pub record IsCutShort (job : Job) (w : World) (name : Word) (v : World) : Type 0 where
-  pub unwritten : IsUnwritten job w name v
+pub record IsCutShort (job : Job) (w : World) (change : OutsideChange) (name : Word) (v : World)
+    : Type 0 where
+  pub unwritten : IsUnwritten job w change name v
   pub asked : LogGrew w.log (OnlyOfJob (Some job)) v.log
 
--- where a job stopped
+-- where a job stopped; memory may run out behind what it did outside
+abbrev pub JobStopsBy : List Word → Job → World → OutsideChange → Stop → World → Type 0
+JobStopsBy names job w change (stops.Unwritten place) v =
+    IsCutShort job w change (name_at names place) v
+JobStopsBy names job w change stops.Memory v = StopLeads names w (steps_of job) stops.Memory v
+JobStopsBy names job w change stop v = IsStill change × StopLeads names w (steps_of job) stop v
+
+-- ---- a job that leaves what is outside as it is, whatever that is
+
+abbrev pub IsDone : Job → World → ℕ → List ℕ → World → Type 0
+IsDone job w status text v = (o : Outside) → IsDoneBy job w (still o) status text v
+
 abbrev pub JobStops : List Word → Job → World → Stop → World → Type 0
-JobStops names job w (stops.Unwritten place) v = IsCutShort job w (name_at names place) v
-JobStops names job w stop v = StopLeads names w (steps_of job) stop v
+JobStops names job w stop v = (o : Outside) → JobStopsBy names job w (still o) stop v

@@ -15,11 +15,13 @@ use Rattle.slot_program.specs.StageLines.{mark_lines, marks_status, node_total}
 use Rattle.slot_program.specs.Judgements.{NamedBytes, IsSeasonOf, SpellsCert, capacity_form}
 use Rattle.slot_program.specs.Judgements.{requests_form, certificate_form, valid_certificate}
 use Rattle.slot_program.specs.Amendments.{AmendsLegally}
+use Rattle.slot_program.specs.Services.{ServesLegally}
+use Rattle.slot_program.specs.Outside.{OutsideChange, IsStill}
 use Rattle.slot_program.specs.Steps.{Step, reads, judges, names_read, Holds}
 use Rattle.slot_program.specs.declared.files.TheConstants.{LONGEST_FILE, LONGEST_CERT_FILE}
 use Rattle.slot_program.specs.declared.trial.TheConstants.{TRIAL_NODES}
 use Rattle.command_words.specs.declared.job.Job.{Job}
-use Rattle.command_words.specs.declared.job.Job.TheVariants.{Allocate, Check, Amend}
+use Rattle.command_words.specs.declared.job.Job.TheVariants.{Allocate, Check, Amend, Serve}
 use Rattle.command_words.specs.declared.job.Job.TheVariants.{Make, Trial}
 
 -- the name of this number, counted from 0, in the order in which the command takes names
@@ -51,11 +53,16 @@ abbrev pub amend_steps : List Word → List Step
 amend_steps names =
     season_steps names (certificate_steps names (reads (name_at names 3) LONGEST_FILE ∷ []))
 
+-- behind a certificate that is valid clients are served
+abbrev pub serve_steps : List Word → List Step
+serve_steps names = check_steps names
+
 -- a generated season is not read
 abbrev pub steps_of : Job → List Step
 steps_of (Allocate names nodes workers) = allocate_steps names
 steps_of (Check names) = check_steps names
 steps_of (Amend names) = amend_steps names
+steps_of (Serve names links port workers) = serve_steps names
 steps_of (Make number units names) = []
 steps_of (Trial number units) = []
 
@@ -65,6 +72,7 @@ abbrev pub names_written : Job → List Word
 names_written (Allocate names nodes workers) = name_at names 2 ∷ name_at names 3 ∷ []
 names_written (Check names) = []
 names_written (Amend names) = name_at names 4 ∷ []
+names_written (Serve names links port workers) = name_at names 3 ∷ []
 names_written (Make number units names) = name_at names 0 ∷ name_at names 1 ∷ []
 names_written (Trial number units) = []
 
@@ -79,10 +87,19 @@ pub record AreFilesOf (job : Job) (inputs writes : List NamedBytes) : Type 0 whe
 abbrev pub searched_statuses : List ℕ
 searched_statuses = 0 ∷ 8 ∷ 9 ∷ []
 
+-- where clients were served, a door may have failed, or the history have been full
+abbrev pub served_statuses : List ℕ
+served_statuses = 0 ∷ 10 ∷ 11 ∷ []
+
+-- all of these
+abbrev pub finished_statuses : List ℕ
+finished_statuses = 0 ∷ 8 ∷ 9 ∷ 10 ∷ 11 ∷ []
+
 abbrev pub finishing_of : Job → List ℕ
 finishing_of (Allocate names nodes workers) = searched_statuses
 finishing_of (Check names) = 0 ∷ []
 finishing_of (Amend names) = 0 ∷ []
+finishing_of (Serve names links port workers) = served_statuses
 finishing_of (Make number units names) = 0 ∷ []
 finishing_of (Trial number units) = searched_statuses
 
@@ -141,6 +158,20 @@ pub record IsAmendment (names : List Word) (capacity requests certificate asks :
   pub written : writes ≡ one_file names 4 answers
   pub status_is : status ≡ 0
 
+-- The certificate that was read is valid for the season, and clients are served from the book with
+-- the slots that it gives.
+pub record IsService (names : List Word) (links : ℕ) (capacity requests certificate : List ℕ)
+    (writes : List NamedBytes) (change : OutsideChange) (status : ℕ) (text : List ℕ) : Type 0 where
+  pub season : SubmissionView
+  pub proved : Certificate
+  pub recorded : List ℕ
+  pub made : IsSeasonOf capacity requests season
+  pub spelled : SpellsCert certificate proved
+  pub valid : IsValid season proved
+  pub output : ServesLegally (start_book season proved) links change.before.doors
+      change.after.doors recorded status text
+  pub written : writes ≡ one_file names 3 recorded
+
 -- the capacity file of a generated season is written before its requests, and nothing is printed
 pub record IsMade (number units : ℕ) (names : List Word) (writes : List NamedBytes) (status : ℕ)
     (text : List ℕ) : Type 0 where
@@ -169,18 +200,41 @@ pub record IsTrial (number units : ℕ) (writes : List NamedBytes) (status : ℕ
   pub status_is : status ≡ marks_status proved.stages
   pub settled : IsEnoughFor season TRIAL_NODES proved → IsSettledStatus status
 
--- of the files that were read, these are the writes, and the status and the text at the end
-abbrev pub Works : Job → List NamedBytes → List NamedBytes → ℕ → List ℕ → Type 0
-Works (Allocate names nodes workers) (capacity ∷ requests ∷ []) writes status text =
+-- Of the files that were read, these are the writes, and the status and the text at the end. Jobs
+-- that serve no client:
+abbrev pub FileWorks : Job → List NamedBytes → List NamedBytes → ℕ → List ℕ → Type 0
+FileWorks (Allocate names nodes workers) (capacity ∷ requests ∷ []) writes status text =
     IsAllocation names nodes capacity.bytes requests.bytes writes status text
-Works (Check names) (capacity ∷ requests ∷ certificate ∷ []) writes status text =
+FileWorks (Check names) (capacity ∷ requests ∷ certificate ∷ []) writes status text =
     (status ≡ 0) × (writes ≡ []) × (text ≡ codes "YES\n")
-Works (Amend names) (capacity ∷ requests ∷ certificate ∷ asks ∷ []) writes status text =
+FileWorks (Amend names) (capacity ∷ requests ∷ certificate ∷ asks ∷ []) writes status text =
     IsAmendment names capacity.bytes requests.bytes certificate.bytes asks.bytes writes status text
-Works (Make number units names) [] writes status text =
+FileWorks (Make number units names) [] writes status text =
     IsMade number units names writes status text
-Works (Trial number units) [] writes status text = IsTrial number units writes status text
-Works job inputs writes status text = ⊥
+FileWorks (Trial number units) [] writes status text = IsTrial number units writes status text
+FileWorks job inputs writes status text = ⊥
+
+-- and how a job that serves clients does so
+abbrev pub ServiceWorks : List Word → ℕ → List NamedBytes → List NamedBytes → OutsideChange → ℕ
+    → List ℕ → Type 0
+ServiceWorks names links (capacity ∷ requests ∷ certificate ∷ []) writes change status text =
+    IsService names links capacity.bytes requests.bytes certificate.bytes writes change status text
+ServiceWorks names links inputs writes change status text = ⊥
+
+-- Any job: one that serves no client leaves the doors as they are.
+abbrev pub Works : Job → List NamedBytes → List NamedBytes → OutsideChange → ℕ → List ℕ → Type 0
+Works (Allocate names nodes workers) inputs writes change status text =
+    IsStill change × FileWorks (Allocate names nodes workers) inputs writes status text
+Works (Check names) inputs writes change status text =
+    IsStill change × FileWorks (Check names) inputs writes status text
+Works (Amend names) inputs writes change status text =
+    IsStill change × FileWorks (Amend names) inputs writes status text
+Works (Serve names links port workers) inputs writes change status text =
+    ServiceWorks names links inputs writes change status text
+Works (Make number units names) inputs writes change status text =
+    IsStill change × FileWorks (Make number units names) inputs writes status text
+Works (Trial number units) inputs writes change status text =
+    IsStill change × FileWorks (Trial number units) inputs writes status text
 
 -- ---- a check of what was written
 
@@ -211,23 +265,33 @@ pub record MarksAreProved (capacity requests : List ℕ) (s : SubmissionView) (c
   pub marks : MarksHold s c
 
 -- The marks are true. Of `allocate`: of the certificate that is written, whose stage lines are
--- printed, for the season that was read. Of `check` and `amend`: of the certificate that was read.
--- Of `trial`: of the one whose lines are printed, for the generated season. `make` proves nothing.
--- And of `amend`: what is written are the answers of one legal history from the certificate's book.
-abbrev pub HeadlineHolds : Job → List NamedBytes → List NamedBytes → List ℕ → Type 0
+-- printed, for the season that was read. Of `check`, `amend` and `serve`: of the certificate that
+-- was read. Of `trial`: of the one whose lines are printed, for the generated season. `make` proves
+-- nothing. And of `amend`: what is written are the answers of one legal history from the
+-- certificate's book. Of `serve`: what is written is the text of such a history, by which each
+-- worker answered the clients of its door.
+abbrev pub HeadlineHolds : Job → List NamedBytes → List NamedBytes → OutsideChange → ℕ → List ℕ
+    → Type 0
 HeadlineHolds (Allocate names nodes workers) (capacity ∷ requests ∷ [])
-    (certificate ∷ replies ∷ []) text =
+    (certificate ∷ replies ∷ []) change status text =
     (s : SubmissionView) × (c : Certificate) × SpellsCert certificate.bytes c
     × (text ≡ mark_lines 1 c.stages) × MarksAreProved capacity.bytes requests.bytes s c
-HeadlineHolds (Check names) (capacity ∷ requests ∷ certificate ∷ []) [] text =
+HeadlineHolds (Check names) (capacity ∷ requests ∷ certificate ∷ []) [] change status text =
     (s : SubmissionView) × (c : Certificate) × SpellsCert certificate.bytes c
     × MarksAreProved capacity.bytes requests.bytes s c
-HeadlineHolds (Amend names) (capacity ∷ requests ∷ certificate ∷ asks ∷ []) (answers ∷ []) text =
+HeadlineHolds (Amend names) (capacity ∷ requests ∷ certificate ∷ asks ∷ []) (answers ∷ []) change
+    status text =
     (s : SubmissionView) × (c : Certificate) × SpellsCert certificate.bytes c
     × MarksAreProved capacity.bytes requests.bytes s c
     × AmendsLegally (start_book s c) asks.bytes answers.bytes text
-HeadlineHolds (Make number units names) inputs writes text = Unit {0}
-HeadlineHolds (Trial number units) [] [] text =
+HeadlineHolds (Serve names links port workers) (capacity ∷ requests ∷ certificate ∷ [])
+    (recorded ∷ []) change status text =
+    (s : SubmissionView) × (c : Certificate) × SpellsCert certificate.bytes c
+    × MarksAreProved capacity.bytes requests.bytes s c
+    × ServesLegally (start_book s c) links change.before.doors change.after.doors recorded.bytes
+    status text
+HeadlineHolds (Make number units names) inputs writes change status text = Unit {0}
+HeadlineHolds (Trial number units) [] [] change status text =
     (s : SubmissionView) × (c : Certificate) × (text ≡ trial_text c)
     × MarksAreProved (generated_capacity units) (generated_requests number units) s c
-HeadlineHolds job inputs writes text = ⊥
+HeadlineHolds job inputs writes change status text = ⊥

@@ -4,6 +4,8 @@ pub mod Steps
 pub mod Writing
 pub mod StageLines
 pub mod Amendments
+pub mod Outside
+pub mod Services
 pub mod Jobs
 pub mod Desk
 pub mod Leads

@@ -4,7 +4,8 @@ ghost use Rattle.std.specs.Prelude.{IfOk, IfErr, Some};
 ghost use Rattle.std.specs.String.{string_bytes};
 ghost use Rattle.command_words.specs.declared.job.Job.{Job as JobValue};
 ghost use Rattle.slot_program.specs.Desk.{World, LogGrew, OnlyOfJob};
-ghost use Rattle.slot_program.specs.Ends.{IsDone, JobStops};
+ghost use Rattle.slot_program.specs.Outside.{OutsideChange};
+ghost use Rattle.slot_program.specs.Ends.{IsDoneBy, JobStopsBy};
 ghost use Rattle.slot_program.specs.Answers.{IsAnswer};
 
 use crate::stop::{Answer, Stop};
@@ -18,13 +19,13 @@ pub(crate) fn finish(
     names: &NameList,
     ended: Result<Answer, Stop>,
 ) -> Result<Answer, Memory>
-    ensures answer { (job : JobValue) (w v : World) →
-        IfOk ended (λ done. IsDone job w done.status (string_bytes done.text) v) →
-        IfErr ended (λ stop. JobStops names.now job w stop v) →
-        IfOk result (λ a. IsAnswer (Some job) w a.status (string_bytes a.text) v) }
-    ensures asked { (job : JobValue) (w v : World) →
-        IfOk ended (λ done. IsDone job w done.status (string_bytes done.text) v) →
-        IfErr ended (λ stop. JobStops names.now job w stop v) →
+    ensures answer { (job : JobValue) (w : World) (change : OutsideChange) (v : World) →
+        IfOk ended (λ done. IsDoneBy job w change done.status (string_bytes done.text) v) →
+        IfErr ended (λ stop. JobStopsBy names.now job w change stop v) →
+        IfOk result (λ a. IsAnswer (Some job) w change a.status (string_bytes a.text) v) }
+    ensures asked { (job : JobValue) (w : World) (change : OutsideChange) (v : World) →
+        IfOk ended (λ done. IsDoneBy job w change done.status (string_bytes done.text) v) →
+        IfErr ended (λ stop. JobStopsBy names.now job w change stop v) →
         LogGrew w.log (OnlyOfJob (Some job)) v.log }
 {
     match ended {

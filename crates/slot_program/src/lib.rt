@@ -1,5 +1,5 @@
-//! The slot coordination desk of one airport and one season, as one call over a cabinet of files
-//! and a sink.
+//! The slot coordination desk of one airport and one season, as one call over a cabinet of files,
+//! a sink, and doors at which clients come.
 #![tactic(auto)]
 
 mod allocate;
@@ -10,6 +10,8 @@ mod finish;
 pub mod laws;
 mod make;
 mod season;
+mod serve;
+mod service_lines;
 mod stage_lines;
 mod stop;
 mod top_call;

@@ -1,7 +1,7 @@
 //! The desk as one call: words, files, output, and the status.
 
 ghost use Rattle.std.specs.Prelude.{◌≡◌, ◌≢◌, ◌⊎◌, ◌++◌, ◌∷◌, [], ◌≤◌, ℕ, List, Option, Some, None};
-ghost use Rattle.std.specs.Prelude.{IfOk, Contains, map};
+ghost use Rattle.std.specs.Prelude.{IfOk, Contains, map, length};
 ghost use Rattle.std.specs.String.{string_bytes};
 ghost use Rattle.choice_problem.specs.declared.problems.TheConstants.{MOST_UNITS};
 ghost use Rattle.desk_outside.specs.Cause.{Rose};
@@ -15,7 +15,10 @@ ghost use Rattle.slot_program.specs.Judgements.{NamedBytes};
 ghost use Rattle.slot_program.specs.Steps.{AllPass, FirstDue, form_steps};
 ghost use Rattle.slot_program.specs.Writing.{read_of, written_of};
 ghost use Rattle.slot_program.specs.Jobs.{AreFilesOf, name_at, steps_of, finishing_of, HeadlineHolds};
-ghost use Rattle.slot_program.specs.Jobs.{searched_statuses};
+ghost use Rattle.slot_program.specs.Jobs.{finished_statuses};
+ghost use Rattle.slot_program.specs.Outside.{Outside, still, outside_of, outside_change};
+ghost use Rattle.slot_program.specs.Outside.{door_faults, SomeRose};
+ghost use Rattle.session_desk.specs.declared.doors.TheConstants.{MOST_DOORS};
 ghost use Rattle.slot_program.specs.Desk.{World, LogGrew, OnlyOfJob, world_of, Ends, IsFinished};
 ghost use Rattle.slot_program.specs.Desk.{names_changed, IsStatus};
 ghost use Rattle.slot_program.specs.Answers.{IsAnswer};
@@ -23,6 +26,7 @@ ghost use Rattle.command_words.specs.declared.job.Job.{Job as JobValue};
 ghost use Rattle.command_words.specs.declared.job.Job.TheVariants.{Allocate as AllocateJob};
 ghost use Rattle.command_words.specs.declared.job.Job.TheVariants.{Check as CheckJob};
 ghost use Rattle.command_words.specs.declared.job.Job.TheVariants.{Amend as AmendJob};
+ghost use Rattle.command_words.specs.declared.job.Job.TheVariants.{Serve as ServeJob};
 ghost use Rattle.command_words.specs.declared.job.Job.TheVariants.{Make as MakeJob};
 ghost use Rattle.command_words.specs.declared.job.Job.TheVariants.{Trial as TrialJob};
 
@@ -31,71 +35,92 @@ use crate::amend::amend;
 use crate::check::check;
 use crate::finish::finish;
 use crate::make::make;
+use crate::serve::serve;
 use crate::stop::Answer;
 use crate::trial::trial;
 use command_words::{Job, NameList, WordFault, read_words};
+use desk_links::Door;
 use desk_outside::{Cabinet, Sink};
 use slot_text::Memory;
 use std::alloc::Global;
+use std::sync::Wait;
 use std::thread::Threads;
 use wasg_stages::laws::valid_marks;
 use worker_gate::Gate;
 
 /// Does what the words of a command line ask, on the files of a cabinet, and says the result to a
-/// sink. Where stages are searched, each worker passes the gate before it visits a node.
+/// sink. Where stages are searched, each worker passes the gate before it visits a node. Where
+/// clients are served, each door has a worker of its own, which passes the gate before it asks the
+/// history for a line; the command then waits until all workers have ended.
 ///
 /// The answer is the status of the program: 0 where the work is done; 1 where the certificate that
 /// was read is not valid; 2 where the words are no command's; 3 where a file is not in its form; 4 where a limit
 /// is passed; 5 where the cabinet failed, or has no such file or one of more bytes than are read; 6
 /// where the sink failed; 7 for want of memory; and where the work is done but not each stage is
-/// settled with an allotment, 8 where a stage is INFEASIBLE, and else 9 where one is OPEN. The
-/// clauses say the same of every command; what a command's steps, writes and work are stands in
+/// settled with an allotment, 8 where a stage is INFEASIBLE, and else 9 where one is OPEN; where
+/// clients were served, 10 where a door failed, and else 11 where a client found the history full,
+/// with the work done as at 0. The clauses say the same of every command; what a command's steps, writes and work are stands in
 /// `specs/Jobs.antt`.
-pub fn desk<R: Threads + Sync, C: Cabinet, S: Sink, G: Gate>(
+pub fn desk<R: Threads + Wait + Sync, C: Cabinet, S: Sink, D: Door + Drop, G: Gate>(
     rt: &R,
     alloc: Global,
     words: &[String],
     cabinet: &mut C,
     out: &mut S,
+    doors: &mut Vec<D>,
     gate: &G,
 ) -> u8
-    // The status, what passed between the desk and the cabinet, the files after it, and what was
-    // put are those of one report, which is due by the words and by what was handed out.
+    requires doors { length doors.old.items ≤ MOST_DOORS }
+    // The status, what passed between the desk and the cabinet, the files after it, what its doors
+    // show, and what was put are those of one report, which is due by the words and by what was
+    // handed out.
     ensures said { result ≢ 6 → result ≢ 7 → (report : Report) × (result ≡ status_of report)
         × Ends (job_of (words_of words.now)) (world_of C.files C.fault_count C.log cabinet.old)
-        report (world_of C.files C.fault_count C.log cabinet.new)
+        (outside_change D.view doors.old.items doors.new.items) report
+        (world_of C.files C.fault_count C.log cabinet.new)
         × Puts (S.contents out.old) (text_of report) (S.contents out.new)
         × (S.log out.new ≡ S.log out.old ++ put (text_of report) ∷ []) }
     ensures statuses { IsStatus result }
 
     // The headline: what the marks of a certificate that was written, found valid, or tried say
-    // of each stage is so; and amendments are answered by one legal history from the book of such a
-    // certificate, each by its own place, and the book fits after each. Exactly the files of the job, under their names, were read and written,
-    // and exactly its text was put, also over a cabinet and a sink that tell nothing.
+    // of each stage is so; amendments are answered, and clients served, by one legal history from
+    // the book of such a certificate, each ask by its own place, and the book fits after each; the
+    // record is its text, and each worker's sessions are right by the bytes that were taken from
+    // and put to each link. Exactly the files of the job, under their names, were read and written,
+    // and exactly its text was put, also over a cabinet, a sink and doors that tell nothing.
     ensures headline { (job : JobValue) → job_of (words_of words.now) ≡ Some job →
         Contains (finishing_of job) result →
         (inputs writes : List NamedBytes) × (text : List ℕ)
         × (C.log cabinet.new ≡ C.log cabinet.old ++ (map read_of inputs ++ map written_of writes))
         × (S.log out.new ≡ S.log out.old ++ put text ∷ []) × AreFilesOf job inputs writes
-        × HeadlineHolds job inputs writes text }
+        × HeadlineHolds job inputs writes (outside_change D.view doors.old.items doors.new.items)
+        result text }
 
     // Done: each step passed, the work is that of the files that were read, exactly its files were
     // written, its text was put, and nothing failed.
     ensures handed { (job : JobValue) → job_of (words_of words.now) ≡ Some job →
         Contains (finishing_of job) result → (text : List ℕ)
-        × IsFinished job (world_of C.files C.fault_count C.log cabinet.old) result text
+        × IsFinished job (world_of C.files C.fault_count C.log cabinet.old)
+        (outside_change D.view doors.old.items doors.new.items) result text
         (world_of C.files C.fault_count C.log cabinet.new)
         × Puts (S.contents out.old) text (S.contents out.new)
         × (S.log out.new ≡ S.log out.old ++ put text ∷ []) }
-    ensures done { Contains searched_statuses result →
+    ensures done { Contains finished_statuses result →
         (C.fault_count cabinet.new ≡ C.fault_count cabinet.old)
         × (S.fault_count out.new ≡ S.fault_count out.old) }
+
+    // No door failed at 0 and 11, and at 10 one did.
+    ensures calm { (result ≡ 0) ⊎ (result ≡ 11) → door_faults (outside_of D.view doors.new.items)
+        ≡ door_faults (outside_of D.view doors.old.items) }
+    ensures risen { result ≡ 10 → SomeRose (outside_of D.view doors.old.items).doors
+        (outside_of D.view doors.new.items).doors }
 
     // The words are no command's, exactly then, and nothing of the cabinet is changed or asked.
     ensures words { result ≡ 2 → job_of (words_of words.now) ≡ None }
     ensures refused { job_of (words_of words.now) ≡ None →
         (world_of C.files C.fault_count C.log cabinet.new
         ≡ world_of C.files C.fault_count C.log cabinet.old)
+        × (outside_of D.view doors.new.items ≡ outside_of D.view doors.old.items)
         × ((result ≡ 2) ⊎ ((result ≡ 6) ⊎ (result ≡ 7))) }
 
     // What the files give as the first refusal is answered, with its line, its number and its
@@ -114,7 +139,8 @@ pub fn desk<R: Threads + Sync, C: Cabinet, S: Sink, G: Gate>(
     ensures cut { result ≡ 6 → Rose (S.fault_count out.old) (S.fault_count out.new)
         × ((report : Report)
         × Ends (job_of (words_of words.now)) (world_of C.files C.fault_count C.log cabinet.old)
-        report (world_of C.files C.fault_count C.log cabinet.new)
+        (outside_change D.view doors.old.items doors.new.items) report
+        (world_of C.files C.fault_count C.log cabinet.new)
         × PutsPart (S.contents out.old) (text_of report) (S.contents out.new)
         × (S.log out.new ≡ S.log out.old ++ put_failed (text_of report) ∷ [])) }
 
@@ -126,8 +152,11 @@ pub fn desk<R: Threads + Sync, C: Cabinet, S: Sink, G: Gate>(
     ensures asked { LogGrew (C.log cabinet.old) (OnlyOfJob (job_of (words_of words.now)))
         (C.log cabinet.new) }
 
-    // With a command's words, where each of its steps passes in the files and no count rises, the
-    // work is done, or memory ran out. With a budget that is enough for each stage, the status of
+    // Each door is where it was.
+    ensures kept { length doors.new.items ≡ length doors.old.items }
+
+    // With a command's words, where each of its steps passes in the files and no count of the
+    // cabinet and the sink rises, the work is done, or memory ran out. With a budget that is enough for each stage, the status of
     // work that is done is not 9 (`IsRunOutput` and `IsTrial`, of which `handed` speaks).
     ensures complete { (job : JobValue) (held : Files) (inputs : List NamedBytes)
         → job_of (words_of words.now) ≡ Some job → C.files cabinet.old ≡ Some held →
@@ -146,7 +175,7 @@ pub fn desk<R: Threads + Sync, C: Cabinet, S: Sink, G: Gate>(
         (result ≡ 1) ⊎ (Contains (finishing_of job) result ⊎ (result ≡ 7)) }
 {
     valid_marks();
-    match carry_out(rt, alloc, words, cabinet, gate) {
+    match carry_out(rt, alloc, words, cabinet, doors, gate) {
         Ok(answer) => match out.put(answer.text.as_bytes()) {
             Ok(()) => answer.status,
             Err(_) => 6,
@@ -156,23 +185,28 @@ pub fn desk<R: Threads + Sync, C: Cabinet, S: Sink, G: Gate>(
 }
 
 /// Does the work that the words ask for, and gives what is to be said.
-fn carry_out<R: Threads + Sync, C: Cabinet, G: Gate>(
+fn carry_out<R: Threads + Wait + Sync, C: Cabinet, D: Door + Drop, G: Gate>(
     rt: &R,
     alloc: Global,
     words: &[String],
     cabinet: &mut C,
+    doors: &mut Vec<D>,
     gate: &G,
 ) -> Result<Answer, Memory>
+    requires doors { length doors.old.items ≤ MOST_DOORS }
     ensures answer { IfOk result (λ a. IsAnswer (job_of (words_of words.now))
-        (world_of C.files C.fault_count C.log cabinet.old) a.status (string_bytes a.text)
+        (world_of C.files C.fault_count C.log cabinet.old)
+        (outside_change D.view doors.old.items doors.new.items) a.status (string_bytes a.text)
         (world_of C.files C.fault_count C.log cabinet.new)) }
     ensures others { ChangesOnly (C.files cabinet.old) (names_changed (job_of (words_of words.now)))
         (C.files cabinet.new) }
     ensures asked { LogGrew (C.log cabinet.old) (OnlyOfJob (job_of (words_of words.now)))
         (C.log cabinet.new) }
     ensures refused { job_of (words_of words.now) ≡ None →
-        world_of C.files C.fault_count C.log cabinet.new
-        ≡ world_of C.files C.fault_count C.log cabinet.old }
+        (world_of C.files C.fault_count C.log cabinet.new
+        ≡ world_of C.files C.fault_count C.log cabinet.old)
+        × (doors.new.items ≡ doors.old.items) }
+    ensures kept { length doors.new.items ≡ length doors.old.items }
 {
     match read_words(alloc, words) {
         Ok(
@@ -184,6 +218,14 @@ fn carry_out<R: Threads + Sync, C: Cabinet, G: Gate>(
         ) => carry_out_allocate(rt, alloc, &names, nodes, workers, cabinet, gate),
         Ok(Job::Check { names }) => carry_out_check(alloc, &names, cabinet),
         Ok(Job::Amend { names }) => carry_out_amend(alloc, &names, cabinet),
+        Ok(
+            Job::Serve {
+                names,
+                links,
+                port: _,
+                workers: _,
+            },
+        ) => carry_out_serve(rt, alloc, &names, links, cabinet, doors, gate),
         Ok(
             Job::Make {
                 number,
@@ -212,8 +254,9 @@ fn carry_out_allocate<R: Threads + Sync, C: Cabinet, G: Gate>(
 ) -> Result<Answer, Memory>
     requires nodes { (1 ≤ nodes) × (nodes ≤ 1000000) }
     requires workers { (1 ≤ workers) × (workers ≤ 16) }
-    ensures answer { IfOk result (λ a. IsAnswer (Some (AllocateJob names.now nodes workers))
-        (world_of C.files C.fault_count C.log cabinet.old) a.status (string_bytes a.text)
+    ensures answer { (o : Outside) → IfOk result (λ a.
+        IsAnswer (Some (AllocateJob names.now nodes workers))
+        (world_of C.files C.fault_count C.log cabinet.old) (still o) a.status (string_bytes a.text)
         (world_of C.files C.fault_count C.log cabinet.new)) }
     ensures others { ChangesOnly (C.files cabinet.old)
         (name_at names.now 2 ∷ name_at names.now 3 ∷ []) (C.files cabinet.new) }
@@ -230,8 +273,9 @@ fn carry_out_check<C: Cabinet>(
     names: &NameList,
     cabinet: &mut C,
 ) -> Result<Answer, Memory>
-    ensures answer { IfOk result (λ a. IsAnswer (Some (CheckJob names.now))
-        (world_of C.files C.fault_count C.log cabinet.old) a.status (string_bytes a.text)
+    ensures answer { (o : Outside) → IfOk result (λ a.
+        IsAnswer (Some (CheckJob names.now))
+        (world_of C.files C.fault_count C.log cabinet.old) (still o) a.status (string_bytes a.text)
         (world_of C.files C.fault_count C.log cabinet.new)) }
     ensures unchanged { C.files cabinet.new ≡ C.files cabinet.old }
     ensures asked { LogGrew (C.log cabinet.old) (OnlyOfJob (Some (CheckJob names.now)))
@@ -247,8 +291,9 @@ fn carry_out_amend<C: Cabinet>(
     names: &NameList,
     cabinet: &mut C,
 ) -> Result<Answer, Memory>
-    ensures answer { IfOk result (λ a. IsAnswer (Some (AmendJob names.now))
-        (world_of C.files C.fault_count C.log cabinet.old) a.status (string_bytes a.text)
+    ensures answer { (o : Outside) → IfOk result (λ a.
+        IsAnswer (Some (AmendJob names.now))
+        (world_of C.files C.fault_count C.log cabinet.old) (still o) a.status (string_bytes a.text)
         (world_of C.files C.fault_count C.log cabinet.new)) }
     ensures others { ChangesOnly (C.files cabinet.old) (name_at names.now 4 ∷ [])
         (C.files cabinet.new) }
@@ -256,6 +301,32 @@ fn carry_out_amend<C: Cabinet>(
         (C.log cabinet.new) }
 {
     let ended = amend(alloc, names, cabinet);
+    finish(alloc, names, ended)
+}
+
+/// Serves clients, and gives what is to be said.
+fn carry_out_serve<R: Threads + Wait + Sync, C: Cabinet, D: Door + Drop, G: Gate>(
+    rt: &R,
+    alloc: Global,
+    names: &NameList,
+    links: u32,
+    cabinet: &mut C,
+    doors: &mut Vec<D>,
+    gate: &G,
+) -> Result<Answer, Memory>
+    requires doors { length doors.old.items ≤ MOST_DOORS }
+    ensures answer { (port workers : ℕ) → IfOk result (λ a.
+        IsAnswer (Some (ServeJob names.now links port workers))
+        (world_of C.files C.fault_count C.log cabinet.old)
+        (outside_change D.view doors.old.items doors.new.items) a.status (string_bytes a.text)
+        (world_of C.files C.fault_count C.log cabinet.new)) }
+    ensures others { ChangesOnly (C.files cabinet.old) (name_at names.now 3 ∷ [])
+        (C.files cabinet.new) }
+    ensures asked { (port workers : ℕ) → LogGrew (C.log cabinet.old)
+        (OnlyOfJob (Some (ServeJob names.now links port workers))) (C.log cabinet.new) }
+    ensures kept { length doors.new.items ≡ length doors.old.items }
+{
+    let ended = serve(rt, alloc, names, links, cabinet, doors, gate);
     finish(alloc, names, ended)
 }
 
@@ -268,8 +339,9 @@ fn carry_out_make<C: Cabinet>(
     cabinet: &mut C,
 ) -> Result<Answer, Memory>
     requires { units ≤ MOST_UNITS }
-    ensures answer { IfOk result (λ a. IsAnswer (Some (MakeJob number units names.now))
-        (world_of C.files C.fault_count C.log cabinet.old) a.status (string_bytes a.text)
+    ensures answer { (o : Outside) → IfOk result (λ a.
+        IsAnswer (Some (MakeJob number units names.now))
+        (world_of C.files C.fault_count C.log cabinet.old) (still o) a.status (string_bytes a.text)
         (world_of C.files C.fault_count C.log cabinet.new)) }
     ensures others { ChangesOnly (C.files cabinet.old)
         (name_at names.now 0 ∷ name_at names.now 1 ∷ []) (C.files cabinet.new) }
@@ -289,8 +361,8 @@ fn carry_out_trial<R: Threads + Sync, G: Gate>(
     gate: &G,
 ) -> Result<Answer, Memory>
     requires { units ≤ MOST_UNITS }
-    ensures { IfOk result (λ a. (w : World) →
-        IsAnswer (Some (TrialJob number units)) w a.status (string_bytes a.text) w) }
+    ensures { IfOk result (λ a. (w : World) (o : Outside) →
+        IsAnswer (Some (TrialJob number units)) w (still o) a.status (string_bytes a.text) w) }
 {
     let answer = trial(rt, alloc, number, units, gate)?;
     Ok(answer)

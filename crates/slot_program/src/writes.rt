@@ -8,7 +8,8 @@ ghost use Rattle.slot_program.specs.Jobs.{name_at, one_file, two_files, steps_of
 ghost use Rattle.slot_program.specs.Jobs.{names_written, Works};
 ghost use Rattle.slot_program.specs.Desk.{World, world_of};
 ghost use Rattle.slot_program.specs.Leads.{Leads};
-ghost use Rattle.slot_program.specs.Ends.{IsDone, JobStops};
+ghost use Rattle.slot_program.specs.Outside.{OutsideChange};
+ghost use Rattle.slot_program.specs.Ends.{IsDoneBy, JobStopsBy};
 
 use crate::files::write_file;
 use crate::stop::Stop;
@@ -23,20 +24,20 @@ pub(crate) fn write_one<C: Cabinet>(
     bytes: &[u8],
     cabinet: &mut C,
 ) -> Result<(), Stop>
-    ensures done { OnOk result ((job : JobValue) (w : World) (inputs : List NamedBytes)
-        (status : ℕ) (text : List ℕ) →
+    ensures done { OnOk result ((job : JobValue) (w : World) (change : OutsideChange)
+        (inputs : List NamedBytes) (status : ℕ) (text : List ℕ) →
         names_written job ≡ name_at names.now place ∷ [] →
         Leads w (steps_of job) inputs []
         (world_of C.files C.fault_count C.log cabinet.old) →
-        Works job inputs (one_file names.now place bytes.now) status text →
-        IsDone job w status text (world_of C.files C.fault_count C.log cabinet.new)) }
-    ensures stop { IfErr result (λ stop. (job : JobValue) (w : World) (inputs : List NamedBytes)
-        (status : ℕ) (text : List ℕ) →
+        Works job inputs (one_file names.now place bytes.now) change status text →
+        IsDoneBy job w change status text (world_of C.files C.fault_count C.log cabinet.new)) }
+    ensures stop { IfErr result (λ stop. (job : JobValue) (w : World) (change : OutsideChange)
+        (inputs : List NamedBytes) (status : ℕ) (text : List ℕ) →
         names_written job ≡ name_at names.now place ∷ [] →
         Leads w (steps_of job) inputs []
         (world_of C.files C.fault_count C.log cabinet.old) →
-        Works job inputs (one_file names.now place bytes.now) status text →
-        JobStops names.now job w stop (world_of C.files C.fault_count C.log cabinet.new)) }
+        Works job inputs (one_file names.now place bytes.now) change status text →
+        JobStopsBy names.now job w change stop (world_of C.files C.fault_count C.log cabinet.new)) }
     ensures others { ChangesOnly (C.files cabinet.old) (name_at names.now place ∷ [])
         (C.files cabinet.new) }
 {
@@ -54,20 +55,20 @@ pub(crate) fn write_two<C: Cabinet>(
     cabinet: &mut C,
 ) -> Result<(), Stop>
     requires { place < 4 }
-    ensures done { OnOk result ((job : JobValue) (w : World) (inputs : List NamedBytes)
-        (status : ℕ) (text : List ℕ) →
+    ensures done { OnOk result ((job : JobValue) (w : World) (change : OutsideChange)
+        (inputs : List NamedBytes) (status : ℕ) (text : List ℕ) →
         names_written job ≡ name_at names.now place ∷ name_at names.now (place + 1) ∷ [] →
         Leads w (steps_of job) inputs []
         (world_of C.files C.fault_count C.log cabinet.old) →
-        Works job inputs (two_files names.now place one.now two.now) status text →
-        IsDone job w status text (world_of C.files C.fault_count C.log cabinet.new)) }
-    ensures stop { IfErr result (λ stop. (job : JobValue) (w : World) (inputs : List NamedBytes)
-        (status : ℕ) (text : List ℕ) →
+        Works job inputs (two_files names.now place one.now two.now) change status text →
+        IsDoneBy job w change status text (world_of C.files C.fault_count C.log cabinet.new)) }
+    ensures stop { IfErr result (λ stop. (job : JobValue) (w : World) (change : OutsideChange)
+        (inputs : List NamedBytes) (status : ℕ) (text : List ℕ) →
         names_written job ≡ name_at names.now place ∷ name_at names.now (place + 1) ∷ [] →
         Leads w (steps_of job) inputs []
         (world_of C.files C.fault_count C.log cabinet.old) →
-        Works job inputs (two_files names.now place one.now two.now) status text →
-        JobStops names.now job w stop (world_of C.files C.fault_count C.log cabinet.new)) }
+        Works job inputs (two_files names.now place one.now two.now) change status text →
+        JobStopsBy names.now job w change stop (world_of C.files C.fault_count C.log cabinet.new)) }
     ensures others { ChangesOnly (C.files cabinet.old)
         (name_at names.now place ∷ name_at names.now (place + 1) ∷ []) (C.files cabinet.new) }
 {

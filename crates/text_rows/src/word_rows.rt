@@ -43,6 +43,16 @@ fn say_job(alloc: Global, out: &mut Vec<u8>, job: &Job) -> Result<(), Fail> {
         }
         Job::Check { names } => say_names(alloc, out, "check", names),
         Job::Amend { names } => say_names(alloc, out, "amend", names),
+        Job::Serve {
+            names,
+            links,
+            port,
+            workers,
+        } => {
+            say_names(alloc, out, "serve", names)?;
+            say_numbers(alloc, out, *links, *port)?;
+            say(alloc, out, format!(in alloc; " {workers}")?)
+        }
         Job::Make {
             number,
             units,
@@ -189,7 +199,25 @@ amend A - B -- -- C|amend A,-,B,--,C
 amend -A B C D E|no
 Amend A B C D E|no
 amend A B C D E --|amend A,B,C,D,E
-serve A B C D|no
+serve A B C D|serve A,B,C,D 1 7710 4
+serve A B C|no
+serve A B C D E|no
+serve A B C D --links 1000 --port 65535 --workers 16|serve A,B,C,D 1000 65535 16
+serve --workers=1 A B --port=1 C D --links=1|serve A,B,C,D 1 1 1
+serve A B C D --links 0|no
+serve A B C D --links 1001|no
+serve A B C D --port 0|no
+serve A B C D --port 65536|no
+serve A B C D --workers 0|no
+serve A B C D --workers 17|no
+serve A B C D --links 2 --links 2|no
+serve A B C D --port|no
+serve A B C D --nodes 5|no
+serve A B C D --link 5|no
+serve A B C D --port 07|no
+serve A B --port -1 C D|no
+serve -- --links 5 A B|serve --links,5,A,B 1 7710 4
+Serve A B C D|no
 "
             .as_bytes(),
     )

@@ -4,6 +4,7 @@ use Rattle.std.specs.String.{string_bytes}
 use Rattle.command_words.specs.declared.job.Job.TheVariants.{Allocate}
 use Rattle.command_words.specs.Words.{Word}
 use Rattle.slot_program.specs.Jobs.{name_at, allocate_steps, two_files, IsAllocation}
+use Rattle.slot_program.specs.Outside.{still}
 use Rattle.slot_program.specs.Desk.{World, world_of}
 use Rattle.slot_program.proofs.LeadLemmas.{memory_read}
 use Rattle.slot_program.proofs.EndLemmas.{stop_job}
@@ -29,7 +30,7 @@ returns-in_err-output-clause-stop g c =
     let v : World = world_of g.C.Cabinet.files g.C.Cabinet.fault_count g.C.Cabinet.log c.read_season.new.cabinet in
     let s = c.in_ok-submission.ensures.found in
     let p = err_from_is_err_and c.from_residual-in_err-output.result c.from_residual-in_err-output.ensures.1 in
-    rw (p.1, p.2) (memory_read w v v (allocate_steps c.args.names.now) (s.0 ∷ s.1 ∷ []) [] (s.3 []) refl)
+    rw (p.1, p.2) (λ o. memory_read w v v (allocate_steps c.args.names.now) (s.0 ∷ s.1 ∷ []) [] (s.3 []) refl)
 
 pub returns-in_err-output-clause-others : goal.returns-in_err-output-clause-others
 returns-in_err-output-clause-others g c =
@@ -48,8 +49,8 @@ returns-in_err-write_two-clause-stop g c =
     let one = c.deref.ensures.value in
     let two = c.deref-2.ensures.value in
     let p = err_from_is_err_and c.from_residual-in_err-write_two.result c.from_residual-in_err-write_two.ensures.1 in
-    rw (p.1, p.2) (c.in_err-write_two.ensures.stop (Allocate names c.args.nodes c.args.workers) w (s.0 ∷ s.1 ∷ []) out.answer.status (string_bytes out.answer.text) refl (s.3 [])
-    (rw (one, two) work))
+    rw (p.1, p.2) (λ o. c.in_err-write_two.ensures.stop (Allocate names c.args.nodes c.args.workers) w (still o) (s.0 ∷ s.1 ∷ []) out.answer.status (string_bytes out.answer.text) refl (s.3 [])
+    (refl, rw (one, two) work))
 
 pub returns-in_err-write_two-clause-others : goal.returns-in_err-write_two-clause-others
 returns-in_err-write_two-clause-others g c =
@@ -68,8 +69,8 @@ returns-clause-done g c =
     record { season = c.in_ok-submission.submission; certificate = out.certificate.items; replies = out.replies.items; made = s.2; output = c.in_ok-output.ensures; written = refl } in
     let one = c.deref.ensures.value in
     let two = c.deref-2.ensures.value in
-    c.in_ok-write_two.ensures.done (Allocate names c.args.nodes c.args.workers) w (s.0 ∷ s.1 ∷ []) out.answer.status (string_bytes out.answer.text) refl (s.3 [])
-    (rw (one, two) work)
+    λ o. c.in_ok-write_two.ensures.done (Allocate names c.args.nodes c.args.workers) w (still o) (s.0 ∷ s.1 ∷ []) out.answer.status (string_bytes out.answer.text) refl (s.3 [])
+    (refl, rw (one, two) work)
 
 pub returns-clause-others : goal.returns-clause-others
 returns-clause-others g c =

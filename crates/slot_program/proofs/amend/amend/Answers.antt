@@ -8,6 +8,7 @@ use Rattle.slot_program.specs.Amendments.{AmendsLegally}
 use Rattle.slot_program.specs.Judgements.{NamedBytes}
 use Rattle.slot_program.specs.Steps.{Step, reads}
 use Rattle.slot_program.specs.Jobs.{name_at, certificate_steps, amend_steps, one_file, IsAmendment}
+use Rattle.slot_program.specs.Outside.{still}
 use Rattle.slot_program.specs.Desk.{World, world_of}
 use Rattle.slot_program.specs.declared.files.TheConstants.{LONGEST_FILE}
 use Rattle.slot_program.proofs.LeadLemmas.{memory_read}
@@ -79,7 +80,7 @@ returns-in_err-output-clause-stop g c =
     let s = c.in_ok-submission.ensures.found in
     let f = c.in_ok-certificate.ensures.found w (amend_steps names) (last names) s.0 s.1 s.2 (s.3 (certificate_steps names (last names))) in
     let fourth : NamedBytes = record { name = name_at names 3; bytes = c.in_ok-asks.asks.items } in
-    rw (p.1, p.2) (memory_read w v v (amend_steps names) (s.0 ∷ s.1 ∷ f.0 ∷ fourth ∷ []) []
+    rw (p.1, p.2) (λ o. memory_read w v v (amend_steps names) (s.0 ∷ s.1 ∷ f.0 ∷ fourth ∷ []) []
     (c.in_ok-asks.ensures.leads w (amend_steps names) (s.0 ∷ s.1 ∷ f.0 ∷ []) [] f.2) refl)
 
 pub returns-in_err-output-clause-others : goal.returns-in_err-output-clause-others
@@ -114,8 +115,8 @@ returns-in_err-write_one-clause-stop g c =
       status_is = refl;
     } in
     let p = err_from_is_err_and c.from_residual-in_err-write_one.result c.from_residual-in_err-write_one.ensures.1 in
-    rw (p.1, p.2) (c.in_err-write_one.ensures.stop (Amend names) w (s.0 ∷ s.1 ∷ f.0 ∷ fourth ∷ []) 0 (string_bytes out.text) refl
-    (c.in_ok-asks.ensures.leads w (amend_steps names) (s.0 ∷ s.1 ∷ f.0 ∷ []) [] f.2) work)
+    rw (p.1, p.2) (λ o. c.in_err-write_one.ensures.stop (Amend names) w (still o) (s.0 ∷ s.1 ∷ f.0 ∷ fourth ∷ []) 0 (string_bytes out.text) refl
+    (c.in_ok-asks.ensures.leads w (amend_steps names) (s.0 ∷ s.1 ∷ f.0 ∷ []) [] f.2) (refl, work))
 
 pub returns-in_err-write_one-clause-others : goal.returns-in_err-write_one-clause-others
 returns-in_err-write_one-clause-others g c =
@@ -150,8 +151,8 @@ returns-clause-done g c =
       written = ap (λ (l : List ℕ). one_file names 4 l) c.deref-2.ensures.value;
       status_is = refl;
     } in
-    c.in_ok-write_one.ensures.done (Amend names) w (s.0 ∷ s.1 ∷ f.0 ∷ fourth ∷ []) 0 (string_bytes out.text) refl
-    (c.in_ok-asks.ensures.leads w (amend_steps names) (s.0 ∷ s.1 ∷ f.0 ∷ []) [] f.2) work
+    λ o. c.in_ok-write_one.ensures.done (Amend names) w (still o) (s.0 ∷ s.1 ∷ f.0 ∷ fourth ∷ []) 0 (string_bytes out.text) refl
+    (c.in_ok-asks.ensures.leads w (amend_steps names) (s.0 ∷ s.1 ∷ f.0 ∷ []) [] f.2) (refl, work)
 
 pub returns-clause-others : goal.returns-clause-others
 returns-clause-others g c =

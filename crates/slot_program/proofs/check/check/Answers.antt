@@ -2,6 +2,7 @@ use Rattle.std.proofs.Common.{[], ◌∷◌, refl}
 use Rattle.std.proofs.lemmas.Result.{err_from_is_err_and}
 use Rattle.command_words.specs.declared.job.Job.TheVariants.{Check}
 use Rattle.slot_program.specs.Jobs.{certificate_steps, check_steps}
+use Rattle.slot_program.specs.Outside.{still}
 use Rattle.slot_program.specs.Desk.{World, world_of}
 use Rattle.slot_program.proofs.LeadLemmas.{memory_read}
 use Rattle.slot_program.proofs.EndLemmas.{read_done, stop_job}
@@ -33,7 +34,7 @@ returns-in_err-text-clause-stop g c =
     let s = c.in_ok-submission.ensures.found in
     let f = c.in_ok-read_certificate.ensures.found w (check_steps names) [] s.0 s.1 s.2 (s.3 (certificate_steps names [])) in
     let p = err_from_is_err_and c.from_residual-in_err-text.result c.from_residual-in_err-text.ensures.1 in
-    rw (p.1, p.2) (memory_read w u u (check_steps names) (s.0 ∷ s.1 ∷ f.0 ∷ []) [] f.2 refl)
+    rw (p.1, p.2) (λ o. memory_read w u u (check_steps names) (s.0 ∷ s.1 ∷ f.0 ∷ []) [] f.2 refl)
 
 pub returns-clause-done : goal.returns-clause-done
 returns-clause-done g c =
@@ -42,4 +43,4 @@ returns-clause-done g c =
     let names = c.args.names.now in
     let s = c.in_ok-submission.ensures.found in
     let f = c.in_ok-read_certificate.ensures.found w (check_steps names) [] s.0 s.1 s.2 (s.3 (certificate_steps names [])) in
-    read_done (Check names) w u (s.0 ∷ s.1 ∷ f.0 ∷ []) f.2 0 _ (refl, refl, c.in_ok-text.ensures)
+    λ o. read_done (Check names) w u (s.0 ∷ s.1 ∷ f.0 ∷ []) f.2 (still o) 0 _ (refl, (refl, refl, c.in_ok-text.ensures))

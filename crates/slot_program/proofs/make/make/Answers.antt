@@ -4,6 +4,7 @@ use Rattle.std.specs.String.{string_bytes}
 use Rattle.season_maker.specs.Texts.{generated_capacity, generated_requests}
 use Rattle.command_words.specs.declared.job.Job.TheVariants.{Make}
 use Rattle.slot_program.specs.Jobs.{two_files, IsMade}
+use Rattle.slot_program.specs.Outside.{still}
 use Rattle.slot_program.specs.Desk.{World, world_of}
 use Rattle.slot_program.proofs.LeadLemmas.{leads_start}
 use Rattle.slot_program.proofs.make.make.Goals as goal
@@ -16,7 +17,7 @@ returns-in_err-write_two-clause-stop g c =
     let two : c.deref-2.result.now ≡ generated_requests c.args.number c.args.units = c.deref-2.ensures.value ∙ c.in_ok-capacity.ensures.requests in
     let work : IsMade c.args.number c.args.units names (two_files names 0 c.deref.result.now c.deref-2.result.now) 0 [] = record { written = rw (one, two) refl; status_is = refl; printed = refl } in
     let p = err_from_is_err_and c.from_residual-in_err-write_two.result c.from_residual-in_err-write_two.ensures.1 in
-    rw (p.1, p.2) (c.in_err-write_two.ensures.stop (Make c.args.number c.args.units names) w [] 0 [] refl (leads_start w []) work)
+    rw (p.1, p.2) (λ o. c.in_err-write_two.ensures.stop (Make c.args.number c.args.units names) w (still o) [] 0 [] refl (leads_start w []) (refl, work))
 
 pub returns-clause-done : goal.returns-clause-done
 returns-clause-done g c =
@@ -25,4 +26,4 @@ returns-clause-done g c =
     let one : c.deref.result.now ≡ generated_capacity c.args.units = c.deref.ensures.value ∙ c.in_ok-capacity.ensures.capacity in
     let two : c.deref-2.result.now ≡ generated_requests c.args.number c.args.units = c.deref-2.ensures.value ∙ c.in_ok-capacity.ensures.requests in
     let work : IsMade c.args.number c.args.units names (two_files names 0 c.deref.result.now c.deref-2.result.now) 0 (string_bytes c.new.result) = record { written = rw (one, two) refl; status_is = refl; printed = c.new.ensures.bytes } in
-    c.in_ok-write_two.ensures.done (Make c.args.number c.args.units names) w [] 0 (string_bytes c.new.result) refl (leads_start w []) work
+    λ o. c.in_ok-write_two.ensures.done (Make c.args.number c.args.units names) w (still o) [] 0 (string_bytes c.new.result) refl (leads_start w []) (refl, work)

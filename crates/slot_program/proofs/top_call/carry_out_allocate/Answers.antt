@@ -1,15 +1,17 @@
 use Rattle.command_words.specs.declared.job.Job.TheVariants.{Allocate}
+use Rattle.slot_program.specs.Outside.{still}
 use Rattle.slot_program.specs.Desk.{World, world_of}
+use Rattle.slot_program.proofs.OutsideLemmas.{nowhere, ok_at, err_at}
 use Rattle.slot_program.proofs.top_call.carry_out_allocate.Goals as goal
 
 pub returns-clause-answer : goal.returns-clause-answer
-returns-clause-answer g c =
+returns-clause-answer g c = λ o.
     let w : World = world_of g.C.Cabinet.files g.C.Cabinet.fault_count g.C.Cabinet.log c.args.cabinet.now in
     let v : World = world_of g.C.Cabinet.files g.C.Cabinet.fault_count g.C.Cabinet.log c.allocate-ended.new.cabinet in
-    c.finish.ensures.answer (Allocate c.args.names.now c.args.nodes c.args.workers) w v c.allocate-ended.ensures.done c.allocate-ended.ensures.stop
+    c.finish.ensures.answer (Allocate c.args.names.now c.args.nodes c.args.workers) w (still o) v (ok_at o c.allocate-ended.result c.allocate-ended.ensures.done) (err_at o c.allocate-ended.result c.allocate-ended.ensures.stop)
 
 pub returns-clause-asked : goal.returns-clause-asked
 returns-clause-asked g c =
     let w : World = world_of g.C.Cabinet.files g.C.Cabinet.fault_count g.C.Cabinet.log c.args.cabinet.now in
     let v : World = world_of g.C.Cabinet.files g.C.Cabinet.fault_count g.C.Cabinet.log c.allocate-ended.new.cabinet in
-    c.finish.ensures.asked (Allocate c.args.names.now c.args.nodes c.args.workers) w v c.allocate-ended.ensures.done c.allocate-ended.ensures.stop
+    c.finish.ensures.asked (Allocate c.args.names.now c.args.nodes c.args.workers) w (still nowhere) v (ok_at nowhere c.allocate-ended.result c.allocate-ended.ensures.done) (err_at nowhere c.allocate-ended.result c.allocate-ended.ensures.stop)

@@ -1,15 +1,17 @@
 use Rattle.command_words.specs.declared.job.Job.TheVariants.{Amend}
+use Rattle.slot_program.specs.Outside.{still}
 use Rattle.slot_program.specs.Desk.{World, world_of}
+use Rattle.slot_program.proofs.OutsideLemmas.{nowhere, ok_at, err_at}
 use Rattle.slot_program.proofs.top_call.carry_out_amend.Goals as goal
 
 pub returns-clause-answer : goal.returns-clause-answer
-returns-clause-answer g c =
+returns-clause-answer g c = λ o.
     let w : World = world_of g.C.Cabinet.files g.C.Cabinet.fault_count g.C.Cabinet.log c.args.cabinet.now in
     let v : World = world_of g.C.Cabinet.files g.C.Cabinet.fault_count g.C.Cabinet.log c.amend-ended.new.cabinet in
-    c.finish.ensures.answer (Amend c.args.names.now) w v c.amend-ended.ensures.done c.amend-ended.ensures.stop
+    c.finish.ensures.answer (Amend c.args.names.now) w (still o) v (ok_at o c.amend-ended.result c.amend-ended.ensures.done) (err_at o c.amend-ended.result c.amend-ended.ensures.stop)
 
 pub returns-clause-asked : goal.returns-clause-asked
 returns-clause-asked g c =
     let w : World = world_of g.C.Cabinet.files g.C.Cabinet.fault_count g.C.Cabinet.log c.args.cabinet.now in
     let v : World = world_of g.C.Cabinet.files g.C.Cabinet.fault_count g.C.Cabinet.log c.amend-ended.new.cabinet in
-    c.finish.ensures.asked (Amend c.args.names.now) w v c.amend-ended.ensures.done c.amend-ended.ensures.stop
+    c.finish.ensures.asked (Amend c.args.names.now) w (still nowhere) v (ok_at nowhere c.amend-ended.result c.amend-ended.ensures.done) (err_at nowhere c.amend-ended.result c.amend-ended.ensures.stop)

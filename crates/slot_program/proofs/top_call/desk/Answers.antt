@@ -1,27 +1,29 @@
 use Rattle.std.proofs.Common.{◌≡◌, ◌∷◌, [], ◌++◌, sym, ◌∙◌, ap, subst, refl, inl, inr, ℕ, arith, rules}
-use Rattle.std.specs.Prelude.{Contains}
+use Rattle.std.specs.Prelude.{◌⊎◌, Contains}
 use Rattle.desk_outside.specs.Bytes.{Puts}
 use Rattle.desk_outside.specs.Passages.{put}
 use Rattle.command_words.specs.Words.{words_of}
 use Rattle.command_words.specs.Jobs.{job_of}
 use Rattle.slot_program.specs.Reports.{Report, status_of, text_of}
-use Rattle.slot_program.specs.Jobs.{searched_statuses, finishing_of}
+use Rattle.slot_program.specs.Jobs.{finished_statuses, finishing_of}
+use Rattle.slot_program.specs.Outside.{OutsideChange, outside_of, outside_change}
 use Rattle.slot_program.specs.Desk.{World, world_of, IsFinished, IsStatus}
-use Rattle.slot_program.proofs.DeskLemmas.{is_status, not_six, is_finished, marks_true, told_exact, finishing_not, searched_is_calm, not_searched, two_is_none}
+use Rattle.slot_program.proofs.DeskLemmas.{is_status, not_six, is_finished, marks_true, told_exact, finishing_not, finished_is_calm, not_finished, two_is_none, doors_calm, door_risen, none_ends}
 use Rattle.slot_program.proofs.top_call.desk.Goals as goal
 
 pub returns-in-Ok-put-clause-statuses : goal.returns-in-Ok-put-clause-statuses
 returns-in-Ok-put-clause-statuses g c =
     let a = c.in-Ok.ensures.answer in
-    subst (λ (n : ℕ). IsStatus n) (sym a.status_is) (is_status (job_of (words_of c.args.words.now)) _ a.report _ a.ends)
+    subst (λ (n : ℕ). IsStatus n) (sym a.status_is) (is_status (job_of (words_of c.args.words.now)) _ _ a.report _ a.ends)
 
 pub returns-in-Ok-put-clause-headline : goal.returns-in-Ok-put-clause-headline
 returns-in-Ok-put-clause-headline g c = λ job e one.
     let w : World = world_of g.C.Cabinet.files g.C.Cabinet.fault_count g.C.Cabinet.log c.args.cabinet.now in
     let v : World = world_of g.C.Cabinet.files g.C.Cabinet.fault_count g.C.Cabinet.log c.carry_out.new.cabinet in
+    let change : OutsideChange = outside_change g.D.Door.view c.args.doors.now.items c.carry_out.new.doors.items in
     let a = c.in-Ok.ensures.answer in
-    let marked = marks_true c.valid_marks.ensures job w (status_of a.report) (text_of a.report) v
-    (is_finished (job_of (words_of c.args.words.now)) job w a.report v e (subst (λ (n : ℕ). Contains (finishing_of job) n) a.status_is one) a.ends) in
+    let marked = marks_true c.valid_marks.ensures job w change (status_of a.report) (text_of a.report) v
+    (is_finished (job_of (words_of c.args.words.now)) job w change a.report v e (subst (λ (n : ℕ). Contains (finishing_of job) n) a.status_is one) a.ends) in
     let logs : g.S.Sink.log c.put.new.self ≡ g.S.Sink.log c.args.out.now ++ put (text_of a.report) ∷ [] = search rules in
     (marked.0, marked.1, text_of a.report, marked.2, logs, marked.3, marked.4)
 
@@ -29,33 +31,36 @@ pub returns-in-Ok-put-clause-handed : goal.returns-in-Ok-put-clause-handed
 returns-in-Ok-put-clause-handed g c = λ job e one.
     let w : World = world_of g.C.Cabinet.files g.C.Cabinet.fault_count g.C.Cabinet.log c.args.cabinet.now in
     let v : World = world_of g.C.Cabinet.files g.C.Cabinet.fault_count g.C.Cabinet.log c.carry_out.new.cabinet in
+    let change : OutsideChange = outside_change g.D.Door.view c.args.doors.now.items c.carry_out.new.doors.items in
     let a = c.in-Ok.ensures.answer in
-    let done : IsFinished job w (status_of a.report) (text_of a.report) v =
-    is_finished (job_of (words_of c.args.words.now)) job w a.report v e (subst (λ (n : ℕ). Contains (finishing_of job) n) a.status_is one) a.ends in
-    (text_of a.report, subst (λ (n : ℕ). IsFinished job w n (text_of a.report) v) (sym a.status_is) done, search rules, search rules)
+    let done : IsFinished job w change (status_of a.report) (text_of a.report) v =
+    is_finished (job_of (words_of c.args.words.now)) job w change a.report v e (subst (λ (n : ℕ). Contains (finishing_of job) n) a.status_is one) a.ends in
+    (text_of a.report, subst (λ (n : ℕ). IsFinished job w change n (text_of a.report) v) (sym a.status_is) done, search rules, search rules)
 
 pub returns-in-Ok-put-clause-done : goal.returns-in-Ok-put-clause-done
 returns-in-Ok-put-clause-done g c = λ one.
     let w : World = world_of g.C.Cabinet.files g.C.Cabinet.fault_count g.C.Cabinet.log c.args.cabinet.now in
     let v : World = world_of g.C.Cabinet.files g.C.Cabinet.fault_count g.C.Cabinet.log c.carry_out.new.cabinet in
+    let change : OutsideChange = outside_change g.D.Door.view c.args.doors.now.items c.carry_out.new.doors.items in
     let a = c.in-Ok.ensures.answer in
-    (searched_is_calm (job_of (words_of c.args.words.now)) w a.report v (subst (λ (n : ℕ). Contains searched_statuses n) a.status_is one) a.ends, search rules)
+    (finished_is_calm (job_of (words_of c.args.words.now)) w change a.report v (subst (λ (n : ℕ). Contains finished_statuses n) a.status_is one) a.ends, search rules)
 
 pub returns-in-Ok-clause-done : goal.returns-in-Ok-clause-done
-returns-in-Ok-clause-done g c = λ one. absurd (not_searched 6 (omega arith) (omega arith) one)
+returns-in-Ok-clause-done g c = λ one. absurd (not_finished 6 (omega arith) (omega arith) one)
 
 pub returns-clause-done : goal.returns-clause-done
-returns-clause-done g c = λ one. absurd (not_searched 7 (omega arith) (omega arith) one)
+returns-clause-done g c = λ one. absurd (not_finished 7 (omega arith) (omega arith) one)
 
 pub returns-in-Ok-put-clause-words : goal.returns-in-Ok-put-clause-words
 returns-in-Ok-put-clause-words g c = λ e.
     let a = c.in-Ok.ensures.answer in
-    two_is_none (job_of (words_of c.args.words.now)) _ a.report _ (sym a.status_is ∙ e) a.ends
+    two_is_none (job_of (words_of c.args.words.now)) _ _ a.report _ (sym a.status_is ∙ e) a.ends
 
 pub returns-in-Ok-put-clause-due : goal.returns-in-Ok-put-clause-due
 returns-in-Ok-put-clause-due g c = λ job held refusal e told is.
     let w : World = world_of g.C.Cabinet.files g.C.Cabinet.fault_count g.C.Cabinet.log c.args.cabinet.now in
     let v : World = world_of g.C.Cabinet.files g.C.Cabinet.fault_count g.C.Cabinet.log c.carry_out.new.cabinet in
+    let change : OutsideChange = outside_change g.D.Door.view c.args.doors.now.items c.carry_out.new.doors.items in
     let a = c.in-Ok.ensures.answer in
     let exact = told_exact (job_of (words_of c.args.words.now)) job w a.report v held e told a.exact in
     let puts : Puts (g.S.Sink.contents c.args.out.now) (text_of a.report) (g.S.Sink.contents c.put.new.self) = search rules in
@@ -73,6 +78,7 @@ pub returns-in-Ok-put-clause-complete : goal.returns-in-Ok-put-clause-complete
 returns-in-Ok-put-clause-complete g c = λ job held inputs e told pass calm quiet.
     let w : World = world_of g.C.Cabinet.files g.C.Cabinet.fault_count g.C.Cabinet.log c.args.cabinet.now in
     let v : World = world_of g.C.Cabinet.files g.C.Cabinet.fault_count g.C.Cabinet.log c.carry_out.new.cabinet in
+    let change : OutsideChange = outside_change g.D.Door.view c.args.doors.now.items c.carry_out.new.doors.items in
     let a = c.in-Ok.ensures.answer in
     let exact = told_exact (job_of (words_of c.args.words.now)) job w a.report v held e told a.exact in
     elim (exact.whole inputs pass) [
@@ -84,6 +90,7 @@ pub returns-in-Ok-put-clause-in_form : goal.returns-in-Ok-put-clause-in_form
 returns-in-Ok-put-clause-in_form g c = λ job held inputs e told pass calm quiet.
     let w : World = world_of g.C.Cabinet.files g.C.Cabinet.fault_count g.C.Cabinet.log c.args.cabinet.now in
     let v : World = world_of g.C.Cabinet.files g.C.Cabinet.fault_count g.C.Cabinet.log c.carry_out.new.cabinet in
+    let change : OutsideChange = outside_change g.D.Door.view c.args.doors.now.items c.carry_out.new.doors.items in
     let a = c.in-Ok.ensures.answer in
     let exact = told_exact (job_of (words_of c.args.words.now)) job w a.report v held e told a.exact in
     elim (exact.forms inputs pass) [
@@ -113,4 +120,42 @@ returns-clause-statuses g c = (7, omega arith, refl)
 pub returns-in-Ok-put-clause-cut : goal.returns-in-Ok-put-clause-cut
 returns-in-Ok-put-clause-cut g c = λ e.
     let a = c.in-Ok.ensures.answer in
-    absurd (not_six (job_of (words_of c.args.words.now)) _ a.report _ (sym a.status_is ∙ e) a.ends)
+    absurd (not_six (job_of (words_of c.args.words.now)) _ _ a.report _ (sym a.status_is ∙ e) a.ends)
+
+pub returns-in-Ok-put-clause-calm : goal.returns-in-Ok-put-clause-calm
+returns-in-Ok-put-clause-calm g c = λ one.
+    let a = c.in-Ok.ensures.answer in
+    doors_calm (job_of (words_of c.args.words.now)) _ _ a.report _ (subst (λ (n : ℕ). (n ≡ 0) ⊎ (n ≡ 11)) a.status_is one) a.ends
+
+pub returns-in-Ok-put-clause-risen : goal.returns-in-Ok-put-clause-risen
+returns-in-Ok-put-clause-risen g c = λ ten.
+    let a = c.in-Ok.ensures.answer in
+    door_risen (job_of (words_of c.args.words.now)) _ _ a.report _ (sym a.status_is ∙ ten) a.ends
+
+pub returns-in-Ok-clause-calm : goal.returns-in-Ok-clause-calm
+returns-in-Ok-clause-calm g c = λ one. elim one [ inl bad ↦ absurd (omega (arith, bad)) | inr bad ↦ absurd (omega (arith, bad)) ]
+
+pub returns-in-Ok-clause-risen : goal.returns-in-Ok-clause-risen
+returns-in-Ok-clause-risen g c = λ bad. absurd (omega (arith, bad))
+
+pub returns-clause-calm : goal.returns-clause-calm
+returns-clause-calm g c = λ one. elim one [ inl bad ↦ absurd (omega (arith, bad)) | inr bad ↦ absurd (omega (arith, bad)) ]
+
+pub returns-clause-risen : goal.returns-clause-risen
+returns-clause-risen g c = λ bad. absurd (omega (arith, bad))
+
+pub returns-in-Ok-put-clause-refused : goal.returns-in-Ok-put-clause-refused
+returns-in-Ok-put-clause-refused g c = λ e.
+    let a = c.in-Ok.ensures.answer in
+    let n = none_ends (job_of (words_of c.args.words.now)) _ _ a.report _ e a.ends in
+    (n.0, n.1, inl (a.status_is ∙ n.2))
+
+pub returns-in-Ok-clause-refused : goal.returns-in-Ok-clause-refused
+returns-in-Ok-clause-refused g c = λ e.
+    let same = c.carry_out.ensures.refused e in
+    (same.0, ap (outside_of g.D.Door.view) same.1, inr (inl refl))
+
+pub returns-clause-refused : goal.returns-clause-refused
+returns-clause-refused g c = λ e.
+    let same = c.carry_out.ensures.refused e in
+    (same.0, ap (outside_of g.D.Door.view) same.1, inr (inr refl))

@@ -27,8 +27,8 @@ returns-in_err-write_file-clause-stop g c =
     let u : World = world_of files count log c.write_file.new.cabinet in
     let p = err_from_is_err_and c.from_residual.result c.from_residual.ensures.1 in
     rw (p.1, p.2) (rw c.in_err-write_file.ensures.stop
-    (λ job w inputs status text named lead work.
-    only_failed job w v inputs lead status text c.args.names.now c.args.place c.args.bytes.now named work u
+    (λ job w change inputs status text named lead work.
+    only_failed job w v inputs lead change status text c.args.names.now c.args.place c.args.bytes.now named work u
     c.in_err-write_file.ensures.part c.in_err-write_file.ensures.rose c.in_err-write_file.ensures.part_passed))
 
 pub returns-clause-done : goal.returns-clause-done
@@ -36,6 +36,6 @@ returns-clause-done g c =
     let files = g.C.Cabinet.files in let count = g.C.Cabinet.fault_count in let log = g.C.Cabinet.log in
     let v : World = world_of files count log c.args.cabinet.now in
     let u : World = world_of files count log c.write_file.new.cabinet in
-    λ job w inputs status text named lead work.
-    only_written job w v inputs lead status text c.args.names.now c.args.place c.args.bytes.now named work u
+    λ job w change inputs status text named lead work.
+    only_written job w v inputs lead change status text c.args.names.now c.args.place c.args.bytes.now named work u
     c.in_ok-write_file.ensures.ok c.in_ok-write_file.ensures.kept c.in_ok-write_file.ensures.ok_passed

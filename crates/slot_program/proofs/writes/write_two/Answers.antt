@@ -41,8 +41,8 @@ returns-in_err-write_file-clause-stop g c =
     let x : World = world_of files count log c.write_file.new.cabinet in
     let p = err_from_is_err_and c.from_residual.result c.from_residual.ensures.1 in
     rw (p.1, p.2) (rw c.in_err-write_file.ensures.stop
-    (λ job w inputs status text named lead work.
-    first_failed job w v inputs lead status text c.args.names.now c.args.place c.args.one.now c.args.two.now named work x
+    (λ job w change inputs status text named lead work.
+    first_failed job w v inputs lead change status text c.args.names.now c.args.place c.args.one.now c.args.two.now named work x
     c.in_err-write_file.ensures.part c.in_err-write_file.ensures.rose c.in_err-write_file.ensures.part_passed))
 
 pub returns-in_err-write_file-2-clause-stop : goal.returns-in_err-write_file-2-clause-stop
@@ -53,8 +53,8 @@ returns-in_err-write_file-2-clause-stop g c =
     let u : World = world_of files count log c.write_file-2.new.cabinet in
     let p = err_from_is_err_and c.from_residual-in_err-write_file-2.result c.from_residual-in_err-write_file-2.ensures.1 in
     rw (p.1, p.2) (rw c.in_err-write_file-2.ensures.stop
-    (λ job w inputs status text named lead work.
-    second_failed job w v inputs lead status text c.args.names.now c.args.place c.args.one.now c.args.two.now named work x
+    (λ job w change inputs status text named lead work.
+    second_failed job w v inputs lead change status text c.args.names.now c.args.place c.args.one.now c.args.two.now named work x
     c.in_ok-write_file.ensures.ok c.in_ok-write_file.ensures.kept c.in_ok-write_file.ensures.ok_passed u
     c.in_err-write_file-2.ensures.part c.in_err-write_file-2.ensures.rose c.in_err-write_file-2.ensures.part_passed))
 
@@ -64,7 +64,7 @@ returns-clause-done g c =
     let v : World = world_of files count log c.args.cabinet.now in
     let x : World = world_of files count log c.write_file.new.cabinet in
     let u : World = world_of files count log c.write_file-2.new.cabinet in
-    λ job w inputs status text named lead work.
-    both_written job w v inputs lead status text c.args.names.now c.args.place c.args.one.now c.args.two.now named work x
+    λ job w change inputs status text named lead work.
+    both_written job w v inputs lead change status text c.args.names.now c.args.place c.args.one.now c.args.two.now named work x
     c.in_ok-write_file.ensures.ok c.in_ok-write_file.ensures.kept c.in_ok-write_file.ensures.ok_passed u
     c.in_ok-write_file-2.ensures.ok c.in_ok-write_file-2.ensures.kept c.in_ok-write_file-2.ensures.ok_passed

@@ -1,0 +1,261 @@
+//! The rows of `serve`: sessions worked by hand over links in memory, devices that fail at each call,
+//! and two workers that run at once.
+
+use crate::desk_calls::{call_desk, door_of, new_cabinet};
+use crate::play::play_script;
+use crate::texts::spelled_out;
+use desk_links::MemoryDoor;
+use desk_outside::{Failure, MemoryCabinet};
+use std::alloc::Global;
+use std::sync::Wait;
+use std::sync::atomic::{AtomicU64, Ordering};
+use std::test::Fail;
+use std::thread::Threads;
+use worker_gate::{Gate, RealGate};
+
+/// Hours of two arrivals, one of them historic: the messages that a file of asks has too, over a
+/// link, whole and in pieces. Then links and doors that fail, refusals and devices.
+const SERVED: &str = "\
+file CAP AIRPORT ABC;SEASON S25;STEP 5;FLEX 60;GROUND 40;REFUSE NONE;\
+    CAP ARR 60 0600 0600 1234567 2;
+file SCR SCR;S25;20NOV;ABC;FBA001 30MAR25OCT 1234567 180320 JFK0610 J;
+words allocate CAP SCR CERT REPLIES
+says 0 STAGE 1 OPTIMAL 0;*
+take CERT
+words serve CAP SCR CERT RECORD
+says 0 ENTRIES 0;LINKS 0;
+holds RECORD 
+door SCR;S25;20NOV;ABC;NBA002 30MAR25OCT 1234567 180320 JFK0620 J;\
+    NBA003 30MAR25OCT 1234567 180320 JFK0630 J;ABA003 30MAR25OCT 1234567 180320 JFK0700 J;\
+    DBA002 01JUN30JUN 1234567 180320 JFK0620 J;QBA002;ZBA009 30MAR25OCT 1234567 180320 JFK0700 J;;
+says 0 ENTRIES 6;LINKS 1;
+again
+sent 0 0 SCR;S25;20NOV;ABC;KBA002 30MAR25OCT 1234567 180320 JFK0620 J;\
+    UBA003 30MAR25OCT 1234567 180320 JFK0630 J;OBA003 30MAR25OCT 1234567 180320 JFK0700 J;\
+    KBA003 30MAR25OCT 1234567 180320 JFK0700 J;XBA002 01JUN30JUN 1234567 180320 JFK0620 J;\
+    HBA002 30MAR31MAY 1234567 180320 JFK0620 J;HBA002 01JUL25OCT 1234567 180320 JFK0620 J;\
+    WBA009 30MAR25OCT 1234567 180320 JFK0700 J;;
+holds RECORD ENTRY 1 CALLER 0;NBA002 30MAR25OCT 1234567 180320 JFK0620 J;\
+    KBA002 30MAR25OCT 1234567 180320 JFK0620 J;ENTRY 2 CALLER 0;\
+    NBA003 30MAR25OCT 1234567 180320 JFK0630 J;UBA003 30MAR25OCT 1234567 180320 JFK0630 J;\
+    OBA003 30MAR25OCT 1234567 180320 JFK0700 J;ENTRY 3 CALLER 0;\
+    ABA003 30MAR25OCT 1234567 180320 JFK0700 J;KBA003 30MAR25OCT 1234567 180320 JFK0700 J;\
+    ENTRY 4 CALLER 0;DBA002 01JUN30JUN 1234567 180320 JFK0620 J;\
+    XBA002 01JUN30JUN 1234567 180320 JFK0620 J;ENTRY 5 CALLER 0;QBA002;\
+    HBA002 30MAR31MAY 1234567 180320 JFK0620 J;HBA002 01JUL25OCT 1234567 180320 JFK0620 J;\
+    ENTRY 6 CALLER 0;ZBA009 30MAR25OCT 1234567 180320 JFK0700 J;\
+    WBA009 30MAR25OCT 1234567 180320 JFK0700 J;
+take RECORD
+piece 1
+says 0 ENTRIES 6;LINKS 1;
+piece 2
+says 0 ENTRIES 6;LINKS 1;
+piece 3
+says 0 ENTRIES 6;LINKS 1;
+piece 7
+says 0 ENTRIES 6;LINKS 1;
+piece 4096
+says 0 ENTRIES 6;LINKS 1;
+sent 0 0 SCR;S25;20NOV;ABC;KBA002 *;WBA009 30MAR25OCT 1234567 180320 JFK0700 J;;
+holds RECORD ENTRY 1 CALLER 0;*ENTRY 6 CALLER 0;*WBA009 30MAR25OCT 1234567 180320 JFK0700 J;
+piece 0
+cabinet 0|5 CABINET CAP READ;
+cabinet 1|5 CABINET SCR READ;
+cabinet 2|5 CABINET CERT READ;
+cabinet 3|5 CABINET RECORD WRITE;
+cabinet 3:8|5 CABINET RECORD WRITE;
+holds RECORD ENTRY 1 
+cabinet 4|0 ENTRIES 6;LINKS 1;
+sink 0|6 
+sink 0:7|6 ENTRIES
+holds RECORD ENTRY 1 CALLER 0;*
+line CERT 2|CERT 3|3 FORM CERT 1;
+line COST 0|COST 1|1 NO 5 COST;
+shut
+door SCR;S25;20NOV;ABC;NBA002 30MAR25OCT 1234567 180320 JFK0620 J;;\
+    SCR;S25;20NOV;ABC;NBA003 30MAR25OCT 1234567 180320 JFK0700 J;;|SCR;S25;20NOV;ABC;QBA003;;
+words serve CAP SCR CERT RECORD --links 2
+says 0 ENTRIES 3;LINKS 2;
+link 2|0 ENTRIES 3;LINKS 2;
+sent 0 0 SCR;S25;20NOV;ABC;KBA002 30MAR25OCT 1234567 180320 JFK0620 J;;
+sent 0 1 SCR;S25;20NOV;ABC;HBA003 30MAR25OCT 1234567 180320 JFK0700 J;;
+link 2:6|0 ENTRIES 3;LINKS 2;
+sent 0 0 SCR;S25;20NOV;ABC;KBA002 30MAR25OCT 1234567 180320 JFK0620 J;;SCR;S2
+link 1|0 ENTRIES 2;LINKS 2;
+sent 0 0 
+sent 0 1 SCR;S25;20NOV;ABC;WBA003;;
+link 0|0 ENTRIES 1;LINKS 2;
+words serve CAP SCR CERT RECORD
+says 0 ENTRIES 2;LINKS 1;
+shut
+door SCR;S25;20NOV;ABC;QBA001;;|SCR;S25;20NOV;ABC;QBA001;;
+door SCR;S25;20NOV;ABC;QBA001;;|SCR;S25;20NOV;ABC;QBA001;;
+words serve CAP SCR CERT RECORD --links 2
+says 0 ENTRIES 4;LINKS 4;
+accept 0|10 ENTRIES 2;LINKS 2;
+holds RECORD ENTRY 1 CALLER 1;*ENTRY 2 CALLER 1;*
+accept 1|10 ENTRIES 3;LINKS 3;
+accept 2|0 ENTRIES 4;LINKS 4;
+words serve CAP SCR CERT RECORD --links 3
+says 0 ENTRIES 4;LINKS 4;
+accept 2|10 ENTRIES 4;LINKS 4;
+words serve CAP SCR CERT
+says 2 WORDS;
+words serve CAP SCR CERT RECORD --links 0
+says 2 WORDS;
+words serve CAP SCR CERT NO --links 1001
+says 2 WORDS;
+words serve CAP SCR NO RECORD
+says 5 CABINET NO MISSING;";
+
+/// How sessions end, over links of one door: blanks and line ends, lines and messages of the greatest
+/// length, bad messages, and messages that are cut. (Capacity as above; one hour of two arrivals.)
+const ENDS: &str = "\
+file CAP AIRPORT ABC;SEASON S25;STEP 5;FLEX 60;GROUND 40;REFUSE NONE;\
+    CAP ARR 60 0600 0600 1234567 2;
+file SCR SCR;S25;20NOV;ABC;FBA001 30MAR25OCT 1234567 180320 JFK0610 J;
+words allocate CAP SCR CERT REPLIES
+says 0 STAGE 1 OPTIMAL 0;*
+take CERT
+words serve CAP SCR CERT RECORD --links 3
+door SCR;W25;20NOV;ABC;;
+says 0 ENTRIES 0;LINKS 1;
+sent 0 0 BAD 2;;
+shut
+door SCR;W25;20NOV;ABC;NBA001 30MAR25OCT 1234567 180320 JFK0610 J;;
+says 0 ENTRIES 0;LINKS 1;
+sent 0 0 BAD 5;;
+shut
+door SCR;S25;20NOV;ABC;QBA001|SCR;S25;20NOV;ABC;QBA001;;
+says 0 ENTRIES 1;LINKS 2;
+sent 0 0 
+sent 0 1 SCR;S25;20NOV;ABC;HBA001 30MAR25OCT 1234567 180320 JFK0610 J;;
+shut
+door SCR;S25;20NOV;ABC;;
+says 0 ENTRIES 0;LINKS 1;
+sent 0 0 SCR;S25;20NOV;ABC;;
+shut
+door SCR;S25;20NOV;ABC;QBA001;{5000  };SCR;S25;20NOV;ABC;QBA001;;
+says 0 ENTRIES 2;LINKS 1;
+shut
+door SCR;S25;20NOV;ABC;QBA001;;SCR;S25;20NOV;ABC;SI {201 A};QBA001;;|SCR;S25;20NOV;ABC;QBA001;;
+says 0 ENTRIES 2;LINKS 2;
+sent 0 0 SCR;S25;20NOV;ABC;HBA001 30MAR25OCT 1234567 180320 JFK0610 J;;
+shut
+door SCR;S25;20NOV;ABC;{995 SI x;}QBA001;;SCR;S25;20NOV;ABC;{996 SI x;}QBA001;;
+says 0 ENTRIES 1;LINKS 1;
+shut
+door SCR;S25;20NOV;ABC;QBA001;;SCR;S25;20NOV;ABC;ZBA009;;\
+    SCR;S25;20NOV;ABC;NBA002 30MAR25OCT 1234567 180320 JFK0620 J;;
+says 0 ENTRIES 2;LINKS 1;
+sent 0 0 SCR;S25;20NOV;ABC;HBA001 30MAR25OCT 1234567 180320 JFK0610 J;;BAD 5;;\
+    SCR;S25;20NOV;ABC;KBA002 30MAR25OCT 1234567 180320 JFK0620 J;;
+shut
+door ;;SCR;S25;20NOV;ABC;QBA001;;;;
+says 0 ENTRIES 1;LINKS 1;
+piece 1
+says 0 ENTRIES 1;LINKS 1;
+shut
+piece 0
+door SCR;S25;20NOV;ABC;NBA002 30MAR25OCT 1234567 180320 JFK0620 J;;
+door SCR;S25;20NOV;ABC;NBA003 30MAR25OCT 1234567 180320 JFK0620 J;;
+words serve CAP SCR CERT RECORD
+says 0 ENTRIES 2;LINKS 2;
+holds RECORD ENTRY 1 CALLER *;N*;KBA00*;ENTRY 2 CALLER *;N*;UBA00*;OBA00*";
+
+#[test]
+fn asks_over_links(rt: HostRuntime) -> Result<(), Fail> {
+    play_script(&rt, rt.alloc(), SERVED)
+}
+
+#[test]
+fn ends_of_sessions(rt: HostRuntime) -> Result<(), Fail> {
+    play_script(&rt, rt.alloc(), ENDS)
+}
+
+const CAP: &str = "AIRPORT ABC;SEASON S25;STEP 5;FLEX 60;GROUND 40;REFUSE NONE;\
+    CAP ARR 60 0600 0600 1234567 2;";
+
+const SCR: &str = "SCR;S25;20NOV;ABC;FBA001 30MAR25OCT 1234567 180320 JFK0610 J;";
+
+const TWO_ASKS: &str = "SCR;S25;20NOV;ABC;NBA002 30MAR25OCT 1234567 180320 JFK0620 J;QBA002;;";
+
+/// A cabinet with a season and its certificate.
+fn served_cabinet<R: Threads + Wait + Sync>(rt: &R, alloc: Global) -> Result<MemoryCabinet, Fail> {
+    let mut cabinet = new_cabinet(alloc, 300_000, None)?;
+    let _ = cabinet.load("CAP", &spelled_out(alloc, CAP)?);
+    let _ = cabinet.load("SCR", &spelled_out(alloc, SCR)?);
+    let words = "allocate CAP SCR CERT REPLIES";
+    let mut none: Vec<MemoryDoor> = Vec::new(alloc);
+    call_desk(rt, alloc, words, &mut cabinet, None, &mut none, &RealGate)?;
+    Ok(cabinet)
+}
+
+/// Worker 0 waits before its first line until worker 1 has come to its second.
+#[derive(Drop)]
+struct Meeting {
+    lines: AtomicU64,
+    met: AtomicU64,
+}
+
+const TURNS: u64 = 400_000_000;
+
+impl Gate for Meeting {
+    fn before_node(&self, _worker: u32) {}
+
+    fn before_line(&self, worker: u32) {
+        if worker == 1 {
+            self.lines.fetch_add(1, Ordering::SeqCst);
+            return;
+        }
+        for _ in 0..TURNS {
+            if self.lines.load(Ordering::SeqCst) >= 2 {
+                self.met.fetch_add(1, Ordering::SeqCst);
+                return;
+            }
+        }
+    }
+}
+
+// Where both run at once, each of worker 0's two lines comes behind worker 1's second.
+#[test]
+fn two_workers_serve_at_once(rt: HostRuntime) -> Result<(), Fail> {
+    let alloc = rt.alloc();
+    let mut cabinet = served_cabinet(&rt, alloc)?;
+    let mut doors = Vec::new(alloc);
+    doors.push(door_of(alloc, TWO_ASKS, 0, None, None)?)?;
+    doors.push(door_of(alloc, TWO_ASKS, 0, None, None)?)?;
+    let gate = Meeting {
+        lines: AtomicU64::new(0),
+        met: AtomicU64::new(0),
+    };
+    let words = "serve CAP SCR CERT RECORD --workers 2";
+    let said = call_desk(&rt, alloc, words, &mut cabinet, None, &mut doors, &gate)?;
+    assert_eq!(rt; said.as_str(), "0 ENTRIES 4;LINKS 2;");
+    assert_eq!(rt; gate.met.load(Ordering::SeqCst), 2);
+    Ok(())
+}
+
+// One link in pieces of one byte, of which each take and the put fail in turn: the desk goes on, what
+// was sent is whole or nothing, and the asks are entered where their message had come.
+#[test]
+fn each_call_of_a_link_fails(rt: HostRuntime) -> Result<(), Fail> {
+    let alloc = rt.alloc();
+    let mut cabinet = served_cabinet(&rt, alloc)?;
+    let takes = spelled_out(alloc, TWO_ASKS)?.len();
+    for call in 0..takes + 3 {
+        let mut doors = Vec::new(alloc);
+        doors.push(door_of(alloc, TWO_ASKS, 1, Some(Failure::at(call as u64)), None)?)?;
+        let words = "serve CAP SCR CERT RECORD";
+        let said = call_desk(&rt, alloc, words, &mut cabinet, None, &mut doors, &RealGate)?;
+        let entries = if call < takes { 0 } else { 2 };
+        let due = format!(in alloc; "0 ENTRIES {entries};LINKS 1;")?;
+        assert_eq!(rt; said.as_str(), due.as_str());
+        let sent = doors
+            .get(0)
+            .and_then(|door| door.kept().get(0))
+            .map(|link| link.sent().len());
+        assert_eq!(rt; sent == Some(0), call <= takes);
+    }
+    Ok(())
+}

@@ -1,0 +1,60 @@
+use Rattle.std.proofs.Common.{◌≡◌, ◌≤◌, ◌<◌, ℕ, List, length, map, refl, sym, ap, subst, ◌∙◌, arith}
+use Rattle.std.specs.Prelude.{All}
+use Rattle.std.proofs.lemmas.List.{length-map}
+use Rattle.choice_problem.specs.declared.problems.TheConstants.{MOST_UNITS}
+use Rattle.season_days.specs.Term.{Term}
+use Rattle.series_model.specs.declared.unit.Unit.{Unit as SlotUnit}
+use Rattle.holding_book.specs.declared.answer.Entry.{Entry}
+use Rattle.holding_book.specs.Books.{SlotBook}
+use Rattle.holding_book.specs.Histories.{IsLegal}
+use Rattle.holding_book.specs.Starts.{start_book}
+use Rattle.scr_replies.specs.History.{history_text, HasEntryLines}
+use Rattle.amend_run.specs.Amended.{FitsThroughout}
+use Rattle.slot_program.specs.Services.{IsWorker, AreWorkers}
+use Rattle.slot_program.proofs.AmendLemmas.{start_few}
+use Rattle.slot_program.proofs.ServiceLemmas.{fits_throughout}
+use Rattle.slot_program.proofs.serve.service_output.Goals as goal
+
+pub served-requires-clause-holdings : goal.served-requires-clause-holdings
+served-requires-clause-holdings g c =
+    let s = c.args.submission.now in
+    let start : SlotBook = start_book s c.args.certificate.now in
+    let held : length c.in_ok-book.book.book.holdings ≡ length start.holdings = ap (λ (b : SlotBook). length b.holdings) c.in_ok-book.ensures in
+    let few : length start.holdings ≤ length s.units = start_few s c.args.certificate.now in
+    let units : length c.units-units.result.now ≡ length s.units = ap (λ (l : List SlotUnit). length l) c.units-units.ensures.value in
+    let most : MOST_UNITS ≡ 4096 = refl in
+    omega (arith, held, few, units, most, c.units-units.ensures.few)
+
+pub history_text-requires : goal.history_text-requires
+history_text-requires g c =
+    let b = c.in_ok-book.book.book in
+    let season : b.declaration.season ≡ c.args.submission.now.declaration.season = ap (λ (x : SlotBook). x.declaration.season) c.in_ok-book.ensures in
+    subst (λ (t : Term). All (HasEntryLines t) c.in_ok-history.history.items) season
+    (c.answer_lines.ensures.history b c.in_ok-history.history.items c.declaration-declaration.ensures.book c.in_ok-history.ensures.legal c.in_ok-history.ensures.asked)
+
+pub returns-clause-served : goal.returns-clause-served
+returns-clause-served g c =
+    let b = c.in_ok-book.book.book in
+    let start : SlotBook = start_book c.args.submission.now c.args.certificate.now in
+    let same : b ≡ start = c.in_ok-book.ensures in
+    let h = c.in_ok-history.history.items in
+    let works = c.in_ok-history.works.items in
+    let ds = map g.D.Door.view c.args.doors.now.items in
+    let es = map g.D.Door.view c.served.new.doors.items in
+    let fits : FitsThroughout b h = fits_throughout b h c.replays_fit.ensures.declaration c.replays_fit.ensures.book c.declaration-declaration.ensures.book c.in_ok-history.ensures.asked in
+    record {
+      history = h;
+      works = works;
+      one = record {
+        legal = subst (λ (x : SlotBook). IsLegal x h) same c.in_ok-history.ensures.legal;
+        fits = subst (λ (x : SlotBook). FitsThroughout x h) same fits;
+      };
+      few = c.in_ok-history.ensures.few;
+      callers = subst (λ (n : ℕ). All (λ (e : Entry). e.caller < n) h) (sym (length-map c.args.doors.now.items g.D.Door.view)) c.in_ok-history.ensures.callers;
+      workers = subst (λ (x : SlotBook). AreWorkers (IsWorker x c.args.links h) 0 ds works es) same c.in_ok-history.ensures.workers;
+      remembered = c.in_ok-status.ensures.memory;
+      full = c.in_ok-history.ensures.full;
+      recorded_is = c.in_ok-recorded.ensures;
+      status_is = c.in_ok-status.ensures.status;
+      printed = c.in_ok-text.ensures;
+    }
