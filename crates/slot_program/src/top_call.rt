@@ -54,13 +54,13 @@ use worker_gate::Gate;
 /// history for a line; the command then waits until all workers have ended.
 ///
 /// The answer is the status of the program: 0 where the work is done; 1 where the certificate that
-/// was read is not valid; 2 where the words are no command's; 3 where a file is not in its form; 4 where a limit
-/// is passed; 5 where the cabinet failed, or has no such file or one of more bytes than are read; 6
-/// where the sink failed; 7 for want of memory; and where the work is done but not each stage is
-/// settled with an allotment, 8 where a stage is INFEASIBLE, and else 9 where one is OPEN; where
-/// clients were served, 10 where a door failed, and else 11 where a client found the history full,
-/// with the work done as at 0. The clauses say the same of every command; what a command's steps, writes and work are stands in
-/// `specs/Jobs.antt`.
+/// was read is not valid; 2 where the words are no command's; 3 where a file is not in its form; 4
+/// where a limit is passed; 5 where the cabinet failed, or has no such file or one of more bytes
+/// than are read; 6 where the sink failed; 7 for want of memory; and where the work is done but not
+/// each stage is settled with an allotment, 8 where a stage is INFEASIBLE, and else 9 where one is
+/// OPEN; where clients were served, 10 where a door failed, and else 11 where a client found the
+/// history full, with the work done as at 0. The clauses say the same of every command; what a
+/// command's steps, writes and work are stands in `specs/Jobs.antt`.
 pub fn desk<R: Threads + Wait + Sync, C: Cabinet, S: Sink, D: Door + Drop, G: Gate>(
     rt: &R,
     alloc: Global,
@@ -156,8 +156,9 @@ pub fn desk<R: Threads + Wait + Sync, C: Cabinet, S: Sink, D: Door + Drop, G: Ga
     ensures kept { length doors.new.items ≡ length doors.old.items }
 
     // With a command's words, where each of its steps passes in the files and no count of the
-    // cabinet and the sink rises, the work is done, or memory ran out. With a budget that is enough for each stage, the status of
-    // work that is done is not 9 (`IsRunOutput` and `IsTrial`, of which `handed` speaks).
+    // cabinet and the sink rises, the work is done, or memory ran out. With a budget that is enough
+    // for each stage, the status of work that is done is not 9 (`IsRunOutput` and `IsTrial`, of
+    // which `handed` speaks).
     ensures complete { (job : JobValue) (held : Files) (inputs : List NamedBytes)
         → job_of (words_of words.now) ≡ Some job → C.files cabinet.old ≡ Some held →
         AllPass (Some held) (steps_of job) inputs →

@@ -4,7 +4,7 @@
 
 ghost use Rattle.std.specs.Prelude.{◌≤◌, ℕ, length, IfOk};
 
-use command_words::{Job, read_words};
+use command_words::{Job, WordFault, read_words};
 use desk_links::RealDoor;
 use desk_outside::{RealCabinet, RealSink, Sink};
 use slot_program::desk;
@@ -80,6 +80,7 @@ fn doors_for<R: Net<Listener = TcpListener, Stream = TcpStream>>(
             let listener = TcpListener::bind(rt, address.as_str()).ok();
             doors_over(alloc, listener, links, workers)
         }
+        Err(WordFault::Memory) => Err(Memory),
         _ => Ok(Vec::new(alloc)),
     }
 }
@@ -94,13 +95,13 @@ fn doors_over(
     requires { workers ≤ 16 }
     ensures { IfOk result (λ doors. length doors.items ≤ 16) }
 {
-    let mut doors = Vec::with_capacity(alloc, workers as usize)?;
+    let mut doors = Vec::new(alloc);
     for _worker in 0..workers {
         let copy = match &listener {
             Some(listener) => listener.try_clone().ok(),
             None => None,
         };
-        doors.push_reserved(RealDoor::new(alloc, copy, links as usize)?);
+        doors.push(RealDoor::new(alloc, copy, links as usize)?)?;
     }
     Ok(doors)
 }
