@@ -11,6 +11,7 @@ use Rattle.holding_book.specs.declared.answer.Entry.{Entry}
 use Rattle.holding_book.specs.Books.{SlotBook, IsBook}
 use Rattle.holding_book.specs.Asks.{CanAsk, next}
 use Rattle.holding_book.specs.Histories.{replay}
+use Rattle.holding_book.specs.Starts.{start_book}
 use Rattle.amend_run.specs.Amended.{FitsThroughout}
 use Rattle.session_desk.specs.declared.worker.DoorEnd.{DoorEnd}
 use Rattle.session_desk.specs.declared.worker.DoorEnd.TheVariants as ends
@@ -43,9 +44,17 @@ workers_by view P m (d ∷ ds) (k ∷ ks) (e ∷ es) works doors each =
           (λ n x y lt. let next_is : m + suc n ≡ suc m + n = omega arith in subst (λ (c : ℕ). P c (view (get_or ds n x)) (get_or ks n y) (view (get_or es n x))) next_is (each (suc n) x y (omega (arith, lt)))),
     )
 
-pub no_workers : {D : Type 0} (view : D → DoorView) (P : ℕ → DoorView → DoorWork → DoorView → Type 0) (ds : List D) → length ds ≡ 0 → AreWorkers P 0 (map view ds) [] (map view ds)
-no_workers view P [] none = tt
-no_workers view P (d ∷ ds) none = absurd (omega (arith, none))
+pub all_workers : {D : Type 0} (view : D → DoorView) (P : ℕ → DoorView → DoorWork → DoorView → Type 0) (ds : List D) (ks : List DoorWork) (es : List D) →
+    length ks ≡ length ds → length es ≡ length ds →
+    ((n : ℕ) (d : D) (k : DoorWork) → n < length ds → P n (view (get_or ds n d)) (get_or ks n k) (view (get_or es n d))) →
+    AreWorkers P 0 (map view ds) ks (map view es)
+all_workers view P ds ks es works doors each =
+    workers_by view P 0 ds ks es works doors (λ n d k lt. let same : n ≡ 0 + n = omega arith in subst (λ (m : ℕ). P m (view (get_or ds n d)) (get_or ks n k) (view (get_or es n d))) same (each n d k lt))
+
+pub no_workers : {D : Type 0} (view : D → DoorView) (P : ℕ → DoorView → DoorWork → DoorView → Type 0) (ds : List D) (works : List DoorWork) → length ds ≡ 0 → works ≡ [] → AreWorkers P 0 (map view ds) works (map view ds)
+no_workers view P [] [] none no = tt
+no_workers view P [] (work ∷ works) none no = let bad : suc (length works) ≡ 0 = ap (λ (l : List DoorWork). length l) no in absurd (omega (arith, bad))
+no_workers view P (d ∷ ds) works none no = absurd (omega (arith, none))
 
 -- the place of one that ended because the history was full
 full_end : (end : DoorEnd) → is_full_end end ≡ true → end ≡ ends.Full
@@ -67,7 +76,7 @@ full_at (work ∷ works) some =
 
 -- what of an end says whether the count rose
 quiet_end : (end : DoorEnd) (links : ℕ) (sessions : List Session) (d e : DoorView) → is_door_end end ≡ false → EndsWorker end links sessions d e → e.faults ≡ d.faults
-quiet_end ends.Served links sessions d e is ended = ended.1.0
+quiet_end ends.Served links sessions d e is ended = ended.1
 quiet_end ends.Full links sessions d e is ended = ended.1
 quiet_end ends.Broken links sessions d e is ended = ended.1
 quiet_end ends.Memory links sessions d e is ended = ended.1
@@ -136,7 +145,7 @@ service_calm names links (capacity ∷ []) writes change status text work is = a
 service_calm names links (capacity ∷ requests ∷ []) writes change status text work is = absurd work
 service_calm names links (capacity ∷ requests ∷ certificate ∷ []) writes change status text work is =
     let out = work.output in
-    quiet_doors _ links out.history 0 change.before.doors out.works change.after.doors out.workers
+    quiet_doors (start_book work.season work.proved) links out.history 0 change.before.doors out.works change.after.doors out.workers
     (no_door_else out.works (subst (λ (n : ℕ). (n ≡ 0) ⊎ (n ≡ 11)) out.status_is is))
 service_calm names links (capacity ∷ requests ∷ certificate ∷ more ∷ rest) writes change status text work is = absurd work
 
@@ -147,7 +156,7 @@ service_risen names links (capacity ∷ []) writes change status text work is = 
 service_risen names links (capacity ∷ requests ∷ []) writes change status text work is = absurd work
 service_risen names links (capacity ∷ requests ∷ certificate ∷ []) writes change status text work is =
     let out = work.output in
-    rose_somewhere _ links out.history 0 change.before.doors out.works change.after.doors out.workers (ten_of_doors out.works (sym out.status_is ∙ is))
+    rose_somewhere (start_book work.season work.proved) links out.history 0 change.before.doors out.works change.after.doors out.workers (ten_of_doors out.works (sym out.status_is ∙ is))
 service_risen names links (capacity ∷ requests ∷ certificate ∷ more ∷ rest) writes change status text work is = absurd work
 
 -- any job
