@@ -1,7 +1,6 @@
 -- Workers at doors: door by door, how they ended, and the history that they share.
-use Rattle.std.proofs.Common.{◌≡◌, ℕ, zero, suc, ◌+◌, ◌<◌, ◌≤◌, Bool, true, false, List, [], ◌∷◌, length, map, get_or, refl, sym, ap, subst, ◌∙◌, arith, inl, inr}
+use Rattle.std.proofs.Common.{◌≡◌, ℕ, zero, suc, ◌+◌, ◌<◌, true, false, List, [], ◌∷◌, length, map, get_or, refl, sym, ap, subst, ◌∙◌, arith, inl, inr}
 use Rattle.std.specs.Prelude.{◌⊎◌, All, Contains}
-use Rattle.std.specs.List.{list_any}
 use Rattle.std.proofs.lemmas.Bool.{cases_Bool}
 use Rattle.std.proofs.lemmas.List.Elements.{All-nil, All-cons, All-head, All-tail}
 use Rattle.desk_outside.specs.Cause.{Rose}
@@ -22,8 +21,8 @@ use Rattle.command_words.specs.declared.job.Job.{Job}
 use Rattle.command_words.specs.declared.job.Job.TheVariants.{Allocate, Check, Amend, Serve, Make, Trial}
 use Rattle.slot_program.specs.Judgements.{NamedBytes}
 use Rattle.slot_program.specs.Jobs.{searched_statuses, finishing_of, ServiceWorks, Works}
-use Rattle.slot_program.specs.Outside.{Outside, OutsideChange, IsStill, door_faults, SomeRose}
-use Rattle.slot_program.specs.Services.{IsWorker, AreWorkers, ServesLegally, is_door_end, is_full_end, some_ended, served_status}
+use Rattle.slot_program.specs.Outside.{OutsideChange, door_faults, SomeRose}
+use Rattle.slot_program.specs.Services.{IsWorker, AreWorkers, is_door_end, is_full_end, some_ended, served_status}
 
 -- ---- door by door
 
@@ -52,9 +51,9 @@ all_workers view P ds ks es works doors each =
     workers_by view P 0 ds ks es works doors (λ n d k lt. let same : n ≡ 0 + n = omega arith in subst (λ (m : ℕ). P m (view (get_or ds n d)) (get_or ks n k) (view (get_or es n d))) same (each n d k lt))
 
 pub no_workers : {D : Type 0} (view : D → DoorView) (P : ℕ → DoorView → DoorWork → DoorView → Type 0) (ds : List D) (works : List DoorWork) → length ds ≡ 0 → works ≡ [] → AreWorkers P 0 (map view ds) works (map view ds)
-no_workers view P [] [] none no = tt
-no_workers view P [] (work ∷ works) none no = let bad : suc (length works) ≡ 0 = ap (λ (l : List DoorWork). length l) no in absurd (omega (arith, bad))
-no_workers view P (d ∷ ds) works none no = absurd (omega (arith, none))
+no_workers view P [] [] none empty = tt
+no_workers view P [] (work ∷ works) none empty = let bad : suc (length works) ≡ 0 = ap (λ (l : List DoorWork). length l) empty in absurd (omega (arith, bad))
+no_workers view P (d ∷ ds) works none empty = absurd (omega (arith, none))
 
 -- the place of one that ended because the history was full
 full_end : (end : DoorEnd) → is_full_end end ≡ true → end ≡ ends.Full

@@ -1,5 +1,5 @@
 -- What is printed of the stages of a season, and with which status.
-use Rattle.std.specs.Prelude.{ℕ, suc, ◌+◌, List, [], ◌∷◌, ◌++◌, Bool, true, false, ◌||◌}
+use Rattle.std.specs.Prelude.{ℕ, suc, List, [], ◌∷◌, ◌++◌, Bool, true, false, ◌||◌}
 use Rattle.std.specs.Prelude.{if◌then◌else◌, Option, Some, None, codes, sum_by}
 use Rattle.std.specs.Fmt.{decimal}
 use Rattle.choice_problem.specs.Trees.{node_count}

@@ -1,4 +1,4 @@
-use Rattle.std.proofs.Common.{◌≡◌, [], ◌∷◌, ℕ, List, refl, ap, ◌∙◌}
+use Rattle.std.proofs.Common.{[], ◌∷◌, ℕ, List, refl, ap}
 use Rattle.std.proofs.lemmas.Result.{err_from_is_err_and}
 use Rattle.std.specs.String.{string_bytes}
 use Rattle.command_words.specs.Words.{Word}

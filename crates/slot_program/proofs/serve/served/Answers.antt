@@ -1,5 +1,4 @@
-use Rattle.std.proofs.Common.{◌≡◌, ◌<◌, ℕ, [], length, refl, sym, subst, ◌∙◌, arith, rules}
-use Rattle.session_desk.specs.declared.worker.DoorWork.{DoorWork}
+use Rattle.std.proofs.Common.{◌≡◌, ◌<◌, length, arith, rules}
 use Rattle.slot_program.specs.Services.{IsWorker}
 use Rattle.slot_program.proofs.ServiceLemmas.{all_workers, no_workers, full_at}
 use Rattle.slot_program.proofs.serve.served.Goals as goal

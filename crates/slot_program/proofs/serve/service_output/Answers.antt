@@ -1,4 +1,4 @@
-use Rattle.std.proofs.Common.{◌≡◌, ◌≤◌, ◌<◌, ℕ, List, false, length, map, refl, sym, ap, subst, ◌∙◌, arith}
+use Rattle.std.proofs.Common.{rules, ◌≡◌, ◌≤◌, ◌<◌, ℕ, List, false, length, map, refl, sym, ap, subst, ◌∙◌, arith}
 use Rattle.std.specs.Prelude.{All}
 use Rattle.std.proofs.lemmas.List.{length-map}
 use Rattle.choice_problem.specs.declared.problems.TheConstants.{MOST_UNITS}
@@ -46,6 +46,9 @@ returns-clause-served g c =
     let same : b ≡ start = c.in_ok-book.ensures in
     let h = c.in_ok-history.history.items in
     let works = c.in_ok-history.works.items in
+    let s = c.args.submission.now in
+    let entries : c.len.result ≡ length h = search rules in
+    let links : c.links_total.result ≡ links_total works = c.links_total.ensures ∙ ap (λ (l : List DoorWork). links_total l) c.deref-3.ensures.value in
     let ds = map g.D.Door.view c.args.doors.now.items in
     let es = map g.D.Door.view c.served.new.doors.items in
     let fits : FitsThroughout b h = fits_throughout b h c.replays_fit.ensures.declaration c.replays_fit.ensures.book c.declaration-declaration.ensures.book c.in_ok-history.ensures.asked in
@@ -61,7 +64,7 @@ returns-clause-served g c =
       workers = subst (λ (x : SlotBook). AreWorkers (IsWorker x c.args.links h) 0 ds works es) same c.in_ok-history.ensures.workers;
       remembered = subst (λ (l : List DoorWork). some_ended is_memory_end l ≡ false) c.deref.ensures.value c.in_ok-status.ensures.memory;
       full = c.in_ok-history.ensures.full;
-      recorded_is = ?;
+      recorded_is = c.in_ok-recorded.ensures ∙ (ap (λ (d : Declaration). history_text d.season c.deref-2.result.now) c.declaration.ensures.value ∙ ap (λ (l : List Entry). history_text s.declaration.season l) c.deref-2.ensures.value);
       status_is = c.in_ok-status.ensures.status ∙ ap (λ (l : List DoorWork). served_status l) c.deref.ensures.value;
-      printed = ?;
+      printed = c.in_ok-text.ensures ∙ (ap (λ (n : ℕ). served_lines n c.links_total.result) entries ∙ ap (λ (n : ℕ). served_lines (length h) n) links);
     }

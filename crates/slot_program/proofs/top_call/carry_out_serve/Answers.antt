@@ -1,5 +1,3 @@
-use Rattle.std.proofs.Common.{ℕ}
-use Rattle.std.specs.Prelude.{IfOk}
 use Rattle.command_words.specs.declared.job.Job.TheVariants.{Serve}
 use Rattle.slot_program.specs.Outside.{OutsideChange, outside_change}
 use Rattle.slot_program.specs.Desk.{World, world_of}
