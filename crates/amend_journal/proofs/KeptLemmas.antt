@@ -1,6 +1,7 @@
 -- What a ledger leaves of its journal.
-use Rattle.std.proofs.Common.{◌≡◌, ◌⊎◌, ◌+◌, ◌<◌, ℕ, suc, List, [], ◌∷◌, ◌++◌, length, refl, sym, ap, subst, ◌∙◌, append_assoc, append-nil, length-append, inl, inr, None, Some, arith}
+use Rattle.std.proofs.Common.{◌≡◌, ◌⊎◌, ◌+◌, ◌*◌, ◌<◌, ◌≤◌, ℕ, suc, List, [], ◌∷◌, ◌++◌, length, get_or, take, refl, sym, ap, subst, ◌∙◌, append_assoc, append-nil, length-append, inl, inr, None, Some, arith}
 use Rattle.std.specs.Prelude.{Option}
+use Rattle.std.proofs.lemmas.List.{take_more}
 use Rattle.season_days.specs.Term.{Term}
 use Rattle.desk_outside.specs.Cause.{Rose}
 use Rattle.desk_disk.specs.Stops.{DiskStart, MayLeave, AtEachMoment}
@@ -117,6 +118,25 @@ replay_is b (e ∷ history) = replay_is (next b e.ask) history
 pub after_parts : (b : SlotBook) (first later : List Asked) → book_after b (first ++ later) ≡ book_after (book_after b first) later
 after_parts b [] later = refl
 after_parts b (a ∷ first) later = after_parts (next b a.ask) first later
+
+-- one pair more
+pub after_one_more : (b now after : SlotBook) (pairs : List Asked) (i : ℕ) (d : Asked) → i < length pairs → now ≡ book_after b (take i pairs) → after ≡ next now (get_or pairs i d).ask → after ≡ book_after b (take (i + 1) pairs)
+after_one_more b now after pairs i d lt is stepped =
+    let asked = get_or pairs i d in
+    stepped ∙ ap (λ (s : SlotBook). next s asked.ask) is ∙ sym (after_parts b (take i pairs) (asked ∷ []))
+    ∙ ap (λ (asks : List Asked). book_after b asks) (sym (take_more pairs i d lt))
+
+abbrev pub StaysDeclared : Type 0
+StaysDeclared = (b : SlotBook) (ask : Item) → (next b ask).declaration ≡ b.declaration
+
+abbrev pub AddsFew : Type 0
+AddsFew = (b : SlotBook) (ask : Item) → length (next b ask).holdings ≤ length b.holdings + 3
+
+pub declared_one_more : StaysDeclared → (d : Declaration) (now after : SlotBook) (ask : Item) → after ≡ next now ask → now.declaration ≡ d → after.declaration ≡ d
+declared_one_more stays d now after ask stepped same = ap (λ (s : SlotBook). s.declaration) stepped ∙ stays now ask ∙ same
+
+pub few_one_more : AddsFew → (n i : ℕ) (now after : SlotBook) (ask : Item) → after ≡ next now ask → length now.holdings ≤ n + 3 * i → length after.holdings ≤ n + 3 * (i + 1)
+few_one_more adds n i now after ask stepped few = omega (arith, ap (λ (s : SlotBook). length s.holdings) stepped, adds now ask, few)
 
 -- ---- a put behind the history
 
