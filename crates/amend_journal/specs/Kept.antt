@@ -5,9 +5,8 @@ use Rattle.std.specs.Prelude.{Option, Some, None}
 use Rattle.season_days.specs.Term.{Term}
 use Rattle.scr_reader.specs.declared.line.Item.{Item}
 use Rattle.desk_outside.specs.Cause.{Rose}
-use Rattle.desk_disk.specs.Stops.{DiskStart, AtEachMoment}
+use Rattle.desk_disk.specs.Stops.{DiskPassage, DiskStart, AtEachMoment}
 use Rattle.desk_disk.specs.Disks.{DiskView}
-use Rattle.turn_lock.specs.History.{StartsWith}
 use Rattle.holding_book.specs.declared.answer.Entry.{Entry}
 use Rattle.holding_book.specs.Books.{SlotBook}
 use Rattle.holding_book.specs.Asks.{next}
@@ -38,23 +37,35 @@ abbrev pub ForDurable : JournalView → (DiskStart → List Asked → Type 0) �
 ForDurable began P = (s : DiskStart) (pairs : List Asked)
     → AreDurable s began.disk.log began.season pairs → length pairs ≡ began.count → P s pairs
 
--- a journal of the pairs, and of a beginning of what was asked since
-abbrev pub IsJournalOfSome : Term → List Asked → List Asked → List ℕ → Type 0
-IsJournalOfSome season pairs asks file = (part : List Asked) × StartsWith asks part
-    × IsJournalOf season (pairs ++ part) file
+-- an image is a journal of the pairs, or of these and one more
+abbrev pub IsJournalUpTo : Term → Asked → List Asked → List ℕ → Type 0
+IsJournalUpTo season asked pairs image =
+    IsJournalOf season pairs image ⊎ IsJournalOf season (pairs ++ asked ∷ []) image
 
--- at each moment since the ledger began every image is such a journal
-abbrev pub AreMoments : JournalView → DiskView → List Asked → Type 0
-AreMoments began disk asks = ForDurable began (λ s pairs.
-    AtEachMoment s began.disk.log disk.log (IsJournalOfSome began.season pairs asks))
+-- The calls of a disk from one log to another, cut where each of the asks is kept. Up to its cut
+-- every image is a journal of all pairs before it, or of these and the ask; at the cut it is
+-- durable. Behind the last cut every image is as is said of all pairs.
+abbrev pub KeepsEach : Term → DiskStart → (List Asked → List ℕ → Type 0) → List DiskPassage
+    → List Asked → List Asked → List DiskPassage → Type 0
+KeepsEach season s IsLast before pairs [] now = AtEachMoment s before now (IsLast pairs)
+KeepsEach season s IsLast before pairs (asked ∷ asks) now = (cut : List DiskPassage)
+    × AtEachMoment s before cut (IsJournalUpTo season asked pairs)
+    × AreDurable s cut season (pairs ++ asked ∷ [])
+    × KeepsEach season s IsLast cut (pairs ++ asked ∷ []) asks now
+
+-- each ask was kept since the ledger began
+abbrev pub AreMoments : JournalView → DiskView → (List Asked → List ℕ → Type 0) → List Asked
+    → Type 0
+AreMoments began disk IsLast asks = ForDurable began (λ s pairs.
+    KeepsEach began.season s IsLast began.disk.log pairs asks disk.log)
 
 -- No put has failed: the disk has not failed since, every image is a journal of the pairs and of
--- all that was asked since, and at each moment it was one of a beginning of that.
+-- all that was asked since, and each of these asks was kept before the next one.
 pub record AllKept (began : JournalView) (disk : DiskView) (asks : List Asked) : Type 0 where
   pub faults : disk.faults ≡ began.disk.faults
   pub durable : ForDurable began (λ s pairs.
       AreDurable s disk.log began.season (pairs ++ asks))
-  pub moments : AreMoments began disk asks
+  pub moments : AreMoments began disk (IsJournalOf began.season) asks
 
 -- A put failed: the disk has failed since, and an image may have one more pair, that of the put.
 pub record MayHaveOneMore (began : JournalView) (disk : DiskView) (asks : List Asked) : Type 0 where
@@ -62,7 +73,7 @@ pub record MayHaveOneMore (began : JournalView) (disk : DiskView) (asks : List A
   pub asked : Asked
   pub left : ForDurable began (λ s pairs.
       MayHavePair s disk.log began.season (pairs ++ asks) asked)
-  pub moments : AreMoments began disk (asks ++ asked ∷ [])
+  pub moments : AreMoments began disk (IsJournalUpTo began.season asked) asks
 
 -- what contracts see of a journal that a ledger keeps: as it was when the ledger began, as it is,
 -- and the put that failed
