@@ -1,5 +1,5 @@
-//! Tests of the book of slots, its ledger and its journal, as tables of worked seasons: what each
-//! ask is answered, and what is held after it.
+//! Tests of the book of slots and its ledger, as tables of worked seasons: what each ask is
+//! answered, and what is held after it.
 #![tactic(auto)]
 
 #[cfg(test)]
@@ -12,8 +12,6 @@ mod books;
 mod drawn;
 #[cfg(test)]
 mod draws;
-#[cfg(test)]
-mod journals;
 #[cfg(test)]
 mod ledgers;
 #[cfg(test)]
