@@ -1,0 +1,6 @@
+mod ReadingLemmas
+mod MarkLemmas
+mod TallyLemmas
+mod WeekdayLemmas
+mod NextLemmas
+mod TextLemmas
