@@ -1,3 +1,4 @@
+mod ReportLemmas
 mod ReadingLemmas
 mod MarkLemmas
 mod TallyLemmas

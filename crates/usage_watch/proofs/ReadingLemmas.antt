@@ -15,9 +15,7 @@ first_blank true b e f = false≢true (sym f)
 first_blank false b e f = false≢true e
 
 no_empty_report : (season : Term) (line : List ℕ) (report : Operated) → is_blank_line line ≡ true → IsReport season line report → ⊥
-unfolding is_blank_line
-
-unfolding fields_of
+unfolding is_blank_line fields_of
 no_empty_report season [] report blank is = let e = is.fields in cc
 no_empty_report season (b ∷ line) report blank is = first_blank (is_blank b) (is_blank_line line) blank is.trimmed.begins
 

@@ -8,8 +8,6 @@ ghost use Rattle.usage_watch.specs.Reports.{IsOneKind, IsReport};
 ghost use Rattle.usage_watch.specs.declared.operated.Operated.{Operated as OperatedValue};
 
 use crate::operated::Operated;
-use schedule_text::laws::one_value;
-use schedule_text::read_kind;
 use scr_reader::{read_flight, read_period};
 use season_days::{Kind, Season};
 use slot_text::{LONGEST_LINE, is_trimmed, split_field};
@@ -64,10 +62,10 @@ fn read_one_kind(text: &[u8]) -> Option<Kind>
     ensures only { (kind : KindValue) → text.now ≡ kind_text kind → IsOneKind kind →
         result ≡ Some kind }
 {
-    one_value();
-    match read_kind(text)? {
-        Kind::Tot => None,
-        kind => Some(kind),
+    match text {
+        b"ARR" => Some(Kind::Arr),
+        b"DEP" => Some(Kind::Dep),
+        _ => None,
     }
 }
 

@@ -7,3 +7,17 @@ use Rattle.scr_reader.specs.Printed.{header_lines, LineFits}
 use Rattle.usage_watch.specs.NextTexts.{IsHistoric}
 use Rattle.usage_watch.proofs.TextLemmas.{lines_text, text_is, text_more, text_end}
 use Rattle.usage_watch.proofs.printing.print_next.Goals as goal
+
+pub print_item-requires : goal.print_item-requires
+print_item-requires c =
+    let lines = c.args.lines.now in
+    let i = c.loop-line.line-index in
+    let item = c.line-item.result in
+    let one = All-get_or (IsHistoric c.args.header.now.season) lines i item c.loop-line-test.true c.requires in
+    rw c.line-item.is one.fits
+
+pub loop-line-preserved : goal.loop-line-preserved
+loop-line-preserved c =
+    let header = c.args.header.now in
+    let lines = c.args.lines.now in
+    rw c.in_ok-print_item.ensures (text_more header.season lines c.loop-line.line-index c.line-item.result c.loop-line.text.items (ended (header_lines header) ++ lines_text header.season lines) c.loop-line-test.true c.line-item.is c.loop-line.invariant)
