@@ -1,0 +1,23 @@
+use Rattle.std.proofs.Common.{◌≡◌, ◌++◌, ◌∷◌, [], ℕ, List, length, get_or, ap, ◌∙◌, arith}
+use Rattle.std.specs.Prelude.{All}
+use Rattle.std.proofs.lemmas.List.Elements.{All-get_or}
+use Rattle.slot_text.specs.Ended.{ended}
+use Rattle.scr_reader.specs.declared.line.Line.{Line}
+use Rattle.scr_reader.specs.Printed.{header_lines, LineFits}
+use Rattle.usage_watch.specs.NextTexts.{IsHistoric}
+use Rattle.usage_watch.proofs.TextLemmas.{lines_text, text_is, text_more, text_end}
+use Rattle.usage_watch.proofs.printing.print_next.Goals as goal
+
+pub print_item-requires : goal.print_item-requires
+print_item-requires c =
+    let lines = c.args.lines.now in
+    let i = c.loop-line.line-index in
+    let item = c.line-item.result in
+    let one = All-get_or (IsHistoric c.args.header.now.season) lines i item c.loop-line-test.true c.requires in
+    rw c.line-item.is one.fits
+
+pub loop-line-preserved : goal.loop-line-preserved
+loop-line-preserved c =
+    let header = c.args.header.now in
+    let lines = c.args.lines.now in
+    rw c.in_ok-print_item.ensures (text_more header.season lines c.loop-line.line-index c.line-item.result c.loop-line.text.items (ended (header_lines header) ++ lines_text header.season lines) c.loop-line-test.true c.line-item.is c.loop-line.invariant)
