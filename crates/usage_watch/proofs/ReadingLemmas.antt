@@ -1,11 +1,15 @@
 -- Line after line of reports: one more line, the end, and a bad line.
 use Rattle.std.proofs.Common.{◌≡◌, ℕ, ◌+◌, ◌&&◌, Bool, true, false, List, [], ◌∷◌, ◌++◌, refl, sym, ap, ◌∙◌, subst, inl, inr, append_assoc, append-nil}
-use Rattle.std.specs.Prelude.{◌⊎◌, slice_index, codes}
+use Rattle.std.specs.Prelude.{◌⊎◌, slice_index, codes, Result, Ok, Err, IfErr, IsErrAnd}
 use Rattle.std.proofs.lemmas.Bool.{false≢true}
+use Rattle.slot_text.specs.Lines.{lines_of}
+use Rattle.slot_text.specs.Reads.{GivesOr}
 use Rattle.slot_text.specs.Fields.{is_blank, is_blank_line, fields_of, IsTrimmed}
 use Rattle.season_days.specs.Term.{Term}
 use Rattle.usage_watch.specs.declared.operated.Operated.{Operated}
-use Rattle.usage_watch.specs.Reports.{IsReport, AreReports, IsNoReport, IsFirstBad}
+use Rattle.usage_watch.specs.declared.fault.OperatedFault.{OperatedFault}
+use Rattle.usage_watch.specs.declared.fault.OperatedFault.TheVariants.{BadLine, Memory}
+use Rattle.usage_watch.specs.Reports.{IsReport, AreReports, SaysOperated, IsNoReport, IsFirstBad, HasOperatedFault}
 use Rattle.usage_watch.specs.Private.Reading.{IsOnlyReport, AddsLine, IsReadSoFar}
 
 -- ---- an empty line says no report
@@ -104,3 +108,47 @@ module _ (season : Term) (all : List (List ℕ)) (number : ℕ) (reports : List 
 
   pub no_bad : (bad : ℕ) → IsFirstBad season 1 all bad → ⊥
   no_bad bad is = so_far.bad_back bad is
+
+-- ---- what the call answers
+
+pub same_read : (one other : List Operated) → one ≡ other → let a : Result (List Operated) OperatedFault = Ok one in let b : Result (List Operated) OperatedFault = Ok other in a ≡ b
+same_read one other e = cc
+
+same_fault : (one other : OperatedFault) → one ≡ other → let a : Result (List Operated) OperatedFault = Err one in let b : Result (List Operated) OperatedFault = Err other in a ≡ b
+same_fault one other e = cc
+
+same_line : (one other : ℕ) → one ≡ other → let a : OperatedFault = BadLine one in let b : OperatedFault = BadLine other in a ≡ b
+same_line one other e = cc
+
+-- at a line that adds nothing: it is bad, or memory ran out
+module _ (season : Term) (text line : List ℕ) (rest : List (List ℕ)) (number : ℕ) (before : List Operated) (so_far : IsReadSoFar season (lines_of text) (line ∷ rest) number before) (e : OperatedFault) (why : (IsNoReport season line × (e ≡ BadLine number)) ⊎ (e ≡ Memory)) where
+  pub stop_only : (r : Result (List Operated) OperatedFault) → IsErrAnd r (λ f. f ≡ e) → (whole : List Operated) → SaysOperated season text whole → GivesOr Memory r (Ok whole)
+  stop_only (Ok x) err whole are = absurd (err)
+  stop_only (Err f) err whole are = elim (why) [
+    | inl bad ↦ absurd (no_reports season (lines_of text) line rest number before so_far bad.0 whole are)
+    | inr memory ↦ inr (same_fault f Memory (err ∙ memory))
+  ]
+
+  pub stop_fault : (r : Result (List Operated) OperatedFault) → IsErrAnd r (λ f. f ≡ e) → IfErr r (λ f. HasOperatedFault season text f ⊎ (f ≡ Memory))
+  stop_fault (Ok x) err = tt
+  stop_fault (Err f) err = elim (why) [
+    | inl bad ↦ inl (subst (λ (x : OperatedFault). HasOperatedFault season text x) (sym (err ∙ bad.1)) (is_first_bad season (lines_of text) line rest number before so_far bad.0))
+    | inr memory ↦ inr (err ∙ memory)
+  ]
+
+  pub stop_exact : (r : Result (List Operated) OperatedFault) → IsErrAnd r (λ f. f ≡ e) → (fault : OperatedFault) → HasOperatedFault season text fault → GivesOr Memory r (Err fault)
+  stop_exact (Ok x) err fault has = absurd (err)
+  stop_exact (Err f) err (BadLine at) has = elim (why) [
+    | inl bad ↦ inl (same_fault f (BadLine at) (err ∙ bad.1 ∙ same_line number at (sym (only_bad season (lines_of text) line rest number before so_far bad.0 at has))))
+    | inr memory ↦ inr (same_fault f Memory (err ∙ memory))
+  ]
+  stop_exact (Err f) err Memory has = absurd (has)
+
+-- at the end of the text
+pub none_left : (season : Term) (text left : List ℕ) (number : ℕ) (reports : List Operated) → left ≡ [] → IsReadSoFar season (lines_of text) (lines_of left) number reports → IsReadSoFar season (lines_of text) [] number reports
+unfolding lines_of
+none_left season text left number reports e so_far = subst (λ (l : List ℕ). IsReadSoFar season (lines_of text) (lines_of l) number reports) e so_far
+
+pub end_exact : (season : Term) (text : List ℕ) (number : ℕ) (reports : List Operated) → IsReadSoFar season (lines_of text) [] number reports → (fault : OperatedFault) → HasOperatedFault season text fault → ⊥
+end_exact season text number reports so_far (BadLine at) has = no_bad season (lines_of text) number reports so_far at has
+end_exact season text number reports so_far Memory has = has

@@ -33,13 +33,13 @@ module _ (test weekday operated : ℕ → Bool) where
   count_dates : (d w : Bool) (m : ℕ) (day : ℕ) (rest : List ℕ) → weekday day ≡ w → m ≡ length (filter weekday rest) → length (filter weekday (cond d (day ∷ rest) rest)) ≡ cond (d && w) 1 0 + m
   count_dates true true m day rest e f = rw (e, f) (omega arith)
   count_dates true false m day rest e f = rw (e, f) refl
-  count_dates false w m day rest e f = rw f refl
+  count_dates false w m day rest e f = omega (arith, f)
 
   count_operated : (d w o : Bool) (m : ℕ) (day : ℕ) (rest : List ℕ) → weekday day ≡ w → operated day ≡ o → m ≡ length (filter operated (filter weekday rest)) → length (filter operated (filter weekday (cond d (day ∷ rest) rest))) ≡ cond ((d && w) && o) 1 0 + m
   count_operated true true true m day rest e g f = rw (e, g, f) (omega arith)
   count_operated true true false m day rest e g f = rw (e, g, f) refl
   count_operated true false o m day rest e g f = rw (e, f) refl
-  count_operated false w o m day rest e g f = rw f refl
+  count_operated false w o m day rest e g f = omega (arith, f)
 
   pub dates_more : Passes → Fails → (count day end all : ℕ) → day < end → count + dates_left day end ≡ all → (count + cond (test day && weekday day) 1 0) + dates_left (day + 1) end ≡ all
   dates_more passes fails count day end all lt so_far =
@@ -68,6 +68,10 @@ module _ (test weekday operated : ℕ → Bool) where
 pub counted_few : (b : Bool) (count day : ℕ) → count ≤ day → count + cond b 1 0 ≤ day + 1
 counted_few true count day le = omega (arith, le)
 counted_few false count day le = omega (arith, le)
+
+pub counted_to : (b : Bool) (count day end : ℕ) → count ≤ day → day < end → count + cond b 1 0 ≤ end
+counted_to true count day end le lt = omega (arith, le, lt)
+counted_to false count day end le lt = omega (arith, le, lt)
 
 pub counted_within : (b o : Bool) (operated dates : ℕ) → operated ≤ dates → operated + cond (b && o) 1 0 ≤ dates + cond b 1 0
 counted_within true true operated dates le = omega (arith, le)

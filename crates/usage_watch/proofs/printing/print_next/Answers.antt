@@ -21,3 +21,11 @@ loop-line-preserved c =
     let header = c.args.header.now in
     let lines = c.args.lines.now in
     rw c.in_ok-print_item.ensures (text_more header.season lines c.loop-line.line-index c.line-item.result c.loop-line.text.items (ended (header_lines header) ++ lines_text header.season lines) c.loop-line-test.true c.line-item.is c.loop-line.invariant)
+
+pub returns : goal.returns
+returns c =
+    let header = c.args.header.now in
+    let lines = c.args.lines.now in
+    let whole = ended (header_lines header) ++ lines_text header.season lines in
+    let at_end = text_end header.season lines c.loop-line.line-index c.loop-line.text.items whole c.loop-line-test.false c.loop-line.invariant in
+    rw c.in_ok-push.ensures.items (text_is header lines c.loop-line.text.items ? at_end)

@@ -1,7 +1,7 @@
 use Rattle.std.proofs.Common.{◌≡◌, ℕ, ◌+◌, ◌<◌, ◌≤◌, ◌&&◌, ◌==◌, Bool, true, false, cond, length, refl, arith}
 use Rattle.season_days.specs.Seasons.{is_on, weekday_on}
 use Rattle.usage_watch.specs.Precedence.{is_operated, series_dates, operated_dates}
-use Rattle.usage_watch.proofs.TallyLemmas.{dates_more, operated_more, dates_end, operated_end, counted_within, counted_few}
+use Rattle.usage_watch.proofs.TallyLemmas.{dates_more, operated_more, dates_end, operated_end, counted_within, counted_few, counted_to}
 use Rattle.usage_watch.proofs.tally.Tally.of.Goals as goal
 
 pub overflow_add-end : goal.overflow_add-end
@@ -19,6 +19,7 @@ loop-day-preserved c =
       dates = rw c.count.ensures.dates (dates_more test on done c.listed_days.ensures.passes c.listed_days.ensures.fails c.loop-day.tally.dates day (line.period.last.0 + 1) (length (series_dates season line c.args.weekday)) c.loop-day-test.true c.loop-day.invariant.dates);
       operated = rw c.count.ensures.operated (operated_more test on done c.listed_days.ensures.passes c.listed_days.ensures.fails c.loop-day.tally.operated day (line.period.last.0 + 1) (length (operated_dates season c.args.reported.now.reports line c.args.weekday)) c.loop-day-test.true c.loop-day.invariant.operated);
       few = rw c.count.ensures.dates (counted_few (test day && on day) c.loop-day.tally.dates day c.loop-day.invariant.few);
+      most = rw c.count.ensures.dates (counted_to (test day && on day) c.loop-day.tally.dates day (line.period.last.0 + 1) c.loop-day.invariant.few c.loop-day-test.true);
       within = rw (c.count.ensures.dates, c.count.ensures.operated) (counted_within (test day && on day) (done day) c.loop-day.tally.operated c.loop-day.tally.dates c.loop-day.invariant.within);
     }
 
@@ -37,4 +38,4 @@ returns-clause-operated c =
 pub returns-clause-few : goal.returns-clause-few
 returns-clause-few c =
     let short = (c.lengths.ensures.bounds c.args.reported.now.season).1 in
-    omega (arith, short, c.loop-day.invariant.few, c.loop-day.auto.day)
+    omega (arith, short, c.loop-day.invariant.most, c.requires)

@@ -11,5 +11,6 @@ invariant-loop-day l = record {
   operated : l.tally.operated + operated_left (is_on l.reported.season l.line.period.days) (λ day. weekday_on l.reported.season day == l.weekday) (is_operated l.reported.season l.reported.reports l.line) l.day l.end
       ≡ length (operated_dates l.reported.season l.reported.reports l.line l.weekday);
   few : l.tally.dates ≤ l.day;
+  most : l.tally.dates ≤ l.end;
   within : l.tally.operated ≤ l.tally.dates;
 }
