@@ -87,6 +87,6 @@ is_again header lines fits are = record {
 abbrev pub ReadsMany : Type 0
 ReadsMany = (messages : List Message) → AreReadAgain 1 messages → ReadsAll (messages_text messages) messages
 
-pub is_read : ReadsMany → (header : Header) (lines : List Line) → HeaderFits header → All (IsHistoric header.season) lines → ReadsAll (next_text header lines) (next_messages header lines)
+pub is_read : ReadsMany → (header : Header) (lines : List Line) → (lines ≢ [] → HeaderFits header) → All (IsHistoric header.season) lines → ReadsAll (next_text header lines) (next_messages header lines)
 is_read law header [] fits are = law [] tt
-is_read law header (line ∷ lines) fits are = law (next_message header (line ∷ lines) ∷ []) (is_again header (line ∷ lines) fits are, tt)
+is_read law header (line ∷ lines) fits are = law (next_message header (line ∷ lines) ∷ []) (is_again header (line ∷ lines) (fits (λ e. cc)) are, tt)

@@ -1,6 +1,6 @@
 //! Laws of what is kept. Each function does nothing; its contract is the law.
 
-ghost use Rattle.std.specs.Prelude.{◌≡◌, ◌<◌, ◌≤◌, ℕ, List, All};
+ghost use Rattle.std.specs.Prelude.{◌≡◌, ◌≢◌, ◌<◌, ◌≤◌, ℕ, List, [], All};
 ghost use Rattle.season_days.specs.Term.{Term};
 ghost use Rattle.season_days.specs.Seasons.{has_weekday};
 ghost use Rattle.scr_reader.specs.Again.{HeaderFits};
@@ -36,9 +36,9 @@ pub fn next_lines_fit()
 }
 
 /// The text of the next season's lines is read as one message of exactly these lines, and as none
-/// where there is no line.
+/// where there is no line, whatever the header is then.
 pub fn next_is_read()
-    ensures { (header : HeaderValue) (lines : List LineValue) → HeaderFits header →
+    ensures { (header : HeaderValue) (lines : List LineValue) → (lines ≢ [] → HeaderFits header) →
         All (IsHistoric header.season) lines →
         ReadsAll (next_text header lines) (next_messages header lines) }
 {
