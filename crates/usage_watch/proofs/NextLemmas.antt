@@ -35,6 +35,24 @@ pub is_dated : (part : Period) (xs : List ℕ) → (IsTrue true ↔ (xs ≢ []))
 is_dated part [] f = absurd (f.0 refl refl)
 is_dated part (x ∷ xs) f = refl
 
+module _ (next : Term) (line : Line) (days n : ℕ) (has : Bool) (last : n ≡ min line.period.last.0 (date_count next - 1)) (is : IsTrue has ↔ (dates_of next (record { first = line.period.first; last = record { 0 = n }; days = days }) ≢ [])) where
+  abbrev part : Period
+  part = next_period next line.period days
+
+  of_part : IsTrue has ↔ (dates_of next part ≢ [])
+  of_part = subst (λ (k : ℕ). IsTrue has ↔ (dates_of next (record { first = line.period.first; last = record { 0 = k }; days = days }) ≢ [])) last is
+
+  pub no_next_line : has ≡ false → None ≡ in_next next line days
+  no_next_line no =
+      let none : some_if_any part (dates_of next part) ≡ None = not_dated part (dates_of next part) (subst (λ (b : Bool). IsTrue b ↔ (dates_of next part ≢ [])) no of_part) in
+      sym (ap (option_map (λ (q : Period). record line { code = F; period = q })) none)
+
+  pub one_next_line : has ≡ true → Some (record line { code = F; period = record { first = line.period.first; last = record { 0 = n }; days = days } }) ≡ in_next next line days
+  one_next_line yes =
+      let some : some_if_any part (dates_of next part) ≡ Some part = is_dated part (dates_of next part) (subst (λ (b : Bool). IsTrue b ↔ (dates_of next part ≢ [])) yes of_part) in
+      let made : ℕ → Option Line = λ k. Some (record line { code = F; period = record { first = line.period.first; last = record { 0 = k }; days = days } }) in
+      ap made last ∙ sym (ap (option_map (λ (q : Period). record line { code = F; period = q })) some)
+
 -- ---- the line of the next season has a spelling
 
 stops_same : (line other : Line) → other.nights ≡ line.nights → (arrival departure : Option Stop) → StopsFit line arrival departure → StopsFit other arrival departure

@@ -1,6 +1,7 @@
 -- The text of the next season's lines, line by line, and how it is read.
-use Rattle.std.proofs.Common.{◌≡◌, ◌≢◌, ℕ, ◌+◌, ◌<◌, ◌≤◌, List, [], ◌∷◌, ◌++◌, length, drop, get_or, refl, sym, ap, ◌∙◌, subst, arith, append_assoc, append-nil}
+use Rattle.std.proofs.Common.{◌≡◌, ◌≢◌, ℕ, ◌+◌, ◌<◌, ◌≤◌, ◌==◌, Bool, true, false, List, [], ◌∷◌, ◌++◌, length, drop, get_or, refl, sym, ap, ◌∙◌, subst, arith, append_assoc, append-nil}
 use Rattle.std.specs.Prelude.{All, Option, Some, None}
+use Rattle.std.proofs.lemmas.Bool.{false≢true}
 use Rattle.std.proofs.lemmas.List.{drop_more, drop_all}
 use Rattle.std.proofs.lemmas.List.Elements.{All-head, All-tail}
 use Rattle.slot_text.specs.Ended.{ended}
@@ -40,6 +41,14 @@ text_of header line lines =
 pub text_is : (header : Header) (lines : List Line) (text : List ℕ) → 0 < length lines → text ≡ ended (header_lines header) ++ lines_text header.season lines → text ++ (10 ∷ []) ≡ next_text header lines
 text_is header [] text some e = absurd (let none : 0 < 0 = some in omega arith)
 text_is header (line ∷ lines) text some e = ap (λ (t : List ℕ). t ++ (10 ∷ [])) e ∙ sym (text_of header line lines)
+
+pub no_text : (header : Header) (lines : List Line) (text : List ℕ) → text ≡ [] → (length lines == 0) ≡ true → text ≡ next_text header lines
+no_text header [] text e is = e
+no_text header (line ∷ lines) text e is = absurd (false≢true is)
+
+pub some_lines : (lines : List Line) (is_empty : Bool) → is_empty ≡ (length lines == 0) → is_empty ≡ false → 0 < length lines
+some_lines [] is_empty e no = absurd (false≢true (sym no ∙ e))
+some_lines (line ∷ lines) is_empty e no = omega arith
 
 pub text_more : (season : Term) (lines : List Line) (i : ℕ) (line : Line) (text whole : List ℕ) → i < length lines → line ≡ get_or lines i line → text ++ lines_text season (drop i lines) ≡ whole → (text ++ item_text season (One line)) ++ lines_text season (drop (i + 1) lines) ≡ whole
 text_more season lines i line text whole lt at so_far =

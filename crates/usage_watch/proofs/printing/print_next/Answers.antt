@@ -1,11 +1,11 @@
-use Rattle.std.proofs.Common.{◌≡◌, ◌++◌, ◌∷◌, [], ℕ, List, length, get_or, ap, ◌∙◌, arith}
+use Rattle.std.proofs.Common.{◌≡◌, ◌++◌, ◌∷◌, [], ℕ, List, length, get_or, sym, ap, ◌∙◌, arith, rules}
 use Rattle.std.specs.Prelude.{All}
 use Rattle.std.proofs.lemmas.List.Elements.{All-get_or}
 use Rattle.slot_text.specs.Ended.{ended}
 use Rattle.scr_reader.specs.declared.line.Line.{Line}
 use Rattle.scr_reader.specs.Printed.{header_lines, LineFits}
 use Rattle.usage_watch.specs.NextTexts.{IsHistoric}
-use Rattle.usage_watch.proofs.TextLemmas.{lines_text, text_is, text_more, text_end}
+use Rattle.usage_watch.proofs.TextLemmas.{lines_text, text_is, text_more, text_end, no_text, some_lines}
 use Rattle.usage_watch.proofs.printing.print_next.Goals as goal
 
 pub print_item-requires : goal.print_item-requires
@@ -28,4 +28,9 @@ returns c =
     let lines = c.args.lines.now in
     let whole = ended (header_lines header) ++ lines_text header.season lines in
     let at_end = text_end header.season lines c.loop-line.line-index c.loop-line.text.items whole c.loop-line-test.false c.loop-line.invariant in
-    rw c.in_ok-push.ensures.items (text_is header lines c.loop-line.text.items ? at_end)
+    rw c.in_ok-push.ensures.items (text_is header lines c.loop-line.text.items (some_lines lines c.is_empty.result c.is_empty.ensures c.if-is_empty.false) at_end)
+
+pub returns-then-is_empty : goal.returns-then-is_empty
+returns-then-is_empty c =
+    let none : c.new-text.result.items ≡ [] = search rules in
+    no_text c.args.header.now c.args.lines.now c.new-text.result.items none (sym c.is_empty.ensures ∙ c.if-is_empty.true)
