@@ -87,8 +87,8 @@ marked_same season reports kind report before own are = λ flight day lt.
     ∙ ap (λ (b : Bool). is_reported season reports kind flight day || b) (sym one)
     ∙ sym (list_any-append (reports_on season kind flight day) reports (report ∷ []))
 
-pub take_one_more : {X : Type 0} (xs : List X) (n : ℕ) (x : X) → n < length xs → x ≡ get_or xs n x → take n xs ++ x ∷ [] ≡ take (n + 1) xs
-take_one_more xs n x lt at = sym (ap (λ (k : ℕ). take k xs) (add-one n) ∙ take-suc xs n x lt ∙ ap (λ y. take n xs ++ y ∷ []) (sym at))
+pub reports_more : (P : List Operated → Type 0) (xs : List Operated) (n : ℕ) (d : Operated) → n < length xs → P (take n xs ++ get_or xs n d ∷ []) → P (take (n + 1) xs)
+reports_more P xs n d lt p = subst P (sym (ap (λ (k : ℕ). take k xs) (add-one n) ∙ take-suc xs n d lt)) p
 
 -- ---- tests
 

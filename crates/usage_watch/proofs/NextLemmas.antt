@@ -43,13 +43,13 @@ module _ (next : Term) (line : Line) (days n : ℕ) (has : Bool) (last : n ≡ m
   of_part = subst (λ (k : ℕ). IsTrue has ↔ (dates_of next (record { first = line.period.first; last = record { 0 = k }; days = days }) ≢ [])) last is
 
   pub no_next_line : has ≡ false → None ≡ in_next next line days
-  no_next_line no =
-      let none : some_if_any part (dates_of next part) ≡ None = not_dated part (dates_of next part) (subst (λ (b : Bool). IsTrue b ↔ (dates_of next part ≢ [])) no of_part) in
+  no_next_line fails =
+      let none : some_if_any part (dates_of next part) ≡ None = not_dated part (dates_of next part) (subst (λ (b : Bool). IsTrue b ↔ (dates_of next part ≢ [])) fails of_part) in
       sym (ap (option_map (λ (q : Period). record line { code = F; period = q })) none)
 
   pub one_next_line : has ≡ true → Some (record line { code = F; period = record { first = line.period.first; last = record { 0 = n }; days = days } }) ≡ in_next next line days
-  one_next_line yes =
-      let some : some_if_any part (dates_of next part) ≡ Some part = is_dated part (dates_of next part) (subst (λ (b : Bool). IsTrue b ↔ (dates_of next part ≢ [])) yes of_part) in
+  one_next_line holds =
+      let some : some_if_any part (dates_of next part) ≡ Some part = is_dated part (dates_of next part) (subst (λ (b : Bool). IsTrue b ↔ (dates_of next part ≢ [])) holds of_part) in
       let made : ℕ → Option Line = λ k. Some (record line { code = F; period = record { first = line.period.first; last = record { 0 = k }; days = days } }) in
       ap made last ∙ sym (ap (option_map (λ (q : Period). record line { code = F; period = q })) some)
 
@@ -114,9 +114,12 @@ module _ (members : Members) (bounds : Bounds) (season next : Term) where
 
 -- ---- one holding after the other
 
-module _ (held : List Holding) (i : ℕ) (holding : Holding) (lt : i < length held) (at : holding ≡ get_or held i holding) where
+module _ (held : List Holding) (i : ℕ) (d : Holding) (lt : i < length held) where
+  abbrev holding : Holding
+  holding = get_or held i d
+
   next_is : drop i held ≡ holding ∷ drop (i + 1) held
-  next_is = drop_more held i holding lt ∙ ap (λ (h : Holding). h ∷ drop (i + 1) held) (sym at)
+  next_is = drop_more held i d lt
 
   abbrev behind : List Line
   behind = confirmed_lines (drop (i + 1) held)
@@ -124,7 +127,7 @@ module _ (held : List Holding) (i : ℕ) (holding : Holding) (lt : i < length he
   -- a count over lines that adds them up
   count_if : (one : Line → ℕ) (all : List Line → ℕ) → ((line : Line) (lines : List Line) → all (line ∷ lines) ≡ one line + all lines) → (b : Bool) → all (cond b (holding.line ∷ behind) behind) ≡ cond b (one holding.line) 0 + all behind
   count_if one all adds true = adds holding.line behind
-  count_if one all adds false = refl
+  count_if one all adds false = let e : all behind ≡ 0 + all behind = omega arith in e
 
   pub counted_more : (one : Line → ℕ) (all : List Line → ℕ) → ((line : Line) (lines : List Line) → all (line ∷ lines) ≡ one line + all lines) → (count whole : ℕ) → count + all (confirmed_lines (drop i held)) ≡ whole → (count + cond (is_state Confirmed holding.state) (one holding.line) 0) + all behind ≡ whole
   counted_more one all adds count whole so_far =

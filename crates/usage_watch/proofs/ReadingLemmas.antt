@@ -79,20 +79,20 @@ module _ (season : Term) (all : List (List ℕ)) (line : List ℕ) (rest : List 
 
   -- the line is bad: it is the first one, and the lines say nothing
   pub is_first_bad : IsNoReport season line → IsFirstBad season 1 all number
-  is_first_bad no = so_far.bad_onward number (inl (no, refl))
+  is_first_bad found = so_far.bad_onward number (inl (found, refl))
 
   pub no_reports : IsNoReport season line → (whole : List Operated) → AreReports season all whole → ⊥
-  no_reports no whole are =
+  no_reports found whole are =
       elim ((so_far.back whole are).2) [
-        | inl skipped ↦ false≢true (sym no.full ∙ skipped.0)
-        | inr said ↦ no.nothing said.0 said.2
+        | inl skipped ↦ false≢true (sym found.full ∙ skipped.0)
+        | inr said ↦ found.nothing said.0 said.2
       ]
 
   pub only_bad : IsNoReport season line → (bad : ℕ) → IsFirstBad season 1 all bad → bad ≡ number
-  only_bad no bad is =
+  only_bad found bad is =
       elim (so_far.bad_back bad is) [
         | inl here ↦ here.1
-        | inr later ↦ absurd (later.0 no)
+        | inr later ↦ absurd (later.0 found)
       ]
 
 -- ---- the end

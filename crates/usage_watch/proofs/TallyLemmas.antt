@@ -32,13 +32,13 @@ module _ (test weekday operated : ℕ → Bool) where
 
   count_dates : (d w : Bool) (m : ℕ) (day : ℕ) (rest : List ℕ) → weekday day ≡ w → m ≡ length (filter weekday rest) → length (filter weekday (cond d (day ∷ rest) rest)) ≡ cond (d && w) 1 0 + m
   count_dates true true m day rest e f = rw (e, f) (omega arith)
-  count_dates true false m day rest e f = rw (e, f) refl
+  count_dates true false m day rest e f = rw e (omega (arith, f))
   count_dates false w m day rest e f = omega (arith, f)
 
   count_operated : (d w o : Bool) (m : ℕ) (day : ℕ) (rest : List ℕ) → weekday day ≡ w → operated day ≡ o → m ≡ length (filter operated (filter weekday rest)) → length (filter operated (filter weekday (cond d (day ∷ rest) rest))) ≡ cond ((d && w) && o) 1 0 + m
   count_operated true true true m day rest e g f = rw (e, g, f) (omega arith)
-  count_operated true true false m day rest e g f = rw (e, g, f) refl
-  count_operated true false o m day rest e g f = rw (e, f) refl
+  count_operated true true false m day rest e g f = rw (e, g) (omega (arith, f))
+  count_operated true false o m day rest e g f = rw e (omega (arith, f))
   count_operated false w o m day rest e g f = omega (arith, f)
 
   pub dates_more : Passes → Fails → (count day end all : ℕ) → day < end → count + dates_left day end ≡ all → (count + cond (test day && weekday day) 1 0) + dates_left (day + 1) end ≡ all

@@ -2,6 +2,7 @@
 use Rattle.std.proofs.Common.{◌≡◌, ◌≢◌, ℕ, ◌+◌, ◌<◌, ◌≤◌, ◌==◌, Bool, true, false, List, [], ◌∷◌, ◌++◌, length, drop, get_or, refl, sym, ap, ◌∙◌, subst, arith, append_assoc, append-nil}
 use Rattle.std.specs.Prelude.{All, Option, Some, None}
 use Rattle.std.proofs.lemmas.Bool.{false≢true}
+use borrow.Author.Tests.{eqb-true}
 use Rattle.std.proofs.lemmas.List.{drop_more, drop_all}
 use Rattle.std.proofs.lemmas.List.Elements.{All-head, All-tail}
 use Rattle.slot_text.specs.Ended.{ended}
@@ -44,16 +45,16 @@ text_is header (line ∷ lines) text some e = ap (λ (t : List ℕ). t ++ (10 �
 
 pub no_text : (header : Header) (lines : List Line) (text : List ℕ) → text ≡ [] → (length lines == 0) ≡ true → text ≡ next_text header lines
 no_text header [] text e is = e
-no_text header (line ∷ lines) text e is = absurd (false≢true is)
+no_text header (line ∷ lines) text e is = absurd (let none : length (line ∷ lines) ≡ 0 = eqb-true (length (line ∷ lines)) 0 is in omega (arith, none))
 
 pub some_lines : (lines : List Line) (is_empty : Bool) → is_empty ≡ (length lines == 0) → is_empty ≡ false → 0 < length lines
-some_lines [] is_empty e no = absurd (false≢true (sym no ∙ e))
-some_lines (line ∷ lines) is_empty e no = omega arith
+some_lines [] is_empty e fails = absurd (false≢true (sym fails ∙ e))
+some_lines (line ∷ lines) is_empty e fails = omega arith
 
-pub text_more : (season : Term) (lines : List Line) (i : ℕ) (line : Line) (text whole : List ℕ) → i < length lines → line ≡ get_or lines i line → text ++ lines_text season (drop i lines) ≡ whole → (text ++ item_text season (One line)) ++ lines_text season (drop (i + 1) lines) ≡ whole
-text_more season lines i line text whole lt at so_far =
-    let next : drop i lines ≡ line ∷ drop (i + 1) lines = drop_more lines i line lt ∙ ap (λ (l : Line). l ∷ drop (i + 1) lines) (sym at) in
-    append_assoc text (item_text season (One line)) (lines_text season (drop (i + 1) lines))
+pub text_more : (season : Term) (lines : List Line) (i : ℕ) (d : Line) (text whole : List ℕ) → i < length lines → text ++ lines_text season (drop i lines) ≡ whole → (text ++ item_text season (One (get_or lines i d))) ++ lines_text season (drop (i + 1) lines) ≡ whole
+text_more season lines i d text whole lt so_far =
+    let next : drop i lines ≡ get_or lines i d ∷ drop (i + 1) lines = drop_more lines i d lt in
+    append_assoc text (item_text season (One (get_or lines i d))) (lines_text season (drop (i + 1) lines))
     ∙ ap (λ (l : List Line). text ++ lines_text season l) (sym next)
     ∙ so_far
 

@@ -9,18 +9,13 @@ use Rattle.usage_watch.proofs.TextLemmas.{lines_text, text_is, text_more, text_e
 use Rattle.usage_watch.proofs.printing.print_next.Goals as goal
 
 pub print_item-requires : goal.print_item-requires
-print_item-requires c =
-    let lines = c.args.lines.now in
-    let i = c.loop-line.line-index in
-    let item = c.line-item.result in
-    let one = All-get_or (IsHistoric c.args.header.now.season) lines i item c.loop-line-test.true c.requires in
-    rw c.line-item.is one.fits
+print_item-requires c = (All-get_or (IsHistoric c.args.header.now.season) c.args.lines.now c.loop-line.line-index _ c.loop-line-test.true c.requires).fits
 
 pub loop-line-preserved : goal.loop-line-preserved
 loop-line-preserved c =
     let header = c.args.header.now in
     let lines = c.args.lines.now in
-    rw c.in_ok-print_item.ensures (text_more header.season lines c.loop-line.line-index c.line-item.result c.loop-line.text.items (ended (header_lines header) ++ lines_text header.season lines) c.loop-line-test.true c.line-item.is c.loop-line.invariant)
+    rw c.in_ok-print_item.ensures.ok (text_more header.season lines c.loop-line.line-index _ c.loop-line.text.items (ended (header_lines header) ++ lines_text header.season lines) c.loop-line-test.true c.loop-line.invariant)
 
 pub returns : goal.returns
 returns c =

@@ -9,7 +9,8 @@ use Rattle.usage_watch.proofs.reading.read_operated.Goals as goal
 pub loop-line-init : goal.loop-line-init
 loop-line-init c = record {
   small = omega (arith, ap length c.new-lines.ensures);
-  so_far = rw c.new-lines.ensures (read_none c.args.season.now (lines_of c.args.bytes.now));
+  so_far = subst (λ (l : List Operated). IsReadSoFar c.args.season.now (lines_of c.args.bytes.now) (lines_of c.new-lines.result) 1 l) (sym c.new-reports.ensures.items)
+      (subst (λ (b : List ℕ). IsReadSoFar c.args.season.now (lines_of c.args.bytes.now) (lines_of b) 1 []) (sym c.new-lines.ensures) (read_none c.args.season.now (lines_of c.args.bytes.now)));
 }
 
 pub loop-line-preserved : goal.loop-line-preserved
@@ -23,7 +24,7 @@ loop-line-preserved c =
     let so_far = subst (λ (l : List (List ℕ)). IsReadSoFar season all l number before) c.in-Some.ensures.lines c.loop-line.invariant.so_far in
     record {
       small = omega (arith, c.in-Some.ensures.shorter, c.loop-line.invariant.small);
-      so_far = read_more season all line rest number before so_far c.add_line.new.reports.items c.in_ok-add_line.ensures;
+      so_far = read_more season all line rest number before so_far c.add_line.new.reports.items c.in_ok-add_line.ensures.on;
     }
 
 pub returns-in_err-add_line-clause-only : goal.returns-in_err-add_line-clause-only

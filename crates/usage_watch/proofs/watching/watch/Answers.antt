@@ -9,12 +9,7 @@ use Rattle.usage_watch.proofs.NextLemmas.{counted_more, lines_more, counted_end,
 use Rattle.usage_watch.proofs.watching.watch.Goals as goal
 
 pub add-requires-clause-fits : goal.add-requires-clause-fits
-add-requires-clause-fits c =
-    let held = c.args.held.now in
-    let i = c.loop-holding.holding-index in
-    let item = c.holding-item.result in
-    let fit : LineFits c.args.season.now (get_or held i item).line = All-get_or (λ (h : Holding). LineFits c.args.season.now h.line) held i item c.loop-holding-test.true c.requires.fit in
-    rw (c.in_ok-reported.ensures.season, c.holding-item.is) fit
+add-requires-clause-fits c = rw c.in_ok-reported.ensures.season (All-get_or (λ (h : Holding). LineFits c.args.season.now h.line) c.args.held.now c.loop-holding.holding-index _ c.loop-holding-test.true c.requires.fit)
 
 pub loop-holding-preserved : goal.loop-holding-preserved
 loop-holding-preserved c =
@@ -23,16 +18,14 @@ loop-holding-preserved c =
     let reports = c.args.operated.now in
     let held = c.args.held.now in
     let i = c.loop-holding.holding-index in
-    let item = c.holding-item.result in
     let lt = c.loop-holding-test.true in
-    let at = c.holding-item.is in
     let lines = confirmed_lines held in
     let s : c.in_ok-reported.reported.season ≡ season = c.in_ok-reported.ensures.season in
     let r : c.in_ok-reported.reported.reports ≡ reports = c.in_ok-reported.ensures.reports ∙ c.items.ensures in
     record {
-      series = rw (c.in_ok-add.ensures.series, s) (counted_more held i item lt at (series_of season) (series_in season) (λ line lines. refl) c.loop-holding.found.series (series_in season lines) c.loop-holding.invariant.series);
-      kept = rw (c.in_ok-add.ensures.kept, s, r) (counted_more held i item lt at (kept_of season reports) (kept_in season reports) (λ line lines. refl) c.loop-holding.found.kept (kept_in season reports lines) c.loop-holding.invariant.kept);
-      lines = rw (c.in_ok-add.ensures.lines, s, r) (lines_more held i item lt at season next reports c.loop-holding.found.lines.items (next_lines season next reports lines) c.loop-holding.invariant.lines);
+      series = rw (c.in_ok-add.ensures.series, s) (counted_more held i _ lt (series_of season) (series_in season) (λ line lines. refl) c.loop-holding.found.series (series_in season lines) c.loop-holding.invariant.series);
+      kept = rw (c.in_ok-add.ensures.kept, s, r) (counted_more held i _ lt (kept_of season reports) (kept_in season reports) (λ line lines. refl) c.loop-holding.found.kept (kept_in season reports lines) c.loop-holding.invariant.kept);
+      lines = rw (c.in_ok-add.ensures.lines, s, r) (lines_more held i _ lt season next reports c.loop-holding.found.lines.items (next_lines season next reports lines) c.loop-holding.invariant.lines);
       series_few = omega (arith, c.in_ok-add.ensures.series_few, c.loop-holding.invariant.series_few);
       kept_few = omega (arith, c.in_ok-add.ensures.kept_few, c.loop-holding.invariant.kept_few);
     }
@@ -42,3 +35,10 @@ returns-clause-series c = counted_end c.args.held.now c.loop-holding.holding-ind
 
 pub returns-clause-kept : goal.returns-clause-kept
 returns-clause-kept c = counted_end c.args.held.now c.loop-holding.holding-index (omega arith) (kept_in c.args.season.now c.args.operated.now) refl c.loop-holding.found.kept (kept_in c.args.season.now c.args.operated.now (confirmed_lines c.args.held.now)) c.loop-holding.invariant.kept
+
+pub returns-clause-next : goal.returns-clause-next
+returns-clause-next c =
+    let season = c.args.season.now in
+    let next = c.args.next.now in
+    let reports = c.args.operated.now in
+    c.new.ensures ∙ lines_end c.args.held.now c.loop-holding.holding-index (omega arith) season next reports c.loop-holding.found.lines.items (next_lines season next reports (confirmed_lines c.args.held.now)) c.loop-holding.invariant.lines

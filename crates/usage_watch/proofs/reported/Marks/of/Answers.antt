@@ -3,18 +3,16 @@ use Rattle.std.proofs.lemmas.List.{take_all}
 use Rattle.season_days.specs.declared.declaration.Kind.TheVariants.{Arr, Dep}
 use Rattle.usage_watch.specs.declared.operated.Operated.{Operated}
 use Rattle.usage_watch.specs.Private.Marks.{AreMarked}
-use Rattle.usage_watch.proofs.MarkLemmas.{take_one_more}
+use Rattle.usage_watch.proofs.MarkLemmas.{reports_more}
 use Rattle.usage_watch.proofs.reported.Marks.of.Goals as goal
 
 pub loop-report-preserved : goal.loop-report-preserved
 loop-report-preserved c =
     let reports = c.args.reports.now in
     let i = c.loop-report.report-index in
-    let item = c.report-item.result in
-    let next : take i reports ++ item ∷ [] ≡ take (i + 1) reports = take_one_more reports i item c.loop-report-test.true c.report-item.is in
     record {
-      arrivals = subst (λ (l : List Operated). AreMarked c.args.season.now l Arr c.add.new.self.arrivals) next (c.in_ok-add.ensures.arrivals (take i reports) c.loop-report.invariant.arrivals);
-      departures = subst (λ (l : List Operated). AreMarked c.args.season.now l Dep c.add.new.self.departures) next (c.in_ok-add.ensures.departures (take i reports) c.loop-report.invariant.departures);
+      arrivals = reports_more (λ (l : List Operated). AreMarked c.args.season.now l Arr c.add.new.self.arrivals) reports i _ c.loop-report-test.true (c.in_ok-add.ensures.arrivals (take i reports) c.loop-report.invariant.arrivals);
+      departures = reports_more (λ (l : List Operated). AreMarked c.args.season.now l Dep c.add.new.self.departures) reports i _ c.loop-report-test.true (c.in_ok-add.ensures.departures (take i reports) c.loop-report.invariant.departures);
     }
 
 pub returns-clause-arrivals : goal.returns-clause-arrivals
