@@ -41,4 +41,4 @@ returns-clause-next c =
     let season = c.args.season.now in
     let next = c.args.next.now in
     let reports = c.args.operated.now in
-    c.new.ensures ∙ lines_end c.args.held.now c.loop-holding.holding-index (omega arith) season next reports c.loop-holding.found.lines.items (next_lines season next reports (confirmed_lines c.args.held.now)) c.loop-holding.invariant.lines
+    c.new-2.ensures ∙ lines_end c.args.held.now c.loop-holding.holding-index (omega arith) season next reports c.loop-holding.found.lines.items (next_lines season next reports (confirmed_lines c.args.held.now)) c.loop-holding.invariant.lines
