@@ -1,6 +1,6 @@
 -- Marks of flights: the same flights, and one more period or report.
 use Rattle.std.proofs.Common.{◌≡◌, ℕ, ◌+◌, ◌<◌, ◌==◌, ◌&&◌, ◌||◌, Bool, true, false, cond, List, [], ◌∷◌, ◌++◌, length, take, get_or, refl, sym, ap, ◌∙◌, subst, arith, add-one, inl, inr}
-use Rattle.std.specs.Prelude.{IsTrue, ◌↔◌, Option, Some, None, Vec}
+use Rattle.std.specs.Prelude.{IsTrue, ◌↔◌, Option, Some, Vec}
 use Rattle.std.specs.List.{list_any}
 use Rattle.std.proofs.lemmas.List.Folds.{list_any-append}
 use Rattle.std.proofs.Math.Seq.{take-suc, get_or-append_seam}
@@ -10,7 +10,6 @@ use borrow.Author.Tests.{eqb-true}
 use Rattle.series_model.specs.Submissions.{are_letters}
 use Rattle.season_days.specs.Term.{Term}
 use Rattle.season_days.specs.Periods.{is_date_of}
-use Rattle.season_days.specs.declared.day.Period.{Period}
 use Rattle.season_days.specs.declared.declaration.Kind.{Kind}
 use Rattle.season_days.specs.declared.season.TheConstants.{MOST_DATES}
 use Rattle.scr_reader.specs.declared.line.Flight.{Flight}

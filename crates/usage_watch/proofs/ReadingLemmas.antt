@@ -1,10 +1,10 @@
 -- Line after line of reports: one more line, the end, and a bad line.
 use Rattle.std.proofs.Common.{◌≡◌, ℕ, ◌+◌, ◌&&◌, Bool, true, false, List, [], ◌∷◌, ◌++◌, refl, sym, ap, ◌∙◌, subst, inl, inr, append_assoc, append-nil}
-use Rattle.std.specs.Prelude.{◌⊎◌, slice_index, codes, Result, Ok, Err, IfErr, IsErrAnd}
+use Rattle.std.specs.Prelude.{◌⊎◌, Result, Ok, Err, IfErr, IsErrAnd}
 use Rattle.std.proofs.lemmas.Bool.{false≢true}
 use Rattle.slot_text.specs.Lines.{lines_of}
 use Rattle.slot_text.specs.Reads.{GivesOr}
-use Rattle.slot_text.specs.Fields.{is_blank, is_blank_line, fields_of, IsTrimmed}
+use Rattle.slot_text.specs.Fields.{is_blank, is_blank_line, fields_of}
 use Rattle.season_days.specs.Term.{Term}
 use Rattle.usage_watch.specs.declared.operated.Operated.{Operated}
 use Rattle.usage_watch.specs.declared.fault.OperatedFault.{OperatedFault}

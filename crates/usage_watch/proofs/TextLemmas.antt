@@ -1,6 +1,6 @@
 -- The text of the next season's lines, line by line, and how it is read.
 use Rattle.std.proofs.Common.{◌≡◌, ◌≢◌, ℕ, ◌+◌, ◌<◌, ◌≤◌, ◌==◌, Bool, true, false, List, [], ◌∷◌, ◌++◌, length, drop, get_or, refl, sym, ap, ◌∙◌, subst, arith, append_assoc, append-nil}
-use Rattle.std.specs.Prelude.{All, Option, Some, None}
+use Rattle.std.specs.Prelude.{All}
 use Rattle.std.proofs.lemmas.Bool.{false≢true}
 use borrow.Author.Tests.{eqb-true}
 use Rattle.std.proofs.lemmas.List.{drop_more, drop_all}
@@ -13,7 +13,7 @@ use Rattle.scr_reader.specs.declared.line.Code.{Code}
 use Rattle.scr_reader.specs.declared.line.Code.TheVariants.{F, C, R, L}
 use Rattle.scr_reader.specs.declared.line.Item.TheVariants.{One}
 use Rattle.scr_reader.specs.Printed.{header_lines, line_text, item_text, items_lines, ItemsFit, IsAsked}
-use Rattle.scr_reader.specs.Again.{IsAskedItem, AreAsked, HeaderFits, AreNumbered, IsReadAgain, AreReadAgain, messages_text}
+use Rattle.scr_reader.specs.Again.{AreAsked, HeaderFits, AreNumbered, IsReadAgain, AreReadAgain, messages_text}
 use Rattle.scr_reader.specs.Messages.{ReadsAll}
 use Rattle.scr_reader.specs.declared.message.Message.{Message}
 use Rattle.usage_watch.specs.NextTexts.{IsHistoric, next_items, next_message, next_messages, next_text}

@@ -1,7 +1,7 @@
 -- Historic precedence. A series of slots that was operated on at least 80 per cent of its dates has
 -- precedence in the next equivalent season. See the Worldwide Airport Slot Guidelines on historic
 -- slots, and on series: at least five slots on the same weekday.
-use Rattle.std.specs.Prelude.{ℕ, ◌*◌, ◌==◌, ◌&&◌, ◌||◌, Bool, true, false, nat_le, nat_lt, List, length, Option, Some, None}
+use Rattle.std.specs.Prelude.{ℕ, ◌*◌, ◌==◌, ◌&&◌, Bool, true, false, nat_le, nat_lt, List, length, Option, Some, None}
 use Rattle.std.specs.List.{filter, list_any}
 use Rattle.season_days.specs.Term.{Term}
 use Rattle.season_days.specs.Seasons.{weekday_on, dates_of}

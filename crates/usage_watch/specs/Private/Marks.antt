@@ -2,7 +2,6 @@
 use Rattle.std.specs.Prelude.{◌≡◌, ℕ, ◌<◌, Bool, false, List, [], slice_index_or, Option, Some, None, Vec}
 use Rattle.season_days.specs.Term.{Term}
 use Rattle.season_days.specs.declared.declaration.Kind.{Kind}
-use Rattle.season_days.specs.declared.declaration.Kind.TheVariants.{Arr, Dep}
 use Rattle.season_days.specs.declared.season.TheConstants.{MOST_DATES}
 use Rattle.scr_reader.specs.declared.line.Flight.{Flight}
 use Rattle.indexmap.specs.IndexMap.{get}

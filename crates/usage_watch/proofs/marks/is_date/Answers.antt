@@ -1,6 +1,3 @@
-use Rattle.std.proofs.Common.{◌≡◌, true}
-use Rattle.std.specs.Prelude.{Contains}
-use Rattle.season_days.specs.Seasons.{dates_of}
 use Rattle.season_days.specs.Periods.{is_date_of}
 use Rattle.usage_watch.proofs.MarkLemmas.{same_test}
 use Rattle.usage_watch.proofs.marks.is_date.Goals as goal

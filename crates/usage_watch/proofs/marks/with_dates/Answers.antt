@@ -1,4 +1,4 @@
-use Rattle.std.proofs.Common.{◌≡◌, ◌+◌, ◌<◌, ◌||◌, ◌++◌, ◌∷◌, [], false, Bool, ℕ, length, get_or, ap, ◌∙◌, arith, List}
+use Rattle.std.proofs.Common.{◌||◌, ◌∷◌, [], false, Bool, ℕ, length, get_or, ap, arith, List}
 use Rattle.std.proofs.lemmas.List.{length-append}
 use Rattle.season_days.specs.Periods.{is_date_of}
 use Rattle.usage_watch.proofs.MarkLemmas.{mark_more}

@@ -1,4 +1,4 @@
-use Rattle.std.proofs.Common.{◌≡◌, refl, sym, ◌∙◌, false, inl, inr, rules}
+use Rattle.std.proofs.Common.{◌≡◌, refl, sym, false, inl, inr, rules}
 use Rattle.std.proofs.lemmas.Option.{none-some, same_Some}
 use Rattle.slot_text.specs.Fields.{is_blank_line}
 use Rattle.usage_watch.proofs.reading.add_line.Goals as goal

@@ -1,4 +1,4 @@
-use Rattle.std.proofs.Common.{◌≡◌, ◌⊎◌, ℕ, ◌+◌, ◌≤◌, List, [], ◌∷◌, length, refl, sym, ap, ◌∙◌, subst, arith, inl, inr, rules}
+use Rattle.std.proofs.Common.{◌≡◌, ℕ, ◌+◌, List, [], length, refl, sym, ap, ◌∙◌, subst, arith, inl, rules}
 use Rattle.std.specs.Prelude.{IsErrAnd}
 use Rattle.slot_text.specs.Lines.{lines_of}
 use Rattle.usage_watch.specs.declared.operated.Operated.{Operated}

@@ -1,10 +1,9 @@
-use Rattle.std.proofs.Common.{◌≡◌, List, ℕ, [], ◌∷◌, refl, sym, ap, ◌∙◌, subst, arith, rules, true}
+use Rattle.std.proofs.Common.{List, ℕ, sym, subst, arith, rules}
 use Rattle.std.specs.Prelude.{codes}
 use Rattle.std.proofs.lemmas.Option.{none-some, same_Some}
 use Rattle.slot_text.specs.Fields.{fields_of}
 use Rattle.schedule_text.specs.Kinds.{kind_text}
 use Rattle.scr_reader.specs.Parts.{IsFlight}
-use Rattle.scr_reader.specs.Shapes.{NamesPeriod}
 use Rattle.usage_watch.proofs.ReportLemmas.{same_fields, same_report}
 use Rattle.usage_watch.proofs.report.read_report.Goals as goal
 

@@ -1,10 +1,8 @@
-use Rattle.std.proofs.Common.{◌≡◌, ℕ, ◌+◌, ◌<◌, ◌≤◌, ◌++◌, List, length, get_or, refl, sym, ap, ◌∙◌, subst, arith}
-use Rattle.std.specs.Prelude.{All}
+use Rattle.std.proofs.Common.{◌≡◌, refl, ◌∙◌, arith}
 use Rattle.std.proofs.lemmas.List.Elements.{All-get_or}
-use Rattle.season_days.specs.Term.{Term}
 use Rattle.scr_reader.specs.Printed.{LineFits}
 use Rattle.holding_book.specs.declared.holding.Holding.{Holding}
-use Rattle.usage_watch.specs.NextLines.{series_of, kept_of, next_line, confirmed_lines, series_in, kept_in, next_lines}
+use Rattle.usage_watch.specs.NextLines.{series_of, kept_of, confirmed_lines, series_in, kept_in, next_lines}
 use Rattle.usage_watch.proofs.NextLemmas.{counted_more, lines_more, counted_end, lines_end}
 use Rattle.usage_watch.proofs.watching.watch.Goals as goal
 

@@ -1,6 +1,5 @@
-use Rattle.std.proofs.Common.{◌≡◌, ℕ, ◌+◌, ◌^◌, ◌<◌, ◌≤◌, Bool, cond, length, refl, sym, ap, ◌∙◌, arith, nat_lt}
-use Rattle.usage_watch.specs.Precedence.{is_series, has_precedence, is_enough, series_dates, operated_dates}
-use Rattle.usage_watch.specs.NextLines.{count_to, days_to}
+use Rattle.std.proofs.Common.{◌≡◌, ℕ, ◌+◌, length, sym, ap, ◌∙◌, arith, nat_lt}
+use Rattle.usage_watch.specs.Precedence.{is_series, has_precedence, is_enough, operated_dates}
 use Rattle.usage_watch.proofs.WeekdayLemmas.{count_more, days_more, count_few, days_in_byte, few_more}
 use Rattle.usage_watch.proofs.weekdays.weekdays_of.Goals as goal
 

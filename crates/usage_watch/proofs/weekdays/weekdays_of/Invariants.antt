@@ -1,4 +1,4 @@
-use Rattle.std.proofs.Common.{◌≡◌, ◌≤◌}
+use Rattle.std.proofs.Common.{◌≡◌}
 use Rattle.usage_watch.specs.Precedence.{is_series, has_precedence}
 use Rattle.usage_watch.specs.NextLines.{count_to, days_to}
 use Rattle.usage_watch.proofs.weekdays.weekdays_of.Given as goal

@@ -1,7 +1,6 @@
-use Rattle.std.proofs.Common.{◌≡◌, ◌||◌, ◌&&◌, ap, ◌∙◌, get_or, false, ℕ, List, Bool}
+use Rattle.std.proofs.Common.{◌||◌, ap, ◌∙◌, get_or, false, List, Bool}
 use Rattle.indexmap.specs.IndexMap.{get}
 use Rattle.season_days.specs.Periods.{is_date_of}
-use Rattle.scr_reader.specs.declared.line.Flight.{Flight}
 use Rattle.holding_book.specs.Lines.{is_flight}
 use Rattle.usage_watch.specs.Private.Marks.{days_or_none}
 use Rattle.usage_watch.proofs.MarkLemmas.{marks_put}

@@ -1,4 +1,4 @@
-use Rattle.std.proofs.Common.{◌≡◌, ◌+◌, ◌++◌, ◌∷◌, [], List, length, take, subst, arith}
+use Rattle.std.proofs.Common.{List, take, subst, arith}
 use Rattle.std.proofs.lemmas.List.{take_all}
 use Rattle.season_days.specs.declared.declaration.Kind.TheVariants.{Arr, Dep}
 use Rattle.usage_watch.specs.declared.operated.Operated.{Operated}

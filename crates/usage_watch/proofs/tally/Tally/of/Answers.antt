@@ -1,4 +1,4 @@
-use Rattle.std.proofs.Common.{◌≡◌, ℕ, ◌+◌, ◌<◌, ◌≤◌, ◌&&◌, ◌==◌, Bool, true, false, cond, length, refl, arith}
+use Rattle.std.proofs.Common.{ℕ, ◌+◌, ◌&&◌, ◌==◌, Bool, length, arith}
 use Rattle.season_days.specs.Seasons.{is_on, weekday_on}
 use Rattle.usage_watch.specs.Precedence.{is_operated, series_dates, operated_dates}
 use Rattle.usage_watch.proofs.TallyLemmas.{dates_more, operated_more, dates_end, operated_end, counted_within, counted_few, counted_to}

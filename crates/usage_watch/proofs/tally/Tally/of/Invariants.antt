@@ -1,4 +1,4 @@
-use Rattle.std.proofs.Common.{◌≡◌, ◌+◌, ◌≤◌, ◌==◌, length, ℕ}
+use Rattle.std.proofs.Common.{◌≡◌, ◌+◌, ◌≤◌, ◌==◌, length}
 use Rattle.season_days.specs.Seasons.{is_on, weekday_on}
 use Rattle.usage_watch.specs.Precedence.{is_operated, series_dates, operated_dates}
 use Rattle.usage_watch.proofs.TallyLemmas.{dates_left, operated_left}
