@@ -24,14 +24,21 @@ const NO_FLIGHT: Flight = Flight {
     suffix: 0,
 };
 
-// What an airline knows that asks: the state of its draws, the number of its last new flight, and
-// the last line that it was offered.
+/// What an airline knows that asks: the state of its draws, the number of its last new flight, and
+/// the last line that it was offered.
 #[derive(Clone, Copy, Debug, PartialEq, Eq)]
-struct Airline {
+pub struct Airline {
     draws: Draws,
     number: u32,
     offer: Option<Line>,
 }
+
+/// An airline that has not asked yet.
+pub const NEW_AIRLINE: Airline = Airline {
+    draws: Draws { state: 7 },
+    number: 0,
+    offer: None,
+};
 
 /// Asks the book in rounds, each of which begins with a copy of it, so that it stays about as full.
 /// Prints how they were answered, and at full size how many that is in a second.
@@ -40,11 +47,7 @@ pub fn run<R: Print + Clock>(rt: &R, alloc: Global, size: Size, book: &Book) -> 
         Size::Short => (2, 50),
         Size::Full => (10, 500),
     };
-    let mut airline = Airline {
-        draws: Draws { state: 7 },
-        number: 0,
-        offer: None,
-    };
+    let mut airline = NEW_AIRLINE;
     let mut tallies = vec![in alloc; NO_CALLS; NAMES.len()]?;
     let mut all = NO_CALLS;
     let mut copies = NO_CALLS;
@@ -114,8 +117,8 @@ pub fn can_ask(declaration: &Declaration, ask: &Item) -> bool
 }
 
 impl Airline {
-    // The next ask: half of them are new lines, a quarter changes.
-    fn draw_ask(&mut self, book: &Book) -> Item
+    /// The next ask: half of them are new lines, a quarter changes.
+    pub fn draw_ask(&mut self, book: &Book) -> Item
         ensures { ItemPairs result }
     {
         let code = self.draws.below(16);

@@ -1,5 +1,5 @@
 //! Benchmarks of amendments. `amend_bench WORD` runs the one that the word names at full size, and
-//! prints counts and times; `amend_bench short` runs both at a small size and prints counts alone.
+//! prints counts and times; `amend_bench short` runs all at a small size and prints counts alone.
 #![tactic(auto)]
 
 mod asks;
@@ -7,6 +7,7 @@ mod books;
 mod callers;
 mod draws;
 mod report;
+mod sessions;
 
 use books::book_of;
 use holding_book::Book;
@@ -37,7 +38,7 @@ fn main(rt: HostRuntime) -> anyhow::Result<()> {
     run(&rt, alloc, size, word, &book)
 }
 
-// Runs the benchmark that a word names, or both. Where it names none, prints the words that do.
+// Runs the benchmark that a word names, or all. Where it names none, prints the words that do.
 fn run<R: Threads + Wait + Sync + Print + Clock>(
     rt: &R,
     alloc: Global,
@@ -48,12 +49,14 @@ fn run<R: Threads + Wait + Sync + Print + Clock>(
     match word {
         "asks" => asks::run(rt, alloc, size, book),
         "ledger" => callers::run(rt, alloc, size, book),
+        "sessions" => sessions::run(rt, alloc, size, book),
         "short" => {
             asks::run(rt, alloc, size, book)?;
-            callers::run(rt, alloc, size, book)
+            callers::run(rt, alloc, size, book)?;
+            sessions::run(rt, alloc, size, book)
         }
         _ => {
-            println!(rt; "amend_bench WORD: asks [CAP SCR], ledger [CAP SCR], short")?;
+            println!(rt; "amend_bench WORD [CAP SCR]: asks, ledger, sessions, short")?;
             Ok(())
         }
     }

@@ -1,0 +1,221 @@
+//! Worked rows of the usage watch: reports that are read, series that keep precedence, and the lines
+//! of the next season.
+
+ghost use Rattle.std.specs.Prelude.{◌≡◌};
+ghost use Rattle.scr_reader.specs.Printed.{LineFits};
+ghost use Rattle.scr_reader.specs.declared.line.Code.TheVariants.{F};
+
+use crate::rows::{Case, walk};
+use holding_book::{Holding, State};
+use scr_reader::{Code, Header, Item, Line, read_message};
+use season_days::Season;
+use slot_text::{Lines, Memory, Station, put_number};
+use std::alloc::Global;
+use std::test::Fail;
+use usage_watch::{OperatedFault, OperatedList, Usage, print_next, read_operated, watch};
+
+/// The most bytes that a row may give.
+const MOST_BYTES: usize = 10_000;
+
+/// The first line of a row names the season, the second is the line that is held, offered where its
+/// code is N and else confirmed, and the others are the reports.
+#[derive(Drop)]
+struct Watched;
+
+impl Case for Watched {
+    fn find(&mut self, alloc: Global, given: &[u8], out: &mut Vec<u8>) -> Result<(), Fail> {
+        let mut lines = Lines::new(given);
+        let name = lines.next_line().ok_or("season")?;
+        let held = lines.next_line().ok_or("line")?;
+        let season = Season::read(name).ok_or("season")?;
+        let Some(next) = season.next() else {
+            out.extend_from_slice(b"NEXT NONE")?;
+            return Ok(());
+        };
+        let line = one_line(alloc, name, held)?;
+        let read = reports(alloc, &season, lines.rest())?;
+        match read {
+            Ok(operated) => put_usage(alloc, out, &season, &next, line, &operated),
+            Err(OperatedFault::BadLine { line }) => {
+                out.extend_from_slice(b"FORM ")?;
+                put_number(alloc, out, u64::from(line))?;
+                Ok(())
+            }
+            Err(OperatedFault::Memory) => Err("memory".into()),
+        }
+    }
+}
+
+/// The reports of a text, which is short.
+fn reports(
+    alloc: Global,
+    season: &Season,
+    text: &[u8],
+) -> Result<Result<OperatedList, OperatedFault>, Fail> {
+    if text.len() > MOST_BYTES {
+        return Err("a long row".into());
+    }
+    Ok(read_operated(alloc, season, text))
+}
+
+/// The line of a message of one line.
+fn one_line(alloc: Global, season: &[u8], line: &[u8]) -> Result<Line, Fail> {
+    let mut text = Vec::from_slice(alloc, b"SCR\n")?;
+    text.extend_from_slice(season)?;
+    text.extend_from_slice(b"\n15OCT\nLHR\n")?;
+    text.extend_from_slice(line)?;
+    if text.len() > MOST_BYTES {
+        return Err("a long line".into());
+    }
+    let message = read_message(alloc, &text)?;
+    match message.items.items() {
+        [placed] => match placed.item {
+            Item::One(line) => Ok(line),
+            _ => Err("no line".into()),
+        },
+        _ => Err("not one line".into()),
+    }
+}
+
+/// Appends the numbers of series, and the text of the next lines behind an LF where there are some.
+fn put_usage(
+    alloc: Global,
+    out: &mut Vec<u8>,
+    season: &Season,
+    next: &Season,
+    line: Line,
+    operated: &OperatedList,
+) -> Result<(), Fail> {
+    if !line.fits(season) {
+        return Err("a line that does not fit".into());
+    }
+    let usage = watch_one(alloc, season, next, line, operated)?;
+    put_number(alloc, out, usage.series)?;
+    out.extend_from_slice(b" ")?;
+    put_number(alloc, out, usage.kept)?;
+    put_next(alloc, out, *next, usage.next.items())
+}
+
+/// What is found of one holding.
+fn watch_one(
+    alloc: Global,
+    season: &Season,
+    next: &Season,
+    line: Line,
+    operated: &OperatedList,
+) -> Result<Usage, Memory>
+    requires { LineFits season.now line }
+{
+    let held = [Holding {
+        line,
+        state: state_of(line.code),
+    }];
+    watch(alloc, season, next, &held, operated)
+}
+
+/// A new request is offered, what is held already is confirmed.
+fn state_of(code: Code) -> State {
+    match code {
+        Code::N => State::Offered,
+        _ => State::Confirmed,
+    }
+}
+
+/// Appends the text of the next line behind an LF, if there is one.
+fn put_next(alloc: Global, out: &mut Vec<u8>, season: Season, lines: &[Line]) -> Result<(), Fail> {
+    let [line] = lines else {
+        return Ok(());
+    };
+    if !line.fits(&season) {
+        return Err("a next line that does not fit".into());
+    }
+    match line.code {
+        Code::F => {}
+        _ => return Err("a next line with another code".into()),
+    }
+    let header = Header {
+        season,
+        day: 15,
+        month: 10,
+        airport: Station(*b"LHR"),
+    };
+    let text = print_one(alloc, &header, *line)?;
+    out.extend_from_slice(b"\n")?;
+    out.extend_from_slice(&text)?;
+    Ok(())
+}
+
+/// The text of one historic line.
+fn print_one(alloc: Global, header: &Header, line: Line) -> Result<Vec<u8>, Memory>
+    requires fits { LineFits header.now.season line }
+    requires code { line.code ≡ F }
+{
+    print_next(alloc, header, &[line])
+}
+
+// Summer 2025 has 30 weeks from Sunday 30 March, summer 2026 has 30 from 29 March. Summer 2018 has 31
+// weeks from 25 March, and summer 2019 has 30, to 26 October. Winter 2023 begins on 29 October, and its
+// day 123 is 29 February; winter 2024 begins on 27 October, and its day 123 is 27 February.
+const WATCHED: &[u8] = b"\
+S25;FBA001 30MAR25OCT 1234567 180320 JFK0610 J;OPER ARR BA001 30MAR07SEP 1234567|7 1;SCR;S26;15OCT;LHR;FBA001 29MAR24OCT 0000007 180320 JFK0610 J;;
+S25;FBA001 30MAR25OCT 1234567 180320 JFK0610 J|7 0
+S25;FBA001 30MAR20APR 7 180320 JFK0610 J;OPER ARR BA001 30MAR20APR 7|1 0
+S25;FBA001 30MAR27APR 7 180320 JFK0610 J;OPER ARR BA001 30MAR27APR 7|1 1;SCR;S26;15OCT;LHR;FBA001 29MAR26APR 0000007 180320 JFK0610 J;;
+S25;FBA001 30MAR27APR 7 180320 JFK0610 J;OPER ARR BA001 30MAR13APR 7|1 0
+S25;FBA001 30MAR27APR 7 180320 JFK0610 J;OPER ARR BA001 30MAR13APR 7;OPER ARR BA1 06APR20APR 7;OPER ARR BA0001 06APR 7|1 1;SCR;S26;15OCT;LHR;FBA001 29MAR26APR 0000007 180320 JFK0610 J;;
+S25;FBA001 30MAR27APR 7 180320 JFK0610 J;OPER ARR BA001A 30MAR27APR 7;OPER DEP BA001 30MAR27APR 7;OPER ARR BA002 30MAR27APR 7|1 0
+S25;NBA001 30MAR27APR 7 180320 JFK0610 J;OPER ARR BA001 30MAR27APR 7|0 0
+S25;FBA001 30MAR27APR 17 180320 JFK0610 J;OPER ARR BA001 30MAR25OCT 1234567|2 1;SCR;S26;15OCT;LHR;FBA001 29MAR26APR 0000007 180320 JFK0610 J;;
+S25;F BA001 31MAR28APR 1 180320 0610JFK J;OPER DEP BA001 31MAR21APR 1|1 1;SCR;S26;15OCT;LHR;F BA001 30MAR27APR 1000000 180320 0610JFK J;;
+S25;FBA001 BA002 30MAR27APR 7 180320 JFK2210 06101JFK JJ;OPER ARR BA001 30MAR27APR 7|1 0
+S25;FBA001 BA002 30MAR27APR 7 180320 JFK2210 06101JFK JJ;OPER DEP BA002 30MAR27APR 7|1 0
+S25;FBA001 BA002 30MAR27APR 7 180320 JFK2210 06101JFK JJ;OPER ARR BA001 30MAR27APR 7;OPER DEP BA002 31MAR28APR 1|1 0
+S25;FBA001 BA002 30MAR27APR 7 180320 JFK2210 06101JFK JJ;OPER ARR BA001 30MAR27APR 7;OPER DEP BA002 30MAR27APR 7|1 1;SCR;S26;15OCT;LHR;FBA001 BA002 29MAR26APR 0000007 180320 JFK2210 06101JFK JJ;;
+S25;FBA001 30MAR25OCT 7 180320 JFK0610 J;OPER ARR BA001 30MAR31AUG 7|1 0
+S18;FBA001 25MAR27OCT 7 180320 JFK0610 J;OPER ARR BA001 25MAR02SEP 7|1 0
+S18;FBA001 25MAR27OCT 7 180320 JFK0610 J;OPER ARR BA001 25MAR09SEP 7|1 1;SCR;S19;15OCT;LHR;FBA001 31MAR26OCT 0000007 180320 JFK0610 J;;
+W23;FBA001 01FEB29FEB 4 180320 JFK0610 J;OPER ARR BA001 01FEB29FEB 4|1 1;SCR;W24;15OCT;LHR;FBA001 30JAN27FEB 0004000 180320 JFK0610 J;;
+S99;FBA001 29MAR19APR 7 180320 JFK0610 J|NEXT NONE
+W99;FBA001 05DEC12DEC 7 180320 JFK0610 J|NEXT NONE
+";
+
+// The reports of a line of four dates. A line of 199 bytes is read, one of 201 is not.
+const READ: &[u8] = b"\
+|1 0
+;;<300 >;|1 0
+OPER ARR BA001 30MAR 7<1\r>;OPER DEP BA001 30MAR 7<1\r>;|1 0
+OPER ARR BA001 30MAR 7<1\r>|FORM 1
+OPER<1\t>ARR  BA001 30MAR07SEP<167 >1234567|1 0
+OPER ARR BA001 30MAR07SEP<169 >1234567|FORM 1
+OPER TOT BA001 30MAR 7|FORM 1
+ ;OPER ARR BA001 30MAR 7;OPER ARR BA001 31NOV 7;OPER|FORM 3
+OPER ARR BA001 29MAR 6|FORM 1
+OPER ARR BA001 31MAR 7|FORM 1
+OPER ARR BA001 07SEP30MAR 7|FORM 1
+OPER ARR BA 30MAR 7|FORM 1
+OPER ARR BA001 30MAR 7 |FORM 1
+ OPER ARR BA001 30MAR 7|FORM 1
+OPER ARR BA001 30MAR 7 7|FORM 1
+OPER ARR BA001 30MAR|FORM 1
+oper ARR BA001 30MAR 7|FORM 1
+OPER ARR BA001 30MAR 7<1\r><1\r>|FORM 1
+";
+
+/// The reports of a row, of a line with four dates in summer 2025.
+#[derive(Drop)]
+struct ReadRows;
+
+impl Case for ReadRows {
+    fn find(&mut self, alloc: Global, given: &[u8], out: &mut Vec<u8>) -> Result<(), Fail> {
+        let mut text = Vec::from_slice(alloc, b"S25\nFBA001 30MAR20APR 7 180320 JFK0610 J\n")?;
+        text.extend_from_slice(given)?;
+        Watched.find(alloc, &text, out)
+    }
+}
+
+#[test]
+fn usage_is_watched(rt: HostRuntime) -> Result<(), Fail> {
+    let alloc = rt.alloc();
+    walk(alloc, &mut Watched, WATCHED)?;
+    walk(alloc, &mut ReadRows, READ)
+}
