@@ -19,6 +19,4 @@ mod lines;
 #[cfg(test)]
 mod listed;
 #[cfg(test)]
-mod sessions;
-#[cfg(test)]
 mod walk;
