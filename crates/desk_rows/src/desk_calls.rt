@@ -1,6 +1,6 @@
 //! Calls of the desk over files, an output and doors in memory.
 
-ghost use Rattle.std.specs.Prelude.{All, IfOk};
+ghost use Rattle.std.specs.Prelude.{All, IfOk, OnOk};
 ghost use Rattle.desk_links.specs.LinksInMemory.{IsUnused};
 
 use crate::texts::{folded, spelled_out};
@@ -88,18 +88,33 @@ fn links_of(
 ) -> Result<Vec<MemoryLink>, Fail>
     ensures { IfOk result (λ links. All IsUnused links.items) }
 {
-    let mut links = Vec::new(alloc);
     let (first, rest) = texts.split_once('|').unwrap_or((texts, ""));
-    links.push(link_of(alloc, first, piece, failing)?)?;
+    let (second, third) = rest.split_once('|').unwrap_or((rest, ""));
+    let mut links = Vec::new(alloc);
+    push_link(alloc, &mut links, first, piece, failing)?;
     if rest.is_empty() {
         return Ok(links);
     }
-    let (second, third) = rest.split_once('|').unwrap_or((rest, ""));
-    links.push(link_of(alloc, second, piece, None)?)?;
-    if !third.is_empty() {
-        links.push(link_of(alloc, third, piece, None)?)?;
+    push_link(alloc, &mut links, second, piece, None)?;
+    if third.is_empty() {
+        return Ok(links);
     }
+    push_link(alloc, &mut links, third, piece, None)?;
     Ok(links)
+}
+
+fn push_link(
+    alloc: Global,
+    links: &mut Vec<MemoryLink>,
+    text: &str,
+    piece: usize,
+    failing: Option<Failure>,
+) -> Result<(), Fail>
+    requires { All IsUnused links.old.items }
+    ensures { OnOk result (All IsUnused links.new.items) }
+{
+    links.push(link_of(alloc, text, piece, failing)?)?;
+    Ok(())
 }
 
 /// A door with these links, an accept of which is to fail.
