@@ -1,5 +1,5 @@
 //! Tests of the book of slots and its ledger, as tables of worked seasons: what each ask is
-//! answered, and what is held after it.
+//! answered, and what is held after it; and how sessions over links end by such a ledger.
 #![tactic(auto)]
 
 #[cfg(test)]
@@ -18,5 +18,7 @@ mod ledgers;
 mod lines;
 #[cfg(test)]
 mod listed;
+#[cfg(test)]
+mod sessions;
 #[cfg(test)]
 mod walk;

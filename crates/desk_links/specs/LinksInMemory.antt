@@ -78,11 +78,12 @@ sends_bytes l bytes = gives_bytes l && nat_le (length bytes) (l.byte_limit - len
 abbrev pub IsUnused : HeldLink → Type 0
 IsUnused l = IsFresh (link_view l) × (l.sent ≡ [])
 
--- What contracts see of a door in memory: the links that are still to come, the next one first;
--- those that it kept, and how many it has room for; the calls of accept that are to fail, how many
--- there were so far, and how many failed.
+-- What contracts see of a door in memory: the links that are still to come, the next one first, and
+-- how many it handed out; those that it kept, and how many it has room for; the calls of accept
+-- that are to fail, how many there were so far, and how many failed.
 pub record HeldDoor : Type 0 where
   pub coming : List HeldLink
+  pub admitted : ℕ
   pub kept : List HeldLink
   pub room : ℕ
   pub failing : List Failure
@@ -93,6 +94,7 @@ pub record HeldDoor : Type 0 where
 abbrev pub door_view : HeldDoor → DoorView
 door_view d = record {
   coming = Some (map (λ l. l.input) d.coming);
+  admitted = d.admitted;
   kept = map link_view d.kept;
   faults = d.faults;
   room = d.room;
@@ -102,6 +104,7 @@ door_view d = record {
 abbrev pub new_door : List HeldLink → ℕ → List Failure → HeldDoor
 new_door coming room failing = record {
   coming = coming;
+  admitted = 0;
   kept = [];
   room = room;
   failing = failing;

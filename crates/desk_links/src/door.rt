@@ -11,9 +11,10 @@ pub struct DoorFault;
 
 /// Where links come in, one after the other, and where they are kept once they were served.
 ///
-/// A door may tell the inputs of the links that are to come. It keeps each link that is handed
-/// back, with what passed over it, whether its input ended and its count of faults; room for so
-/// many links was made with the door.
+/// A door may tell the inputs of the links that are to come. It counts the links that it hands out,
+/// also those that nobody hands back. It keeps each link that is handed back, with what passed over
+/// it, whether its input ended and its count of faults; room for so many links was made with the
+/// door.
 pub trait Door: Send {
     type Link: Link;
 

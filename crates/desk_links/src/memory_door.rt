@@ -20,6 +20,7 @@ use std::marker::Model;
 #[derive(Drop)]
 pub struct MemoryDoor {
     links: VecDeque<MemoryLink>,
+    admitted: u64,
     served: Vec<MemoryLink>,
     places: usize,
     calls: Calls,
@@ -27,13 +28,14 @@ pub struct MemoryDoor {
 }
 
 impl Model for MemoryDoor {
-    ghost use Rattle.std.specs.Prelude.{◌≤◌, All, vec_capacity, vec_len};
+    ghost use Rattle.std.specs.Prelude.{◌≤◌, ◌<◌, ◌+◌, ◌^◌, All, length, vec_capacity, vec_len};
     ghost use Rattle.desk_links.specs.LinksInMemory.{HeldDoor, IsUnused};
 
     ghost Value = { HeldDoor };
 
     ghost view = { λ d. record {
       coming = d.links.items;
+      admitted = d.admitted;
       kept = d.served.items;
       room = d.places;
       failing = d.calls.failing;
@@ -42,7 +44,7 @@ impl Model for MemoryDoor {
     } };
 
     ghost invariant = { λ d. (d.places ≤ vec_capacity d.served) × (vec_len d.served ≤ d.places)
-        × All IsUnused d.links.items };
+        × All IsUnused d.links.items × (d.admitted + length d.links.items < 2 ^ 64) };
 }
 
 impl MemoryDoor {
@@ -61,6 +63,7 @@ impl MemoryDoor {
         let served = Vec::with_capacity(alloc, room)?;
         Ok(MemoryDoor {
             links: VecDeque::from(links),
+            admitted: 0,
             served,
             places: room,
             calls: Calls::new(failing),
@@ -107,7 +110,13 @@ impl Door for MemoryDoor {
         if self.served.len() >= self.places {
             return Err(self.fail());
         }
-        Ok(self.links.pop_front())
+        match self.links.pop_front() {
+            Some(link) => {
+                self.admitted += 1;
+                Ok(Some(link))
+            }
+            None => Ok(None),
+        }
     }
 
     fn finish(&mut self, link: MemoryLink) {

@@ -25,13 +25,15 @@ const DRAIN_READS: u32 = 16;
 const DRAIN_MILLIS: u64 = 62;
 
 /// A copy of a listener, with room for so many links. A door without a listener, since none could
-/// be bound, fails at each accept. It does not tell what comes.
+/// be bound, fails at each accept; so does one that has handed out as many links as a `u64` counts.
+/// It does not tell what comes.
 ///
 /// A read of its links that waits longer than 300 seconds for the client, and a write that waits
 /// longer than 60, is a fault of the link.
 #[derive(Drop)]
 pub struct RealDoor<T: Drop> {
     listener: Option<T>,
+    admitted: u64,
     kept: Vec<LinkRecord>,
     room: usize,
     faults: u64,
@@ -45,6 +47,7 @@ impl<T: Drop> Model for RealDoor<T> {
 
     ghost view = { λ door. record {
       coming = None;
+      admitted = door.admitted;
       kept = door.kept.items;
       faults = door.faults;
       room = door.room;
@@ -59,11 +62,12 @@ impl<T: Drop> RealDoor<T> {
     /// call wants memory.
     pub fn new(alloc: Global, listener: Option<T>, links: usize) -> Result<RealDoor<T>, Memory>
         ensures { IfOk result (λ door.
-            door ≡ record { coming = None; kept = []; faults = 0; room = links }) }
+            door ≡ record { coming = None; admitted = 0; kept = []; faults = 0; room = links }) }
     {
         let kept = Vec::with_capacity(alloc, links)?;
         Ok(RealDoor {
             listener,
+            admitted: 0,
             kept,
             room: links,
             faults: 0,
@@ -85,8 +89,9 @@ where
 
     fn accept(&mut self) -> Result<Option<RealLink<T::Stream>>, DoorFault> {
         if self.kept.len() < self.room {
-            if let Some(listener) = &self.listener {
-                if let Some(stream) = next_stream(listener) {
+            if let Some(admitted) = self.admitted.checked_add(1) {
+                if let Some(stream) = next_stream(&self.listener) {
+                    self.admitted = admitted;
                     return Ok(Some(RealLink::new(stream)));
                 }
             }
@@ -104,10 +109,13 @@ where
 
 /// The stream of the next client. One that gave up before it was accepted is passed over, and so is
 /// one whose stream takes no time limits.
-fn next_stream<T: OpenListener>(listener: &T) -> Option<T::Stream>
+fn next_stream<T: OpenListener>(listener: &Option<T>) -> Option<T::Stream>
 where
     T::Stream: OpenStream,
 {
+    let Some(listener) = listener else {
+        return None;
+    };
     for _ in 0..MOST_TRIES {
         match listener.accept() {
             Ok((stream, _)) => {

@@ -90,11 +90,12 @@ module _ {E : Type 0} (A : List (List ℕ) → List E → List ℕ → Type 0) (
   sessions_more before mid after (s ∷ ss) ts h k = (h.0, h.1, sessions_more h.0 mid after ss ts h.2 k)
 
   -- no link came
-  pub none_served : (d e : DoorView) (entries : List E) (end : DoorEnd) (links : ℕ) → e.kept ≡ d.kept → e.coming ≡ d.coming → EndsWorker end links [] d e
+  pub none_served : (d e : DoorView) (entries : List E) (end : DoorEnd) (links : ℕ) → e.kept ≡ d.kept → e.admitted ≡ d.admitted → e.coming ≡ d.coming → EndsWorker end links [] d e
       → HasServed A B links d entries (record { links = 0; end = end }) e entries
-  none_served d e entries end links kept coming ended = record {
+  none_served d e entries end links kept admitted coming ended = record {
     sessions = [];
     kept = kept ∙ sym (append-nil d.kept);
+    admitted = omega (arith, admitted);
     right = refl;
     count = refl;
     few = omega arith;
@@ -108,6 +109,7 @@ module _ {E : Type 0} (A : List (List ℕ) → List E → List ℕ → Type 0) (
   nothing_served d entries = record {
     sessions = [];
     kept = sym (append-nil d.kept);
+    admitted = omega arith;
     right = refl;
     count = refl;
     counts = All-nil HasCount;
@@ -120,6 +122,7 @@ module _ {E : Type 0} (A : List (List ℕ) → List E → List ℕ → Type 0) (
   pub record OneServed (d e : DoorView) (before after : List E) (ended : Result SessionEnd SessionFault) : Type 0 where
     pub link : LinkView
     pub kept : e.kept ≡ d.kept ++ link ∷ []
+    pub admitted : e.admitted ≡ d.admitted + 1
     pub right : IsSession A B before ended link after
     pub count : HasSessionCause 0 link.faults ended
     pub inputs : HadInputs d.coming (record { link = link; ended = ended } ∷ []) e.coming
@@ -130,6 +133,7 @@ module _ {E : Type 0} (A : List (List ℕ) → List E → List ℕ → Type 0) (
   one_served d m e before after fresh v ended admitted faults kept cause right told = record {
     link = v;
     kept = rw kept (ap (λ (l : List LinkView). l ++ v ∷ []) admitted.kept);
+    admitted = rw kept admitted.admitted;
     right = right;
     count = subst (λ (n : ℕ). HasSessionCause n v.faults ended) admitted.fresh.1 cause;
     inputs = rw kept (one_input d.coming m.coming fresh v ended admitted.next told);
@@ -141,6 +145,7 @@ module _ {E : Type 0} (A : List (List ℕ) → List E → List ℕ → Type 0) (
   one_gone_on d e before after ended o goes = record {
     sessions = record { link = o.link; ended = ended } ∷ [];
     kept = o.kept;
+    admitted = o.admitted;
     right = (after, o.right, refl);
     count = refl;
     counts = All-cons HasCount (record { link = o.link; ended = ended }) [] o.count (All-nil HasCount);
@@ -160,6 +165,7 @@ module _ {E : Type 0} (A : List (List ℕ) → List E → List ℕ → Type 0) (
       record {
         sessions = s ∷ [];
         kept = o.kept;
+        admitted = o.admitted;
         right = (after, o.right, refl);
         count = one;
         few = omega (arith, some);
@@ -180,6 +186,7 @@ module _ {E : Type 0} (A : List (List ℕ) → List E → List ℕ → Type 0) (
   gone_on n d m e before mid after h k = record {
     sessions = h.sessions ++ k.sessions;
     kept = k.kept ∙ ap (λ (l : List LinkView). l ++ links_of k.sessions) h.kept ∙ append_assoc d.kept (links_of h.sessions) (links_of k.sessions) ∙ ap (λ (l : List LinkView). d.kept ++ l) (sym (links_more h.sessions k.sessions));
+    admitted = omega (arith, length-append h.sessions k.sessions, h.admitted, k.admitted);
     right = sessions_more before mid after h.sessions k.sessions h.right k.right;
     count = omega (arith, length-append h.sessions k.sessions, h.count, k.count);
     counts = All-append HasCount h.sessions k.sessions h.counts k.counts;
@@ -194,6 +201,7 @@ module _ {E : Type 0} (A : List (List ℕ) → List E → List ℕ → Type 0) (
   served_last n k links d m e before mid after last sum h s = record {
     sessions = h.sessions ++ s.sessions;
     kept = s.kept ∙ ap (λ (l : List LinkView). l ++ links_of s.sessions) h.kept ∙ append_assoc d.kept (links_of h.sessions) (links_of s.sessions) ∙ ap (λ (l : List LinkView). d.kept ++ l) (sym (links_more h.sessions s.sessions));
+    admitted = omega (arith, length-append h.sessions s.sessions, h.admitted, s.admitted);
     right = sessions_more before mid after h.sessions s.sessions h.right s.right;
     count = omega (arith, length-append h.sessions s.sessions, h.count, s.count);
     few = omega (arith, length-append h.sessions s.sessions, h.count, s.few, sum);
@@ -207,6 +215,7 @@ module _ {E : Type 0} (A : List (List ℕ) → List E → List ℕ → Type 0) (
   all_served n links d e before after all h = record {
     sessions = h.sessions;
     kept = h.kept;
+    admitted = h.admitted;
     right = h.right;
     count = sym (h.count ∙ all);
     few = omega (arith, h.count, all);

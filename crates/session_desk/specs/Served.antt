@@ -1,6 +1,6 @@
 -- The sessions of one worker at its door, one after the other.
-use Rattle.std.specs.Prelude.{◌≡◌, ◌⊎◌, ℕ, ◌≤◌, List, [], ◌∷◌, ◌++◌, length, map, All, Result, Ok, Err}
-use Rattle.std.specs.Prelude.{Option, Some, None}
+use Rattle.std.specs.Prelude.{◌≡◌, ◌⊎◌, ℕ, ◌+◌, ◌≤◌, List, [], ◌∷◌, ◌++◌, length, map, All}
+use Rattle.std.specs.Prelude.{Result, Ok, Err, Option, Some, None}
 use Rattle.desk_outside.specs.Cause.{Rose}
 use Rattle.desk_links.specs.Links.{LinkView}
 use Rattle.desk_links.specs.Doors.{DoorView, NoneComes}
@@ -95,11 +95,13 @@ module _ {E : Type 0} (Answers : List (List ℕ) → List E → List ℕ → Typ
       × IsSession Answers Begins before s.ended s.link between
       × AreSessions between sessions entries
 
-  -- a worker served links of its door, all of them kept, at most so many, until it ended
+  -- a worker served all links that its door handed out, all of them kept, at most so many, until it
+  -- ended
   pub record HasServed (links : ℕ) (d : DoorView) (before : List E) (work : DoorWork)
       (e : DoorView) (entries : List E) : Type 0 where
     pub sessions : List Session
     pub kept : e.kept ≡ d.kept ++ links_of sessions
+    pub admitted : e.admitted ≡ d.admitted + length sessions
     pub right : AreSessions before sessions entries
     pub count : work.links ≡ length sessions
     pub few : length sessions ≤ links

@@ -1,5 +1,5 @@
 -- Where a worker stands at its door.
-use Rattle.std.specs.Prelude.{◌≡◌, ℕ, List, ◌++◌, length, All, Result, Err}
+use Rattle.std.specs.Prelude.{◌≡◌, ℕ, ◌+◌, List, ◌++◌, length, All, Result, Err}
 use Rattle.desk_links.specs.Doors.{DoorView}
 use Rattle.session_desk.specs.Served.{Session, links_of, HasCount, AllGoOn, IsFull, IsBroken, HadInputs}
 use Rattle.session_desk.specs.Served.{AreSessions}
@@ -34,6 +34,7 @@ module _ {E : Type 0} (Answers : List (List ℕ) → List E → List ℕ → Typ
       (entries : List E) : Type 0 where
     pub sessions : List Session
     pub kept : e.kept ≡ d.kept ++ links_of sessions
+    pub admitted : e.admitted ≡ d.admitted + length sessions
     pub right : AreSessions Answers Begins before sessions entries
     pub count : length sessions ≡ links
     pub counts : All HasCount sessions
