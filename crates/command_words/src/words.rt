@@ -9,7 +9,7 @@ ghost use Rattle.command_words.specs.declared.job.Job.{Job};
 ghost use Rattle.command_words.specs.Words.{Word, words_of};
 ghost use Rattle.command_words.specs.Values.{names_exactly, number_within, number_or};
 ghost use Rattle.command_words.specs.Jobs.{job_of, IsJob, allocate_command, check_command};
-ghost use Rattle.command_words.specs.Jobs.{amend_command, serve_command};
+ghost use Rattle.command_words.specs.Jobs.{amend_command, serve_command, usage_command};
 ghost use Rattle.command_words.specs.Jobs.{make_command, trial_command};
 ghost use Rattle.command_words.specs.Jobs.{make_job, trial_job};
 ghost use Rattle.command_words.specs.App.{names_held, job_by_rows, job_named, AsksFor};
@@ -85,6 +85,7 @@ fn read_job(alloc: Global, name: &str, found: &ArgMatches<'_>) -> Result<Job, Wo
         "check" => read_check(alloc, found),
         "amend" => read_amend(alloc, found),
         "serve" => read_serve(alloc, found),
+        "usage" => read_usage(alloc, found),
         "make" => read_make(alloc, found),
         "trial" => read_trial(found),
         _ => Err(WordFault::Words),
@@ -131,6 +132,13 @@ fn read_serve(alloc: Global, found: &ArgMatches<'_>) -> Result<Job, WordFault>
         port,
         workers,
     })
+}
+
+fn read_usage(alloc: Global, found: &ArgMatches<'_>) -> Result<Job, WordFault>
+    ensures { Answers (job_by_rows usage_command (rows_of (found_of found.now))) result }
+{
+    let names = read_names(alloc, found, 5)?;
+    Ok(Job::Usage { names })
 }
 
 fn read_make(alloc: Global, found: &ArgMatches<'_>) -> Result<Job, WordFault>

@@ -15,3 +15,5 @@ mod play;
 mod serve_rows;
 #[cfg(test)]
 mod texts;
+#[cfg(test)]
+mod usage_rows;

@@ -8,7 +8,7 @@ use Rattle.wasg_stages.specs.Valid.{IsValid, MarksHold}
 use Rattle.series_model.specs.Submissions.{SubmissionView}
 use Rattle.cert_format.specs.declared.cert.Certificate.{Certificate}
 use Rattle.command_words.specs.Words.{Word}
-use Rattle.slot_program.specs.Reports.{Report, Refusal, no_command, refused, unread, unwritten, finished, status_of, text_of, refusal_status, missing, large, out_of_form, over_limit, not_valid}
+use Rattle.slot_program.specs.Reports.{Report, Refusal, no_command, refused, unread, unwritten, finished, status_of, text_of, refusal_status, missing, large, out_of_form, over_limit, not_valid, no_next}
 use Rattle.slot_program.specs.Judgements.{NamedBytes}
 use Rattle.slot_program.specs.Steps.{Step, reads, judges, names_read, PassFrom, AllPass}
 use Rattle.slot_program.specs.Writing.{read_of, written_of}
@@ -19,7 +19,7 @@ use Rattle.slot_program.specs.Answers.{ToldExact, IsExact}
 use Rattle.slot_program.proofs.EndLemmas.{works_finishing}
 use Rattle.slot_program.proofs.ServiceLemmas.{works_calm, works_risen}
 use Rattle.command_words.specs.declared.job.Job.{Job}
-use Rattle.command_words.specs.declared.job.Job.TheVariants.{Allocate, Check, Amend, Serve, Make, Trial}
+use Rattle.command_words.specs.declared.job.Job.TheVariants.{Allocate, Check, Amend, Serve, Usage, Make, Trial}
 
 -- ---- statuses of work that is done
 
@@ -51,6 +51,7 @@ pub finishing_among : (job : Job) (n : ℕ) → Contains (finishing_of job) n �
 finishing_among (Allocate names nodes workers) n one = among_searched n one
 finishing_among (Check names) n one = among_zero n one
 finishing_among (Amend names) n one = among_zero n one
+finishing_among (Usage names) n one = among_zero n one
 finishing_among (Serve names links port workers) n one = among_served n one
 finishing_among (Make number units names) n one = among_zero n one
 finishing_among (Trial number units) n one = among_searched n one
@@ -74,14 +75,31 @@ finished_is_status n (suc (suc (suc zero)), lt, is) = (10, omega arith, is)
 finished_is_status n (suc (suc (suc (suc zero))), lt, is) = (11, omega arith, is)
 finished_is_status n (suc (suc (suc (suc (suc k)))), lt, is) = absurd (omega (arith, lt))
 
+-- 15 is not among them
+not_fifteen : Contains finished_statuses 15 → ⊥
+not_fifteen one =
+    elim (among_finished 15 one) [
+      | inl is ↦ omega (arith, is)
+      | inr range ↦ omega (arith, range.1)
+    ]
+
 -- ---- the status of a refusal
 
-refusal_range : (refusal : Refusal) → (1 ≤ refusal_status refusal) × (refusal_status refusal ≤ 5)
-refusal_range (missing name) = (omega arith, omega arith)
-refusal_range (large name) = (omega arith, omega arith)
-refusal_range (out_of_form name line) = (omega arith, omega arith)
-refusal_range (over_limit name number) = (omega arith, omega arith)
-refusal_range (not_valid line reason) = (omega arith, omega arith)
+refusal_range : (refusal : Refusal) → (1 ≤ refusal_status refusal) × (refusal_status refusal ≢ 6)
+refusal_range (missing name) = (omega arith, λ e. omega (arith, e))
+refusal_range (large name) = (omega arith, λ e. omega (arith, e))
+refusal_range (out_of_form name line) = (omega arith, λ e. omega (arith, e))
+refusal_range (over_limit name number) = (omega arith, λ e. omega (arith, e))
+refusal_range (not_valid line reason) = (omega arith, λ e. omega (arith, e))
+refusal_range no_next = (omega arith, λ e. omega (arith, e))
+
+refusal_not_finished : (refusal : Refusal) → Contains finished_statuses (refusal_status refusal) → ⊥
+refusal_not_finished (missing name) one = not_finished 5 (omega arith) (omega arith) one
+refusal_not_finished (large name) one = not_finished 5 (omega arith) (omega arith) one
+refusal_not_finished (out_of_form name line) one = not_finished 3 (omega arith) (omega arith) one
+refusal_not_finished (over_limit name number) one = not_finished 4 (omega arith) (omega arith) one
+refusal_not_finished (not_valid line reason) one = not_finished 1 (omega arith) (omega arith) one
+refusal_not_finished no_next one = not_fifteen one
 
 refusal_not_two : (refusal : Refusal) → refusal_status refusal ≡ 2 → ⊥
 refusal_not_two (missing name) e = omega (arith, e)
@@ -89,6 +107,7 @@ refusal_not_two (large name) e = omega (arith, e)
 refusal_not_two (out_of_form name line) e = omega (arith, e)
 refusal_not_two (over_limit name number) e = omega (arith, e)
 refusal_not_two (not_valid line reason) e = omega (arith, e)
+refusal_not_two no_next e = omega (arith, e)
 
 refusal_is_status : (refusal : Refusal) → IsStatus (refusal_status refusal)
 refusal_is_status (missing name) = (5, omega arith, refl)
@@ -96,6 +115,7 @@ refusal_is_status (large name) = (5, omega arith, refl)
 refusal_is_status (out_of_form name line) = (3, omega arith, refl)
 refusal_is_status (over_limit name number) = (4, omega arith, refl)
 refusal_is_status (not_valid line reason) = (1, omega arith, refl)
+refusal_is_status no_next = (12, omega arith, refl)
 
 -- ---- the end of a job
 
@@ -119,14 +139,14 @@ module _ (job : Job) (w : World) (change : OutsideChange) (v : World) where
 
   job_not_six : (report : Report) → status_of report ≡ 6 → JobEnds job w change report v → ⊥
   job_not_six no_command e ends = ends
-  job_not_six (refused refusal) e ends = omega (arith, e, (refusal_range refusal).1)
+  job_not_six (refused refusal) e ends = (refusal_range refusal).1 e
   job_not_six (unread name) e ends = omega (arith, e)
   job_not_six (unwritten name) e ends = omega (arith, e)
   job_not_six (finished status text) e ends = not_finished status (omega (arith, e)) (omega (arith, e)) (finished_among status text ends)
 
   pub ended_finished : (report : Report) → Contains finished_statuses (status_of report) → JobEnds job w change report v → IsFinished job w change (status_of report) (text_of report) v
   ended_finished no_command one ends = absurd ends
-  ended_finished (refused refusal) one ends = absurd (not_finished (refusal_status refusal) (refusal_range refusal).0 (omega (arith, (refusal_range refusal).1)) one)
+  ended_finished (refused refusal) one ends = absurd (refusal_not_finished refusal one)
   ended_finished (unread name) one ends = absurd (not_finished 5 (omega arith) (omega arith) one)
   ended_finished (unwritten name) one ends = absurd (not_finished 5 (omega arith) (omega arith) one)
   ended_finished (finished status text) one ends = ends
@@ -223,6 +243,12 @@ file_named (Amend names) (capacity ∷ requests ∷ []) writes status text work 
 file_named (Amend names) (capacity ∷ requests ∷ certificate ∷ []) writes status text work = absurd work
 file_named (Amend names) (capacity ∷ requests ∷ certificate ∷ asks ∷ []) writes status text work = ap (λ (l : List NamedBytes). named l) work.written
 file_named (Amend names) (capacity ∷ requests ∷ certificate ∷ asks ∷ more ∷ rest) writes status text work = absurd work
+file_named (Usage names) [] writes status text work = absurd work
+file_named (Usage names) (capacity ∷ []) writes status text work = absurd work
+file_named (Usage names) (capacity ∷ requests ∷ []) writes status text work = absurd work
+file_named (Usage names) (capacity ∷ requests ∷ certificate ∷ []) writes status text work = absurd work
+file_named (Usage names) (capacity ∷ requests ∷ certificate ∷ operated ∷ []) writes status text work = ap (λ (l : List NamedBytes). named l) work.written
+file_named (Usage names) (capacity ∷ requests ∷ certificate ∷ operated ∷ more ∷ rest) writes status text work = absurd work
 file_named (Serve names links port workers) inputs writes status text work = absurd work
 file_named (Make number units names) [] writes status text work = ap (λ (l : List NamedBytes). named l) work.written
 file_named (Make number units names) (file ∷ rest) writes status text work = absurd work
@@ -240,6 +266,7 @@ works_named : (job : Job) (inputs writes : List NamedBytes) (change : OutsideCha
 works_named (Allocate names nodes workers) inputs writes change status text work = file_named (Allocate names nodes workers) inputs writes status text work.1
 works_named (Check names) inputs writes change status text work = file_named (Check names) inputs writes status text work.1
 works_named (Amend names) inputs writes change status text work = file_named (Amend names) inputs writes status text work.1
+works_named (Usage names) inputs writes change status text work = file_named (Usage names) inputs writes status text work.1
 works_named (Serve names links port workers) inputs writes change status text work = service_named names links inputs writes change status text work
 works_named (Make number units names) inputs writes change status text work = file_named (Make number units names) inputs writes status text work.1
 works_named (Trial number units) inputs writes change status text work = file_named (Trial number units) inputs writes status text work.1
@@ -280,6 +307,14 @@ module _ (marks : (s : SubmissionView) (c : Certificate) → IsValid s c → Mar
       subst (λ (l : List NamedBytes). HeadlineHolds (Amend names) (capacity ∷ requests ∷ certificate ∷ asks ∷ []) l change status text) (sym work.written)
       (work.season, work.proved, work.spelled, record { made = work.made; valid = work.valid; marks = marks work.season work.proved work.valid }, work.output)
   file_marks (Amend names) files (capacity ∷ requests ∷ certificate ∷ asks ∷ more ∷ rest) writes change status text pass work = absurd work
+  file_marks (Usage names) files [] writes change status text pass work = absurd work
+  file_marks (Usage names) files (capacity ∷ []) writes change status text pass work = absurd work
+  file_marks (Usage names) files (capacity ∷ requests ∷ []) writes change status text pass work = absurd work
+  file_marks (Usage names) files (capacity ∷ requests ∷ certificate ∷ []) writes change status text pass work = absurd work
+  file_marks (Usage names) files (capacity ∷ requests ∷ certificate ∷ operated ∷ []) writes change status text pass work =
+      subst (λ (l : List NamedBytes). HeadlineHolds (Usage names) (capacity ∷ requests ∷ certificate ∷ operated ∷ []) l change status text) (sym work.written)
+      (work.season, work.proved, work.spelled, record { made = work.made; valid = work.valid; marks = marks work.season work.proved work.valid }, work.reports, work.said, work.output)
+  file_marks (Usage names) files (capacity ∷ requests ∷ certificate ∷ operated ∷ more ∷ rest) writes change status text pass work = absurd work
   file_marks (Serve names links port workers) files done writes change status text pass work = absurd work
   file_marks (Make number units names) files done writes change status text pass work = tt
   file_marks (Trial number units) files [] writes change status text pass work =
@@ -300,6 +335,7 @@ module _ (marks : (s : SubmissionView) (c : Certificate) → IsValid s c → Mar
   work_marks (Allocate names nodes workers) files done writes change status text pass work = file_marks (Allocate names nodes workers) files done writes change status text pass work.1
   work_marks (Check names) files done writes change status text pass work = file_marks (Check names) files done writes change status text pass work.1
   work_marks (Amend names) files done writes change status text pass work = file_marks (Amend names) files done writes change status text pass work.1
+  work_marks (Usage names) files done writes change status text pass work = file_marks (Usage names) files done writes change status text pass work.1
   work_marks (Serve names links port workers) files done writes change status text pass work = service_marks names links port workers done writes change status text work
   work_marks (Make number units names) files done writes change status text pass work = file_marks (Make number units names) files done writes change status text pass work.1
   work_marks (Trial number units) files done writes change status text pass work = file_marks (Trial number units) files done writes change status text pass work.1

@@ -21,7 +21,7 @@ use Rattle.slot_program.specs.Ends.{IsDoneBy, IsCutShort, JobStopsBy, JobStops}
 use Rattle.slot_program.specs.Stops.{StopLeads}
 use Rattle.slot_program.proofs.StageLemmas.{marks_among}
 use Rattle.command_words.specs.declared.job.Job.{Job}
-use Rattle.command_words.specs.declared.job.Job.TheVariants.{Allocate, Check, Amend, Serve, Make, Trial}
+use Rattle.command_words.specs.declared.job.Job.TheVariants.{Allocate, Check, Amend, Serve, Usage, Make, Trial}
 use Rattle.slot_program.specs.declared.stop.Stop.{Stop}
 use Rattle.slot_program.specs.declared.stop.Stop.TheVariants as stops
 
@@ -47,6 +47,12 @@ file_finishing (Amend names) (capacity ∷ requests ∷ []) writes status text w
 file_finishing (Amend names) (capacity ∷ requests ∷ certificate ∷ []) writes status text work = absurd work
 file_finishing (Amend names) (capacity ∷ requests ∷ certificate ∷ asks ∷ []) writes status text work = only_zero status work.status_is
 file_finishing (Amend names) (capacity ∷ requests ∷ certificate ∷ asks ∷ more ∷ rest) writes status text work = absurd work
+file_finishing (Usage names) [] writes status text work = absurd work
+file_finishing (Usage names) (capacity ∷ []) writes status text work = absurd work
+file_finishing (Usage names) (capacity ∷ requests ∷ []) writes status text work = absurd work
+file_finishing (Usage names) (capacity ∷ requests ∷ certificate ∷ []) writes status text work = absurd work
+file_finishing (Usage names) (capacity ∷ requests ∷ certificate ∷ operated ∷ []) writes status text work = only_zero status work.status_is
+file_finishing (Usage names) (capacity ∷ requests ∷ certificate ∷ operated ∷ more ∷ rest) writes status text work = absurd work
 file_finishing (Serve names links port workers) inputs writes status text work = absurd work
 file_finishing (Make number units names) [] writes status text work = only_zero status work.status_is
 file_finishing (Make number units names) (file ∷ rest) writes status text work = absurd work
@@ -76,6 +82,7 @@ pub works_finishing : (job : Job) (inputs writes : List NamedBytes) (change : Ou
 works_finishing (Allocate names nodes workers) inputs writes change status text work = file_finishing (Allocate names nodes workers) inputs writes status text work.1
 works_finishing (Check names) inputs writes change status text work = file_finishing (Check names) inputs writes status text work.1
 works_finishing (Amend names) inputs writes change status text work = file_finishing (Amend names) inputs writes status text work.1
+works_finishing (Usage names) inputs writes change status text work = file_finishing (Usage names) inputs writes status text work.1
 works_finishing (Serve names links port workers) inputs writes change status text work = service_finishing names links inputs writes change status text work
 works_finishing (Make number units names) inputs writes change status text work = file_finishing (Make number units names) inputs writes status text work.1
 works_finishing (Trial number units) inputs writes change status text work = file_finishing (Trial number units) inputs writes status text work.1
@@ -90,6 +97,7 @@ stop_job_by names job w change v (stops.Unwritten place) same lead = absurd lead
 stop_job_by names job w change v (stops.OutOfForm place line) same lead = (same, lead)
 stop_job_by names job w change v (stops.OverLimit limit number) same lead = (same, lead)
 stop_job_by names job w change v (stops.NotValid line reason) same lead = (same, lead)
+stop_job_by names job w change v stops.NoNext same lead = (same, lead)
 stop_job_by names job w change v stops.Memory same lead = lead
 
 pub stop_job : (names : List Word) (job : Job) (w v : World) (stop : Stop) → StopLeads names w (steps_of job) stop v → JobStops names job w stop v

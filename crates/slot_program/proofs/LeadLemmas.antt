@@ -10,7 +10,7 @@ use Rattle.desk_outside.specs.Files.{Files, Reads}
 use Rattle.desk_outside.specs.Passages.{Passage, read}
 use Rattle.command_words.specs.Words.{Word}
 use Rattle.slot_program.specs.Reports.{Refusal, refusal_status}
-use Rattle.slot_program.specs.Judgements.{NamedBytes, Judgement, Accepts, Refuses, capacity_form, requests_form, certificate_form, valid_certificate}
+use Rattle.slot_program.specs.Judgements.{NamedBytes, Judgement, Accepts, Refuses, capacity_form, requests_form, certificate_form, valid_certificate, reports_form, next_season}
 use Rattle.slot_program.specs.Steps.{Step, reads, judges, names_read, IsHanded, IsNotHanded, PassFrom, RefuseFrom, form_steps, is_of_form}
 use Rattle.slot_program.specs.Writing.{read_of}
 use Rattle.slot_program.specs.Desk.{World}
@@ -212,6 +212,8 @@ module _ (name : Word) (before : List NamedBytes) (refusal : Refusal) where
   form_stops requests_form held steps done alone h = absurd (alone.rejects h.0)
   form_stops certificate_form held steps done alone h = absurd (alone.rejects h.0)
   form_stops valid_certificate held steps done alone h = valid_status name before refusal alone.refuses
+  form_stops reports_form held steps done alone h = absurd (alone.rejects h.0)
+  form_stops next_season held steps done alone h = absurd (alone.rejects h.0)
 
   module _ (j : Judgement) (alone : RefusesAlone j name before refusal) where
     due_stops : (held : Files) (steps : List Step) (other : Refusal) (done : List NamedBytes) → RefuseFrom (Some held) 0 0 before (judges j name ∷ steps) other done → other ≡ refusal
@@ -247,6 +249,7 @@ judged_stops names j name before (stops.Unwritten place) w v all steps why lead 
 judged_stops names j name before (stops.OutOfForm place line) w v all steps why lead = refused_judge name before _ j why w v all steps lead
 judged_stops names j name before (stops.OverLimit limit number) w v all steps why lead = refused_judge name before _ j why w v all steps lead
 judged_stops names j name before (stops.NotValid line reason) w v all steps why lead = refused_judge name before _ j why w v all steps lead
+judged_stops names j name before stops.NoNext w v all steps why lead = refused_judge name before _ j why w v all steps lead
 judged_stops names j name before stops.Memory w v all steps why lead = memory_read w v v all before (judges j name ∷ steps) lead refl
 
 -- files that are accepted stop a judgement for want of memory alone
@@ -258,6 +261,7 @@ only_memory names j name files (stops.Unwritten place) accepts why = absurd why
 only_memory names j name files (stops.OutOfForm place line) accepts why = absurd (why.rejects accepts)
 only_memory names j name files (stops.OverLimit limit number) accepts why = absurd (why.rejects accepts)
 only_memory names j name files (stops.NotValid line reason) accepts why = absurd (why.rejects accepts)
+only_memory names j name files stops.NoNext accepts why = absurd (why.rejects accepts)
 only_memory names j name files stops.Memory accepts why = refl
 
 -- ---- refusals by a property
@@ -270,4 +274,5 @@ by_property names One Other (stops.Unwritten place) on why = why
 by_property names One Other (stops.OutOfForm place line) on why = on _ why
 by_property names One Other (stops.OverLimit limit number) on why = on _ why
 by_property names One Other (stops.NotValid line reason) on why = on _ why
+by_property names One Other stops.NoNext on why = on _ why
 by_property names One Other stops.Memory on why = tt

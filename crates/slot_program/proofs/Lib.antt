@@ -9,3 +9,5 @@ mod AnswerLemmas
 mod DeskLemmas
 mod CheckLemmas
 mod AmendLemmas
+mod UsageLemmas
+mod ReportsLemmas

@@ -18,7 +18,7 @@ use Rattle.session_desk.specs.declared.worker.DoorWork.{DoorWork}
 use Rattle.session_desk.specs.Served.{Session, EndsWorker}
 use Rattle.command_words.specs.Words.{Word}
 use Rattle.command_words.specs.declared.job.Job.{Job}
-use Rattle.command_words.specs.declared.job.Job.TheVariants.{Allocate, Check, Amend, Serve, Make, Trial}
+use Rattle.command_words.specs.declared.job.Job.TheVariants.{Allocate, Check, Amend, Serve, Usage, Make, Trial}
 use Rattle.slot_program.specs.Judgements.{NamedBytes}
 use Rattle.slot_program.specs.Jobs.{searched_statuses, finishing_of, ServiceWorks, Works}
 use Rattle.slot_program.specs.Outside.{OutsideChange, door_faults, SomeRose}
@@ -164,6 +164,7 @@ pub works_calm : (job : Job) (inputs writes : List NamedBytes) (change : Outside
 works_calm (Allocate names nodes workers) inputs writes change status text work is = ap door_faults work.0
 works_calm (Check names) inputs writes change status text work is = ap door_faults work.0
 works_calm (Amend names) inputs writes change status text work is = ap door_faults work.0
+works_calm (Usage names) inputs writes change status text work is = ap door_faults work.0
 works_calm (Serve names links port workers) inputs writes change status text work is = service_calm names links inputs writes change status text work is
 works_calm (Make number units names) inputs writes change status text work is = ap door_faults work.0
 works_calm (Trial number units) inputs writes change status text work is = ap door_faults work.0
@@ -184,6 +185,7 @@ pub works_risen : (job : Job) (inputs writes : List NamedBytes) (change : Outsid
 works_risen (Allocate names nodes workers) inputs writes change text work one = absurd (not_ten_searched one)
 works_risen (Check names) inputs writes change text work one = absurd (not_ten_zero one)
 works_risen (Amend names) inputs writes change text work one = absurd (not_ten_zero one)
+works_risen (Usage names) inputs writes change text work one = absurd (not_ten_zero one)
 works_risen (Serve names links port workers) inputs writes change text work one = service_risen names links inputs writes change 10 text work refl
 works_risen (Make number units names) inputs writes change text work one = absurd (not_ten_zero one)
 works_risen (Trial number units) inputs writes change text work one = absurd (not_ten_searched one)

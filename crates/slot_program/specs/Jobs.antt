@@ -14,15 +14,19 @@ use Rattle.command_words.specs.Words.{Word}
 use Rattle.slot_program.specs.StageLines.{mark_lines, marks_status, node_total}
 use Rattle.slot_program.specs.Judgements.{NamedBytes, IsSeasonOf, SpellsCert, capacity_form}
 use Rattle.slot_program.specs.Judgements.{requests_form, certificate_form, valid_certificate}
+use Rattle.slot_program.specs.Judgements.{reports_form, next_season}
 use Rattle.slot_program.specs.Amendments.{AmendsLegally}
 use Rattle.slot_program.specs.Services.{ServesLegally}
+use Rattle.slot_program.specs.Usages.{IsWatched}
+use Rattle.usage_watch.specs.Reports.{SaysOperated}
+use Rattle.usage_watch.specs.declared.operated.Operated.{Operated}
 use Rattle.slot_program.specs.Outside.{OutsideChange, IsStill}
 use Rattle.slot_program.specs.Steps.{Step, reads, judges, names_read, Holds}
 use Rattle.slot_program.specs.declared.files.TheConstants.{LONGEST_FILE, LONGEST_CERT_FILE}
 use Rattle.slot_program.specs.declared.trial.TheConstants.{TRIAL_NODES}
 use Rattle.command_words.specs.declared.job.Job.{Job}
 use Rattle.command_words.specs.declared.job.Job.TheVariants.{Allocate, Check, Amend, Serve}
-use Rattle.command_words.specs.declared.job.Job.TheVariants.{Make, Trial}
+use Rattle.command_words.specs.declared.job.Job.TheVariants.{Usage, Make, Trial}
 
 -- the name of this number, counted from 0, in the order in which the command takes names
 abbrev pub name_at : List Word → ℕ → Word
@@ -57,12 +61,19 @@ amend_steps names =
 abbrev pub serve_steps : List Word → List Step
 serve_steps names = check_steps names
 
+-- behind a certificate that is valid reports are read and judged, and then whether a season follows
+abbrev pub usage_steps : List Word → List Step
+usage_steps names =
+    season_steps names (certificate_steps names (reads (name_at names 3) LONGEST_FILE
+    ∷ judges reports_form (name_at names 3) ∷ judges next_season (name_at names 3) ∷ []))
+
 -- a generated season is not read
 abbrev pub steps_of : Job → List Step
 steps_of (Allocate names nodes workers) = allocate_steps names
 steps_of (Check names) = check_steps names
 steps_of (Amend names) = amend_steps names
 steps_of (Serve names links port workers) = serve_steps names
+steps_of (Usage names) = usage_steps names
 steps_of (Make number units names) = []
 steps_of (Trial number units) = []
 
@@ -73,6 +84,7 @@ names_written (Allocate names nodes workers) = name_at names 2 ∷ name_at names
 names_written (Check names) = []
 names_written (Amend names) = name_at names 4 ∷ []
 names_written (Serve names links port workers) = name_at names 3 ∷ []
+names_written (Usage names) = name_at names 4 ∷ []
 names_written (Make number units names) = name_at names 0 ∷ name_at names 1 ∷ []
 names_written (Trial number units) = []
 
@@ -100,6 +112,7 @@ finishing_of (Allocate names nodes workers) = searched_statuses
 finishing_of (Check names) = 0 ∷ []
 finishing_of (Amend names) = 0 ∷ []
 finishing_of (Serve names links port workers) = served_statuses
+finishing_of (Usage names) = 0 ∷ []
 finishing_of (Make number units names) = 0 ∷ []
 finishing_of (Trial number units) = searched_statuses
 
@@ -172,6 +185,22 @@ pub record IsService (names : List Word) (links : ℕ) (capacity requests certif
       change.after.doors recorded status text
   pub written : writes ≡ one_file names 3 recorded
 
+-- The certificate that was read is valid for the season, and what was operated of the slots that it
+-- gives is what the reports say.
+pub record IsUsage (names : List Word) (capacity requests certificate operated : List ℕ)
+    (writes : List NamedBytes) (status : ℕ) (text : List ℕ) : Type 0 where
+  pub season : SubmissionView
+  pub proved : Certificate
+  pub reports : List Operated
+  pub next : List ℕ
+  pub made : IsSeasonOf capacity requests season
+  pub spelled : SpellsCert certificate proved
+  pub valid : IsValid season proved
+  pub said : SaysOperated season.declaration.season operated reports
+  pub output : IsWatched season (start_book season proved) reports next text
+  pub written : writes ≡ one_file names 4 next
+  pub status_is : status ≡ 0
+
 -- the capacity file of a generated season is written before its requests, and nothing is printed
 pub record IsMade (number units : ℕ) (names : List Word) (writes : List NamedBytes) (status : ℕ)
     (text : List ℕ) : Type 0 where
@@ -209,6 +238,8 @@ FileWorks (Check names) (capacity ∷ requests ∷ certificate ∷ []) writes st
     (status ≡ 0) × (writes ≡ []) × (text ≡ codes "YES\n")
 FileWorks (Amend names) (capacity ∷ requests ∷ certificate ∷ asks ∷ []) writes status text =
     IsAmendment names capacity.bytes requests.bytes certificate.bytes asks.bytes writes status text
+FileWorks (Usage names) (capacity ∷ requests ∷ certificate ∷ operated ∷ []) writes status text =
+    IsUsage names capacity.bytes requests.bytes certificate.bytes operated.bytes writes status text
 FileWorks (Make number units names) [] writes status text =
     IsMade number units names writes status text
 FileWorks (Trial number units) [] writes status text = IsTrial number units writes status text
@@ -231,6 +262,8 @@ Works (Amend names) inputs writes change status text =
     IsStill change × FileWorks (Amend names) inputs writes status text
 Works (Serve names links port workers) inputs writes change status text =
     ServiceWorks names links inputs writes change status text
+Works (Usage names) inputs writes change status text =
+    IsStill change × FileWorks (Usage names) inputs writes status text
 Works (Make number units names) inputs writes change status text =
     IsStill change × FileWorks (Make number units names) inputs writes status text
 Works (Trial number units) inputs writes change status text =
@@ -265,11 +298,12 @@ pub record MarksAreProved (capacity requests : List ℕ) (s : SubmissionView) (c
   pub marks : MarksHold s c
 
 -- The marks are true. Of `allocate`: of the certificate that is written, whose stage lines are
--- printed, for the season that was read. Of `check`, `amend` and `serve`: of the certificate that
--- was read. Of `trial`: of the one whose lines are printed, for the generated season. `make` proves
+-- printed, for the season that was read. Of `check`, `amend`, `serve` and `usage`: of the
+-- certificate that was read. Of `trial`: of the one whose lines are printed, for the generated season. `make` proves
 -- nothing. And of `amend`: what is written are the answers of one legal history from the
 -- certificate's book. Of `serve`: what is written is the text of such a history, by which each
--- worker answered the clients of its door.
+-- worker answered the clients of its door. Of `usage`: what is written and printed is what the
+-- certificate's book keeps, by the reports that were read.
 abbrev pub HeadlineHolds : Job → List NamedBytes → List NamedBytes → OutsideChange → ℕ → List ℕ
     → Type 0
 HeadlineHolds (Allocate names nodes workers) (capacity ∷ requests ∷ [])
@@ -290,6 +324,12 @@ HeadlineHolds (Serve names links port workers) (capacity ∷ requests ∷ certif
     × MarksAreProved capacity.bytes requests.bytes s c
     × ServesLegally (start_book s c) links change.before.doors change.after.doors recorded.bytes
     status text
+HeadlineHolds (Usage names) (capacity ∷ requests ∷ certificate ∷ operated ∷ []) (next ∷ []) change
+    status text =
+    (s : SubmissionView) × (c : Certificate) × SpellsCert certificate.bytes c
+    × MarksAreProved capacity.bytes requests.bytes s c
+    × (reports : List Operated) × SaysOperated s.declaration.season operated.bytes reports
+    × IsWatched s (start_book s c) reports next.bytes text
 HeadlineHolds (Make number units names) inputs writes change status text = Unit {0}
 HeadlineHolds (Trial number units) [] [] change status text =
     (s : SubmissionView) × (c : Certificate) × (text ≡ trial_text c)

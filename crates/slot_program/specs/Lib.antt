@@ -4,6 +4,7 @@ pub mod Steps
 pub mod Writing
 pub mod StageLines
 pub mod Amendments
+pub mod Usages
 pub mod Outside
 pub mod Services
 pub mod Jobs

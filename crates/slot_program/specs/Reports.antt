@@ -7,13 +7,15 @@ use Rattle.command_words.specs.Words.{Word}
 
 -- What is refused before any work is done: a file that is not there, or is larger than what is
 -- read; the first line of a file that is not in its form; a limit that is passed, by which number;
--- and the first failing line of a certificate, and why it fails.
+-- the first failing line of a certificate, and why it fails; and that no season follows for which
+-- lines could be written.
 pub data Refusal : Type 0 where
   missing : Word → Refusal
   large : Word → Refusal
   out_of_form : Word → ℕ → Refusal
   over_limit : Word → ℕ → Refusal
   not_valid : ℕ → Reason → Refusal
+  no_next : Refusal
 
 -- How a command ends: the words are no command's; a refusal; a read or a write failed; or the work
 -- is done, with this status and text.
@@ -32,6 +34,7 @@ refusal_status (large name) = 5
 refusal_status (out_of_form name line) = 3
 refusal_status (over_limit name number) = 4
 refusal_status (not_valid line reason) = 1
+refusal_status no_next = 15
 
 abbrev pub status_of : Report → ℕ
 status_of no_command = 2
@@ -71,6 +74,7 @@ refusal_text (out_of_form name line) = numbered_line (codes "FORM") name line
 refusal_text (over_limit name number) = numbered_line (codes "LIMIT") name number
 refusal_text (not_valid line reason) =
     codes "NO " ++ (decimal line ++ (32 ∷ (reason_text reason ++ (10 ∷ []))))
+refusal_text no_next = codes "NEXT NONE\n"
 
 abbrev pub text_of : Report → List ℕ
 text_of no_command = codes "WORDS\n"

@@ -3,7 +3,7 @@ use Rattle.std.specs.Prelude.{ℕ, List, Option, Some, None, codes}
 use Rattle.capacity_file.specs.Texts.{cap_limit_text}
 use Rattle.command_words.specs.Words.{Word}
 use Rattle.slot_program.specs.Reports.{Report, Refusal, refused, unread, unwritten}
-use Rattle.slot_program.specs.Reports.{missing, large, out_of_form, over_limit, not_valid}
+use Rattle.slot_program.specs.Reports.{missing, large, out_of_form, over_limit, not_valid, no_next}
 use Rattle.slot_program.specs.Judgements.{NamedBytes, Judgement}
 use Rattle.slot_program.specs.Steps.{Step}
 use Rattle.slot_program.specs.Jobs.{name_at}
@@ -29,6 +29,7 @@ report_of names (stops.OutOfForm place line) =
 report_of names (stops.OverLimit limit number) =
     Some (refused (over_limit (limit_text limit) number))
 report_of names (stops.NotValid line reason) = Some (refused (not_valid line reason))
+report_of names stops.NoNext = Some (refused no_next)
 report_of names stops.Memory = None
 
 -- the stop is a refusal that the property has, or want of memory
@@ -40,6 +41,7 @@ IsRefusalBy names Has (stops.Unwritten place) = ⊥
 IsRefusalBy names Has (stops.OutOfForm place line) = Has (out_of_form (name_at names place) line)
 IsRefusalBy names Has (stops.OverLimit limit number) = Has (over_limit (limit_text limit) number)
 IsRefusalBy names Has (stops.NotValid line reason) = Has (not_valid line reason)
+IsRefusalBy names Has stops.NoNext = Has no_next
 IsRefusalBy names Has stops.Memory = Unit {0}
 
 -- why files that were read are refused, by a judgement
@@ -58,4 +60,5 @@ StopLeads names w all (stops.OverLimit limit number) v =
     RefusedLead w all (over_limit (limit_text limit) number) v
 StopLeads names w all (stops.NotValid line reason) v =
     RefusedLead w all (not_valid line reason) v
+StopLeads names w all stops.NoNext v = RefusedLead w all no_next v
 StopLeads names w all stops.Memory v = MemoryLead w all v

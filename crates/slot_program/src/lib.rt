@@ -16,6 +16,7 @@ mod stage_lines;
 mod stop;
 mod top_call;
 mod trial;
+mod usage;
 mod writes;
 
 pub use top_call::desk;

@@ -40,6 +40,8 @@ pub(crate) enum Stop {
     OverLimit(Limit, u64),
     /// The first line of the certificate that fails, and why.
     NotValid(u32, Reason),
+    /// No season follows for which lines could be written.
+    NoNext,
     /// Memory ran out.
     Memory,
 }
@@ -93,6 +95,7 @@ impl Stop {
             Stop::OutOfForm(_, _) => 3,
             Stop::OverLimit(_, _) => 4,
             Stop::NotValid(_, _) => 1,
+            Stop::NoNext => 15,
             Stop::Memory => 7,
             _ => 5,
         }
@@ -117,6 +120,7 @@ impl Stop {
                 Ok(numbered_line(alloc, "LIMIT", limit_name(limit), number)?)
             }
             Stop::NotValid(line, reason) => Ok(verdict_line(alloc, line, reason_name(reason))?),
+            Stop::NoNext => Ok(String::from_str(alloc, "NEXT NONE\n")?),
             Stop::Memory => Err(Memory),
         }
     }

@@ -27,6 +27,7 @@ ghost use Rattle.command_words.specs.declared.job.Job.TheVariants.{Allocate as A
 ghost use Rattle.command_words.specs.declared.job.Job.TheVariants.{Check as CheckJob};
 ghost use Rattle.command_words.specs.declared.job.Job.TheVariants.{Amend as AmendJob};
 ghost use Rattle.command_words.specs.declared.job.Job.TheVariants.{Serve as ServeJob};
+ghost use Rattle.command_words.specs.declared.job.Job.TheVariants.{Usage as UsageJob};
 ghost use Rattle.command_words.specs.declared.job.Job.TheVariants.{Make as MakeJob};
 ghost use Rattle.command_words.specs.declared.job.Job.TheVariants.{Trial as TrialJob};
 
@@ -38,6 +39,7 @@ use crate::make::make;
 use crate::serve::serve;
 use crate::stop::Answer;
 use crate::trial::trial;
+use crate::usage::usage;
 use command_words::{Job, NameList, WordFault, read_words};
 use desk_links::Door;
 use desk_outside::{Cabinet, Sink};
@@ -227,6 +229,7 @@ fn carry_out<R: Threads + Wait + Sync, C: Cabinet, D: Door + Drop, G: Gate>(
                 workers: _,
             },
         ) => carry_out_serve(rt, alloc, &names, links, cabinet, doors, gate),
+        Ok(Job::Usage { names }) => carry_out_usage(alloc, &names, cabinet),
         Ok(
             Job::Make {
                 number,
@@ -328,6 +331,25 @@ fn carry_out_serve<R: Threads + Wait + Sync, C: Cabinet, D: Door + Drop, G: Gate
     ensures kept { length doors.new.items ≡ length doors.old.items }
 {
     let ended = serve(rt, alloc, names, links, cabinet, doors, gate);
+    finish(alloc, names, ended)
+}
+
+/// Watches what was operated, and gives what is to be said.
+fn carry_out_usage<C: Cabinet>(
+    alloc: Global,
+    names: &NameList,
+    cabinet: &mut C,
+) -> Result<Answer, Memory>
+    ensures answer { (o : Outside) → IfOk result (λ a.
+        IsAnswer (Some (UsageJob names.now))
+        (world_of C.files C.fault_count C.log cabinet.old) (still o) a.status (string_bytes a.text)
+        (world_of C.files C.fault_count C.log cabinet.new)) }
+    ensures others { ChangesOnly (C.files cabinet.old) (name_at names.now 4 ∷ [])
+        (C.files cabinet.new) }
+    ensures asked { LogGrew (C.log cabinet.old) (OnlyOfJob (Some (UsageJob names.now)))
+        (C.log cabinet.new) }
+{
+    let ended = usage(alloc, names, cabinet);
     finish(alloc, names, ended)
 }
 

@@ -53,6 +53,7 @@ fn say_job(alloc: Global, out: &mut Vec<u8>, job: &Job) -> Result<(), Fail> {
             say_numbers(alloc, out, *links, *port)?;
             say(alloc, out, format!(in alloc; " {workers}")?)
         }
+        Job::Usage { names } => say_names(alloc, out, "usage", names),
         Job::Make {
             number,
             units,
@@ -199,6 +200,10 @@ amend A - B -- -- C|amend A,-,B,--,C
 amend -A B C D E|no
 Amend A B C D E|no
 amend A B C D E --|amend A,B,C,D,E
+usage A B C D E|usage A,B,C,D,E
+usage A B C D|no
+usage A B C D E F|no
+usage A B C D E --workers 1|no
 serve A B C D|serve A,B,C,D 1 7710 4
 serve A B C|no
 serve A B C D E|no

@@ -21,6 +21,11 @@ returns-in-Ok-Amend-clause-asked g c =
     subst (λ (o : Option Job). LogGrew (g.C.Cabinet.log c.args.cabinet.now) (OnlyOfJob o) (g.C.Cabinet.log c.carry_out_amend.new.cabinet)) (sym (c.in-Ok-Amend.ensures.found ∙ ap Some c.in-Ok-Amend.field-0-is))
     c.carry_out_amend.ensures.asked
 
+pub returns-in-Ok-Usage-clause-asked : goal.returns-in-Ok-Usage-clause-asked
+returns-in-Ok-Usage-clause-asked g c =
+    subst (λ (o : Option Job). LogGrew (g.C.Cabinet.log c.args.cabinet.now) (OnlyOfJob o) (g.C.Cabinet.log c.carry_out_usage.new.cabinet)) (sym (c.in-Ok-Usage.ensures.found ∙ ap Some c.in-Ok-Usage.field-0-is))
+    c.carry_out_usage.ensures.asked
+
 pub returns-in-Ok-Check-clause-asked : goal.returns-in-Ok-Check-clause-asked
 returns-in-Ok-Check-clause-asked g c =
     subst (λ (o : Option Job). LogGrew (g.C.Cabinet.log c.args.cabinet.now) (OnlyOfJob o) (g.C.Cabinet.log c.carry_out_check.new.cabinet)) (sym (c.in-Ok-Check.ensures.found ∙ ap Some c.in-Ok-Check.field-0-is))
@@ -63,6 +68,14 @@ returns-in-Ok-Amend-clause-answer g c =
     let o : Outside = outside_of g.D.Door.view c.args.doors.now.items in
     subst (λ (p : Option Job). IfOk c.carry_out_amend.result (λ a. IsAnswer p w (still o) a.status (string_bytes a.text) v)) (sym (c.in-Ok-Amend.ensures.found ∙ ap Some c.in-Ok-Amend.field-0-is))
     (c.carry_out_amend.ensures.answer o)
+
+pub returns-in-Ok-Usage-clause-answer : goal.returns-in-Ok-Usage-clause-answer
+returns-in-Ok-Usage-clause-answer g c =
+    let w : World = world_of g.C.Cabinet.files g.C.Cabinet.fault_count g.C.Cabinet.log c.args.cabinet.now in
+    let v : World = world_of g.C.Cabinet.files g.C.Cabinet.fault_count g.C.Cabinet.log c.carry_out_usage.new.cabinet in
+    let o : Outside = outside_of g.D.Door.view c.args.doors.now.items in
+    subst (λ (p : Option Job). IfOk c.carry_out_usage.result (λ a. IsAnswer p w (still o) a.status (string_bytes a.text) v)) (sym (c.in-Ok-Usage.ensures.found ∙ ap Some c.in-Ok-Usage.field-0-is))
+    (c.carry_out_usage.ensures.answer o)
 
 pub returns-in-Ok-Make-clause-answer : goal.returns-in-Ok-Make-clause-answer
 returns-in-Ok-Make-clause-answer g c =
