@@ -4,7 +4,8 @@ use crate::play::play_script;
 use std::test::Fail;
 
 /// One historic arrival of 30 weeks: Sunday is operated on 24 dates of 30, the other days on 23. Then
-/// refusals in their order, which leave the files as they were, and devices that fail at each call.
+/// refusals in their order, which leave the files as they were, devices that fail at each call, what
+/// was written as a season of its own, and reports of the most bytes.
 const REPORTS: &str = "\
 file CAP AIRPORT ABC;SEASON S25;STEP 5;FLEX 60;GROUND 40;REFUSE NONE;\
     CAP ARR 60 0600 0600 1234567 2;
@@ -26,6 +27,11 @@ line OPER ARR BA001 30MAR07SEP 1234567|OPER ARR BA001 30MAR25OCT 1234567|0 SERIE
 holds NEXT SCR;S26;20NOV;ABC;FBA001 29MAR24OCT 1234567 180320 JFK0610 J;;
 line OPER ARR BA001 30MAR07SEP 1234567|{5  }|0 SERIES 7 KEPT 0;
 holds NEXT
+line OPER ARR BA001 30MAR07SEP 1234567|OPER ARR BA001 30MAR07SEP 1234567~|0 SERIES 7 KEPT 1;
+holds NEXT SCR;S26;20NOV;ABC;FBA001 29MAR24OCT 0000007 180320 JFK0610 J;;
+line OPER ARR BA001 30MAR07SEP 1234567|OPER{168  }ARR BA001 30MAR07SEP 1234567|0 SERIES 7 KEPT 1;
+file NEXT what stood there;
+line OPER ARR BA001 30MAR07SEP 1234567|OPER{169  }ARR BA001 30MAR07SEP 1234567|3 FORM OPERATED 1;
 line OPER ARR BA001 30MAR07SEP 1234567|OPER TOT BA001 30MAR 7|3 FORM OPERATED 1;
 holds NEXT what stood there;
 line OPER ARR BA001 30MAR07SEP 1234567|;OPER ARR BA001 30MAR 6|3 FORM OPERATED 2;
@@ -42,8 +48,30 @@ cabinet 4|5 CABINET NEXT WRITE;
 holds NEXT what stood there;
 cabinet 4:8|5 CABINET NEXT WRITE;
 holds NEXT SCR;S26;
-sink 0|6
-holds NEXT SCR;S26;20NOV;ABC;FBA001 29MAR24OCT 0000007 180320 JFK0610 J;;";
+cabinet 5|0 SERIES 7 KEPT 1;
+sink 0|6 
+holds NEXT SCR;S26;20NOV;ABC;FBA001 29MAR24OCT 0000007 180320 JFK0610 J;;
+sink 0:6|6 SERIES
+take NEXT
+words usage CAP SCR CERT OPERATED
+says 2 WORDS;
+words usage CAP SCR CERT OPERATED NEXT --workers 1
+says 2 WORDS;
+words usage CAP SCR CERT CERT NEXT
+says 3 FORM CERT 1;
+words allocate CAP NEXT C R
+line SEASON S25|SEASON S26|0 STAGE 1 OPTIMAL 0;*
+holds R SCR;S26;20NOV;ABC;KBA001 29MAR24OCT 0000007 180320 JFK0610 J;;
+words usage CAP SCR CERT OPERATED NEXT
+file OPERATED
+says 0 SERIES 7 KEPT 0;
+holds NEXT
+file OPERATED {4194304 ;}
+says 0 SERIES 7 KEPT 0;
+file NEXT what stood there;
+file OPERATED {4194305 ;}
+says 5 CABINET OPERATED LARGE;
+holds NEXT what stood there;";
 
 /// A series of four dates keeps nothing, one of five does; and what is offered has no series.
 const SHORT: &str = "\
@@ -80,7 +108,17 @@ file NEXT what stood there;
 says 15 NEXT NONE;
 holds NEXT what stood there;
 line OPER ARR BA001 29MAR19APR 7|OPER|3 FORM OPERATED 1;
-sink 0|6
+cabinet 4|15 NEXT NONE;
+sink 0|6 
+holds NEXT what stood there;
+file CAP AIRPORT ABC;SEASON W99;STEP 5;FLEX 60;GROUND 40;REFUSE NONE;
+file SCR SCR;W99;20NOV;ABC;FBA001 06DEC27DEC 7 180320 JFK0610 J;
+words allocate CAP SCR CERT REPLIES
+says 0 STAGE 1 OPTIMAL 0;*
+take CERT
+words usage CAP SCR CERT OPERATED NEXT
+file OPERATED
+says 15 NEXT NONE;
 holds NEXT what stood there;";
 
 #[test]

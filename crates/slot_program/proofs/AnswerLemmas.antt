@@ -40,7 +40,7 @@ module _ (job : Job) (w : World) (change : OutsideChange) (v : World) where
 
   refused_ended : IsStill change → (refusal : Refusal) → RefusedLead w (steps_of job) refusal v → Ended (refused refusal)
   refused_ended same refusal lead =
-      ((same, record { inputs = lead.inputs; due = lead.due; log = lead.log; files = lead.files }), refused_exact w.files refusal lead.told)
+      ((same, record { inputs = lead.inputs; due = lead.due; log = lead.log; files = lead.files; calm = lead.calm }), refused_exact w.files refusal lead.told)
 
   -- after a call that failed anything may have been due
   rose_exact : (files : Option Files) (report : Report) → status_of report ≡ 5 → Rose w.faults v.faults → IfSome files (λ held. ToldExact held job w report v)

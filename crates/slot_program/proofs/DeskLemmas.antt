@@ -1,6 +1,6 @@
 -- What the end of a command says of its status.
 use Rattle.std.proofs.Common.{◌≡◌, ℕ, zero, suc, List, [], ◌∷◌, ◌++◌, ◌≤◌, map, Option, Some, None, refl, sym, ◌∙◌, ap, subst, arith, inl, inr, append_assoc}
-use Rattle.std.specs.Prelude.{◌⊎◌, Contains, IfSome}
+use Rattle.std.specs.Prelude.{◌⊎◌, ◌≢◌, Contains, IfSome}
 use Rattle.std.proofs.lemmas.List.{map_push}
 use Rattle.std.proofs.lemmas.Option.{none-some}
 use Rattle.desk_outside.specs.Files.{Files}
@@ -12,7 +12,7 @@ use Rattle.slot_program.specs.Reports.{Report, Refusal, no_command, refused, unr
 use Rattle.slot_program.specs.Judgements.{NamedBytes}
 use Rattle.slot_program.specs.Steps.{Step, reads, judges, names_read, PassFrom, AllPass}
 use Rattle.slot_program.specs.Writing.{read_of, written_of}
-use Rattle.slot_program.specs.Jobs.{AreFilesOf, name_at, check_steps, steps_of, names_written, searched_statuses, served_statuses, finished_statuses, finishing_of, FileWorks, ServiceWorks, Works, HeadlineHolds}
+use Rattle.slot_program.specs.Jobs.{AreFilesOf, name_at, check_steps, steps_of, names_written, searched_statuses, served_statuses, finished_statuses, calm_statuses, finishing_of, FileWorks, ServiceWorks, Works, HeadlineHolds}
 use Rattle.slot_program.specs.Outside.{OutsideChange, IsStill, door_faults, SomeRose}
 use Rattle.slot_program.specs.Desk.{World, IsFinished, JobEnds, Ends, IsStatus}
 use Rattle.slot_program.specs.Answers.{ToldExact, IsExact}
@@ -63,6 +63,15 @@ not_finished n low high one =
       | inl is ↦ omega (arith, low, high, is)
       | inr range ↦ omega (arith, low, high, range.0)
     ]
+
+pub not_calm : (n : ℕ) → 1 ≤ n → n ≤ 7 → Contains calm_statuses n → ⊥
+not_calm n low high (zero, lt, is) = omega (arith, low, is)
+not_calm n low high (suc zero, lt, is) = omega (arith, high, is)
+not_calm n low high (suc (suc zero), lt, is) = omega (arith, high, is)
+not_calm n low high (suc (suc (suc zero)), lt, is) = omega (arith, high, is)
+not_calm n low high (suc (suc (suc (suc zero))), lt, is) = omega (arith, high, is)
+not_calm n low high (suc (suc (suc (suc (suc zero)))), lt, is) = omega (arith, high, is)
+not_calm n low high (suc (suc (suc (suc (suc (suc k))))), lt, is) = absurd (omega (arith, lt))
 
 pub finishing_not : (job : Job) (n : ℕ) → 1 ≤ n → n ≤ 7 → Contains (finishing_of job) n → ⊥
 finishing_not job n low high one = not_finished n low high (finishing_among job n one)
@@ -151,6 +160,15 @@ module _ (job : Job) (w : World) (change : OutsideChange) (v : World) where
   ended_finished (unwritten name) one ends = absurd (not_finished 5 (omega arith) (omega arith) one)
   ended_finished (finished status text) one ends = ends
 
+  -- at one of the statuses of work that is done, and where no season follows, no call of the cabinet
+  -- failed
+  job_calm : (report : Report) → Contains calm_statuses (status_of report) → JobEnds job w change report v → v.faults ≡ w.faults
+  job_calm no_command one ends = absurd ends
+  job_calm (refused refusal) one ends = ends.1.calm (λ five. not_calm 5 (omega arith) (omega arith) (subst (λ (n : ℕ). Contains calm_statuses n) five one))
+  job_calm (unread name) one ends = absurd (not_calm 5 (omega arith) (omega arith) one)
+  job_calm (unwritten name) one ends = absurd (not_calm 5 (omega arith) (omega arith) one)
+  job_calm (finished status text) one ends = ends.calm
+
 -- ---- any words
 
 pub is_status : (job : Option Job) (w : World) (change : OutsideChange) (report : Report) (v : World) → Ends job w change report v → IsStatus (status_of report)
@@ -165,9 +183,9 @@ pub not_six : (job : Option Job) (w : World) (change : OutsideChange) (report : 
 not_six None w change report v e ends = omega (arith, e, ap status_of ends.0)
 not_six (Some job) w change report v e ends = job_not_six job w change v report e ends
 
-pub finished_is_calm : (job : Option Job) (w : World) (change : OutsideChange) (report : Report) (v : World) → Contains finished_statuses (status_of report) → Ends job w change report v → v.faults ≡ w.faults
-finished_is_calm None w change report v one ends = absurd (not_finished 2 (omega arith) (omega arith) (subst (λ (n : ℕ). Contains finished_statuses n) (ap status_of ends.0) one))
-finished_is_calm (Some job) w change report v one ends = (ended_finished job w change v report one ends).calm
+pub is_calm : (job : Option Job) (w : World) (change : OutsideChange) (report : Report) (v : World) → Contains calm_statuses (status_of report) → Ends job w change report v → v.faults ≡ w.faults
+is_calm None w change report v one ends = absurd (not_calm 2 (omega arith) (omega arith) (subst (λ (n : ℕ). Contains calm_statuses n) (ap status_of ends.0) one))
+is_calm (Some job) w change report v one ends = job_calm job w change v report one ends
 
 pub none_ends : (job : Option Job) (w : World) (change : OutsideChange) (report : Report) (v : World) → job ≡ None → Ends job w change report v → (v ≡ w) × IsStill change × (status_of report ≡ 2)
 none_ends None w change report v e ends = (ends.1, ends.2, ap status_of ends.0)

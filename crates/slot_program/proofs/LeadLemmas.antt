@@ -171,6 +171,13 @@ told_not (Some held) name most count now refusal all before steps not told =
       forms = λ done h. absurd (no_pass held name most count now refusal not before (form_steps steps) done (told.forms done h));
     }
 
+-- either has status 5
+not_handed_five : (files : Option Files) (count now : ℕ) (name : Word) (most : ℕ) (refusal : Refusal) → IsNotHanded files count now name most refusal → refusal_status refusal ≡ 5
+not_handed_five None count now name most refusal (rose, inl is) = ap refusal_status is
+not_handed_five None count now name most refusal (rose, inr is) = ap refusal_status is
+not_handed_five (Some held) count now name most refusal (inl (none, is)) = ap refusal_status is
+not_handed_five (Some held) count now name most refusal (inr (long, is)) = ap refusal_status is
+
 pub refused_read : (w v u : World) (name : Word) (most : ℕ) (refusal : Refusal) (all : List Step) (before : List NamedBytes) (steps : List Step) → Leads w all before (reads name most ∷ steps) v
     → IsNotHanded w.files w.faults u.faults name most refusal → u.files ≡ v.files → u.log ≡ v.log → RefusedLead w all refusal u
 refused_read w v u name most refusal all before steps lead not same quiet =
@@ -179,6 +186,7 @@ refused_read w v u name most refusal all before steps lead not same quiet =
       due = lead.refuse w.faults u.faults refusal before (inl (refl, not));
       log = quiet ∙ lead.log;
       files = same ∙ lead.files;
+      calm = λ other. absurd (other (not_handed_five w.files w.faults u.faults name most refusal not));
       told = told_not w.files name most w.faults u.faults refusal all before steps not lead.told;
       named = lead.named;
     }
@@ -236,6 +244,7 @@ module _ (name : Word) (before : List NamedBytes) (refusal : Refusal) where
           due = lead.refuse w.faults v.faults refusal before (inl (refl, alone.refuses));
           log = lead.log;
           files = lead.files;
+          calm = λ other. lead.faults;
           told = told_stops w.files all steps lead.told;
           named = lead.named;
         }

@@ -1,13 +1,13 @@
 -- How a command ends: what it reports, why, what passed between it and the cabinet, which files it
 -- leaves, and how it leaves what else is outside.
-use Rattle.std.specs.Prelude.{◌≡◌, ℕ, List, [], ◌∷◌, ◌++◌, map, Option, Some, None, All}
+use Rattle.std.specs.Prelude.{◌≡◌, ◌≢◌, ℕ, List, [], ◌∷◌, ◌++◌, map, Option, Some, None, All}
 use Rattle.std.specs.Prelude.{Contains}
 use Rattle.desk_outside.specs.Cause.{Rose}
 use Rattle.desk_outside.specs.Files.{Files}
 use Rattle.desk_outside.specs.Passages.{Passage, read, wrote, write_failed, took, put, put_failed}
 use Rattle.command_words.specs.Words.{Word}
 use Rattle.slot_program.specs.Reports.{Report, Refusal, no_command, refused, unread, unwritten}
-use Rattle.slot_program.specs.Reports.{finished}
+use Rattle.slot_program.specs.Reports.{finished, refusal_status}
 use Rattle.slot_program.specs.Judgements.{NamedBytes}
 use Rattle.slot_program.specs.Steps.{names_read, AllPass, RefuseFrom, ReachFrom}
 use Rattle.slot_program.specs.Writing.{read_of, written_of, AreWritten, StopsAt}
@@ -41,12 +41,14 @@ pub record IsFinished (job : Job) (w : World) (change : OutsideChange) (status :
   pub log : v.log ≡ w.log ++ (map read_of inputs ++ map written_of writes)
   pub files : AreWritten w.files writes v.files
 
--- a step refused: exactly the files of the steps before it were read, and none is changed
+-- a step refused: exactly the files of the steps before it were read, and none is changed; where it
+-- refused what it was handed, no call failed
 pub record IsRefused (job : Job) (w : World) (refusal : Refusal) (v : World) : Type 0 where
   pub inputs : List NamedBytes
   pub due : RefuseFrom w.files w.faults v.faults [] (steps_of job) refusal inputs
   pub log : v.log ≡ w.log ++ map read_of inputs
   pub files : v.files ≡ w.files
+  pub calm : refusal_status refusal ≢ 5 → v.faults ≡ w.faults
 
 -- a read failed, after the steps before it passed
 pub record IsUnread (job : Job) (w : World) (name : Word) (v : World) : Type 0 where

@@ -107,6 +107,10 @@ served_statuses = 0 ∷ 10 ∷ 11 ∷ []
 abbrev pub finished_statuses : List ℕ
 finished_statuses = 0 ∷ 8 ∷ 9 ∷ 10 ∷ 11 ∷ []
 
+-- these, and the status at which no season follows: no call of the cabinet or of the output failed
+abbrev pub calm_statuses : List ℕ
+calm_statuses = 0 ∷ 8 ∷ 9 ∷ 10 ∷ 11 ∷ 15 ∷ []
+
 abbrev pub finishing_of : Job → List ℕ
 finishing_of (Allocate names nodes workers) = searched_statuses
 finishing_of (Check names) = 0 ∷ []
@@ -299,10 +303,10 @@ pub record MarksAreProved (capacity requests : List ℕ) (s : SubmissionView) (c
 
 -- The marks are true. Of `allocate`: of the certificate that is written, whose stage lines are
 -- printed, for the season that was read. Of `check`, `amend`, `serve` and `usage`: of the
--- certificate that was read. Of `trial`: of the one whose lines are printed, for the generated season. `make` proves
--- nothing. And of `amend`: what is written are the answers of one legal history from the
--- certificate's book. Of `serve`: what is written is the text of such a history, by which each
--- worker answered the clients of its door. Of `usage`: what is written and printed is what the
+-- certificate that was read. Of `trial`: of the one whose lines are printed, for the generated
+-- season. `make` proves nothing. And of `amend`: what is written are the answers of one legal history
+-- from the certificate's book. Of `serve`: what is written is the text of such a history, by which
+-- each worker answered the clients of its door. Of `usage`: what is written and printed is what the
 -- certificate's book keeps, by the reports that were read.
 abbrev pub HeadlineHolds : Job → List NamedBytes → List NamedBytes → OutsideChange → ℕ → List ℕ
     → Type 0

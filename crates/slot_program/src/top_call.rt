@@ -15,7 +15,7 @@ ghost use Rattle.slot_program.specs.Judgements.{NamedBytes};
 ghost use Rattle.slot_program.specs.Steps.{AllPass, FirstDue, form_steps};
 ghost use Rattle.slot_program.specs.Writing.{read_of, written_of};
 ghost use Rattle.slot_program.specs.Jobs.{AreFilesOf, name_at, steps_of, finishing_of, HeadlineHolds};
-ghost use Rattle.slot_program.specs.Jobs.{finished_statuses};
+ghost use Rattle.slot_program.specs.Jobs.{calm_statuses};
 ghost use Rattle.slot_program.specs.Outside.{Outside, still, outside_of, outside_change};
 ghost use Rattle.slot_program.specs.Outside.{door_faults, SomeRose};
 ghost use Rattle.session_desk.specs.declared.doors.TheConstants.{MOST_DOORS};
@@ -61,7 +61,8 @@ use worker_gate::Gate;
 /// than are read; 6 where the sink failed; 7 for want of memory; and where the work is done but not
 /// each stage is settled with an allotment, 8 where a stage is INFEASIBLE, and else 9 where one is
 /// OPEN; where clients were served, 10 where a door failed, and else 11 where a client found the
-/// history full, with the work done as at 0. The clauses say the same of every command; what a
+/// history full, with the work done as at 0. Where lines of the next season are to be written, 15
+/// where there is none, and nothing is written. The clauses say the same of every command; what a
 /// command's steps, writes and work are stands in `specs/Jobs.antt`.
 pub fn desk<R: Threads + Wait + Sync, C: Cabinet, S: Sink, D: Door + Drop, G: Gate>(
     rt: &R,
@@ -107,7 +108,8 @@ pub fn desk<R: Threads + Wait + Sync, C: Cabinet, S: Sink, D: Door + Drop, G: Ga
         (world_of C.files C.fault_count C.log cabinet.new)
         × Puts (S.contents out.old) text (S.contents out.new)
         × (S.log out.new ≡ S.log out.old ++ put text ∷ []) }
-    ensures done { Contains finished_statuses result →
+    // Then, and at 15, no call of the cabinet or of the sink failed.
+    ensures done { Contains calm_statuses result →
         (C.fault_count cabinet.new ≡ C.fault_count cabinet.old)
         × (S.fault_count out.new ≡ S.fault_count out.old) }
 

@@ -145,7 +145,6 @@ fn usage_output(
     next_lines_fit();
     next_is_read();
     let book = Book::of(alloc, submission, certificate)?;
-    let _count = book.count();
     let _units = submission.units();
     let _year = next.year();
     let season = book.declaration().season;

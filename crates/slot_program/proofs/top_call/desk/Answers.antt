@@ -5,10 +5,10 @@ use Rattle.desk_outside.specs.Passages.{put}
 use Rattle.command_words.specs.Words.{words_of}
 use Rattle.command_words.specs.Jobs.{job_of}
 use Rattle.slot_program.specs.Reports.{Report, status_of, text_of}
-use Rattle.slot_program.specs.Jobs.{finished_statuses, finishing_of, HeadlineHolds}
+use Rattle.slot_program.specs.Jobs.{calm_statuses, finishing_of, HeadlineHolds}
 use Rattle.slot_program.specs.Outside.{OutsideChange, outside_of, outside_change}
 use Rattle.slot_program.specs.Desk.{World, world_of, IsFinished, IsStatus}
-use Rattle.slot_program.proofs.DeskLemmas.{is_status, not_six, is_finished, marks_true, told_exact, finishing_not, finished_is_calm, not_finished, two_is_none, doors_calm, door_risen, none_ends}
+use Rattle.slot_program.proofs.DeskLemmas.{is_status, not_six, is_finished, marks_true, told_exact, finishing_not, is_calm, not_calm, two_is_none, doors_calm, door_risen, none_ends}
 use Rattle.slot_program.proofs.top_call.desk.Goals as goal
 
 pub returns-in-Ok-put-clause-statuses : goal.returns-in-Ok-put-clause-statuses
@@ -43,13 +43,13 @@ returns-in-Ok-put-clause-done g c = λ one.
     let v : World = world_of g.C.Cabinet.files g.C.Cabinet.fault_count g.C.Cabinet.log c.carry_out.new.cabinet in
     let change : OutsideChange = outside_change g.D.Door.view c.args.doors.now.items c.carry_out.new.doors.items in
     let a = c.in-Ok.ensures.answer in
-    (finished_is_calm (job_of (words_of c.args.words.now)) w change a.report v (subst (λ (n : ℕ). Contains finished_statuses n) a.status_is one) a.ends, search rules)
+    (is_calm (job_of (words_of c.args.words.now)) w change a.report v (subst (λ (n : ℕ). Contains calm_statuses n) a.status_is one) a.ends, search rules)
 
 pub returns-in-Ok-clause-done : goal.returns-in-Ok-clause-done
-returns-in-Ok-clause-done g c = λ one. absurd (not_finished 6 (omega arith) (omega arith) one)
+returns-in-Ok-clause-done g c = λ one. absurd (not_calm 6 (omega arith) (omega arith) one)
 
 pub returns-clause-done : goal.returns-clause-done
-returns-clause-done g c = λ one. absurd (not_finished 7 (omega arith) (omega arith) one)
+returns-clause-done g c = λ one. absurd (not_calm 7 (omega arith) (omega arith) one)
 
 pub returns-in-Ok-put-clause-words : goal.returns-in-Ok-put-clause-words
 returns-in-Ok-put-clause-words g c = λ e.
