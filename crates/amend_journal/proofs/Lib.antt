@@ -5,3 +5,6 @@ mod OpenLemmas
 mod ReadLemmas
 mod StandingLemmas
 mod JournalLemmas
+mod ToldLemmas
+mod KeptLemmas
+mod CloseLemmas

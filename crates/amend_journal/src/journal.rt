@@ -125,6 +125,13 @@ impl<K: Disk> Journal<K> {
         self.count
     }
 
+    /// How often the disk has failed.
+    pub fn faults(&self) -> u64
+        ensures { result ≡ self.now.disk.faults }
+    {
+        self.disk.faults()
+    }
+
     /// A pair laid out for its slot. It takes memory for the text of what is asked, and is refused
     /// for nothing else.
     pub fn ready(&self, alloc: Global, caller: u8, ask: &Item) -> Result<Slot, Memory>

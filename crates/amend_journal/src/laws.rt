@@ -1,8 +1,12 @@
 //! Laws of what a file stands for. Each function does nothing; its contract is the law.
 
-ghost use Rattle.std.specs.Prelude.{◌≡◌, ◌<◌, ℕ, List};
+ghost use Rattle.std.specs.Prelude.{◌≡◌, ◌<◌, ◌++◌, ℕ, List};
 ghost use Rattle.season_days.specs.Term.{Term};
+ghost use Rattle.holding_book.specs.declared.answer.Entry.{Entry as EntryValue};
+ghost use Rattle.holding_book.specs.Books.{SlotBook};
+ghost use Rattle.holding_book.specs.Histories.{replay};
 ghost use Rattle.amend_journal.specs.Standing.{StandsFor, IsOther, IsBadSlot};
+ghost use Rattle.amend_journal.specs.Kept.{asks_of, book_after};
 ghost use Rattle.amend_journal.specs.declared.asked.Asked.{Asked as AskedValue};
 
 use scr_reader::laws::{one_item, printed_items};
@@ -23,3 +27,12 @@ pub fn one_standing()
     one_item();
     printed_items();
 }
+
+/// The book after what was asked in a history is the replay of the history: so a book that is made
+/// anew of the pairs of a journal is the one that was amended. It can be made in two parts.
+pub fn books_after()
+    ensures replay { (b : SlotBook) (history : List EntryValue)
+        → replay b history ≡ book_after b (asks_of history) }
+    ensures parts { (b : SlotBook) (first later : List AskedValue)
+        → book_after b (first ++ later) ≡ book_after (book_after b first) later }
+{}

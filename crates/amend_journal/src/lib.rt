@@ -6,16 +6,24 @@
 //! it has gate 1; what lies behind the first other gate may be anything.
 #![tactic(auto)]
 
+mod again;
 mod asked;
 mod fault;
 mod journal;
+mod kept;
 pub mod laws;
+mod ledger;
 mod open;
 mod put;
 mod read;
 mod slot;
+mod told;
 
+pub use again::replayed;
 pub use asked::{Asked, MOST_PAIRS};
 pub use fault::OpenFault;
 pub use journal::Journal;
+pub use kept::JournalKept;
+pub use ledger::{JournalFault, JournalLedger, JournalPass};
 pub use slot::Slot;
+pub use told::{Failure, Told};
