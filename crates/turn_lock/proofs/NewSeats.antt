@@ -89,10 +89,13 @@ pushed {O = O} {E = E} id o k m before after s is new now next = now
     ∙ (ap (λ (z : ℕ). new_seats id o 0 k ++ new_seat id o z ∷ []) (let e : k ≡ 0 + k = omega arith in e)
     ∙ (sym (one_more id o 0 k) ∙ ap (new_seats id o 0) (sym next)))))
 
-all_new : {O : Type 0} (E : Type 0) (turn : TurnView O) (k n : ℕ)
+all_new : {O : Type 0} (E : Type 0) (turn : TurnView O) (k n : ℕ) → k + n ≤ turn.callers
     → AllByRecursion (IsAtRest turn) (new_seats {O = O} {E = E} turn.id turn.origin k n)
-all_new E turn k zero = tt
-all_new E turn k (suc n) = (((refl, refl), refl), all_new E turn (suc k) n)
+all_new E turn k zero few = tt
+all_new E turn k (suc n) few = (
+  ((refl, refl, omega (arith, few)), refl),
+  all_new E turn (suc k) n (omega (arith, few)),
+)
 
 as_many : {O : Type 0} (E : Type 0) (id : TableId) (o : O) (k n : ℕ)
     → length (new_seats {O = O} {E = E} id o k n) ≡ n
@@ -105,8 +108,8 @@ pub all_there : {O E : Type 0} (id : TableId) (o : O) (n : ℕ) (seats : List (S
 all_there {E = E} id o n seats is = ap length is ∙ as_many E id o 0 n
 
 pub all_rest : {O E : Type 0} (turn : TurnView O) (o : O) (n : ℕ) (seats : List (SeatView O E)) → turn.origin ≡ o
-    → seats ≡ new_seats turn.id o 0 n → All (IsAtRest turn) seats
-all_rest {O = O} {E = E} turn o n seats same is =
+    → n ≤ turn.callers → seats ≡ new_seats turn.id o 0 n → All (IsAtRest turn) seats
+all_rest {O = O} {E = E} turn o n seats same few is =
     let made : seats ≡ new_seats turn.id turn.origin 0 n = is
     ∙ ap (λ (p : O). new_seats turn.id p 0 n) (sym same) in
-    all_of_every (IsAtRest turn) seats (subst (AllByRecursion (IsAtRest turn)) (sym made) (all_new E turn 0 n))
+    all_of_every (IsAtRest turn) seats (subst (AllByRecursion (IsAtRest turn)) (sym made) (all_new E turn 0 n (omega (arith, few))))

@@ -1,5 +1,5 @@
 -- What contracts see of a turn and of its seats.
-use Rattle.std.specs.Prelude.{◌≡◌, ℕ, zero, suc, Bool, false, List, [], ◌∷◌, Option, Some, Any}
+use Rattle.std.specs.Prelude.{◌≡◌, ℕ, zero, suc, ◌<◌, Bool, false, List, [], ◌∷◌, Option, Some, Any}
 pub use Rattle.atomic_table.specs.Seated.{TableId}
 use Rattle.turn_lock.specs.History.{StartsWith, own}
 
@@ -30,9 +30,10 @@ module _ {O E : Type 0} where
   new_seats id origin k zero = []
   new_seats id origin k (suc n) = new_seat id origin k ∷ new_seats id origin (suc k) n
 
-  -- the seat was made with this turn
+  -- the seat was made with this turn, and its number is that of one of the turn's callers
   abbrev pub IsSeatOf : TurnView O → SeatView O E → Type 0
   IsSeatOf turn seat = (seat.turn ≡ turn.id) × (seat.origin ≡ Some turn.origin)
+      × (seat.number < turn.callers)
 
   -- the seat was made with this turn, and does not have it
   abbrev pub IsAtRest : TurnView O → SeatView O E → Type 0

@@ -100,6 +100,7 @@ impl<T: Story> Turn<T> {
     /// It takes no memory.
     pub fn take<R: Wait>(&self, rt: &R, seat: &mut TurnSeat<T>) -> T
         requires rest { IsAtRest self.now seat.old }
+        ensures few { seat.old.number < self.now.callers }
         ensures seat { seat.new ≡ record seat.old { seen = T.entries result; holds = true } }
         ensures origin { T.origin result ≡ self.now.origin }
         ensures longer { GoesOnFrom T.caller seat.old.number seat.old.seen (T.entries result) }

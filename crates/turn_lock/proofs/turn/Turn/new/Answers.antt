@@ -53,4 +53,5 @@ returns-clause-all g c = all_there _ _ _ _ (returns-clause-seats g c)
 pub returns-clause-rest : goal.returns-clause-rest
 returns-clause-rest g c = let key = c.in-Ok.ensures.ok.5 in
     all_rest (record { id = c.in-Ok.made.0.shared.table_id; origin = g.T.Story.origin c.in-Ok.made.0.shared.key.value.value; callers = c.in-Ok.made.0.shared.key.callers }) _ _ _
-    (ap (λ k. g.T.Story.origin k.value.value) key ∙ ap g.T.Story.origin c.of.ensures) (returns-clause-seats g c)
+    (ap (λ k. g.T.Story.origin k.value.value) key ∙ ap g.T.Story.origin c.of.ensures)
+    (let is = ap (λ k. k.callers) key in omega (arith, is)) (returns-clause-seats g c)
