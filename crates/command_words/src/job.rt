@@ -103,6 +103,17 @@ pub enum Job {
         /// How many workers serve, from 1 to 16.
         workers: u32,
     },
+    /// Serve clients as `Serve` does, each entry in a journal before it is answered. The names are
+    /// those of the capacity file, the requests, the certificate, the journal and the record.
+    Resume {
+        names: NameList,
+        /// How many links each worker serves, from 1 to 1,000.
+        links: u32,
+        /// The port at which clients come, from 1 to 65,535.
+        port: u32,
+        /// How many workers serve, from 1 to 16.
+        workers: u32,
+    },
     /// Make a generated season, and write it. The names are those of the capacity file and the
     /// requests.
     Make {
