@@ -1,5 +1,5 @@
 -- The job that words ask for, and what clap finds in them.
-use Rattle.std.proofs.Common.{◌≡◌, ℕ, ◌≤◌, eqb, List, [], ◌∷◌, length, Option, Some, None, Result, Ok, Err, refl, sym, ap, subst, ◌∙◌, arith, inl, inr}
+use Rattle.std.proofs.Common.{◌≡◌, ℕ, ◌≤◌, eqb, false, List, [], ◌∷◌, length, Option, Some, None, Result, Ok, Err, refl, sym, ap, subst, ◌∙◌, arith, inl, inr}
 use Rattle.std.specs.Prelude.{nat_le, ◌&&◌, option_map, option_and_then, IfOk, Box}
 use Rattle.std.specs.Fmt.{decimal}
 use Rattle.std.specs.List.{AllByRecursion}
@@ -236,6 +236,14 @@ asks_for (word ∷ ws) m texts none found = by_name word ws m (command_named com
 
 pub refused_asks_none : (words : List Word) → AllByRecursion IsUtf8 words → (fault_of desk_app words ≡ [] → ⊥) → job_of words ≡ None
 refused_asks_none words texts faults = is_none (job_of words) (λ job e. faults (job_is_taken words job texts e))
+
+-- another word is not this command's
+pub other_word : (name word : Word) → (name ≡ word → ⊥) → bytes_eq word name ≡ false
+other_word name word other =
+    elim (cases_Bool (bytes_eq word name)) [
+      | inl same ↦ absurd (other (sym ((bytes_eq-Decides word name).0 same)))
+      | inr not_same ↦ not_same
+    ]
 
 -- ---- the subcommand that was entered
 
