@@ -1,9 +1,9 @@
 -- Workers paired and taken apart again.
-use Rattle.std.proofs.Common.{◌≡◌, ℕ, zero, suc, ◌+◌, ◌-◌, ◌<◌, List, [], ◌∷◌, ◌++◌, length, map, reverse, take, drop, get_or, refl, sym, ap, subst, ◌∙◌, arith, Some}
+use Rattle.std.proofs.Common.{◌≡◌, ℕ, zero, suc, ◌+◌, ◌-◌, ◌<◌, ◌≤◌, List, [], ◌∷◌, ◌++◌, length, length-append, map, reverse, take, drop, get_or, refl, sym, ap, subst, ◌∙◌, arith, Some}
 use Rattle.std.proofs.lemmas.List.{get_or-map, get_or-reverse, length-map, length-reverse, take_at}
 use Rattle.std.specs.Prelude.{All}
 use Rattle.std.proofs.lemmas.List.Elements.{All-get_or, All-from_get_or}
-use Rattle.turn_lock.specs.History.{own}
+use Rattle.turn_lock.specs.History.{StartsWith, own}
 use Rattle.turn_lock.specs.Seats.{TableId, TurnView, SeatView, new_seat, new_seats, HasSeen, IsAtRest, IsNumber}
 use Rattle.holding_book.specs.declared.answer.Entry.{Entry}
 use Rattle.slot_ledger.specs.Starts.{entry_caller}
@@ -11,6 +11,11 @@ use Rattle.slot_ledger.specs.Passes.{read_pass}
 use Rattle.slot_ledger.specs.declared.shared.Start.{Start}
 use Rattle.season_days.specs.declared.declaration.Declaration.{Declaration}
 use Rattle.session_desk.specs.Begun.{desk_caller, ledger_caller}
+use Rattle.session_desk.specs.Stopped.{StopsAt}
+use Rattle.session_desk.specs.Private.Serving.{EndStopped}
+use Rattle.session_desk.specs.declared.worker.DoorEnd.{DoorEnd}
+use Rattle.session_desk.specs.declared.worker.DoorWork.{DoorWork}
+use Rattle.session_desk.specs.declared.worker.DoorEnd.TheVariants.{Full}
 
 pub some_of : {X : Type 0} → (xs : List X) → 0 < length xs → X
 some_of [] some = absurd (omega (arith, some))
@@ -103,6 +108,37 @@ module _ {W D O X V K : Type 0} (read : List X → List Entry) (door : W → D) 
       let number0 : (seat (get_or us j w)).number ≡ k = ap (λ s. s.number) s0 ∙ (let e : 0 + k ≡ k = omega arith in e) in
       let same_number : m ≡ k = sym is.4 ∙ ap (λ s. s.number) (sym is.3 ∙ s1) ∙ number j w below ∙ number0 in
       omega (arith, few, count, same_number)
+
+starts_length : {X : Type 0} (whole front : List X) → StartsWith whole front → length front ≤ length whole
+starts_length whole front starts =
+    let parts : length whole ≡ length front + length starts.0 = ap length starts.1 ∙ length-append front starts.0 in
+    omega (arith, parts)
+
+full_end : {X : Type 0} (read : List X → List Entry) (broken : List X → ℕ → Type 0) (most : ℕ) (seen : List X) (end : DoorEnd) → end ≡ Full → EndStopped (StopsAt read broken most seen) end
+    → length (read seen) ≡ most
+full_end read broken most seen end is stopped =
+    let at : EndStopped (StopsAt read broken most seen) Full = subst (λ (e : DoorEnd). EndStopped (StopsAt read broken most seen) e) is stopped in
+    at.1
+
+-- the history is as long as a pass has seen it with which an ask was refused since it was full
+pub full_at_close : {W O X : Type 0} (read : List X → List Entry) (broken : List X → ℕ → Type 0) (seat : W → SeatView O X) (work : W → DoorWork) (us vs : List W) (ss : List (SeatView O X))
+    (ks : List DoorWork) (h : List Entry) (most : ℕ)
+    → length vs ≡ length us → reverse (map work vs) ≡ ks → reverse (map seat vs) ≡ ss
+    → All (λ s. HasSeen entry_caller h (read_pass read s)) ss
+    → length h ≤ most
+    → ((j : ℕ) (w : W) → j < length us → EndStopped (StopsAt read broken most (seat (get_or vs j w)).seen) (work (get_or vs j w)).end)
+    → (i : ℕ) (k : DoorWork) → i < length us → (get_or ks i k).end ≡ Full → length h ≡ most
+full_at_close read broken seat work us vs ss ks h most same works seats seen few stopped i k lt is =
+    let there : i < length vs = omega (arith, lt, same) in
+    let w = some_of vs (omega (arith, there)) in
+    let j = length vs - 1 - i in
+    let below : j < length us = omega (arith, there, same) in
+    let s = seat (get_or vs j w) in
+    let ended : (work (get_or vs j w)).end ≡ Full = ap (λ x. x.end) (sym (paired work vs ks i k w works there)) ∙ is in
+    let whole : length (read s.seen) ≡ most = full_end read broken most s.seen (work (get_or vs j w)).end ended (stopped j w below) in
+    let has : HasSeen entry_caller h (read_pass read (get_or ss i s)) = All-get_or (λ x. HasSeen entry_caller h (read_pass read x)) ss i s (omega (arith, there, paired-length seat vs ss seats)) seen in
+    let begins : StartsWith h (read s.seen) = subst (λ x. StartsWith h (read x.seen)) (paired seat vs ss i s w seats there) has.0 in
+    omega (arith, few, whole, starts_length h (read s.seen) begins)
 
 -- what holds of all passes of the workers holds of the passes taken apart
 pub all_apart : {W Y : Type 0} (Q : Y → Type 0) (f : W → Y) (ws : List W) (ys : List Y) → reverse (map f ws) ≡ ys → All (λ w. Q (f w)) ws → All Q ys

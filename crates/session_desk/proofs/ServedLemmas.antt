@@ -1,18 +1,19 @@
 -- Sessions of a worker, one after the other.
-use Rattle.std.proofs.Common.{◌≡◌, ◌⊎◌, ℕ, ◌+◌, ◌≤◌, List, [], ◌∷◌, ◌++◌, length, refl, sym, ap, subst, ◌∙◌, append_assoc, append-nil, length-append, inl, inr, Option, Some, None, Result, Err, arith}
+use Rattle.std.proofs.Common.{◌≡◌, ◌⊎◌, ℕ, ◌+◌, ◌≤◌, List, [], ◌∷◌, ◌++◌, length, refl, sym, ap, subst, ◌∙◌, append_assoc, append-nil, length-append, inl, inr, Option, Some, None, Result, Ok, Err, arith}
 use Rattle.std.proofs.lemmas.List.{map-append}
 use Rattle.std.proofs.lemmas.List.Elements.{All-append, All-nil, All-cons}
-use Rattle.std.specs.Prelude.{IfSome, IfNone}
+use Rattle.std.specs.Prelude.{IfSome, IfNone, IfErr}
 use Rattle.desk_links.specs.Links.{LinkView}
 use Rattle.desk_links.specs.Doors.{DoorView, NoneComes, IsNextLink, HasAdmitted, with_kept}
 use Rattle.session_desk.specs.Passed.{HasPassed}
 use Rattle.session_desk.specs.Sessions.{HasSessionCause, IsSession}
 use Rattle.session_desk.specs.Served.{Session, links_of, HasCount, GoesOn, IsFull, IsBroken, AllGoOn, LastEnds, HadInputs, EndsWorker, AreSessions, HasServed}
-use Rattle.session_desk.specs.Private.Serving.{HasGoneOn, EndsBySession}
+use Rattle.session_desk.specs.Stopped.{StoppedBy}
+use Rattle.session_desk.specs.Private.Serving.{HasGoneOn, EndsBySession, EndStopped}
 use Rattle.session_desk.specs.declared.responder.AnswerFault.{AnswerFault}
 use Rattle.session_desk.specs.declared.session.SessionEnd.{SessionEnd}
 use Rattle.session_desk.specs.declared.session.SessionFault.{SessionFault}
-use Rattle.session_desk.specs.declared.session.SessionFault.TheVariants.{Memory as no_memory}
+use Rattle.session_desk.specs.declared.session.SessionFault.TheVariants as faults
 use Rattle.session_desk.specs.declared.worker.DoorEnd.{DoorEnd}
 use Rattle.session_desk.specs.declared.worker.DoorWork.{DoorWork}
 use Rattle.session_desk.specs.declared.worker.DoorEnd.TheVariants.{Served, Full, Broken, Door, Memory}
@@ -24,6 +25,24 @@ if_none (Some x) f p = tt
 pub both_some : {X : Type 0} {P Q R : X → Type 0} (r : Option X) → ((x : X) → P x → Q x → R x) → IfSome r P → IfSome r Q → IfSome r R
 both_some None f p q = tt
 both_some (Some x) f p q = f x p q
+
+-- the session in which an ask was refused ended its worker
+pub end_stopped : (P : AnswerFault → Type 0) (end : DoorEnd) (ended : Result SessionEnd SessionFault) → EndsBySession end ended → IfErr ended (StoppedBy P) → EndStopped P end
+end_stopped P Served ended by h = tt
+end_stopped P Door ended by h = tt
+end_stopped P Memory ended by h = tt
+end_stopped P Full (Ok end) by h = absurd by
+end_stopped P Full (Err faults.Link) by h = absurd by
+end_stopped P Full (Err faults.TooLong) by h = absurd by
+end_stopped P Full (Err (faults.Full n)) by h = (n, h)
+end_stopped P Full (Err (faults.Broken n)) by h = absurd by
+end_stopped P Full (Err faults.Memory) by h = absurd by
+end_stopped P Broken (Ok end) by h = absurd by
+end_stopped P Broken (Err faults.Link) by h = absurd by
+end_stopped P Broken (Err faults.TooLong) by h = absurd by
+end_stopped P Broken (Err (faults.Full n)) by h = absurd by
+end_stopped P Broken (Err (faults.Broken n)) by h = (n, h)
+end_stopped P Broken (Err faults.Memory) by h = absurd by
 
 links_more : (ss ts : List Session) → links_of (ss ++ ts) ≡ links_of ss ++ links_of ts
 links_more ss ts = map-append (λ (s : Session). s.link) ss ts
@@ -62,7 +81,7 @@ ends_more Served n k ss ts d m e went count same h =
     by (inr none) = inr none
 ends_more Full n k ss ts d m e went count same h = (last_more IsFull ss ts went h.0, h.1 ∙ same)
 ends_more Broken n k ss ts d m e went count same h = (last_more IsBroken ss ts went h.0, h.1 ∙ same)
-ends_more Memory n k ss ts d m e went count same h = (last_more (λ ended. ended ≡ Err no_memory) ss ts went h.0, h.1 ∙ same)
+ends_more Memory n k ss ts d m e went count same h = (last_more (λ ended. ended ≡ Err faults.Memory) ss ts went h.0, h.1 ∙ same)
 ends_more Door n k ss ts d m e went count same h = (All-append (λ (s : Session). GoesOn s.ended) ss ts went h.0, rw same at h.1)
 
 module _ {E : Type 0} (A : List (List ℕ) → List E → List ℕ → Type 0) (B : AnswerFault → List (List ℕ) → List E → Type 0) where
@@ -154,7 +173,7 @@ module _ {E : Type 0} (A : List (List ℕ) → List E → List ℕ → Type 0) (
       ends Full by = (one_last IsFull (record { link = o.link; ended = ended }) by, o.faults)
       ends Broken by = (one_last IsBroken (record { link = o.link; ended = ended }) by, o.faults)
       ends Door by = absurd by
-      ends Memory by = (one_last (λ ended. ended ≡ Err no_memory) (record { link = o.link; ended = ended }) by, o.faults)
+      ends Memory by = (one_last (λ ended. ended ≡ Err faults.Memory) (record { link = o.link; ended = ended }) by, o.faults)
 
   -- one link more, and the worker goes on
   pub gone_on : (n : ℕ) (d m e : DoorView) (before mid after : List E) → HasGoneOn A B n d before m mid → HasGoneOn A B 1 m mid e after → HasGoneOn A B (n + 1) d before e after

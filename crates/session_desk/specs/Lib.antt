@@ -3,4 +3,5 @@ pub mod Passed
 pub mod Sessions
 pub mod Served
 pub mod Begun
+pub mod Stopped
 pub mod Private

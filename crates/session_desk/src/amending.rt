@@ -7,7 +7,9 @@ ghost use Rattle.scr_replies.specs.Replies.{asks_of, reply_text, bad_text};
 ghost use Rattle.scr_replies.specs.Received.{AreFor};
 ghost use Rattle.session_desk.specs.Begun.{HasBroken, TakesFit};
 ghost use Rattle.holding_book.specs.declared.answer.Entry.{Entry as EntryValue};
-ghost use Rattle.session_desk.specs.Private.Amended.{HasAnswers, HasOneAnswer, HasLeft, StopsAnswer};
+ghost use Rattle.session_desk.specs.Stopped.{StopsAt};
+ghost use Rattle.session_desk.specs.Private.Amended.{HasAnswers, HasOneAnswer, HasLeft};
+ghost use Rattle.session_desk.specs.Private.Amended.{StopsAnswer};
 
 use crate::responder::{AnswerFault, Responder};
 use holding_book::laws::answer_lines;
@@ -63,7 +65,9 @@ pub(crate) struct Amending<'a, R: Wait, G: LineGate, B: Beside> {
 }
 
 impl<'a, R: Wait, G: LineGate, B: Beside> Responder for Amending<'a, R, G, B> {
-    ghost use Rattle.session_desk.specs.Begun.{IsAnsweredBy, IsBegunBy, HasBroken, TakesFit, ledger_caller};
+    ghost use Rattle.session_desk.specs.Begun.{IsAnsweredBy, IsBegunBy, HasBroken, TakesFit};
+    ghost use Rattle.session_desk.specs.Begun.{ledger_caller};
+    ghost use Rattle.session_desk.specs.Stopped.{StopsAt};
 
     type Entry = Entry;
 
@@ -84,6 +88,9 @@ impl<'a, R: Wait, G: LineGate, B: Beside> Responder for Amending<'a, R, G, B> {
     ghost answers = { IsAnsweredBy };
 
     ghost begins = { IsBegunBy (HasBroken B.broken) };
+
+    ghost stopped = { λ a pass fault.
+        StopsAt B.read B.broken a.ledger.now.origin.start.most pass.seen fault };
 
     fn answer(
         &self,
@@ -131,12 +138,15 @@ impl<'a, R: Wait, G: LineGate, B: Beside> Amending<'a, R, G, B> {
             message.now.items }
         ensures rest { IsAtRest self.now.ledger.now pass.new }
         ensures caller { pass.new.number ≡ self.now.caller }
+        ensures stopped { IfErr result (StopsAt B.read B.broken
+            self.now.ledger.now.origin.start.most pass.new.seen) }
         ensures ok { IfOk result (λ text. (entries : List EntryValue)
             × (B.read pass.new.own ≡ B.read pass.old.own ++ entries)
             × AreFor self.now.caller (asks_of message.now) entries
             × (text.items ≡ reply_text message.now (map (λ (e : EntryValue). e.answer) entries))) }
         ensures err { IfErr result (λ fault.
-            HasLeft (HasBroken B.broken) (B.found self.now.ledger.now.origin.beside + self.now.ledger.now.origin.start.most)
+            HasLeft (HasBroken B.broken)
+            (B.found self.now.ledger.now.origin.beside + self.now.ledger.now.origin.start.most)
             self.now.caller fault message.now.items (B.read pass.old.own) (B.read pass.new.own)) }
     {
         match self.amend_all(pass, alloc, message.items.items()) {
@@ -162,11 +172,14 @@ impl<'a, R: Wait, G: LineGate, B: Beside> Amending<'a, R, G, B> {
             IsFitItem self.now.ledger.now.origin.start.declaration.season placed.item) items.now }
         ensures rest { IsAtRest self.now.ledger.now pass.new }
         ensures caller { pass.new.number ≡ self.now.caller }
+        ensures stopped { IfErr result (StopsAt B.read B.broken
+            self.now.ledger.now.origin.start.most pass.new.seen) }
         ensures ok { IfOk result (λ answers.
             HasAnswers self.now.ledger.now.origin.start.declaration.season self.now.caller
             items.now (B.read pass.old.own) (B.read pass.new.own) answers.items) }
         ensures err { IfErr result (λ fault.
-            HasLeft (HasBroken B.broken) (B.found self.now.ledger.now.origin.beside + self.now.ledger.now.origin.start.most)
+            HasLeft (HasBroken B.broken)
+            (B.found self.now.ledger.now.origin.beside + self.now.ledger.now.origin.start.most)
             self.now.caller fault items.now (B.read pass.old.own) (B.read pass.new.own)) }
     {
         let mut answers = match Vec::with_capacity(alloc, items.len()) {
@@ -197,6 +210,8 @@ impl<'a, R: Wait, G: LineGate, B: Beside> Amending<'a, R, G, B> {
         requires room { length answers.old.items < vec_capacity answers.old }
         ensures rest { IsAtRest self.now.ledger.now pass.new }
         ensures caller { pass.new.number ≡ self.now.caller }
+        ensures stopped { IfErr result (StopsAt B.read B.broken
+            self.now.ledger.now.origin.start.most pass.new.seen) }
         ensures kept { vec_capacity answers.new ≡ vec_capacity answers.old }
         ensures ok { OnOk result
             (HasOneAnswer self.now.ledger.now.origin.start.declaration.season self.now.caller

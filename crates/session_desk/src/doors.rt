@@ -1,5 +1,6 @@
 //! Sessions of a ledger: over one link, and over the links of several doors at once.
-ghost use Rattle.std.specs.Prelude.{◌≡◌, ◌≤◌, ◌<◌, ◌+◌, ◌^◌, [], All, ℕ, length, IfOk, OnErr, slice_index_or};
+ghost use Rattle.std.specs.Prelude.{◌≡◌, ◌≤◌, ◌<◌, ◌+◌, ◌^◌, [], All, ℕ, length};
+ghost use Rattle.std.specs.Prelude.{IfOk, IfErr, OnErr, slice_index_or};
 ghost use Rattle.turn_lock.specs.Seats.{SeatView, IsAtRest};
 ghost use Rattle.turn_lock.specs.History.{own};
 ghost use Rattle.scr_reader.specs.Again.{IsFitItem};
@@ -13,7 +14,12 @@ ghost use Rattle.session_desk.specs.Passed.{HasPassed};
 ghost use Rattle.session_desk.specs.Sessions.{IsSession, HasSessionCause};
 ghost use Rattle.session_desk.specs.Served.{HasServed};
 ghost use Rattle.session_desk.specs.declared.doors.TheConstants.{MOST_DOORS};
-ghost use Rattle.session_desk.specs.Begun.{IsAnsweredBy, IsBegunBy, HasBroken, TakesFit, desk_caller, ledger_caller};
+ghost use Rattle.session_desk.specs.declared.worker.DoorWork.{DoorWork as DoorWorkValue};
+ghost use Rattle.session_desk.specs.declared.worker.DoorEnd.TheVariants.{Full as full_end};
+ghost use Rattle.session_desk.specs.Stopped.{StoppedBy, StopsAt};
+ghost use Rattle.session_desk.specs.Private.Serving.{EndStopped};
+ghost use Rattle.session_desk.specs.Begun.{IsAnsweredBy, IsBegunBy, HasBroken, TakesFit};
+ghost use Rattle.session_desk.specs.Begun.{desk_caller, ledger_caller};
 
 use crate::amending::{Amending, AtGate};
 use crate::session::{SessionEnd, SessionFault, serve};
@@ -58,6 +64,8 @@ pub fn serve_link<R: Wait, G: Gate, B: Beside, L: Link>(
     ensures number { pass.new.number ≡ pass.old.number }
     ensures cause { HasSessionCause (L.view link.old).faults (L.view link.new).faults result }
     ensures told { HasPassed (L.view link.old).told (L.view link.new) }
+    ensures stopped { IfErr result (StoppedBy (StopsAt B.read B.broken
+        ledger.now.origin.start.most pass.new.seen)) }
     ensures session { IsSession
         (IsAnsweredBy (ledger_caller (B.found ledger.now.origin.beside) ledger.now.origin.start
         pass.old.number))
@@ -94,6 +102,8 @@ fn work<R: Wait, G: Gate, B: Beside, D: Door>(
     requires takes { TakesFit B.takes ledger.now.origin worker.old.pass.number }
     ensures rest { IsAtRest ledger.now worker.new.pass }
     ensures number { worker.new.pass.number ≡ worker.old.pass.number }
+    ensures stopped { EndStopped (StopsAt B.read B.broken ledger.now.origin.start.most
+        worker.new.pass.seen) worker.new.work.end }
     ensures served { HasServed
         (IsAnsweredBy (ledger_caller (B.found ledger.now.origin.beside) ledger.now.origin.start
         worker.old.pass.number))
@@ -146,6 +156,9 @@ fn serve_all<R: Threads + Wait + Sync, G: Gate, B: Beside + Send, D: Door>(
         → i < length workers.old
         → (slice_index_or workers.new i w).pass.number
         ≡ (slice_index_or workers.old i w).pass.number }
+    ensures stopped { (i : ℕ) (w : Worker (SeatView (Origin B.Start) B.Told) D)
+        → i < length workers.old → EndStopped (StopsAt B.read B.broken ledger.now.origin.start.most
+        (slice_index_or workers.new i w).pass.seen) (slice_index_or workers.new i w).work.end }
     ensures each { (i : ℕ) (w : Worker (SeatView (Origin B.Start) B.Told) D)
         → i < length workers.old → HasServed
         (IsAnsweredBy (ledger_caller (B.found ledger.now.origin.beside) ledger.now.origin.start
@@ -169,12 +182,14 @@ fn serve_all<R: Threads + Wait + Sync, G: Gate, B: Beside + Send, D: Door>(
                 × TakesFit B.takes ledger.now.origin worker.old.pass.number }
             ensures rest { IsAtRest ledger.entry.now worker.new.pass }
             ensures number { worker.new.pass.number ≡ worker.old.pass.number }
+            ensures stopped { EndStopped (StopsAt B.read B.broken
+                ledger.entry.now.origin.start.most worker.new.pass.seen) worker.new.work.end }
             ensures served { HasServed
                 (IsAnsweredBy (ledger_caller (B.found ledger.entry.now.origin.beside)
                 ledger.entry.now.origin.start worker.old.pass.number))
                 (IsBegunBy (HasBroken B.broken)
-                (ledger_caller (B.found ledger.entry.now.origin.beside) ledger.entry.now.origin.start
-                worker.old.pass.number))
+                (ledger_caller (B.found ledger.entry.now.origin.beside)
+                ledger.entry.now.origin.start worker.old.pass.number))
                 links (D.view worker.old.door) (B.read worker.old.pass.own) worker.new.work
                 (D.view worker.new.door) (B.read worker.new.pass.own) }
         { work(rt, alloc, gate, ledger, season, airport, worker, links) },
@@ -214,6 +229,8 @@ pub fn serve_doors<R: Threads + Wait + Sync, G: Gate, B: Beside + Send, D: Door 
         All (λ entry. CanAsk book.book.declaration entry.ask) done.0.items) }
     ensures callers { IfOk result (λ done.
         All (λ entry. entry.caller < length doors.old.items) done.0.items) }
+    ensures full { IfOk result (λ done. (n : ℕ) (k : DoorWorkValue) → n < length doors.old.items
+        → (slice_index_or done.1.items n k).end ≡ full_end → length done.0.items ≡ most) }
     ensures start { IfOk result (λ done. B.start done.2 ≡ B.start beside) }
     ensures agrees { IfOk result (λ done. B.agrees done.2 done.0.items) }
     ensures each { IfOk result (λ done. (n : ℕ) (d : D) (k : DoorWork)

@@ -47,6 +47,9 @@ pub(crate) trait Responder {
     /// The entries of a message that was not answered whole, and why.
     ghost begins: { Self.About → AnswerFault → List (List ℕ) → List Self.Entry → Type 0 };
 
+    /// What is known of a pass with which an ask was refused.
+    ghost stopped: { Self → Self.Pass → AnswerFault → Type 0 };
+
     /// Answers the message of these lines. Its text is for the client.
     fn answer(
         &self,
@@ -63,5 +66,6 @@ pub(crate) trait Responder {
             × answers (about self.now) (lines_of lines.now) entries text.items) }
         ensures err { IfErr result (λ fault. (entries : List Self.Entry)
             × (own pass.new ≡ own pass.old ++ entries)
-            × begins (about self.now) fault (lines_of lines.now) entries) };
+            × begins (about self.now) fault (lines_of lines.now) entries) }
+        ensures stopped { IfErr result (λ fault. stopped self.now pass.new fault) };
 }

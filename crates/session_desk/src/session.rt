@@ -10,6 +10,7 @@ ghost use Rattle.session_desk.specs.Sessions.{IsSession, HasSessionCause};
 ghost use Rattle.session_desk.specs.Private.Held.{IsSized, IsHeld, IsEnded};
 ghost use Rattle.session_desk.specs.Private.Reading.{IsAt, HasStopped, HasStoppedWithin};
 ghost use Rattle.session_desk.specs.Private.Reading.{IsPut, AnswerStops, EndsSo};
+ghost use Rattle.session_desk.specs.Stopped.{StoppedBy};
 
 use crate::pending::{InputEnd, Pending, Progress};
 use crate::responder::{AnswerFault, Responder};
@@ -61,6 +62,7 @@ pub(crate) fn serve<R: Wait, A: Responder, L: Link>(
     requires fresh { IsFresh (L.view link.old) }
     ensures ready { A.ready responder.now pass.new }
     ensures cause { HasSessionCause (L.view link.old).faults (L.view link.new).faults result }
+    ensures stopped { IfErr result (StoppedBy (A.stopped responder.now pass.new)) }
     ensures session { IsSession (A.answers (A.about responder.now))
         (A.begins (A.about responder.now)) (A.own pass.old) result (L.view link.new)
         (A.own pass.new) }
@@ -103,6 +105,7 @@ fn read_piece<A: Responder, L: Link>(
     ensures size { OnOk result (IsSized pending.new) }
     ensures held { OnOk result ((seen : List ℕ) × IsHeld pending.new seen) }
     ensures cause { HasSessionCause (L.view link.old).faults (L.view link.new).faults result }
+    ensures stopped { IfErr result (StoppedBy (A.stopped responder.now pass.new)) }
     ensures taken { taken_of (L.view link.new).log ≡ taken_of (L.view link.old).log }
     ensures told { (t : Maybe Transcript) → HasPassed t (L.view link.old)
         → HasPassed t (L.view link.new) }
@@ -142,6 +145,7 @@ fn read_byte<A: Responder, L: Link>(
     ensures size { OnOk result (IsSized pending.new) }
     ensures held { OnOk result ((seen : List ℕ) × IsHeld pending.new seen) }
     ensures cause { HasSessionCause (L.view link.old).faults (L.view link.new).faults result }
+    ensures stopped { IfErr result (StoppedBy (A.stopped responder.now pass.new)) }
     ensures taken { taken_of (L.view link.new).log ≡ taken_of (L.view link.old).log }
     ensures told { (t : Maybe Transcript) → HasPassed t (L.view link.old)
         → HasPassed t (L.view link.new) }
@@ -183,6 +187,7 @@ fn answer<A: Responder, L: Link>(
     ensures held { OnOk result ((seen : List ℕ) → IsEnded pending.old seen
         → IsHeld pending.new seen) }
     ensures cause { HasSessionCause (L.view link.old).faults (L.view link.new).faults result }
+    ensures stopped { IfErr result (StoppedBy (A.stopped responder.now pass.new)) }
     ensures taken { taken_of (L.view link.new).log ≡ taken_of (L.view link.old).log }
     ensures told { (t : Maybe Transcript) → HasPassed t (L.view link.old)
         → HasPassed t (L.view link.new) }

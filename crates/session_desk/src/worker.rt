@@ -2,7 +2,7 @@
 ghost use Rattle.std.specs.Prelude.{◌≡◌, ◌≤◌, [], ℕ, length, map, reverse, vec_capacity};
 ghost use Rattle.std.specs.Prelude.{IfSome, IfNone};
 ghost use Rattle.session_desk.specs.Served.{HasServed, GoesOn};
-ghost use Rattle.session_desk.specs.Private.Serving.{HasGoneOn, EndsBySession};
+ghost use Rattle.session_desk.specs.Private.Serving.{HasGoneOn, EndsBySession, EndStopped};
 
 use crate::responder::Responder;
 use crate::session::{SessionEnd, SessionFault, serve};
@@ -54,6 +54,7 @@ pub(crate) fn serve_door<R: Wait, A: Responder, D: Door>(
     ensures served { HasServed (A.answers (A.about responder.now))
         (A.begins (A.about responder.now)) links (D.view door.old) (A.own pass.old) result
         (D.view door.new) (A.own pass.new) }
+    ensures stopped { EndStopped (A.stopped responder.now pass.new) result.end }
 {
     for served in 0..links {
         if let Some(last) = serve_next(rt, alloc, responder, pass, door) {
@@ -80,6 +81,8 @@ fn serve_next<R: Wait, A: Responder, D: Door>(
     requires ready { A.ready responder.now pass.old }
     ensures ready { A.ready responder.now pass.new }
     ensures few { IfSome result (λ work. work.links ≤ 1) }
+    ensures stopped { IfSome result (λ work.
+        EndStopped (A.stopped responder.now pass.new) work.end) }
     ensures next { IfNone result (HasGoneOn (A.answers (A.about responder.now))
         (A.begins (A.about responder.now)) 1 (D.view door.old) (A.own pass.old) (D.view door.new)
         (A.own pass.new)) }

@@ -4,6 +4,7 @@ use Rattle.desk_links.specs.Doors.{DoorView}
 use Rattle.session_desk.specs.Served.{Session, links_of, HasCount, AllGoOn, IsFull, IsBroken, HadInputs}
 use Rattle.session_desk.specs.Served.{AreSessions}
 use Rattle.session_desk.specs.declared.responder.AnswerFault.{AnswerFault}
+use Rattle.session_desk.specs.declared.responder.AnswerFault.TheVariants as stops
 use Rattle.session_desk.specs.declared.session.SessionEnd.{SessionEnd}
 use Rattle.session_desk.specs.declared.session.SessionFault.{SessionFault}
 use Rattle.session_desk.specs.declared.session.SessionFault.TheVariants.{Memory as no_memory}
@@ -17,6 +18,14 @@ EndsBySession Full ended = IsFull ended
 EndsBySession Broken ended = IsBroken ended
 EndsBySession Door ended = ⊥
 EndsBySession Memory ended = ended ≡ Err no_memory
+
+-- what holds with the refusal of an ask holds where it ended the worker
+abbrev pub EndStopped : (AnswerFault → Type 0) → DoorEnd → Type 0
+EndStopped Stopped Served = Unit {0}
+EndStopped Stopped Full = (length : ℕ) × Stopped (stops.Full length)
+EndStopped Stopped Broken = (faults : ℕ) × Stopped (stops.Broken faults)
+EndStopped Stopped Door = Unit {0}
+EndStopped Stopped Memory = Unit {0}
 
 module _ {E : Type 0} (Answers : List (List ℕ) → List E → List ℕ → Type 0)
     (Begins : AnswerFault → List (List ℕ) → List E → Type 0) where
