@@ -65,6 +65,13 @@ impl<K: Disk> JournalKept<K> {
         self.found
     }
 
+    /// The put that failed, if one did.
+    pub fn failure(&self) -> Option<Failure>
+        ensures { result ≡ self.now.failure }
+    {
+        self.failure
+    }
+
     /// The disk of the journal.
     pub fn into_disk(self) -> K
         ensures { K.view result ≡ self.journal.disk }

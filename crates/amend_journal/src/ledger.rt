@@ -113,6 +113,13 @@ impl<K: Disk> JournalLedger<K> {
         self.shared.amend(rt, alloc, pass, ask)
     }
 
+    /// The same ledger, as one that keeps something beside its history.
+    pub fn shared(&self) -> &SharedLedger<JournalKept<K>>
+        ensures { result.now ≡ self.now }
+    {
+        &self.shared
+    }
+
     /// Ends the ledger. The passes are all that were made with it, in any order.
     ///
     /// The history is legal from the book at the start, and the book is its replay, which fits.

@@ -15,7 +15,7 @@ use Rattle.session_desk.specs.Stopped.{StopsAt}
 use Rattle.session_desk.specs.Private.Serving.{EndStopped}
 use Rattle.session_desk.specs.declared.worker.DoorEnd.{DoorEnd}
 use Rattle.session_desk.specs.declared.worker.DoorWork.{DoorWork}
-use Rattle.session_desk.specs.declared.worker.DoorEnd.TheVariants.{Full}
+use Rattle.session_desk.specs.declared.worker.DoorEnd.TheVariants.{Full, Broken}
 
 pub some_of : {X : Type 0} → (xs : List X) → 0 < length xs → X
 some_of [] some = absurd (omega (arith, some))
@@ -139,6 +139,32 @@ full_at_close read broken seat work us vs ss ks h most same works seats seen few
     let has : HasSeen entry_caller h (read_pass read (get_or ss i s)) = All-get_or (λ x. HasSeen entry_caller h (read_pass read x)) ss i s (omega (arith, there, paired-length seat vs ss seats)) seen in
     let begins : StartsWith h (read s.seen) = subst (λ x. StartsWith h (read x.seen)) (paired seat vs ss i s w seats there) has.0 in
     omega (arith, few, whole, starts_length h (read s.seen) begins)
+
+broken_end : {X : Type 0} (read : List X → List Entry) (broken : List X → ℕ → Type 0) (most : ℕ) (seen : List X) (end : DoorEnd) → end ≡ Broken → EndStopped (StopsAt read broken most seen) end
+    → (faults : ℕ) × broken seen faults
+broken_end read broken most seen end is stopped =
+    subst (λ (e : DoorEnd). EndStopped (StopsAt read broken most seen) e) is stopped
+
+-- the list of the turn begins with what a pass has seen with which an ask was refused since what is kept
+-- had failed, and that says so
+pub broken_at_close : {W O X : Type 0} (read : List X → List Entry) (number : X → ℕ) (broken : List X → ℕ → Type 0) (seat : W → SeatView O X) (work : W → DoorWork) (us vs : List W) (ss : List (SeatView O X))
+    (ks : List DoorWork) (told : List X) (most : ℕ)
+    → length vs ≡ length us → reverse (map work vs) ≡ ks → reverse (map seat vs) ≡ ss
+    → All (HasSeen number told) ss
+    → ((j : ℕ) (w : W) → j < length us → EndStopped (StopsAt read broken most (seat (get_or vs j w)).seen) (work (get_or vs j w)).end)
+    → (i : ℕ) (k : DoorWork) → i < length us → (get_or ks i k).end ≡ Broken
+    → (seen : List X) × StartsWith told seen × ((faults : ℕ) × broken seen faults)
+broken_at_close read number broken seat work us vs ss ks told most same works seats seen stopped i k lt is =
+    let there : i < length vs = omega (arith, lt, same) in
+    let w = some_of vs (omega (arith, there)) in
+    let j = length vs - 1 - i in
+    let below : j < length us = omega (arith, there, same) in
+    let s = seat (get_or vs j w) in
+    let ended : (work (get_or vs j w)).end ≡ Broken = ap (λ x. x.end) (sym (paired work vs ks i k w works there)) ∙ is in
+    let why = broken_end read broken most s.seen (work (get_or vs j w)).end ended (stopped j w below) in
+    let has : HasSeen number told (get_or ss i s) = All-get_or (HasSeen number told) ss i s (omega (arith, there, paired-length seat vs ss seats)) seen in
+    let begins : StartsWith told s.seen = subst (λ x. StartsWith told x.seen) (paired seat vs ss i s w seats there) has.0 in
+    (s.seen, begins, why)
 
 -- what holds of all passes of the workers holds of the passes taken apart
 pub all_apart : {W Y : Type 0} (Q : Y → Type 0) (f : W → Y) (ws : List W) (ys : List Y) → reverse (map f ws) ≡ ys → All (λ w. Q (f w)) ws → All Q ys

@@ -1,8 +1,9 @@
 //! Sessions of a ledger: over one link, and over the links of several doors at once.
-ghost use Rattle.std.specs.Prelude.{◌≡◌, ◌≤◌, ◌<◌, ◌+◌, ◌^◌, [], All, ℕ, length};
+ghost use Rattle.std.specs.Prelude.{◌≡◌, ◌≤◌, ◌<◌, ◌+◌, ◌^◌, [], All, List, ℕ, length};
 ghost use Rattle.std.specs.Prelude.{IfOk, IfErr, OnErr, slice_index_or};
 ghost use Rattle.turn_lock.specs.Seats.{SeatView, IsAtRest};
-ghost use Rattle.turn_lock.specs.History.{own};
+ghost use Rattle.turn_lock.specs.History.{StartsWith, own};
+ghost use Rattle.amend_journal.specs.Told.{read_told, EndsBroken};
 ghost use Rattle.scr_reader.specs.Again.{IsFitItem};
 ghost use Rattle.scr_reader.specs.declared.line.Item.{Item as ItemValue};
 ghost use Rattle.holding_book.specs.Histories.{IsLegal};
@@ -16,6 +17,7 @@ ghost use Rattle.session_desk.specs.Served.{HasServed};
 ghost use Rattle.session_desk.specs.declared.doors.TheConstants.{MOST_DOORS};
 ghost use Rattle.session_desk.specs.declared.worker.DoorWork.{DoorWork as DoorWorkValue};
 ghost use Rattle.session_desk.specs.declared.worker.DoorEnd.TheVariants.{Full as full_end};
+ghost use Rattle.session_desk.specs.declared.worker.DoorEnd.TheVariants.{Broken as broken_end};
 ghost use Rattle.session_desk.specs.Stopped.{StoppedBy, StopsAt};
 ghost use Rattle.session_desk.specs.Private.Serving.{EndStopped};
 ghost use Rattle.session_desk.specs.Begun.{IsAnsweredBy, IsBegunBy, HasBroken, TakesFit};
@@ -24,6 +26,8 @@ ghost use Rattle.session_desk.specs.Begun.{desk_caller, ledger_caller};
 use crate::amending::{Amending, AtGate};
 use crate::session::{SessionEnd, SessionFault, serve};
 use crate::worker::{DoorWork, Worker, pair_up, serve_door, take_apart};
+use amend_journal::{JournalLedger, JournalPass};
+use desk_disk::Disk;
 use desk_links::{Door, Link};
 use holding_book::{Book, Entry};
 use season_days::Season;
@@ -83,6 +87,41 @@ pub fn serve_link<R: Wait, G: Gate, B: Beside, L: Link>(
         caller: pass.number(),
     };
     serve(rt, alloc, &amending, pass, link)
+}
+
+/// Serves one link over a ledger with a journal, which has each ask before it is answered: as
+/// `serve_link`, and `Broken` where a put of the journal has failed.
+pub fn serve_journaled<R: Wait, G: Gate, K: Disk, L: Link>(
+    rt: &R,
+    alloc: Global,
+    gate: &G,
+    ledger: &JournalLedger<K>,
+    pass: &mut JournalPass<K>,
+    season: &Season,
+    airport: Station,
+    link: &mut L,
+    worker: u32,
+) -> Result<SessionEnd, SessionFault>
+    requires rest { IsAtRest ledger.now pass.old }
+    requires season { season.now ≡ ledger.now.origin.start.declaration.season }
+    requires airport { airport ≡ ledger.now.origin.start.declaration.airport }
+    requires caller { pass.old.number < 256 }
+    requires fresh { IsFresh (L.view link.old) }
+    ensures rest { IsAtRest ledger.now pass.new }
+    ensures number { pass.new.number ≡ pass.old.number }
+    ensures cause { HasSessionCause (L.view link.old).faults (L.view link.new).faults result }
+    ensures told { HasPassed (L.view link.old).told (L.view link.new) }
+    ensures stopped { IfErr result (StoppedBy (StopsAt read_told EndsBroken
+        ledger.now.origin.start.most pass.new.seen)) }
+    ensures session { IsSession
+        (IsAnsweredBy (ledger_caller ledger.now.origin.beside.count ledger.now.origin.start
+        pass.old.number))
+        (IsBegunBy (HasBroken EndsBroken)
+        (ledger_caller ledger.now.origin.beside.count ledger.now.origin.start pass.old.number))
+        (read_told pass.old.own) result (L.view link.new) (read_told pass.new.own) }
+{
+    let shared = ledger.shared();
+    serve_link(rt, alloc, gate, shared, pass, season, airport, link, worker)
 }
 
 /// The work of one worker at its door.
@@ -231,6 +270,10 @@ pub fn serve_doors<R: Threads + Wait + Sync, G: Gate, B: Beside + Send, D: Door 
         All (λ entry. entry.caller < length doors.old.items) done.0.items) }
     ensures full { IfOk result (λ done. (n : ℕ) (k : DoorWorkValue) → n < length doors.old.items
         → (slice_index_or done.1.items n k).end ≡ full_end → length done.0.items ≡ most) }
+    ensures broken { IfOk result (λ done. (n : ℕ) (k : DoorWorkValue)
+        → n < length doors.old.items → (slice_index_or done.1.items n k).end ≡ broken_end
+        → (seen : List B.Told) × StartsWith (B.told done.2 done.0.items) seen
+        × ((faults : ℕ) × B.broken seen faults)) }
     ensures start { IfOk result (λ done. B.start done.2 ≡ B.start beside) }
     ensures agrees { IfOk result (λ done. B.agrees done.2 done.0.items) }
     ensures each { IfOk result (λ done. (n : ℕ) (d : D) (k : DoorWork)

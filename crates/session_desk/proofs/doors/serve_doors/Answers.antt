@@ -7,7 +7,7 @@ use Rattle.session_desk.specs.Begun.{IsAnsweredBy, IsBegunBy, HasBroken, desk_ca
 use Rattle.session_desk.specs.declared.amending.DeskCaller.{DeskCaller}
 use Rattle.turn_lock.specs.History.{own}
 use Rattle.slot_ledger.specs.Starts.{entry_caller}
-use Rattle.session_desk.proofs.JoinLemmas.{joined, numbered, below_count, new_length, all_apart, all_paired, same_caller, full_at_close, written_back, paired-length}
+use Rattle.session_desk.proofs.JoinLemmas.{joined, numbered, below_count, new_length, all_apart, all_paired, same_caller, full_at_close, broken_at_close, written_back, paired-length}
 use Rattle.session_desk.proofs.doors.serve_doors.Goals as goal
 
 pub pair_up-requires-clause-same : goal.pair_up-requires-clause-same
@@ -104,3 +104,16 @@ returns-clause-full g c i k lt is =
     full_at_close g.B.Beside.read g.B.Beside.broken (λ w. w.pass) (λ w. w.work) us vs c.take_apart.new.passes.items c.take_apart.new.works.items c.close-history.result.1.items origin.start.most
     same (sym (c.take_apart.ensures.works ∙ ap (λ l. reverse (map (λ w. w.work) l)) whole)) (sym (c.take_apart.ensures.passes ∙ ap (λ l. reverse (map (λ w. w.pass) l)) whole)) c.close-history.ensures.seen c.close-history.ensures.few stopped i k there is
     ∙ c.in_ok-ledger.ensures.most
+
+pub returns-clause-broken : goal.returns-clause-broken
+returns-clause-broken g c i k lt is =
+    let us = c.pair_up.new.workers.items in
+    let vs = c.serve_all.new.workers in
+    let origin = c.in_ok-ledger.ledger.origin in
+    let same : length vs ≡ length us = c.serve_all.auto.workers ∙ ap length c.as_mut_slice.ensures.value in
+    let whole = written_back vs us c.pair_up.new.workers.len same (omega (arith, c.pair_up.new.workers.ok.0)) in
+    let stopped = rw c.as_mut_slice.ensures.value at c.serve_all.ensures.stopped in
+    let there : i < length us = omega (arith, lt, paired-length (λ w. w.door) us c.args.doors.now.items c.pair_up.ensures.doors) in
+    broken_at_close g.B.Beside.read g.B.Beside.number g.B.Beside.broken (λ w. w.pass) (λ w. w.work) us vs c.take_apart.new.passes.items c.take_apart.new.works.items
+    (g.B.Beside.told c.close-history.result.2 c.close-history.result.1.items) origin.start.most
+    same (sym (c.take_apart.ensures.works ∙ ap (λ l. reverse (map (λ w. w.work) l)) whole)) (sym (c.take_apart.ensures.passes ∙ ap (λ l. reverse (map (λ w. w.pass) l)) whole)) c.close-history.ensures.told stopped i k there is
