@@ -115,7 +115,9 @@ impl<K: Disk> JournalLedger<K> {
 
     /// The same ledger, as one that keeps something beside its history.
     pub fn shared(&self) -> &SharedLedger<JournalKept<K>>
-        ensures { result.now ≡ self.now }
+        ensures same { result.now ≡ self.now }
+        ensures season { self.now.origin.beside.season
+            ≡ self.now.origin.start.declaration.season }
     {
         &self.shared
     }
