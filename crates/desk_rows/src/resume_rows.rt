@@ -1,7 +1,7 @@
 //! The rows of `resume`: a journal that is begun and opened again, files that are no journal, disks
 //! of which each call fails, and images that a stop may leave at each moment.
 
-use crate::desk_calls::{call_with_disk, door_of};
+use crate::desk_calls::{call_with_disk, door_of, new_cabinet};
 use crate::serve_rows::served_cabinet;
 use crate::texts::{fits, folded, spelled_out};
 use desk_disk::MemoryDisk;
@@ -315,41 +315,51 @@ fn images_of_a_stop_are_opened(rt: HostRuntime) -> Result<(), Fail> {
     Ok(())
 }
 
+/// Runs the desk on these files, of which a call is to fail, or the output, and gives what it said and
+/// how many pairs the journal has then.
+fn run_failing<R: Threads + Wait + Sync>(
+    rt: &R,
+    alloc: Global,
+    files: &MemoryCabinet,
+    call: Option<Failure>,
+    sink: Option<Failure>,
+) -> Result<(String, usize), Fail> {
+    let mut cabinet = new_cabinet(alloc, 300_000, call)?;
+    for name in ["CAP", "SCR", "CERT"] {
+        let _ = cabinet.load(name, files.file(name).ok_or("no such file")?);
+    }
+    let mut disk = Some(MemoryDisk::new(alloc, b"", ROOM, 99, Vec::new(alloc))?);
+    let mut doors = Vec::new(alloc);
+    doors.push(door_of(alloc, ASKS, 0, None, None)?)?;
+    let said = call_with_disk(
+        rt,
+        alloc,
+        WORDS,
+        &mut cabinet,
+        sink,
+        &mut doors,
+        &RealGate,
+        &mut disk,
+    )?;
+    let Some(disk) = disk else {
+        return Err("the disk is gone".into());
+    };
+    let mut whole = served_cabinet(rt, alloc)?;
+    let found = kept(rt, alloc, &mut whole, disk.bytes())?;
+    Ok((said, found))
+}
+
 /// The record cannot be written, or what is said not be put: the journal has all entries.
 #[test]
 fn the_journal_stands_where_the_record_fails(rt: HostRuntime) -> Result<(), Fail> {
     let alloc = rt.alloc();
-    let mut cabinet = served_cabinet(&rt, alloc)?;
-    for sink in [None, Some(Failure::at(0))] {
-        let mut disk = Some(MemoryDisk::new(alloc, b"", ROOM, 99, Vec::new(alloc))?);
-        let mut doors = Vec::new(alloc);
-        doors.push(door_of(alloc, ASKS, 0, None, None)?)?;
-        let doors = &mut doors;
-        let words = if sink.is_some() {
-            WORDS
-        } else {
-            "resume CAP SCR CERT JOURNAL /"
-        };
-        let said = call_with_disk(
-            &rt,
-            alloc,
-            words,
-            &mut cabinet,
-            sink,
-            doors,
-            &RealGate,
-            &mut disk,
-        )?;
-        let due = if sink.is_some() {
-            "6 "
-        } else {
-            "0 KEPT 0;ENTRIES 2;LINKS 1;"
-        };
-        assert_eq!(rt; said.as_str(), due);
-        let Some(disk) = disk else {
-            return Err("the disk is gone".into());
-        };
-        assert_eq!(rt; kept(&rt, alloc, &mut cabinet, disk.bytes())?, 2);
-    }
+    let files = served_cabinet(&rt, alloc)?;
+    let fails = Some(Failure::at(3));
+    let (said, found) = run_failing(&rt, alloc, &files, fails, None)?;
+    assert_eq!(rt; said.as_str(), "5 CABINET RECORD WRITE;");
+    assert_eq!(rt; found, 2);
+    let (said, found) = run_failing(&rt, alloc, &files, None, Some(Failure::at(0)))?;
+    assert_eq!(rt; said.as_str(), "6 ");
+    assert_eq!(rt; found, 2);
     Ok(())
 }
