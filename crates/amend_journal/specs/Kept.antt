@@ -12,6 +12,7 @@ use Rattle.holding_book.specs.declared.answer.Entry.{Entry}
 use Rattle.holding_book.specs.Books.{SlotBook}
 use Rattle.holding_book.specs.Asks.{next}
 use Rattle.amend_journal.specs.Format.{IsFit, IsJournalOf}
+use Rattle.amend_journal.specs.Standing.{StandsFor}
 use Rattle.amend_journal.specs.Durable.{JournalView, AreDurable, MayHavePair, IsLaterDisk}
 use Rattle.amend_journal.specs.declared.asked.Asked.{Asked}
 use Rattle.amend_journal.specs.declared.told.Failure.{Failure}
@@ -42,6 +43,11 @@ ForDurable began P = (s : DiskStart) (pairs : List Asked)
 abbrev pub IsJournalOfSome : Term → List Asked → List Asked → List ℕ → Type 0
 IsJournalOfSome season pairs asks file = (part : List Asked) × StartsWith asks part
     × IsJournalOf season (pairs ++ part) file
+
+-- the image stands for the pairs and a beginning of what was asked since
+abbrev pub StandsForSome : Term → List Asked → List Asked → List ℕ → Type 0
+StandsForSome season pairs asks image = (part : List Asked) × StartsWith asks part
+    × StandsFor season (pairs ++ part) image
 
 -- at each moment since the ledger began every image is such a journal
 abbrev pub AreMoments : JournalView → DiskView → List Asked → Type 0

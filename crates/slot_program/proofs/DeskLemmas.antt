@@ -8,28 +8,30 @@ use Rattle.wasg_stages.specs.Valid.{IsValid, MarksHold}
 use Rattle.series_model.specs.Submissions.{SubmissionView}
 use Rattle.cert_format.specs.declared.cert.Certificate.{Certificate}
 use Rattle.command_words.specs.Words.{Word}
-use Rattle.slot_program.specs.Reports.{Report, Refusal, no_command, refused, unread, unwritten, finished, status_of, text_of, refusal_status, missing, large, out_of_form, over_limit, not_valid}
+use Rattle.slot_program.specs.Reports.{Report, Refusal, no_command, refused, unread, unwritten, finished, status_of, text_of, refusal_status, missing, large, out_of_form, over_limit, not_valid, JournalRefusal, no_journal, other_journal, bad_slot, journal_fault, journal_status, unopened}
 use Rattle.slot_program.specs.Judgements.{NamedBytes}
 use Rattle.slot_program.specs.Steps.{Step, reads, judges, names_read, PassFrom, AllPass}
 use Rattle.slot_program.specs.Writing.{read_of, written_of}
-use Rattle.slot_program.specs.Jobs.{AreFilesOf, name_at, check_steps, steps_of, names_written, searched_statuses, served_statuses, finished_statuses, finishing_of, FileWorks, ServiceWorks, Works, HeadlineHolds}
-use Rattle.slot_program.specs.Outside.{OutsideChange, IsStill, door_faults, SomeRose}
-use Rattle.slot_program.specs.Desk.{World, IsFinished, JobEnds, Ends, IsStatus}
+use Rattle.slot_program.specs.Jobs.{AreFilesOf, name_at, check_steps, steps_of, names_written, searched_statuses, served_statuses, resumed_statuses, finished_statuses, calm_statuses, finishing_of, FileWorks, ServiceWorks, ResumeWorks, Works, HeadlineHolds}
+use Rattle.slot_program.specs.Outside.{OutsideChange, IsStill, door_faults, disk_faults, SomeRose, DiskRose}
+use Rattle.slot_program.specs.Desk.{World, IsFinished, EndsUnopened, JobEnds, Ends, IsStatus}
 use Rattle.slot_program.specs.Answers.{ToldExact, IsExact}
 use Rattle.slot_program.proofs.EndLemmas.{works_finishing}
 use Rattle.slot_program.proofs.ServiceLemmas.{works_calm, works_risen}
+use Rattle.slot_program.proofs.JournalLemmas.{works_disk_calm, works_disk_risen, without_calm, without_risen}
 use Rattle.command_words.specs.declared.job.Job.{Job}
-use Rattle.command_words.specs.declared.job.Job.TheVariants.{Allocate, Check, Amend, Serve, Make, Trial}
+use Rattle.command_words.specs.declared.job.Job.TheVariants.{Allocate, Check, Amend, Serve, Resume, Make, Trial}
 
 -- ---- statuses of work that is done
 
-pub among_finished : (n : ℕ) → Contains finished_statuses n → (n ≡ 0) ⊎ ((8 ≤ n) × (n ≤ 11))
+pub among_finished : (n : ℕ) → Contains finished_statuses n → (n ≡ 0) ⊎ ((8 ≤ n) × (n ≤ 14))
 among_finished n (zero, lt, is) = inl (sym is)
 among_finished n (suc zero, lt, is) = inr (omega (arith, is), omega (arith, is))
 among_finished n (suc (suc zero), lt, is) = inr (omega (arith, is), omega (arith, is))
 among_finished n (suc (suc (suc zero)), lt, is) = inr (omega (arith, is), omega (arith, is))
 among_finished n (suc (suc (suc (suc zero))), lt, is) = inr (omega (arith, is), omega (arith, is))
-among_finished n (suc (suc (suc (suc (suc k)))), lt, is) = absurd (omega (arith, lt))
+among_finished n (suc (suc (suc (suc (suc zero)))), lt, is) = inr (omega (arith, is), omega (arith, is))
+among_finished n (suc (suc (suc (suc (suc (suc k))))), lt, is) = absurd (omega (arith, lt))
 
 among_zero : (n : ℕ) → Contains {X = ℕ} (0 ∷ []) n → Contains finished_statuses n
 among_zero n (zero, lt, is) = (0, omega arith, is)
@@ -47,11 +49,19 @@ among_served n (suc zero, lt, is) = (3, omega arith, is)
 among_served n (suc (suc zero), lt, is) = (4, omega arith, is)
 among_served n (suc (suc (suc k)), lt, is) = absurd (omega (arith, lt))
 
+among_resumed : (n : ℕ) → Contains resumed_statuses n → Contains finished_statuses n
+among_resumed n (zero, lt, is) = (0, omega arith, is)
+among_resumed n (suc zero, lt, is) = (3, omega arith, is)
+among_resumed n (suc (suc zero), lt, is) = (4, omega arith, is)
+among_resumed n (suc (suc (suc zero)), lt, is) = (5, omega arith, is)
+among_resumed n (suc (suc (suc (suc k))), lt, is) = absurd (omega (arith, lt))
+
 pub finishing_among : (job : Job) (n : ℕ) → Contains (finishing_of job) n → Contains finished_statuses n
 finishing_among (Allocate names nodes workers) n one = among_searched n one
 finishing_among (Check names) n one = among_zero n one
 finishing_among (Amend names) n one = among_zero n one
 finishing_among (Serve names links port workers) n one = among_served n one
+finishing_among (Resume names links port workers) n one = among_resumed n one
 finishing_among (Make number units names) n one = among_zero n one
 finishing_among (Trial number units) n one = among_searched n one
 
@@ -63,6 +73,16 @@ not_finished n low high one =
       | inr range ↦ omega (arith, low, high, range.0)
     ]
 
+pub not_calm : (n : ℕ) → 1 ≤ n → n ≤ 7 → Contains calm_statuses n → ⊥
+not_calm n low high (zero, lt, is) = omega (arith, low, is)
+not_calm n low high (suc zero, lt, is) = omega (arith, high, is)
+not_calm n low high (suc (suc zero), lt, is) = omega (arith, high, is)
+not_calm n low high (suc (suc (suc zero)), lt, is) = omega (arith, high, is)
+not_calm n low high (suc (suc (suc (suc zero))), lt, is) = omega (arith, high, is)
+not_calm n low high (suc (suc (suc (suc (suc zero)))), lt, is) = omega (arith, high, is)
+not_calm n low high (suc (suc (suc (suc (suc (suc zero))))), lt, is) = omega (arith, high, is)
+not_calm n low high (suc (suc (suc (suc (suc (suc (suc k)))))), lt, is) = absurd (omega (arith, lt))
+
 pub finishing_not : (job : Job) (n : ℕ) → 1 ≤ n → n ≤ 7 → Contains (finishing_of job) n → ⊥
 finishing_not job n low high one = not_finished n low high (finishing_among job n one)
 
@@ -72,7 +92,8 @@ finished_is_status n (suc zero, lt, is) = (8, omega arith, is)
 finished_is_status n (suc (suc zero), lt, is) = (9, omega arith, is)
 finished_is_status n (suc (suc (suc zero)), lt, is) = (10, omega arith, is)
 finished_is_status n (suc (suc (suc (suc zero))), lt, is) = (11, omega arith, is)
-finished_is_status n (suc (suc (suc (suc (suc k)))), lt, is) = absurd (omega (arith, lt))
+finished_is_status n (suc (suc (suc (suc (suc zero)))), lt, is) = (13, omega arith, is)
+finished_is_status n (suc (suc (suc (suc (suc (suc k))))), lt, is) = absurd (omega (arith, lt))
 
 -- ---- the status of a refusal
 
@@ -97,6 +118,37 @@ refusal_is_status (out_of_form name line) = (3, omega arith, refl)
 refusal_is_status (over_limit name number) = (4, omega arith, refl)
 refusal_is_status (not_valid line reason) = (1, omega arith, refl)
 
+-- ---- the status of a journal that was not opened
+
+journal_range : (why : JournalRefusal) → (13 ≤ journal_status why) × (journal_status why ≤ 14)
+journal_range no_journal = (omega arith, omega arith)
+journal_range other_journal = (omega arith, omega arith)
+journal_range (bad_slot number) = (omega arith, omega arith)
+journal_range journal_fault = (omega arith, omega arith)
+
+journal_is_status : (why : JournalRefusal) → IsStatus (journal_status why)
+journal_is_status no_journal = (12, omega arith, refl)
+journal_is_status other_journal = (12, omega arith, refl)
+journal_is_status (bad_slot number) = (12, omega arith, refl)
+journal_is_status journal_fault = (13, omega arith, refl)
+
+low_or_last : (n : ℕ) → Contains finished_statuses n → (n ≤ 11) ⊎ (n ≡ 14)
+low_or_last n (zero, lt, is) = inl (omega (arith, is))
+low_or_last n (suc zero, lt, is) = inl (omega (arith, is))
+low_or_last n (suc (suc zero), lt, is) = inl (omega (arith, is))
+low_or_last n (suc (suc (suc zero)), lt, is) = inl (omega (arith, is))
+low_or_last n (suc (suc (suc (suc zero))), lt, is) = inl (omega (arith, is))
+low_or_last n (suc (suc (suc (suc (suc zero)))), lt, is) = inr (sym is)
+low_or_last n (suc (suc (suc (suc (suc (suc k))))), lt, is) = absurd (omega (arith, lt))
+
+-- among the statuses of work that is done it is 14 alone
+journal_finishing : (why : JournalRefusal) → Contains finished_statuses (journal_status why) → journal_status why ≡ 14
+journal_finishing why one =
+    elim (low_or_last (journal_status why) one) [
+      | inl low ↦ absurd (omega (arith, low, (journal_range why).0))
+      | inr is ↦ is
+    ]
+
 -- ---- the end of a job
 
 module _ (job : Job) (w : World) (change : OutsideChange) (v : World) where
@@ -106,6 +158,7 @@ module _ (job : Job) (w : World) (change : OutsideChange) (v : World) where
   job_is_status : (report : Report) → JobEnds job w change report v → IsStatus (status_of report)
   job_is_status no_command ends = absurd ends
   job_is_status (refused refusal) ends = refusal_is_status refusal
+  job_is_status (unopened why) ends = journal_is_status why
   job_is_status (unread name) ends = (5, omega arith, refl)
   job_is_status (unwritten name) ends = (5, omega arith, refl)
   job_is_status (finished status text) ends = finished_is_status status (finished_among status text ends)
@@ -113,6 +166,7 @@ module _ (job : Job) (w : World) (change : OutsideChange) (v : World) where
   job_not_two : (report : Report) → status_of report ≡ 2 → JobEnds job w change report v → ⊥
   job_not_two no_command e ends = ends
   job_not_two (refused refusal) e ends = refusal_not_two refusal e
+  job_not_two (unopened why) e ends = omega (arith, e, (journal_range why).0)
   job_not_two (unread name) e ends = omega (arith, e)
   job_not_two (unwritten name) e ends = omega (arith, e)
   job_not_two (finished status text) e ends = not_finished status (omega (arith, e)) (omega (arith, e)) (finished_among status text ends)
@@ -120,16 +174,49 @@ module _ (job : Job) (w : World) (change : OutsideChange) (v : World) where
   job_not_six : (report : Report) → status_of report ≡ 6 → JobEnds job w change report v → ⊥
   job_not_six no_command e ends = ends
   job_not_six (refused refusal) e ends = omega (arith, e, (refusal_range refusal).1)
+  job_not_six (unopened why) e ends = omega (arith, e, (journal_range why).0)
   job_not_six (unread name) e ends = omega (arith, e)
   job_not_six (unwritten name) e ends = omega (arith, e)
   job_not_six (finished status text) e ends = not_finished status (omega (arith, e)) (omega (arith, e)) (finished_among status text ends)
 
-  pub ended_finished : (report : Report) → Contains finished_statuses (status_of report) → JobEnds job w change report v → IsFinished job w change (status_of report) (text_of report) v
-  ended_finished no_command one ends = absurd ends
-  ended_finished (refused refusal) one ends = absurd (not_finished (refusal_status refusal) (refusal_range refusal).0 (omega (arith, (refusal_range refusal).1)) one)
-  ended_finished (unread name) one ends = absurd (not_finished 5 (omega arith) (omega arith) one)
-  ended_finished (unwritten name) one ends = absurd (not_finished 5 (omega arith) (omega arith) one)
-  ended_finished (finished status text) one ends = ends
+  pub ended_finished : (report : Report) → Contains finished_statuses (status_of report) → (status_of report ≡ 14 → ⊥) → JobEnds job w change report v → IsFinished job w change (status_of report) (text_of report) v
+  ended_finished no_command one not ends = absurd ends
+  ended_finished (refused refusal) one not ends = absurd (not_finished (refusal_status refusal) (refusal_range refusal).0 (omega (arith, (refusal_range refusal).1)) one)
+  ended_finished (unopened why) one not ends = absurd (not (journal_finishing why one))
+  ended_finished (unread name) one not ends = absurd (not_finished 5 (omega arith) (omega arith) one)
+  ended_finished (unwritten name) one not ends = absurd (not_finished 5 (omega arith) (omega arith) one)
+  ended_finished (finished status text) one not ends = ends
+
+  -- at one of the statuses of work that is done, and at that of a journal that was not opened, no call of
+  -- the cabinet failed
+  job_calm : (report : Report) → Contains calm_statuses (status_of report) → JobEnds job w change report v → v.faults ≡ w.faults
+  job_calm no_command one ends = absurd ends
+  job_calm (refused refusal) one ends = absurd (not_calm (refusal_status refusal) (refusal_range refusal).0 (omega (arith, (refusal_range refusal).1)) one)
+  job_calm (unopened why) one ends = ends.calm
+  job_calm (unread name) one ends = absurd (not_calm 5 (omega arith) (omega arith) one)
+  job_calm (unwritten name) one ends = absurd (not_calm 5 (omega arith) (omega arith) one)
+  job_calm (finished status text) one ends = ends.calm
+
+  -- the disk stands still but where it failed
+  job_disk_calm : (report : Report) → (status_of report ≡ 5 → ⊥) → (status_of report ≡ 14 → ⊥) → JobEnds job w change report v → disk_faults change.after ≡ disk_faults change.before
+  job_disk_calm no_command five not ends = absurd ends
+  job_disk_calm (refused refusal) five not ends = ap disk_faults ends.0
+  job_disk_calm (unopened why) five not ends = without_calm job ends.inputs change why not ends.refused
+  job_disk_calm (unread name) five not ends = absurd (five refl)
+  job_disk_calm (unwritten name) five not ends = absurd (five refl)
+  job_disk_calm (finished status text) five not ends = works_disk_calm job ends.inputs ends.writes change status text not ends.work
+
+  -- and failed at 14: the journal was not opened, or a put failed
+  job_disk_risen : (report : Report) → status_of report ≡ 14 → JobEnds job w change report v → DiskRose change.before.disk change.after.disk
+      × (((why : JournalRefusal) × (report ≡ unopened why) × EndsUnopened job w change why v) ⊎ IsFinished job w change 14 (text_of report) v)
+  job_disk_risen no_command is ends = absurd ends
+  job_disk_risen (refused refusal) is ends = absurd (omega (arith, is, (refusal_range refusal).1))
+  job_disk_risen (unopened why) is ends = (without_risen job ends.inputs change why is ends.refused, inl (why, refl, ends))
+  job_disk_risen (unread name) is ends = absurd (omega (arith, is))
+  job_disk_risen (unwritten name) is ends = absurd (omega (arith, is))
+  job_disk_risen (finished status text) is ends =
+      let done = subst (λ (n : ℕ). IsFinished job w change n text v) is ends in
+      (works_disk_risen job done.inputs done.writes change text done.work (works_finishing job done.inputs done.writes change 14 text done.work), inr done)
 
 -- ---- any words
 
@@ -145,9 +232,24 @@ pub not_six : (job : Option Job) (w : World) (change : OutsideChange) (report : 
 not_six None w change report v e ends = omega (arith, e, ap status_of ends.0)
 not_six (Some job) w change report v e ends = job_not_six job w change v report e ends
 
-pub finished_is_calm : (job : Option Job) (w : World) (change : OutsideChange) (report : Report) (v : World) → Contains finished_statuses (status_of report) → Ends job w change report v → v.faults ≡ w.faults
-finished_is_calm None w change report v one ends = absurd (not_finished 2 (omega arith) (omega arith) (subst (λ (n : ℕ). Contains finished_statuses n) (ap status_of ends.0) one))
-finished_is_calm (Some job) w change report v one ends = (ended_finished job w change v report one ends).calm
+pub finished_is_calm : (job : Option Job) (w : World) (change : OutsideChange) (report : Report) (v : World) → Contains calm_statuses (status_of report) → Ends job w change report v → v.faults ≡ w.faults
+finished_is_calm None w change report v one ends = absurd (not_calm 2 (omega arith) (omega arith) (subst (λ (n : ℕ). Contains calm_statuses n) (ap status_of ends.0) one))
+finished_is_calm (Some job) w change report v one ends = job_calm job w change v report one ends
+
+pub disk_is_calm : (job : Option Job) (w : World) (change : OutsideChange) (report : Report) (v : World) → (status_of report ≡ 5 → ⊥) → (status_of report ≡ 14 → ⊥) → Ends job w change report v → disk_faults change.after ≡ disk_faults change.before
+disk_is_calm None w change report v five not ends = ap disk_faults ends.2
+disk_is_calm (Some job) w change report v five not ends = job_disk_calm job w change v report five not ends
+
+pub disk_has_risen : (o : Option Job) (w : World) (change : OutsideChange) (report : Report) (v : World) → status_of report ≡ 14 → Ends o w change report v
+    → (job : Job) × (o ≡ Some job) × DiskRose change.before.disk change.after.disk
+    × (((why : JournalRefusal) × (report ≡ unopened why) × EndsUnopened job w change why v) ⊎ IsFinished job w change 14 (text_of report) v)
+disk_has_risen None w change report v is ends = absurd (omega (arith, is, ap status_of ends.0))
+disk_has_risen (Some job) w change report v is ends = (job, refl, job_disk_risen job w change v report is ends)
+
+-- what is reported of a journal that was not opened
+pub ends_unopened : (o : Option Job) (job : Job) (w : World) (change : OutsideChange) (report : Report) (v : World) (why : JournalRefusal) → o ≡ Some job → report ≡ unopened why → Ends o w change report v → EndsUnopened job w change why v
+ends_unopened o job w change report v why e is ends =
+    subst (λ (r : Report). JobEnds job w change r v) is (subst (λ (p : Option Job). Ends p w change report v) e ends)
 
 pub none_ends : (job : Option Job) (w : World) (change : OutsideChange) (report : Report) (v : World) → job ≡ None → Ends job w change report v → (v ≡ w) × IsStill change × (status_of report ≡ 2)
 none_ends None w change report v e ends = (ends.1, ends.2, ap status_of ends.0)
@@ -161,8 +263,8 @@ no_job None none = refl
 no_job (Some j) none = absurd (none j refl)
 
 -- a job that ended with a status of those that finish it is finished
-pub is_finished : (o : Option Job) (job : Job) (w : World) (change : OutsideChange) (report : Report) (v : World) → o ≡ Some job → Contains (finishing_of job) (status_of report) → Ends o w change report v → IsFinished job w change (status_of report) (text_of report) v
-is_finished o job w change report v e one ends = ended_finished job w change v report (finishing_among job (status_of report) one) (job_ends o job w change report v e ends)
+pub is_finished : (o : Option Job) (job : Job) (w : World) (change : OutsideChange) (report : Report) (v : World) → o ≡ Some job → Contains (finishing_of job) (status_of report) → (status_of report ≡ 14 → ⊥) → Ends o w change report v → IsFinished job w change (status_of report) (text_of report) v
+is_finished o job w change report v e one not ends = ended_finished job w change v report (finishing_among job (status_of report) one) not (job_ends o job w change report v e ends)
 
 -- ---- faults of doors
 
@@ -173,13 +275,13 @@ doors_calm (Some job) w change report v one ends =
       | inl is ↦ (0, omega arith, sym is)
       | inr is ↦ (4, omega arith, sym is)
     ] in
-    let done = ended_finished job w change v report among ends in
+    let done = ended_finished job w change v report among (λ bad. elim one [ inl is ↦ omega (arith, is, bad) | inr is ↦ omega (arith, is, bad) ]) ends in
     works_calm job done.inputs done.writes change (status_of report) (text_of report) done.work one
 
 pub door_risen : (o : Option Job) (w : World) (change : OutsideChange) (report : Report) (v : World) → status_of report ≡ 10 → Ends o w change report v → SomeRose change.before.doors change.after.doors
 door_risen None w change report v ten ends = absurd (omega (arith, ten, ap status_of ends.0))
 door_risen (Some job) w change report v ten ends =
-    let done = ended_finished job w change v report (3, omega arith, sym ten) ends in
+    let done = ended_finished job w change v report (3, omega arith, sym ten) (λ bad. omega (arith, ten, bad)) ends in
     let work = subst (λ (n : ℕ). Works job done.inputs done.writes change n (text_of report)) ten done.work in
     works_risen job done.inputs done.writes change (text_of report) work (works_finishing job done.inputs done.writes change 10 (text_of report) work)
 
@@ -224,6 +326,7 @@ file_named (Amend names) (capacity ∷ requests ∷ certificate ∷ []) writes s
 file_named (Amend names) (capacity ∷ requests ∷ certificate ∷ asks ∷ []) writes status text work = ap (λ (l : List NamedBytes). named l) work.written
 file_named (Amend names) (capacity ∷ requests ∷ certificate ∷ asks ∷ more ∷ rest) writes status text work = absurd work
 file_named (Serve names links port workers) inputs writes status text work = absurd work
+file_named (Resume names links port workers) inputs writes status text work = absurd work
 file_named (Make number units names) [] writes status text work = ap (λ (l : List NamedBytes). named l) work.written
 file_named (Make number units names) (file ∷ rest) writes status text work = absurd work
 file_named (Trial number units) [] writes status text work = ap (λ (l : List NamedBytes). named l) work.written
@@ -236,11 +339,19 @@ service_named names links (capacity ∷ requests ∷ []) writes change status te
 service_named names links (capacity ∷ requests ∷ certificate ∷ []) writes change status text work = ap (λ (l : List NamedBytes). named l) work.written
 service_named names links (capacity ∷ requests ∷ certificate ∷ more ∷ rest) writes change status text work = absurd work
 
+resume_named : (names : List Word) (links : ℕ) (inputs writes : List NamedBytes) (change : OutsideChange) (status : ℕ) (text : List ℕ) → ResumeWorks names links inputs writes change status text → named writes ≡ name_at names 4 ∷ []
+resume_named names links [] writes change status text work = absurd work
+resume_named names links (capacity ∷ []) writes change status text work = absurd work
+resume_named names links (capacity ∷ requests ∷ []) writes change status text work = absurd work
+resume_named names links (capacity ∷ requests ∷ certificate ∷ []) writes change status text work = ap (λ (l : List NamedBytes). named l) work.written
+resume_named names links (capacity ∷ requests ∷ certificate ∷ more ∷ rest) writes change status text work = absurd work
+
 works_named : (job : Job) (inputs writes : List NamedBytes) (change : OutsideChange) (status : ℕ) (text : List ℕ) → Works job inputs writes change status text → named writes ≡ names_written job
 works_named (Allocate names nodes workers) inputs writes change status text work = file_named (Allocate names nodes workers) inputs writes status text work.1
 works_named (Check names) inputs writes change status text work = file_named (Check names) inputs writes status text work.1
 works_named (Amend names) inputs writes change status text work = file_named (Amend names) inputs writes status text work.1
 works_named (Serve names links port workers) inputs writes change status text work = service_named names links inputs writes change status text work
+works_named (Resume names links port workers) inputs writes change status text work = resume_named names links inputs writes change status text work
 works_named (Make number units names) inputs writes change status text work = file_named (Make number units names) inputs writes status text work.1
 works_named (Trial number units) inputs writes change status text work = file_named (Trial number units) inputs writes status text work.1
 
@@ -281,6 +392,7 @@ module _ (marks : (s : SubmissionView) (c : Certificate) → IsValid s c → Mar
       (work.season, work.proved, work.spelled, record { made = work.made; valid = work.valid; marks = marks work.season work.proved work.valid }, work.output)
   file_marks (Amend names) files (capacity ∷ requests ∷ certificate ∷ asks ∷ more ∷ rest) writes change status text pass work = absurd work
   file_marks (Serve names links port workers) files done writes change status text pass work = absurd work
+  file_marks (Resume names links port workers) files done writes change status text pass work = absurd work
   file_marks (Make number units names) files done writes change status text pass work = tt
   file_marks (Trial number units) files [] writes change status text pass work =
       subst (λ (l : List NamedBytes). HeadlineHolds (Trial number units) [] l change status text) (sym work.written)
@@ -296,11 +408,21 @@ module _ (marks : (s : SubmissionView) (c : Certificate) → IsValid s c → Mar
       (work.season, work.proved, work.spelled, record { made = work.made; valid = work.valid; marks = marks work.season work.proved work.valid }, work.output)
   service_marks names links port workers (capacity ∷ requests ∷ certificate ∷ more ∷ rest) writes change status text work = absurd work
 
+  resume_marks : (names : List Word) (links port workers : ℕ) (done writes : List NamedBytes) (change : OutsideChange) (status : ℕ) (text : List ℕ) → ResumeWorks names links done writes change status text → HeadlineHolds (Resume names links port workers) done writes change status text
+  resume_marks names links port workers [] writes change status text work = absurd work
+  resume_marks names links port workers (capacity ∷ []) writes change status text work = absurd work
+  resume_marks names links port workers (capacity ∷ requests ∷ []) writes change status text work = absurd work
+  resume_marks names links port workers (capacity ∷ requests ∷ certificate ∷ []) writes change status text work =
+      subst (λ (l : List NamedBytes). HeadlineHolds (Resume names links port workers) (capacity ∷ requests ∷ certificate ∷ []) l change status text) (sym work.written)
+      (work.season, work.proved, work.spelled, record { made = work.made; valid = work.valid; marks = marks work.season work.proved work.valid }, work.output)
+  resume_marks names links port workers (capacity ∷ requests ∷ certificate ∷ more ∷ rest) writes change status text work = absurd work
+
   work_marks : (job : Job) (files : Option Files) (done writes : List NamedBytes) (change : OutsideChange) (status : ℕ) (text : List ℕ) → AllPass files (steps_of job) done → Works job done writes change status text → HeadlineHolds job done writes change status text
   work_marks (Allocate names nodes workers) files done writes change status text pass work = file_marks (Allocate names nodes workers) files done writes change status text pass work.1
   work_marks (Check names) files done writes change status text pass work = file_marks (Check names) files done writes change status text pass work.1
   work_marks (Amend names) files done writes change status text pass work = file_marks (Amend names) files done writes change status text pass work.1
   work_marks (Serve names links port workers) files done writes change status text pass work = service_marks names links port workers done writes change status text work
+  work_marks (Resume names links port workers) files done writes change status text pass work = resume_marks names links port workers done writes change status text work
   work_marks (Make number units names) files done writes change status text pass work = file_marks (Make number units names) files done writes change status text pass work.1
   work_marks (Trial number units) files done writes change status text pass work = file_marks (Trial number units) files done writes change status text pass work.1
 

@@ -6,11 +6,11 @@ use Rattle.season_days.specs.Term.{Term}
 use Rattle.desk_outside.specs.Cause.{Rose}
 use Rattle.desk_disk.specs.Stops.{DiskStart, Agrees, MayLeave, AtEachMoment}
 use Rattle.desk_disk.specs.Disks.{DiskView, TellsTruly}
-use Rattle.turn_lock.specs.History.{StartsWith}
 use Rattle.amend_journal.specs.Format.{IsFit}
 use Rattle.amend_journal.specs.Standing.{StandsFor, IsOther, IsBadSlot}
 use Rattle.amend_journal.specs.Durable.{ReadsAs, AreDurable, MayHavePair, LeavesNoWorse, IsLaterDisk}
 use Rattle.amend_journal.specs.Durable.{told_start}
+use Rattle.amend_journal.specs.Kept.{StandsForSome}
 use Rattle.amend_journal.specs.declared.asked.Asked.{Asked}
 use Rattle.slot_program.specs.Reports.{JournalRefusal, no_journal, other_journal, bad_slot}
 use Rattle.slot_program.specs.Reports.{journal_fault}
@@ -43,11 +43,6 @@ IsUnopened season why (Some d) (Some e) =
     IsDiskRefusal season why d e × LeavesUnharmed season d e
 
 -- ---- a journal that was opened, and kept while asks were entered
-
--- the image stands for the pairs and a beginning of what was asked since
-abbrev pub StandsForSome : Term → List Asked → List Asked → List ℕ → Type 0
-StandsForSome season pairs asks image =
-    (part : List Asked) × StartsWith asks part × StandsFor season (pairs ++ part) image
 
 -- what was asked since, with the ask of a put that failed, if one did
 abbrev pub with_failed : List Asked → Option Asked → List Asked

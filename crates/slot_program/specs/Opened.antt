@@ -1,12 +1,13 @@
 -- A journal on its way: it was opened, or why it was not. Contracts of private functions alone cite
 -- this.
-use Rattle.std.specs.Prelude.{◌≡◌, ℕ, List, All, Option, length}
+use Rattle.std.specs.Prelude.{◌≡◌, ◌≤◌, List, All, Option, length}
 use Rattle.season_days.specs.Term.{Term}
 use Rattle.desk_disk.specs.Disks.{DiskView}
 use Rattle.amend_journal.specs.Format.{IsFit}
 use Rattle.amend_journal.specs.Standing.{StandsFor}
 use Rattle.amend_journal.specs.Durable.{JournalView, AreDurable, LeavesNoWorse, IsLaterDisk}
 use Rattle.amend_journal.specs.declared.asked.Asked.{Asked}
+use Rattle.amend_journal.specs.declared.asked.TheConstants.{MOST_PAIRS}
 use Rattle.amend_journal.specs.declared.fault.OpenFault.{OpenFault}
 use Rattle.amend_journal.specs.declared.fault.OpenFault.TheVariants as faults
 use Rattle.slot_program.specs.Outside.{OutsideChange}
@@ -24,6 +25,7 @@ pub record IsOpened (season : Term) (pairs : List Asked) (d : DiskView) (journal
   pub fit : All (IsFit season) pairs
   pub season_is : journal.season ≡ season
   pub count : journal.count ≡ length pairs
+  pub few : length pairs ≤ MOST_PAIRS
   pub found : ForFile d journal.disk (λ s file. StandsFor season pairs file)
   pub durable : ForFile d journal.disk (λ s file. AreDurable s journal.disk.log season pairs)
   pub images : ForFile d journal.disk (λ s file.

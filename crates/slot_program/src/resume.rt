@@ -22,12 +22,11 @@ use crate::serve::{MOST_ENTRIES, ServiceOutput, served};
 use crate::service_lines::{links_total, resumed_lines, resumption_status};
 use crate::stop::{Answer, NoJournal, Stop};
 use crate::writes::write_one;
-use amend_journal::laws::books_after;
+use amend_journal::laws::since_opening;
 use amend_journal::{Asked, Journal, JournalKept, OpenFault, replayed};
 use cert_format::Certificate;
 use command_words::NameList;
 use desk_disk::Disk;
-use desk_disk::laws::joined_calls;
 use desk_links::Door;
 use desk_outside::Cabinet;
 use desk_outside::laws::file_changes;
@@ -118,8 +117,7 @@ fn resumed_output<R: Threads + Wait + Sync, D: Door + Drop, G: Gate, K: Disk>(
     answer_lines();
     next_books();
     replays_fit();
-    books_after();
-    joined_calls();
+    since_opening();
     let _units = submission.units();
     let season = submission.declaration().season;
     let _year = season.year();
@@ -127,6 +125,7 @@ fn resumed_output<R: Threads + Wait + Sync, D: Door + Drop, G: Gate, K: Disk>(
     let _declaration = book.declaration();
     let (journal, pairs) = opened(alloc, &season, disk)?;
     let book = replayed(alloc, book, &pairs)?;
+    let _after = book.declaration();
     let kept = JournalKept::of(journal);
     let most = MOST_ENTRIES - kept.found_pairs();
     let (history, works, kept) = served(rt, alloc, book, kept, links, most, doors, gate)?;
@@ -158,7 +157,10 @@ fn opened<K: Disk>(
         return Err(Stop::Unopened(NoJournal::Missing));
     };
     match Journal::open(alloc, held, season) {
-        Ok(opened) => Ok(opened),
+        Ok((journal, pairs)) => {
+            let _count = journal.count();
+            Ok((journal, pairs))
+        }
         Err((fault, held)) => {
             *disk = Some(held);
             Err(stop_of(fault))

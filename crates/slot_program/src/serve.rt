@@ -166,6 +166,6 @@ pub(crate) fn served<R: Threads + Wait + Sync, D: Door + Drop, B: Beside + Send,
     if doors.is_empty() {
         return Ok((Vec::new(alloc), Vec::new(alloc), beside));
     }
-    let done = serve_doors(rt, alloc, gate, book, beside, doors, links, most)?;
-    Ok(done)
+    let (history, works, beside) = serve_doors(rt, alloc, gate, book, beside, doors, links, most)?;
+    Ok((history, works, beside))
 }
