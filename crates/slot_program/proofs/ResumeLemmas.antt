@@ -18,7 +18,10 @@ use Rattle.holding_book.specs.Asks.{CanAsk, next}
 use Rattle.holding_book.specs.Histories.{IsLegal}
 use Rattle.amend_run.specs.Amended.{FitsThroughout}
 use Rattle.amend_journal.specs.Format.{IsFit}
-use Rattle.amend_journal.specs.Standing.{StandsFor}
+use Rattle.amend_journal.specs.Standing.{StandsFor, HasFault}
+use Rattle.amend_journal.specs.Faults.{CountsFault}
+use Rattle.amend_journal.specs.declared.fault.OpenFault.{OpenFault}
+use Rattle.amend_journal.specs.declared.fault.OpenFault.TheVariants as faults
 use Rattle.amend_journal.specs.Durable.{JournalView, ReadsAs, AreDurable, MayHavePair, LeavesNoWorse, IsLaterDisk}
 use Rattle.amend_journal.specs.Told.{told_list, EndsBroken}
 use Rattle.amend_journal.specs.Kept.{asks_of, book_after, IsJournalOfSome, StandsForSome, KeptView, IsDiskKept, IsKept}
@@ -29,7 +32,21 @@ use Rattle.amend_journal.specs.declared.told.Failure.{Failure}
 use Rattle.slot_program.specs.Amendments.{IsOneHistory}
 use Rattle.slot_program.specs.Resumed.{answered_anew}
 use Rattle.slot_program.specs.Journals.{ForFile, with_failed, IsLeftWith, KeepsAsks}
-use Rattle.slot_program.specs.Opened.{IsOpened}
+use Rattle.series_model.specs.Submissions.{SubmissionView}
+use Rattle.command_words.specs.Words.{Word}
+use Rattle.command_words.specs.declared.job.Job.TheVariants.{Resume}
+use Rattle.slot_program.specs.Judgements.{NamedBytes, IsSeasonOf}
+use Rattle.slot_program.specs.Jobs.{serve_steps}
+use Rattle.slot_program.specs.Outside.{OutsideChange}
+use Rattle.slot_program.specs.Desk.{World}
+use Rattle.slot_program.specs.Leads.{Leads}
+use Rattle.slot_program.specs.Stops.{journal_refusal}
+use Rattle.slot_program.specs.Opened.{IsOpened, DiskStops, JournalStops, open_stop}
+use Rattle.slot_program.specs.Ends.{JobStopsBy}
+use Rattle.slot_program.specs.declared.stop.Stop.{Stop}
+use Rattle.slot_program.specs.declared.stop.Stop.TheVariants as stops
+use Rattle.slot_program.proofs.LeadLemmas.{memory_read}
+use Rattle.slot_program.proofs.EndLemmas.{unopened_stops}
 use Rattle.slot_program.proofs.ServiceLemmas.{CanAskEntry, ReplayKeeps, ReplayIsBook, fits_throughout}
 
 -- ---- pairs answered anew
@@ -126,3 +143,53 @@ module _ (season : Term) (year : season.year < 100) (since : SinceOpening) (pair
     moments = moments asks failure h;
     left = left asks failure h;
   }
+
+-- ---- where a job with a journal stops behind its steps
+
+pub stop_resumed : (names : List Word) (links port workers : ℕ) (w v : World) (capacity requests certificate : NamedBytes) → Leads w (serve_steps names) (capacity ∷ requests ∷ certificate ∷ []) [] v
+    → (change : OutsideChange) (season : SubmissionView) → IsSeasonOf capacity.bytes requests.bytes season → season.declaration.season.year < 100
+    → (stop : Stop) → JournalStops season.declaration.season change stop → JobStopsBy names (Resume names links port workers) w change stop v
+stop_resumed names links port workers w v capacity requests certificate lead change season made year (stops.Unopened why) h =
+    unopened_stops (Resume names links port workers) w v (capacity ∷ requests ∷ certificate ∷ []) lead change (journal_refusal why) (record {
+      season = season.declaration.season;
+      is = record { of = season; made = made; term = refl };
+      year = year;
+      doors = h.0;
+      refused = h.1;
+    })
+stop_resumed names links port workers w v capacity requests certificate lead change season made year stops.Memory h =
+    memory_read w v v (serve_steps names) (capacity ∷ requests ∷ certificate ∷ []) [] lead refl
+stop_resumed names links port workers w v capacity requests certificate lead change season made year (stops.Missing place) h = absurd h
+stop_resumed names links port workers w v capacity requests certificate lead change season made year (stops.Large place) h = absurd h
+stop_resumed names links port workers w v capacity requests certificate lead change season made year (stops.Unread place) h = absurd h
+stop_resumed names links port workers w v capacity requests certificate lead change season made year (stops.Unwritten place) h = absurd h
+stop_resumed names links port workers w v capacity requests certificate lead change season made year (stops.OutOfForm place line) h = absurd h
+stop_resumed names links port workers w v capacity requests certificate lead change season made year (stops.OverLimit limit number) h = absurd h
+stop_resumed names links port workers w v capacity requests certificate lead change season made year (stops.NotValid line reason) h = absurd h
+
+-- no client was served yet
+pub no_client : (season : Term) (change : OutsideChange) (stop : Stop) → change.after.doors ≡ change.before.doors → DiskStops season change.before.disk change.after.disk stop → JournalStops season change stop
+no_client season change (stops.Unopened why) same h = (same, h)
+no_client season change stops.Memory same h = tt
+no_client season change (stops.Missing place) same h = absurd h
+no_client season change (stops.Large place) same h = absurd h
+no_client season change (stops.Unread place) same h = absurd h
+no_client season change (stops.Unwritten place) same h = absurd h
+no_client season change (stops.OutOfForm place line) same h = absurd h
+no_client season change (stops.OverLimit limit number) same h = absurd h
+no_client season change (stops.NotValid line reason) same h = absurd h
+
+-- ---- an opening that was refused
+
+-- by its fault, with what is said of the disk
+pub record IsRefusedOpen (season : Term) (fault : OpenFault) (d e : DiskView) : Type 0 where
+  pub later : IsLaterDisk d e
+  pub why : ForFile d e (λ s file. HasFault season fault file)
+  pub images : ForFile d e (λ s file. LeavesNoWorse s d.log e.log season file)
+  pub cause : CountsFault fault d.faults e.faults
+
+pub open_stops : (season : Term) (fault : OpenFault) (d e : DiskView) → IsRefusedOpen season fault d e → DiskStops season (Some d) (Some e) (open_stop fault)
+open_stops season faults.NotJournal d e h = ((h.cause, h.why), record { later = h.later; images = h.images })
+open_stops season (faults.BadSlot number) d e h = ((h.cause, h.why), record { later = h.later; images = h.images })
+open_stops season faults.DiskFault d e h = (h.cause, record { later = h.later; images = h.images })
+open_stops season faults.Memory d e h = tt

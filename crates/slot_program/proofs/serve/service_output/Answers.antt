@@ -10,7 +10,7 @@ use Rattle.holding_book.specs.Histories.{IsLegal}
 use Rattle.holding_book.specs.Starts.{start_book}
 use Rattle.scr_replies.specs.History.{history_text, HasEntryLines}
 use Rattle.amend_run.specs.Amended.{FitsThroughout}
-use Rattle.slot_program.specs.Services.{IsWorker, AreWorkers}
+use Rattle.slot_program.specs.Services.{IsWorker, AreWorkers, AreServed, never_breaks}
 use Rattle.slot_program.proofs.AmendLemmas.{start_few}
 use Rattle.slot_program.proofs.ServiceLemmas.{fits_throughout}
 use Rattle.slot_program.proofs.serve.service_output.Goals as goal
@@ -45,15 +45,17 @@ returns-clause-served g c =
     record {
       history = h;
       works = works;
-      one = record {
-        legal = subst (λ (x : SlotBook). IsLegal x h) same c.in_ok-history.ensures.legal;
-        fits = subst (λ (x : SlotBook). FitsThroughout x h) same fits;
+      served = record {
+        one = record {
+          legal = subst (λ (x : SlotBook). IsLegal x h) same c.in_ok-history.ensures.legal;
+          fits = subst (λ (x : SlotBook). FitsThroughout x h) same fits;
+        };
+        few = c.in_ok-history.ensures.few;
+        callers = subst (λ (n : ℕ). All (λ (e : Entry). e.caller < n) h) (sym (length-map c.args.doors.now.items g.D.Door.view)) c.in_ok-history.ensures.callers;
+        workers = subst (λ (x : SlotBook). AreWorkers (IsWorker never_breaks x c.args.links h) 0 ds works es) same c.in_ok-history.ensures.workers;
+        remembered = c.in_ok-status.ensures.memory;
+        full = c.in_ok-history.ensures.full;
       };
-      few = c.in_ok-history.ensures.few;
-      callers = subst (λ (n : ℕ). All (λ (e : Entry). e.caller < n) h) (sym (length-map c.args.doors.now.items g.D.Door.view)) c.in_ok-history.ensures.callers;
-      workers = subst (λ (x : SlotBook). AreWorkers (IsWorker x c.args.links h) 0 ds works es) same c.in_ok-history.ensures.workers;
-      remembered = c.in_ok-status.ensures.memory;
-      full = c.in_ok-history.ensures.full;
       recorded_is = c.in_ok-recorded.ensures;
       status_is = c.in_ok-status.ensures.status;
       printed = c.in_ok-text.ensures;
