@@ -12,13 +12,13 @@ use Rattle.slot_program.specs.Reports.{Report, Refusal, no_command, refused, unr
 use Rattle.slot_program.specs.Judgements.{NamedBytes}
 use Rattle.slot_program.specs.Steps.{Step, reads, judges, names_read, PassFrom, AllPass}
 use Rattle.slot_program.specs.Writing.{read_of, written_of}
-use Rattle.slot_program.specs.Jobs.{AreFilesOf, name_at, check_steps, steps_of, names_written, searched_statuses, served_statuses, resumed_statuses, finished_statuses, calm_statuses, finishing_of, FileWorks, ServiceWorks, ResumeWorks, Works, HeadlineHolds}
+use Rattle.slot_program.specs.Jobs.{AreFilesOf, name_at, check_steps, steps_of, names_written, searched_statuses, served_statuses, resumed_statuses, finished_statuses, calm_statuses, finishing_of, FileWorks, ServiceWorks, ResumeWorks, Works, IsWithoutJournal, JournalDue, JournalStands, HeadlineHolds}
 use Rattle.slot_program.specs.Outside.{OutsideChange, IsStill, door_faults, disk_faults, SomeRose, DiskRose}
 use Rattle.slot_program.specs.Desk.{World, IsFinished, EndsUnopened, JobEnds, Ends, IsStatus}
-use Rattle.slot_program.specs.Answers.{ToldExact, IsExact}
+use Rattle.slot_program.specs.Answers.{IsThrough, ToldExact, IsExact}
 use Rattle.slot_program.proofs.EndLemmas.{works_finishing}
 use Rattle.slot_program.proofs.ServiceLemmas.{works_calm, works_risen}
-use Rattle.slot_program.proofs.JournalLemmas.{works_disk_calm, works_disk_risen, without_calm, without_risen}
+use Rattle.slot_program.proofs.JournalLemmas.{Standings, works_disk_calm, works_disk_risen, without_calm, without_risen, pass_one, work_due, without_due, without_stands, stands_finishing}
 use Rattle.command_words.specs.declared.job.Job.{Job}
 use Rattle.command_words.specs.declared.job.Job.TheVariants.{Allocate, Check, Amend, Serve, Resume, Make, Trial}
 
@@ -290,6 +290,58 @@ door_risen (Some job) w change report v ten ends =
 pub told_exact : (o : Option Job) (job : Job) (w : World) (report : Report) (v : World) (held : Files) → o ≡ Some job → w.files ≡ Some held → IsExact o w report v → ToldExact held job w report v
 told_exact o job w report v held e told exact =
     subst (λ (f : Option Files). IfSome f (λ h. ToldExact h job w report v)) told (subst (λ (p : Option Job). IsExact p w report v) e exact)
+
+-- ---- the journal, by what its disk tells
+
+module _ (job : Job) (w : World) (change : OutsideChange) (v : World) where
+  -- a job that is through has not opened its journal, or is finished
+  through_ends : (report : Report) → IsThrough job report → JobEnds job w change report v
+      → ((why : JournalRefusal) × (report ≡ unopened why) × EndsUnopened job w change why v) ⊎ IsFinished job w change (status_of report) (text_of report) v
+  through_ends no_command through ends = absurd ends
+  through_ends (refused refusal) through ends =
+      elim through [
+        | inl one ↦ absurd (finishing_not job (refusal_status refusal) (refusal_range refusal).0 (omega (arith, (refusal_range refusal).1)) one)
+        | inr un ↦ let bad : refused refusal ≡ unopened un.0 = un.1 in absurd cc
+      ]
+  through_ends (unopened why) through ends = inl (why, refl, ends)
+  through_ends (unread name) through ends =
+      elim through [
+        | inl one ↦ absurd (finishing_not job 5 (omega arith) (omega arith) one)
+        | inr un ↦ let bad : unread name ≡ unopened un.0 = un.1 in absurd cc
+      ]
+  through_ends (unwritten name) through ends =
+      elim through [
+        | inl one ↦ absurd (finishing_not job 5 (omega arith) (omega arith) one)
+        | inr un ↦ let bad : unwritten name ≡ unopened un.0 = un.1 in absurd cc
+      ]
+  through_ends (finished status text) through ends = inr ends
+
+  module _ (law : Standings) (held : Files) (inputs : List NamedBytes) (told : w.files ≡ Some held) (pass : AllPass (Some held) (steps_of job) inputs) where
+    same_inputs : (others : List NamedBytes) → AllPass w.files (steps_of job) others → others ≡ inputs
+    same_inputs others passed = pass_one held [] (steps_of job) others inputs (subst (λ (f : Option Files). AllPass f (steps_of job) others) told passed) pass
+
+    pub job_said : (report : Report) (why : JournalRefusal) → IsThrough job report → JobEnds job w change report v → JournalDue job inputs change.before.disk why → (report ≡ unopened why) ⊎ (status_of report ≡ 14)
+    job_said report why through ends due =
+        elim (through_ends report through ends) [
+          | inl un ↦ elim (without_due law job inputs change un.0 why (subst (λ (l : List NamedBytes). IsWithoutJournal job l change un.0) (same_inputs un.2.inputs un.2.passed) un.2.refused) due) [
+            | inl same ↦ inl (un.1 ∙ ap unopened same)
+            | inr fourteen ↦ inr (ap status_of un.1 ∙ fourteen)
+          ]
+          | inr done ↦ absurd (work_due law job inputs done.writes change (status_of report) (text_of report) why
+              (subst (λ (l : List NamedBytes). Works job l done.writes change (status_of report) (text_of report)) (same_inputs done.inputs done.passed) done.work) due)
+        ]
+
+    pub job_serves : (report : Report) → IsThrough job report → JobEnds job w change report v → JournalStands job inputs change.before.disk → (DiskRose change.before.disk change.after.disk → ⊥) → Contains served_statuses (status_of report)
+    job_serves report through ends stands calm =
+        elim (through_ends report through ends) [
+          | inl un ↦
+              let refused_as = subst (λ (l : List NamedBytes). IsWithoutJournal job l change un.0) (same_inputs un.2.inputs un.2.passed) un.2.refused in
+              absurd (calm (without_risen job inputs change un.0 (without_stands law job inputs change un.0 refused_as stands) refused_as))
+          | inr done ↦
+              stands_finishing job inputs change.before.disk (status_of report) stands (works_finishing job done.inputs done.writes change (status_of report) (text_of report) done.work)
+              (λ is. let work = subst (λ (n : ℕ). Works job done.inputs done.writes change n (text_of report)) is done.work in
+              calm (works_disk_risen job done.inputs done.writes change (text_of report) work (works_finishing job done.inputs done.writes change 14 (text_of report) work)))
+        ]
 
 -- ---- the headline
 

@@ -43,6 +43,7 @@ use crate::resume::resume;
 use crate::serve::serve;
 use crate::stop::Answer;
 use crate::trial::trial;
+use amend_journal::laws::one_standing;
 use command_words::{Job, NameList, WordFault, read_words};
 use desk_disk::Disk;
 use desk_links::Door;
@@ -242,6 +243,7 @@ pub fn desk<R: Threads + Wait + Sync, C: Cabinet, S: Sink, D: Door + Drop, G: Ga
         (world_of C.files C.fault_count C.log cabinet.new)) }
 {
     valid_marks();
+    one_standing();
     match carry_out(rt, alloc, words, cabinet, doors, gate, disk) {
         Ok(answer) => match out.put(answer.text.as_bytes()) {
             Ok(()) => answer.status,
