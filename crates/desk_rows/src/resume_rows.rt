@@ -48,7 +48,7 @@ fn run<R: Threads + Wait + Sync>(
     let mut doors = Vec::new(alloc);
     for texts in clients {
         let fails = if doors.is_empty() { None } else { accept };
-        doors.push(door_of(alloc, texts, 0, None, fails)?)?;
+        doors.push(door_of(alloc, *texts, 0, None, fails)?)?;
     }
     let said = call_with_disk(
         rt, alloc, WORDS, cabinet, None, &mut doors, &RealGate, &mut disk,
@@ -89,7 +89,7 @@ fn kept<R: Threads + Wait + Sync>(
             return Ok(count);
         }
     }
-    Err(Fail::new(ran.said))
+    Err(Fail::new(ran.said.clone()?))
 }
 
 /// Two asks are answered and stand in the journal; a desk that opens it again has both, records its
@@ -153,10 +153,28 @@ fn one_slot(alloc: Global, text: &str) -> Result<Vec<u8>, Fail> {
     for byte in &text {
         file.push(*byte)?;
     }
-    for _ in 19 + text.len()..273 {
+    while file.len() < 273 {
         file.push(0)?;
     }
     Ok(file)
+}
+
+/// The bytes from one place up to another, which the file has.
+fn part(bytes: &[u8], from: usize, to: usize) -> Result<&[u8], Fail> {
+    if from <= to && to <= bytes.len() {
+        Ok(&bytes[from..to])
+    } else {
+        Err("too short".into())
+    }
+}
+
+/// The file with another byte at a place.
+fn changed(alloc: Global, file: &[u8], place: usize, value: u8) -> Result<Vec<u8>, AllocError> {
+    let mut out = Vec::new(alloc);
+    for (at, byte) in file.iter().enumerate() {
+        out.push(if at == place { value } else { *byte })?;
+    }
+    Ok(out)
 }
 
 /// Files that are refused, and one of this season and one of another.
@@ -174,7 +192,7 @@ fn files_are_refused(rt: HostRuntime) -> Result<(), Fail> {
     assert_eq!(rt; kept(&rt, alloc, &mut cabinet, &here)?, 1);
     let winter = one_slot(alloc, "NBA002 26OCT28MAR 1234567 180320 JFK0620 J;")?;
     let empty = one_slot(alloc, "")?;
-    let cut = &here[..272];
+    let cut = part(&here, 0, 272)?;
     for file in [winter.as_slice(), empty.as_slice(), cut] {
         let ran = resume(&rt, alloc, &mut cabinet, file, ASKS)?;
         assert_eq!(rt; ran.said.as_str(), "13 JOURNAL SLOT 0;");
@@ -204,12 +222,12 @@ fn damaged_slots_are_refused(rt: HostRuntime) -> Result<(), Fail> {
     let alloc = rt.alloc();
     let mut cabinet = served_cabinet(&rt, alloc)?;
     let text = "NBA002 30MAR25OCT 1234567 180320 JFK0620 J;";
+    let whole = one_slot(alloc, text)?;
     for place in 18..272 {
-        if place > 18 && place < 18 + text.len() {
+        if place > 18 && place < 19 + text.len() {
             continue;
         }
-        let mut file = one_slot(alloc, text)?;
-        file[place] ^= 1;
+        let file = changed(alloc, &whole, place, 99)?;
         let ran = resume(&rt, alloc, &mut cabinet, &file, QUERY)?;
         assert!(rt; ran.said.as_str() == "13 JOURNAL SLOT 0;", "{place}");
     }
@@ -286,28 +304,29 @@ fn image(alloc: Global, front: &[u8], count: usize, filling: &[u8]) -> Result<Ve
 fn images_of_a_stop_are_opened(rt: HostRuntime) -> Result<(), Fail> {
     let alloc = rt.alloc();
     let mut cabinet = served_cabinet(&rt, alloc)?;
-    let two = resume(&rt, alloc, &mut cabinet, b"", ASKS)?.bytes;
-    let zeros = [0; 256];
+    let ran = resume(&rt, alloc, &mut cabinet, b"", ASKS)?;
+    let two = ran.bytes.as_slice();
+    let zeros = vec![in alloc; 0; 256]?;
     for count in 0..18 {
-        for filling in [&two[..17], &zeros] {
+        for filling in [two, zeros.as_slice()] {
             let file = image(alloc, b"", count, filling)?;
             assert_eq!(rt; kept(&rt, alloc, &mut cabinet, &file)?, 0);
         }
     }
     for pairs in 0..2 {
         let gate = 16 + 256 * pairs;
-        let slot = &two[gate + 1..gate + 257];
-        let mut front = Vec::from_slice(alloc, &two[..gate])?;
+        let slot = part(two, gate + 1, gate + 257)?;
+        let mut front = Vec::from_slice(alloc, part(two, 0, gate)?)?;
         front.push(0)?;
         for count in [0, 1, 2, 63, 254, 255, 256] {
-            for filling in [slot, &zeros, &two[..16], b""] {
+            for filling in [slot, zeros.as_slice(), two, b"".as_slice()] {
                 let file = image(alloc, &front, count, filling)?;
                 assert_eq!(rt; kept(&rt, alloc, &mut cabinet, &file)?, pairs);
             }
         }
         for value in [0, 1, 2, 128, 255] {
-            let mut file = image(alloc, &front, 256, slot)?;
-            file[gate] = value;
+            let file = image(alloc, &front, 256, slot)?;
+            let file = changed(alloc, &file, gate, value)?;
             let due = if value == 1 { pairs + 1 } else { pairs };
             assert_eq!(rt; kept(&rt, alloc, &mut cabinet, &file)?, due);
         }
