@@ -153,7 +153,8 @@ fn one_slot(alloc: Global, text: &str) -> Result<Vec<u8>, Fail> {
     for byte in &text {
         file.push(*byte)?;
     }
-    while file.len() < 273 {
+    let filled = file.len();
+    for _ in filled..273 {
         file.push(0)?;
     }
     Ok(file)
