@@ -262,7 +262,7 @@ work_due law (Resume names links port workers) (capacity ∷ requests ∷ []) wr
 work_due law (Resume names links port workers) (capacity ∷ requests ∷ certificate ∷ []) writes change status text why work due =
     let out = work.output in
     found_due law work.season.declaration.season work.year (IsSeasonTerm capacity.bytes requests.bytes) change.before.disk out.before out.after out.pairs why
-    (record { of = work.season; made = work.made; term = refl }) out.handed_in out.kept.later out.kept.found due
+    (record { submission = work.season; made = work.made; term = refl }) out.handed_in out.kept.later out.kept.found due
 work_due law (Resume names links port workers) (capacity ∷ requests ∷ certificate ∷ more ∷ rest) writes change status text why work due = due
 work_due law (Make number units names) inputs writes change status text why work due = due
 work_due law (Trial number units) inputs writes change status text why work due = due

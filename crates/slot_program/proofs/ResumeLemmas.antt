@@ -21,7 +21,7 @@ use Rattle.amend_journal.specs.Format.{IsFit}
 use Rattle.amend_journal.specs.Standing.{StandsFor, HasFault}
 use Rattle.amend_journal.specs.Faults.{CountsFault}
 use Rattle.amend_journal.specs.declared.fault.OpenFault.{OpenFault}
-use Rattle.amend_journal.specs.declared.fault.OpenFault.TheVariants as faults
+use Rattle.amend_journal.specs.declared.fault.OpenFault.TheVariants as openings
 use Rattle.amend_journal.specs.Durable.{JournalView, ReadsAs, AreDurable, MayHavePair, LeavesNoWorse, IsLaterDisk}
 use Rattle.amend_journal.specs.Told.{told_list, EndsBroken}
 use Rattle.amend_journal.specs.Kept.{asks_of, book_after, IsJournalOfSome, StandsForSome, KeptView, IsDiskKept, IsKept}
@@ -152,7 +152,7 @@ pub stop_resumed : (names : List Word) (links port workers : ℕ) (w v : World) 
 stop_resumed names links port workers w v capacity requests certificate lead change season made year (stops.Unopened why) h =
     unopened_stops (Resume names links port workers) w v (capacity ∷ requests ∷ certificate ∷ []) lead change (journal_refusal why) (record {
       season = season.declaration.season;
-      is = record { of = season; made = made; term = refl };
+      is = record { submission = season; made = made; term = refl };
       year = year;
       doors = h.0;
       refused = h.1;
@@ -189,7 +189,7 @@ pub record IsRefusedOpen (season : Term) (fault : OpenFault) (d e : DiskView) : 
   pub cause : CountsFault fault d.faults e.faults
 
 pub open_stops : (season : Term) (fault : OpenFault) (d e : DiskView) → IsRefusedOpen season fault d e → DiskStops season (Some d) (Some e) (open_stop fault)
-open_stops season faults.NotJournal d e h = ((h.cause, h.why), record { later = h.later; images = h.images })
-open_stops season (faults.BadSlot number) d e h = ((h.cause, h.why), record { later = h.later; images = h.images })
-open_stops season faults.DiskFault d e h = (h.cause, record { later = h.later; images = h.images })
-open_stops season faults.Memory d e h = tt
+open_stops season openings.NotJournal d e h = ((h.cause, h.why), record { later = h.later; images = h.images })
+open_stops season (openings.BadSlot number) d e h = ((h.cause, h.why), record { later = h.later; images = h.images })
+open_stops season openings.DiskFault d e h = (h.cause, record { later = h.later; images = h.images })
+open_stops season openings.Memory d e h = tt

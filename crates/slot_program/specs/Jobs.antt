@@ -280,9 +280,9 @@ Works (Trial number units) inputs writes change status text =
 
 -- the season of the two texts, in which a journal is opened
 pub record IsSeasonTerm (capacity requests : List ℕ) (season : Term) : Type 0 where
-  pub of : SubmissionView
-  pub made : IsSeasonOf capacity requests of
-  pub term : season ≡ of.declaration.season
+  pub submission : SubmissionView
+  pub made : IsSeasonOf capacity requests submission
+  pub term : season ≡ submission.declaration.season
 
 -- The journal was not opened in the season of what was read, and no client was served.
 pub record IsJournalless (capacity requests : List ℕ) (change : OutsideChange)

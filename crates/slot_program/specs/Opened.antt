@@ -9,7 +9,7 @@ use Rattle.amend_journal.specs.Durable.{JournalView, AreDurable, LeavesNoWorse, 
 use Rattle.amend_journal.specs.declared.asked.Asked.{Asked}
 use Rattle.amend_journal.specs.declared.asked.TheConstants.{MOST_PAIRS}
 use Rattle.amend_journal.specs.declared.fault.OpenFault.{OpenFault}
-use Rattle.amend_journal.specs.declared.fault.OpenFault.TheVariants as faults
+use Rattle.amend_journal.specs.declared.fault.OpenFault.TheVariants as openings
 use Rattle.slot_program.specs.Outside.{OutsideChange}
 use Rattle.slot_program.specs.Journals.{ForFile, IsUnopened}
 use Rattle.slot_program.specs.Stops.{journal_refusal}
@@ -46,7 +46,7 @@ JournalStops season change stops.Memory = Unit {0}
 JournalStops season change stop = ⊥
 
 abbrev pub open_stop : OpenFault → Stop
-open_stop faults.NotJournal = stops.Unopened journals.Other
-open_stop (faults.BadSlot number) = stops.Unopened (journals.Slot number)
-open_stop faults.DiskFault = stops.Unopened journals.Fault
-open_stop faults.Memory = stops.Memory
+open_stop openings.NotJournal = stops.Unopened journals.Other
+open_stop (openings.BadSlot number) = stops.Unopened (journals.Slot number)
+open_stop openings.DiskFault = stops.Unopened journals.Fault
+open_stop openings.Memory = stops.Memory
