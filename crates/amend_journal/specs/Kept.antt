@@ -5,14 +5,12 @@ use Rattle.std.specs.Prelude.{Option, Some, None}
 use Rattle.season_days.specs.Term.{Term}
 use Rattle.scr_reader.specs.declared.line.Item.{Item}
 use Rattle.desk_outside.specs.Cause.{Rose}
-use Rattle.desk_disk.specs.Stops.{DiskStart, AtEachMoment}
+use Rattle.desk_disk.specs.Stops.{DiskPassage, DiskStart, AtEachMoment}
 use Rattle.desk_disk.specs.Disks.{DiskView}
-use Rattle.turn_lock.specs.History.{StartsWith}
 use Rattle.holding_book.specs.declared.answer.Entry.{Entry}
 use Rattle.holding_book.specs.Books.{SlotBook}
 use Rattle.holding_book.specs.Asks.{next}
 use Rattle.amend_journal.specs.Format.{IsFit, IsJournalOf}
-use Rattle.amend_journal.specs.Standing.{StandsFor}
 use Rattle.amend_journal.specs.Durable.{JournalView, AreDurable, MayHavePair, IsLaterDisk}
 use Rattle.amend_journal.specs.declared.asked.Asked.{Asked}
 use Rattle.amend_journal.specs.declared.told.Failure.{Failure}
@@ -39,28 +37,35 @@ abbrev pub ForDurable : JournalView → (DiskStart → List Asked → Type 0) �
 ForDurable began P = (s : DiskStart) (pairs : List Asked)
     → AreDurable s began.disk.log began.season pairs → length pairs ≡ began.count → P s pairs
 
--- a journal of the pairs, and of a beginning of what was asked since
-abbrev pub IsJournalOfSome : Term → List Asked → List Asked → List ℕ → Type 0
-IsJournalOfSome season pairs asks file = (part : List Asked) × StartsWith asks part
-    × IsJournalOf season (pairs ++ part) file
+-- a journal of the pairs, or also of the one whose put failed, if one did
+abbrev pub MayBeAfter : Term → List Asked → Option Asked → List ℕ → Type 0
+MayBeAfter season done None file = IsJournalOf season done file
+MayBeAfter season done (Some asked) file =
+    IsJournalOf season done file ⊎ IsJournalOf season (done ++ asked ∷ []) file
 
--- the image stands for the pairs and a beginning of what was asked since
-abbrev pub StandsForSome : Term → List Asked → List Asked → List ℕ → Type 0
-StandsForSome season pairs asks image = (part : List Asked) × StartsWith asks part
-    × StandsFor season (pairs ++ part) image
+-- From the one log to the other one ask after the other was kept behind those that were durable:
+-- until it was durable every image was a journal of those before it, or of these and it.
+abbrev pub KeepsEach : DiskStart → Term → List DiskPassage → List Asked → List Asked
+    → Option Asked → List DiskPassage → Type 0
+KeepsEach s season before done [] failed now =
+    AtEachMoment s before now (MayBeAfter season done failed)
+KeepsEach s season before done (asked ∷ asks) failed now = (mid : List DiskPassage)
+    × AtEachMoment s before mid (MayBeAfter season done (Some asked))
+    × AreDurable s mid season (done ++ asked ∷ [])
+    × KeepsEach s season mid (done ++ asked ∷ []) asks failed now
 
--- at each moment since the ledger began every image is such a journal
-abbrev pub AreMoments : JournalView → DiskView → List Asked → Type 0
-AreMoments began disk asks = ForDurable began (λ s pairs.
-    AtEachMoment s began.disk.log disk.log (IsJournalOfSome began.season pairs asks))
+-- since the ledger began
+abbrev pub AreMoments : JournalView → DiskView → List Asked → Option Asked → Type 0
+AreMoments began disk asks failed = ForDurable began (λ s pairs.
+    KeepsEach s began.season began.disk.log pairs asks failed disk.log)
 
 -- No put has failed: the disk has not failed since, every image is a journal of the pairs and of
--- all that was asked since, and at each moment it was one of a beginning of that.
+-- all that was asked since, and these were kept one after the other.
 pub record AllKept (began : JournalView) (disk : DiskView) (asks : List Asked) : Type 0 where
   pub faults : disk.faults ≡ began.disk.faults
   pub durable : ForDurable began (λ s pairs.
       AreDurable s disk.log began.season (pairs ++ asks))
-  pub moments : AreMoments began disk asks
+  pub moments : AreMoments began disk asks None
 
 -- A put failed: the disk has failed since, and an image may have one more pair, that of the put.
 pub record MayHaveOneMore (began : JournalView) (disk : DiskView) (asks : List Asked) : Type 0 where
@@ -68,7 +73,7 @@ pub record MayHaveOneMore (began : JournalView) (disk : DiskView) (asks : List A
   pub asked : Asked
   pub left : ForDurable began (λ s pairs.
       MayHavePair s disk.log began.season (pairs ++ asks) asked)
-  pub moments : AreMoments began disk (asks ++ asked ∷ [])
+  pub moments : AreMoments began disk asks (Some asked)
 
 -- what contracts see of a journal that a ledger keeps: as it was when the ledger began, as it is,
 -- and the put that failed

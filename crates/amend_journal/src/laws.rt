@@ -1,18 +1,14 @@
 //! Laws of what a file stands for. Each function does nothing; its contract is the law.
 
-ghost use Rattle.std.specs.Prelude.{◌≡◌, ◌⊎◌, ◌<◌, ◌++◌, ℕ, List};
-ghost use Rattle.desk_disk.specs.Stops.{DiskPassage, DiskStart, MayLeave, AtEachMoment};
+ghost use Rattle.std.specs.Prelude.{◌≡◌, ◌<◌, ◌++◌, ℕ, List};
 ghost use Rattle.season_days.specs.Term.{Term};
 ghost use Rattle.holding_book.specs.declared.answer.Entry.{Entry as EntryValue};
 ghost use Rattle.holding_book.specs.Books.{SlotBook};
 ghost use Rattle.holding_book.specs.Histories.{replay};
 ghost use Rattle.amend_journal.specs.Standing.{StandsFor, IsOther, IsBadSlot};
-ghost use Rattle.amend_journal.specs.Durable.{LeavesNoWorse};
 ghost use Rattle.amend_journal.specs.Kept.{asks_of, book_after};
-ghost use Rattle.amend_journal.specs.Kept.{IsJournalOfSome, StandsForSome};
 ghost use Rattle.amend_journal.specs.declared.asked.Asked.{Asked as AskedValue};
 
-use desk_disk::laws::joined_calls;
 use scr_reader::laws::{one_item, printed_items};
 
 /// A file stands for one list of pairs at most, or has one fault, and never both.
@@ -40,19 +36,3 @@ pub fn books_after()
     ensures parts { (b : SlotBook) (first later : List AskedValue)
         → book_after b (first ++ later) ≡ book_after (book_after b first) later }
 {}
-
-/// What a stop leaves from before an opening on, where a ledger kept the journal that was opened: at
-/// each moment what a stop might have left before, or a file that stands for the pairs that were
-/// found and a beginning of what was asked since.
-pub fn since_opening()
-    ensures { (s : DiskStart) (before mid now : List DiskPassage) (season : Term)
-        (pairs asks : List AskedValue) (file : List ℕ) → season.year < 100
-        → StandsFor season pairs file
-        → LeavesNoWorse s before mid season file
-        → AtEachMoment s mid now (IsJournalOfSome season pairs asks)
-        → AtEachMoment s before now
-        (λ image. MayLeave s before image ⊎ StandsForSome season pairs asks image) }
-{
-    joined_calls();
-    one_standing();
-}

@@ -9,7 +9,7 @@ use Rattle.scr_reader.specs.Again.{IsFitItem}
 use Rattle.scr_reader.specs.declared.line.Item.{Item}
 use Rattle.scr_reader.specs.declared.line.Item.TheVariants.{One, Pair, Query}
 use Rattle.desk_outside.specs.Cause.{Rose}
-use Rattle.desk_disk.specs.Stops.{DiskPassage, DiskStart, Agrees, MayLeave, AtEachMoment}
+use Rattle.desk_disk.specs.Stops.{DiskPassage, DiskStart, Agrees}
 use Rattle.desk_disk.specs.Disks.{DiskView}
 use Rattle.turn_lock.specs.History.{StartsWith}
 use Rattle.holding_book.specs.declared.answer.Entry.{Entry}
@@ -24,14 +24,14 @@ use Rattle.amend_journal.specs.declared.fault.OpenFault.{OpenFault}
 use Rattle.amend_journal.specs.declared.fault.OpenFault.TheVariants as openings
 use Rattle.amend_journal.specs.Durable.{JournalView, ReadsAs, AreDurable, MayHavePair, LeavesNoWorse, IsLaterDisk}
 use Rattle.amend_journal.specs.Told.{told_list, EndsBroken}
-use Rattle.amend_journal.specs.Kept.{asks_of, book_after, IsJournalOfSome, StandsForSome, KeptView, IsDiskKept, IsKept}
+use Rattle.amend_journal.specs.Kept.{asks_of, book_after, KeepsEach, KeptView, IsDiskKept, IsKept}
 use Rattle.amend_journal.specs.declared.asked.Asked.{Asked}
 use Rattle.amend_journal.specs.declared.told.Told.{Told}
 use Rattle.amend_journal.specs.declared.told.Told.TheVariants.{Done, Broke}
 use Rattle.amend_journal.specs.declared.told.Failure.{Failure}
 use Rattle.slot_program.specs.Amendments.{IsOneHistory}
 use Rattle.slot_program.specs.Resumed.{answered_anew}
-use Rattle.slot_program.specs.Journals.{ForFile, with_failed, IsLeftWith, KeepsAsks}
+use Rattle.slot_program.specs.Journals.{ForFile, IsLeftWith, KeepsAsks}
 use Rattle.series_model.specs.Submissions.{SubmissionView}
 use Rattle.command_words.specs.Words.{Word}
 use Rattle.command_words.specs.declared.job.Job.TheVariants.{Resume}
@@ -100,13 +100,7 @@ is_failed k asks (Some failure) h = refl
 
 -- ---- the disk of a journal that was opened and kept
 
--- as the law says it
-abbrev pub SinceOpening : Type 0
-SinceOpening = (s : DiskStart) (before mid now : List DiskPassage) (season : Term) (pairs asks : List Asked) (file : List ℕ) → season.year < 100 → StandsFor season pairs file
-    → LeavesNoWorse s before mid season file → AtEachMoment s mid now (IsJournalOfSome season pairs asks)
-    → AtEachMoment s before now (λ image. MayLeave s before image ⊎ StandsForSome season pairs asks image)
-
-module _ (season : Term) (year : season.year < 100) (since : SinceOpening) (pairs : List Asked) (d : DiskView) (k : KeptView) (opened : IsOpened season pairs d k.began) (later : IsLaterDisk k.began.disk k.journal.disk) where
+module _ (season : Term) (pairs : List Asked) (d : DiskView) (k : KeptView) (opened : IsOpened season pairs d k.began) (later : IsLaterDisk k.began.disk k.journal.disk) where
   durable : (s : DiskStart) (file : List ℕ) → ReadsAs s d.log file → Agrees s k.journal.disk.log → AreDurable s k.began.disk.log k.began.season pairs
   durable s file reads agrees = subst (λ (t : Term). AreDurable s k.began.disk.log t pairs) (sym opened.season_is) (opened.durable s file reads (later.agrees s agrees))
 
@@ -120,16 +114,18 @@ module _ (season : Term) (year : season.year < 100) (since : SinceOpening) (pair
     λ s file reads agrees. subst (λ (t : Term). MayHavePair s k.journal.disk.log t (pairs ++ asks) h.0.asked) opened.season_is (h.0.left s pairs (durable s file reads agrees) (sym opened.count)),
   )
 
-  since_then : (asks : List Asked) (s : DiskStart) (file : List ℕ) → ReadsAs s d.log file → Agrees s k.journal.disk.log → AtEachMoment s k.began.disk.log k.journal.disk.log (IsJournalOfSome k.began.season pairs asks)
-      → AtEachMoment s d.log k.journal.disk.log (λ image. MayLeave s d.log image ⊎ StandsForSome season pairs asks image)
-  since_then asks s file reads agrees kept =
-      since s d.log k.began.disk.log k.journal.disk.log season pairs asks file year (opened.found s file reads (later.agrees s agrees)) (opened.images s file reads (later.agrees s agrees))
-      (subst (λ (t : Term). AtEachMoment s k.began.disk.log k.journal.disk.log (IsJournalOfSome t pairs asks)) opened.season_is kept)
-
   moments : (asks : List Asked) (failure : Option Failure) (h : IsDiskKept k asks failure)
-      → ForFile d k.journal.disk (λ s file. AtEachMoment s d.log k.journal.disk.log (λ image. MayLeave s d.log image ⊎ StandsForSome season pairs (with_failed asks (failed_ask k asks failure h)) image))
-  moments asks None h = λ s file reads agrees. since_then asks s file reads agrees (h.moments s pairs (durable s file reads agrees) (sym opened.count))
-  moments asks (Some failure) h = λ s file reads agrees. since_then (asks ++ h.0.asked ∷ []) s file reads agrees (h.0.moments s pairs (durable s file reads agrees) (sym opened.count))
+      → ForFile d k.journal.disk (λ s file. (mid : List DiskPassage) × LeavesNoWorse s d.log mid season file × KeepsEach s season mid pairs asks (failed_ask k asks failure h) k.journal.disk.log)
+  moments asks None h = λ s file reads agrees. (
+    k.began.disk.log,
+    opened.images s file reads (later.agrees s agrees),
+    subst (λ (t : Term). KeepsEach s t k.began.disk.log pairs asks None k.journal.disk.log) opened.season_is (h.moments s pairs (durable s file reads agrees) (sym opened.count)),
+  )
+  moments asks (Some failure) h = λ s file reads agrees. (
+    k.began.disk.log,
+    opened.images s file reads (later.agrees s agrees),
+    subst (λ (t : Term). KeepsEach s t k.began.disk.log pairs asks (Some h.0.asked) k.journal.disk.log) opened.season_is (h.0.moments s pairs (durable s file reads agrees) (sym opened.count)),
+  )
 
   pub keeps_asks : (asks : List Asked) (failure : Option Failure) (h : IsDiskKept k asks failure) → KeepsAsks season pairs asks (failed_ask k asks failure h) d k.journal.disk
   keeps_asks asks failure h = record {

@@ -1,16 +1,16 @@
 -- The disk of a journal, from how it is handed in to how it is given back: why its journal was not
 -- opened, or which pairs it held, and what a stop of the machine leaves of it. All is said of each
 -- first content with which the calls of the disk agree, so of a disk that tells nothing too.
-use Rattle.std.specs.Prelude.{◌≡◌, ◌⊎◌, ℕ, List, [], ◌∷◌, ◌++◌, All, Option, Some, None}
+use Rattle.std.specs.Prelude.{◌≡◌, ℕ, List, [], ◌∷◌, ◌++◌, All, Option, Some, None}
 use Rattle.season_days.specs.Term.{Term}
 use Rattle.desk_outside.specs.Cause.{Rose}
-use Rattle.desk_disk.specs.Stops.{DiskStart, Agrees, MayLeave, AtEachMoment}
+use Rattle.desk_disk.specs.Stops.{DiskPassage, DiskStart, Agrees}
 use Rattle.desk_disk.specs.Disks.{DiskView, TellsTruly}
 use Rattle.amend_journal.specs.Format.{IsFit}
 use Rattle.amend_journal.specs.Standing.{StandsFor, IsOther, IsBadSlot}
 use Rattle.amend_journal.specs.Durable.{ReadsAs, AreDurable, MayHavePair, LeavesNoWorse, IsLaterDisk}
 use Rattle.amend_journal.specs.Durable.{told_start}
-use Rattle.amend_journal.specs.Kept.{StandsForSome}
+use Rattle.amend_journal.specs.Kept.{KeepsEach}
 use Rattle.amend_journal.specs.declared.asked.Asked.{Asked}
 use Rattle.slot_program.specs.Reports.{JournalRefusal, no_journal, other_journal, bad_slot}
 use Rattle.slot_program.specs.Reports.{journal_fault}
@@ -44,11 +44,6 @@ IsUnopened season why (Some d) (Some e) =
 
 -- ---- a journal that was opened, and kept while asks were entered
 
--- what was asked since, with the ask of a put that failed, if one did
-abbrev pub with_failed : List Asked → Option Asked → List Asked
-with_failed asks None = asks
-with_failed asks (Some asked) = asks ++ asked ∷ []
-
 -- No put failed: the disk has not, and every image is a journal of the pairs and of all asks. Or one
 -- did: the disk has failed, and an image may have the pair of that put besides.
 abbrev pub IsLeftWith : Term → List Asked → List Asked → Option Asked → DiskView → DiskView → Type 0
@@ -59,15 +54,17 @@ IsLeftWith season pairs asks (Some asked) d e =
     Rose d.faults e.faults
     × ForFile d e (λ s file. MayHavePair s e.log season (pairs ++ asks) asked)
 
--- The file stood for the pairs. At each moment every image is one that a stop might have left before
--- the opening, or stands for the pairs and a beginning of the asks: no ask is lost that was kept.
+-- The file stood for the pairs. While it was opened every image was one that a stop might have left
+-- before, or stood for the pairs; and from then on one ask after the other was kept, so that no
+-- moment's image has lost one that was entered.
 pub record KeepsAsks (season : Term) (pairs asks : List Asked) (failed : Option Asked)
     (d e : DiskView) : Type 0 where
   pub later : IsLaterDisk d e
   pub fit : All (IsFit season) pairs
   pub found : ForFile d e (λ s file. StandsFor season pairs file)
-  pub moments : ForFile d e (λ s file. AtEachMoment s d.log e.log (λ image.
-      MayLeave s d.log image ⊎ StandsForSome season pairs (with_failed asks failed) image))
+  pub moments : ForFile d e (λ s file. (opened : List DiskPassage)
+      × LeavesNoWorse s d.log opened season file
+      × KeepsEach s season opened pairs asks failed e.log)
   pub left : IsLeftWith season pairs asks failed d e
 
 -- ---- a disk that tells

@@ -22,7 +22,6 @@ use crate::serve::{MOST_ENTRIES, ServiceOutput, served};
 use crate::service_lines::{links_total, resumed_lines, resumption_status};
 use crate::stop::{Answer, NoJournal, Stop};
 use crate::writes::write_one;
-use amend_journal::laws::since_opening;
 use amend_journal::{Asked, Journal, JournalKept, OpenFault, replayed};
 use cert_format::Certificate;
 use command_words::NameList;
@@ -117,7 +116,6 @@ fn resumed_output<R: Threads + Wait + Sync, D: Door + Drop, G: Gate, K: Disk>(
     answer_lines();
     next_books();
     replays_fit();
-    since_opening();
     let _units = submission.units();
     let season = submission.declaration().season;
     let _year = season.year();

@@ -113,7 +113,7 @@ returns-clause-served g c =
       failed = failed_ask k (asks_of h) k.failure kept.disk;
       handed_in = o.1;
       given_back = ap Some c.into_disk.ensures;
-      kept = keeps_asks s.declaration.season c.year-year.ensures.digits c.since_opening.ensures pairs o.0 k (rw began o.2) kept.later (asks_of h) k.failure kept.disk;
+      kept = keeps_asks s.declaration.season pairs o.0 k (rw began o.2) kept.later (asks_of h) k.failure kept.disk;
       whole = one_whole start pairs h c.replays_fit.ensures.declaration c.replays_fit.ensures.book (rw same c.declaration-declaration.ensures.book) o.2.fit
           (subst (λ (b : SlotBook). IsLegal b h) after c.in_ok-history.ensures.legal) can;
       served = record {
