@@ -4,9 +4,8 @@ use Rattle.std.specs.Prelude.{Option}
 use Rattle.std.proofs.lemmas.List.{take_more}
 use Rattle.season_days.specs.Term.{Term}
 use Rattle.desk_outside.specs.Cause.{Rose}
-use Rattle.desk_disk.specs.Stops.{DiskStart, MayLeave, AtEachMoment}
+use Rattle.desk_disk.specs.Stops.{DiskPassage, DiskStart, MayLeave, AtEachMoment}
 use Rattle.desk_disk.specs.Disks.{DiskView}
-use Rattle.turn_lock.specs.History.{StartsWith}
 use Rattle.holding_book.specs.declared.answer.Entry.{Entry}
 use Rattle.holding_book.specs.Books.{SlotBook}
 use Rattle.holding_book.specs.Asks.{CanAsk, next}
@@ -19,7 +18,7 @@ use Rattle.holding_book.specs.declared.answer.Answer.{Answer}
 use Rattle.slot_ledger.specs.Starts.{new_entry}
 use Rattle.amend_journal.specs.Format.{IsFit, IsJournalOf}
 use Rattle.amend_journal.specs.Durable.{JournalView, IsReady, AreDurable, MayHavePair, IsLaterDisk}
-use Rattle.amend_journal.specs.Kept.{asked_by, asks_of, book_after, IsJournalOfSome, AreMoments, AllKept, MayHaveOneMore, KeptView, IsDiskKept, IsKept, CanKeep}
+use Rattle.amend_journal.specs.Kept.{asked_by, asks_of, book_after, MayBeAfter, KeepsEach, AreMoments, AllKept, MayHaveOneMore, KeptView, IsDiskKept, IsKept, CanKeep}
 use Rattle.amend_journal.specs.declared.asked.Asked.{Asked}
 use Rattle.amend_journal.specs.declared.told.Failure.{Failure}
 use Rattle.amend_journal.proofs.MomentLemmas.{ReadBack, LeftBack, moments_join, moments_weaker, no_moment, later_join}
@@ -34,8 +33,44 @@ pub asks_count : (history : List Entry) → length (asks_of history) ≡ length 
 asks_count [] = refl
 asks_count (x ∷ history) = ap suc (asks_count history)
 
-starts_more : (asks more part : List Asked) → StartsWith asks part → StartsWith (asks ++ more) part
-starts_more asks more part h = (h.0 ++ more, ap (λ (list : List Asked). list ++ more) h.1 ∙ append_assoc part h.0 more)
+-- ---- one ask after the other
+
+-- one more was put, and is durable
+keeps_put : ReadBack → LeftBack → (s : DiskStart) (season : Term) (before : List DiskPassage) (done asks : List Asked) (asked : Asked) (mid now : List DiskPassage) → KeepsEach s season before done asks None mid
+    → AtEachMoment s mid now (MayBeAfter season (done ++ asks) (Some asked)) → AreDurable s now season ((done ++ asks) ++ asked ∷ []) → KeepsEach s season before done (asks ++ asked ∷ []) None now
+keeps_put read_back left_back s season before done [] asked mid now kept put durable =
+    let at = subst (λ (l : List Asked). AtEachMoment s mid now (MayBeAfter season l (Some asked))) (append-nil done) put in
+    let all = subst (λ (l : List Asked). AreDurable s now season (l ++ asked ∷ [])) (append-nil done) durable in (
+      now,
+      moments_join (MayBeAfter season done (Some asked)) s before mid now read_back left_back
+          (moments_weaker (MayBeAfter season done None) (MayBeAfter season done (Some asked)) s before mid (λ c h. inl h) kept) at,
+      all,
+      no_moment (MayBeAfter season (done ++ asked ∷ []) None) s now (λ c left. all.left c left),
+    )
+keeps_put read_back left_back s season before done (a ∷ asks) asked mid now kept put durable =
+    let same : (done ++ a ∷ []) ++ asks ≡ done ++ a ∷ asks = append_assoc done (a ∷ []) asks in (
+      kept.0,
+      kept.1,
+      kept.2,
+      keeps_put read_back left_back s season kept.0 (done ++ a ∷ []) asks asked mid now kept.3
+          (subst (λ (l : List Asked). AtEachMoment s mid now (MayBeAfter season l (Some asked))) (sym same) put)
+          (subst (λ (l : List Asked). AreDurable s now season (l ++ asked ∷ [])) (sym same) durable),
+    )
+
+-- one more was put, which failed
+keeps_failed : ReadBack → LeftBack → (s : DiskStart) (season : Term) (before : List DiskPassage) (done asks : List Asked) (asked : Asked) (mid now : List DiskPassage) → KeepsEach s season before done asks None mid
+    → AtEachMoment s mid now (MayBeAfter season (done ++ asks) (Some asked)) → KeepsEach s season before done asks (Some asked) now
+keeps_failed read_back left_back s season before done [] asked mid now kept put =
+    moments_join (MayBeAfter season done (Some asked)) s before mid now read_back left_back
+    (moments_weaker (MayBeAfter season done None) (MayBeAfter season done (Some asked)) s before mid (λ c h. inl h) kept)
+    (subst (λ (l : List Asked). AtEachMoment s mid now (MayBeAfter season l (Some asked))) (append-nil done) put)
+keeps_failed read_back left_back s season before done (a ∷ asks) asked mid now kept put = (
+  kept.0,
+  kept.1,
+  kept.2,
+  keeps_failed read_back left_back s season kept.0 (done ++ a ∷ []) asks asked mid now kept.3
+      (subst (λ (l : List Asked). AtEachMoment s mid now (MayBeAfter season l (Some asked))) (sym (append_assoc done (a ∷ []) asks)) put),
+)
 
 -- ---- the beginning
 
@@ -43,8 +78,7 @@ pub all_kept_at_start : (began : JournalView) → AllKept began began.disk []
 all_kept_at_start began = record {
   faults = refl;
   durable = λ s pairs d n. subst (λ (list : List Asked). AreDurable s began.disk.log began.season list) (sym (append-nil pairs)) d;
-  moments = λ s pairs d n. no_moment (IsJournalOfSome began.season pairs []) s began.disk.log
-      (λ c left. ([], ([], refl), subst (λ (list : List Asked). IsJournalOf began.season list c) (sym (append-nil pairs)) (d.left c left)));
+  moments = λ s pairs d n. no_moment (MayBeAfter began.season pairs None) s began.disk.log (λ c left. d.left c left);
 }
 
 pub kept_at_start : (k : KeptView) → k.journal ≡ k.began → k.failure ≡ None → IsKept k []
@@ -77,28 +111,21 @@ module _ (began old : JournalView) (disk : DiskView) (asks : List Asked) (asked 
   whole : (pairs : List Asked) → length pairs ≡ began.count → length (pairs ++ asks) ≡ old.count
   whole pairs n = length-append pairs asks ∙ ap (λ (k : ℕ). k + length asks) n ∙ sym count
 
-  one_of : (pairs : List Asked) (c : List ℕ) → IsJournalOf old.season (pairs ++ asks) c ⊎ IsJournalOf old.season ((pairs ++ asks) ++ asked ∷ []) c → IsJournalOfSome began.season pairs (asks ++ asked ∷ []) c
-  one_of pairs c (inl h) = (asks, (asked ∷ [], refl), subst (λ (t : Term). IsJournalOf t (pairs ++ asks) c) season h)
-  one_of pairs c (inr h) = (
-    asks ++ asked ∷ [],
-    ([], sym (append-nil (asks ++ asked ∷ []))),
-    subst (λ (list : List Asked). IsJournalOf began.season list c) (append_assoc pairs asks (asked ∷ [])) (subst (λ (t : Term). IsJournalOf t ((pairs ++ asks) ++ asked ∷ []) c) season h),
-  )
+  -- the put, behind the pairs and what was kept since
+  put_then : PutMoments old disk slot → (s : DiskStart) (pairs : List Asked) → AreDurable s began.disk.log began.season pairs → length pairs ≡ began.count
+      → AtEachMoment s old.disk.log disk.log (MayBeAfter began.season (pairs ++ asks) (Some asked))
+  put_then put s pairs d n =
+      subst (λ (t : Term). AtEachMoment s old.disk.log disk.log (MayBeAfter t (pairs ++ asks) (Some asked))) season
+      (put s (pairs ++ asks) asked (durable s pairs d n) (whole pairs n) ready)
 
-  pub put_moments_since : ReadBack → LeftBack → PutMoments old disk slot → AreMoments began disk (asks ++ asked ∷ [])
-  put_moments_since read_back left_back put s pairs d n =
-      moments_join (IsJournalOfSome began.season pairs (asks ++ asked ∷ [])) s began.disk.log old.disk.log disk.log read_back left_back
-      (moments_weaker (IsJournalOfSome began.season pairs asks) (IsJournalOfSome began.season pairs (asks ++ asked ∷ [])) s began.disk.log old.disk.log
-      (λ c h. (h.0, starts_more asks (asked ∷ []) h.0 h.1, h.2)) (kept.moments s pairs d n))
-      (moments_weaker (λ c. IsJournalOf old.season (pairs ++ asks) c ⊎ IsJournalOf old.season ((pairs ++ asks) ++ asked ∷ []) c) (IsJournalOfSome began.season pairs (asks ++ asked ∷ [])) s old.disk.log disk.log
-      (one_of pairs) (put s (pairs ++ asks) asked (durable s pairs d n) (whole pairs n) ready))
+  durable_then : PutKept old disk slot → (s : DiskStart) (pairs : List Asked) → AreDurable s began.disk.log began.season pairs → length pairs ≡ began.count → AreDurable s disk.log began.season ((pairs ++ asks) ++ asked ∷ [])
+  durable_then put s pairs d n = subst (λ (t : Term). AreDurable s disk.log t ((pairs ++ asks) ++ asked ∷ [])) season (put s (pairs ++ asks) asked (durable s pairs d n) (whole pairs n) ready)
 
   pub put_keeps_all : ReadBack → LeftBack → PutMoments old disk slot → PutKept old disk slot → disk.faults ≡ old.disk.faults → AllKept began disk (asks ++ asked ∷ [])
   put_keeps_all read_back left_back moments put faults = record {
     faults = faults ∙ kept.faults;
-    durable = λ s pairs d n. subst (λ (list : List Asked). AreDurable s disk.log began.season list) (append_assoc pairs asks (asked ∷ []))
-        (subst (λ (t : Term). AreDurable s disk.log t ((pairs ++ asks) ++ asked ∷ [])) season (put s (pairs ++ asks) asked (durable s pairs d n) (whole pairs n) ready));
-    moments = put_moments_since read_back left_back moments;
+    durable = λ s pairs d n. subst (λ (list : List Asked). AreDurable s disk.log began.season list) (append_assoc pairs asks (asked ∷ [])) (durable_then put s pairs d n);
+    moments = λ s pairs d n. keeps_put read_back left_back s began.season began.disk.log pairs asks asked old.disk.log disk.log (kept.moments s pairs d n) (put_then moments s pairs d n) (durable_then put s pairs d n);
   }
 
   pub put_may_have : ReadBack → LeftBack → PutMoments old disk slot → PutLeft old disk slot → Rose old.disk.faults disk.faults → MayHaveOneMore began disk asks
@@ -106,7 +133,7 @@ module _ (began old : JournalView) (disk : DiskView) (asks : List Asked) (asked 
     rose = subst (λ (n : ℕ). Rose n disk.faults) kept.faults rose;
     asked = asked;
     left = λ s pairs d n. subst (λ (t : Term). MayHavePair s disk.log t (pairs ++ asks) asked) season (put s (pairs ++ asks) asked (durable s pairs d n) (whole pairs n) ready);
-    moments = put_moments_since read_back left_back moments;
+    moments = λ s pairs d n. keeps_failed read_back left_back s began.season began.disk.log pairs asks asked old.disk.log disk.log (kept.moments s pairs d n) (put_then moments s pairs d n);
   }
 
 -- ---- the book
