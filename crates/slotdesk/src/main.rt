@@ -142,7 +142,14 @@ fn disk_for<R: Files<File = File>>(
     words: &[String],
 ) -> Result<Option<RealDisk<File>>, Memory> {
     match read_words(alloc, words) {
-        Ok(Job::Resume { names, .. }) => match names.items().get(3) {
+        Ok(
+            Job::Resume {
+                names,
+                links: _,
+                port: _,
+                workers: _,
+            },
+        ) => match names.items().get(3) {
             Some(name) => Ok(Some(RealDisk::new(open_journal(rt, name.text())))),
             None => Ok(None),
         },
