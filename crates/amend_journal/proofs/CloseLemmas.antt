@@ -2,7 +2,6 @@
 use Rattle.std.proofs.Common.{◌≡◌, ◌⊎◌, ◌≤◌, ℕ, List, [], ◌∷◌, ◌++◌, get_or, sym, ap, subst, ◌∙◌, append_assoc, inl, inr, None, Some, arith}
 use Rattle.std.specs.Prelude.{Option, All, Any}
 use Rattle.desk_outside.specs.Cause.{Rose}
-use Rattle.turn_lock.specs.History.{StartsWith}
 use Rattle.turn_lock.specs.Seats.{SeatView, HasSeen}
 use Rattle.holding_book.specs.declared.answer.Entry.{Entry}
 use Rattle.slot_ledger.specs.Beside.{IsUnbroken}

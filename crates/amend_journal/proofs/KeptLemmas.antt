@@ -18,7 +18,7 @@ use Rattle.holding_book.specs.declared.answer.Answer.{Answer}
 use Rattle.slot_ledger.specs.Starts.{new_entry}
 use Rattle.amend_journal.specs.Format.{IsFit, IsJournalOf}
 use Rattle.amend_journal.specs.Durable.{JournalView, IsReady, AreDurable, MayHavePair, IsLaterDisk}
-use Rattle.amend_journal.specs.Kept.{asked_by, asks_of, book_after, MayBeAfter, KeepsEach, AreMoments, AllKept, MayHaveOneMore, KeptView, IsDiskKept, IsKept, CanKeep}
+use Rattle.amend_journal.specs.Kept.{asked_by, asks_of, book_after, IsJournalUpTo, KeepsEach, AllKept, MayHaveOneMore, KeptView, IsDiskKept, IsKept, CanKeep}
 use Rattle.amend_journal.specs.declared.asked.Asked.{Asked}
 use Rattle.amend_journal.specs.declared.told.Failure.{Failure}
 use Rattle.amend_journal.proofs.MomentLemmas.{ReadBack, LeftBack, moments_join, moments_weaker, no_moment, later_join}
@@ -33,53 +33,40 @@ pub asks_count : (history : List Entry) → length (asks_of history) ≡ length 
 asks_count [] = refl
 asks_count (x ∷ history) = ap suc (asks_count history)
 
--- ---- one ask after the other
-
--- one more was put, and is durable
-keeps_put : ReadBack → LeftBack → (s : DiskStart) (season : Term) (before : List DiskPassage) (done asks : List Asked) (asked : Asked) (mid now : List DiskPassage) → KeepsEach s season before done asks None mid
-    → AtEachMoment s mid now (MayBeAfter season (done ++ asks) (Some asked)) → AreDurable s now season ((done ++ asks) ++ asked ∷ []) → KeepsEach s season before done (asks ++ asked ∷ []) None now
-keeps_put read_back left_back s season before done [] asked mid now kept put durable =
-    let at = subst (λ (l : List Asked). AtEachMoment s mid now (MayBeAfter season l (Some asked))) (append-nil done) put in
-    let all = subst (λ (l : List Asked). AreDurable s now season (l ++ asked ∷ [])) (append-nil done) durable in (
-      now,
-      moments_join (MayBeAfter season done (Some asked)) s before mid now read_back left_back
-          (moments_weaker (MayBeAfter season done None) (MayBeAfter season done (Some asked)) s before mid (λ c h. inl h) kept) at,
-      all,
-      no_moment (MayBeAfter season (done ++ asked ∷ []) None) s now (λ c left. all.left c left),
-    )
-keeps_put read_back left_back s season before done (a ∷ asks) asked mid now kept put durable =
-    let same : (done ++ a ∷ []) ++ asks ≡ done ++ a ∷ asks = append_assoc done (a ∷ []) asks in (
-      kept.0,
-      kept.1,
-      kept.2,
-      keeps_put read_back left_back s season kept.0 (done ++ a ∷ []) asks asked mid now kept.3
-          (subst (λ (l : List Asked). AtEachMoment s mid now (MayBeAfter season l (Some asked))) (sym same) put)
-          (subst (λ (l : List Asked). AreDurable s now season (l ++ asked ∷ [])) (sym same) durable),
-    )
-
--- one more was put, which failed
-keeps_failed : ReadBack → LeftBack → (s : DiskStart) (season : Term) (before : List DiskPassage) (done asks : List Asked) (asked : Asked) (mid now : List DiskPassage) → KeepsEach s season before done asks None mid
-    → AtEachMoment s mid now (MayBeAfter season (done ++ asks) (Some asked)) → KeepsEach s season before done asks (Some asked) now
-keeps_failed read_back left_back s season before done [] asked mid now kept put =
-    moments_join (MayBeAfter season done (Some asked)) s before mid now read_back left_back
-    (moments_weaker (MayBeAfter season done None) (MayBeAfter season done (Some asked)) s before mid (λ c h. inl h) kept)
-    (subst (λ (l : List Asked). AtEachMoment s mid now (MayBeAfter season l (Some asked))) (append-nil done) put)
-keeps_failed read_back left_back s season before done (a ∷ asks) asked mid now kept put = (
-  kept.0,
-  kept.1,
-  kept.2,
-  keeps_failed read_back left_back s season kept.0 (done ++ a ∷ []) asks asked mid now kept.3
-      (subst (λ (l : List Asked). AtEachMoment s mid now (MayBeAfter season l (Some asked))) (sym (append_assoc done (a ∷ []) asks)) put),
-)
-
 -- ---- the beginning
 
 pub all_kept_at_start : (began : JournalView) → AllKept began began.disk []
 all_kept_at_start began = record {
   faults = refl;
   durable = λ s pairs d n. subst (λ (list : List Asked). AreDurable s began.disk.log began.season list) (sym (append-nil pairs)) d;
-  moments = λ s pairs d n. no_moment (MayBeAfter began.season pairs None) s began.disk.log (λ c left. d.left c left);
+  moments = λ s pairs d n. no_moment (IsJournalOf began.season pairs) s began.disk.log d.left;
 }
+
+-- ---- the asks one after the other
+
+module _ (season : Term) (s : DiskStart) (asked : Asked) (all : List Asked) (now later : List DiskPassage) (read_back : ReadBack) (left_back : LeftBack) (put : AtEachMoment s now later (IsJournalUpTo season asked all)) where
+  put_behind : (before : List DiskPassage) (pairs : List Asked) → pairs ≡ all → AtEachMoment s before now (IsJournalOf season pairs) → AtEachMoment s before later (IsJournalUpTo season asked pairs)
+  put_behind before pairs is h =
+      moments_join (IsJournalUpTo season asked pairs) s before now later read_back left_back
+      (moments_weaker (IsJournalOf season pairs) (IsJournalUpTo season asked pairs) s before now (λ c j. inl j) h)
+      (subst (λ (list : List Asked). AtEachMoment s now later (IsJournalUpTo season asked list)) (sym is) put)
+
+  -- one more was kept
+  pub keeps_more : AreDurable s later season (all ++ asked ∷ []) → (before : List DiskPassage) (pairs asks : List Asked) → pairs ++ asks ≡ all
+      → KeepsEach season s (IsJournalOf season) before pairs asks now → KeepsEach season s (IsJournalOf season) before pairs (asks ++ asked ∷ []) later
+  keeps_more durable before pairs [] is h =
+      let same : pairs ≡ all = sym (append-nil pairs) ∙ is in
+      let kept : AreDurable s later season (pairs ++ asked ∷ []) = subst (λ (list : List Asked). AreDurable s later season (list ++ asked ∷ [])) (sym same) durable in
+      (later, put_behind before pairs same h, kept, no_moment (IsJournalOf season (pairs ++ asked ∷ [])) s later kept.left)
+  keeps_more durable before pairs (a ∷ asks) is h =
+      (h.0, h.1, h.2, keeps_more durable h.0 (pairs ++ a ∷ []) asks (append_assoc pairs (a ∷ []) asks ∙ is) h.3)
+
+  -- a put failed behind all that was kept
+  pub keeps_failed : (before : List DiskPassage) (pairs asks : List Asked) → pairs ++ asks ≡ all
+      → KeepsEach season s (IsJournalOf season) before pairs asks now → KeepsEach season s (IsJournalUpTo season asked) before pairs asks later
+  keeps_failed before pairs [] is h = put_behind before pairs (sym (append-nil pairs) ∙ is) h
+  keeps_failed before pairs (a ∷ asks) is h =
+      (h.0, h.1, h.2, keeps_failed h.0 (pairs ++ a ∷ []) asks (append_assoc pairs (a ∷ []) asks ∙ is) h.3)
 
 pub kept_at_start : (k : KeptView) → k.journal ≡ k.began → k.failure ≡ None → IsKept k []
 kept_at_start k same whole = record {
@@ -111,21 +98,22 @@ module _ (began old : JournalView) (disk : DiskView) (asks : List Asked) (asked 
   whole : (pairs : List Asked) → length pairs ≡ began.count → length (pairs ++ asks) ≡ old.count
   whole pairs n = length-append pairs asks ∙ ap (λ (k : ℕ). k + length asks) n ∙ sym count
 
-  -- the put, behind the pairs and what was kept since
-  put_then : PutMoments old disk slot → (s : DiskStart) (pairs : List Asked) → AreDurable s began.disk.log began.season pairs → length pairs ≡ began.count
-      → AtEachMoment s old.disk.log disk.log (MayBeAfter began.season (pairs ++ asks) (Some asked))
-  put_then put s pairs d n =
-      subst (λ (t : Term). AtEachMoment s old.disk.log disk.log (MayBeAfter t (pairs ++ asks) (Some asked))) season
-      (put s (pairs ++ asks) asked (durable s pairs d n) (whole pairs n) ready)
+  put_of : PutMoments old disk slot → (s : DiskStart) (pairs : List Asked) → AreDurable s began.disk.log began.season pairs → length pairs ≡ began.count
+      → AtEachMoment s old.disk.log disk.log (IsJournalUpTo began.season asked (pairs ++ asks))
+  put_of put s pairs d n =
+      subst (λ (t : Term). AtEachMoment s old.disk.log disk.log (IsJournalUpTo t asked (pairs ++ asks))) season (put s (pairs ++ asks) asked (durable s pairs d n) (whole pairs n) ready)
 
-  durable_then : PutKept old disk slot → (s : DiskStart) (pairs : List Asked) → AreDurable s began.disk.log began.season pairs → length pairs ≡ began.count → AreDurable s disk.log began.season ((pairs ++ asks) ++ asked ∷ [])
-  durable_then put s pairs d n = subst (λ (t : Term). AreDurable s disk.log t ((pairs ++ asks) ++ asked ∷ [])) season (put s (pairs ++ asks) asked (durable s pairs d n) (whole pairs n) ready)
+  kept_of : PutKept old disk slot → (s : DiskStart) (pairs : List Asked) → AreDurable s began.disk.log began.season pairs → length pairs ≡ began.count
+      → AreDurable s disk.log began.season ((pairs ++ asks) ++ asked ∷ [])
+  kept_of put s pairs d n =
+      subst (λ (t : Term). AreDurable s disk.log t ((pairs ++ asks) ++ asked ∷ [])) season (put s (pairs ++ asks) asked (durable s pairs d n) (whole pairs n) ready)
 
   pub put_keeps_all : ReadBack → LeftBack → PutMoments old disk slot → PutKept old disk slot → disk.faults ≡ old.disk.faults → AllKept began disk (asks ++ asked ∷ [])
   put_keeps_all read_back left_back moments put faults = record {
     faults = faults ∙ kept.faults;
-    durable = λ s pairs d n. subst (λ (list : List Asked). AreDurable s disk.log began.season list) (append_assoc pairs asks (asked ∷ [])) (durable_then put s pairs d n);
-    moments = λ s pairs d n. keeps_put read_back left_back s began.season began.disk.log pairs asks asked old.disk.log disk.log (kept.moments s pairs d n) (put_then moments s pairs d n) (durable_then put s pairs d n);
+    durable = λ s pairs d n. subst (λ (list : List Asked). AreDurable s disk.log began.season list) (append_assoc pairs asks (asked ∷ [])) (kept_of put s pairs d n);
+    moments = λ s pairs d n. keeps_more began.season s asked (pairs ++ asks) old.disk.log disk.log read_back left_back (put_of moments s pairs d n) (kept_of put s pairs d n)
+        began.disk.log pairs asks refl (kept.moments s pairs d n);
   }
 
   pub put_may_have : ReadBack → LeftBack → PutMoments old disk slot → PutLeft old disk slot → Rose old.disk.faults disk.faults → MayHaveOneMore began disk asks
@@ -133,7 +121,7 @@ module _ (began old : JournalView) (disk : DiskView) (asks : List Asked) (asked 
     rose = subst (λ (n : ℕ). Rose n disk.faults) kept.faults rose;
     asked = asked;
     left = λ s pairs d n. subst (λ (t : Term). MayHavePair s disk.log t (pairs ++ asks) asked) season (put s (pairs ++ asks) asked (durable s pairs d n) (whole pairs n) ready);
-    moments = λ s pairs d n. keeps_failed read_back left_back s began.season began.disk.log pairs asks asked old.disk.log disk.log (kept.moments s pairs d n) (put_then moments s pairs d n);
+    moments = λ s pairs d n. keeps_failed began.season s asked (pairs ++ asks) old.disk.log disk.log read_back left_back (put_of moments s pairs d n) began.disk.log pairs asks refl (kept.moments s pairs d n);
   }
 
 -- ---- the book

@@ -37,35 +37,35 @@ abbrev pub ForDurable : JournalView → (DiskStart → List Asked → Type 0) �
 ForDurable began P = (s : DiskStart) (pairs : List Asked)
     → AreDurable s began.disk.log began.season pairs → length pairs ≡ began.count → P s pairs
 
--- a journal of the pairs, or also of the one whose put failed, if one did
-abbrev pub MayBeAfter : Term → List Asked → Option Asked → List ℕ → Type 0
-MayBeAfter season done None file = IsJournalOf season done file
-MayBeAfter season done (Some asked) file =
-    IsJournalOf season done file ⊎ IsJournalOf season (done ++ asked ∷ []) file
+-- an image is a journal of the pairs, or of these and one more
+abbrev pub IsJournalUpTo : Term → Asked → List Asked → List ℕ → Type 0
+IsJournalUpTo season asked pairs image =
+    IsJournalOf season pairs image ⊎ IsJournalOf season (pairs ++ asked ∷ []) image
 
--- From the one log to the other one ask after the other was kept behind those that were durable:
--- until it was durable every image was a journal of those before it, or of these and it.
-abbrev pub KeepsEach : DiskStart → Term → List DiskPassage → List Asked → List Asked
-    → Option Asked → List DiskPassage → Type 0
-KeepsEach s season before done [] failed now =
-    AtEachMoment s before now (MayBeAfter season done failed)
-KeepsEach s season before done (asked ∷ asks) failed now = (mid : List DiskPassage)
-    × AtEachMoment s before mid (MayBeAfter season done (Some asked))
-    × AreDurable s mid season (done ++ asked ∷ [])
-    × KeepsEach s season mid (done ++ asked ∷ []) asks failed now
+-- The calls of a disk from one log to another, cut where each of the asks is kept. Up to its cut
+-- every image is a journal of all pairs before it, or of these and the ask; at the cut it is
+-- durable. Behind the last cut every image is as is said of all pairs.
+abbrev pub KeepsEach : Term → DiskStart → (List Asked → List ℕ → Type 0) → List DiskPassage
+    → List Asked → List Asked → List DiskPassage → Type 0
+KeepsEach season s IsLast before pairs [] now = AtEachMoment s before now (IsLast pairs)
+KeepsEach season s IsLast before pairs (asked ∷ asks) now = (cut : List DiskPassage)
+    × AtEachMoment s before cut (IsJournalUpTo season asked pairs)
+    × AreDurable s cut season (pairs ++ asked ∷ [])
+    × KeepsEach season s IsLast cut (pairs ++ asked ∷ []) asks now
 
--- since the ledger began
-abbrev pub AreMoments : JournalView → DiskView → List Asked → Option Asked → Type 0
-AreMoments began disk asks failed = ForDurable began (λ s pairs.
-    KeepsEach s began.season began.disk.log pairs asks failed disk.log)
+-- each ask was kept since the ledger began
+abbrev pub AreMoments : JournalView → DiskView → (List Asked → List ℕ → Type 0) → List Asked
+    → Type 0
+AreMoments began disk IsLast asks = ForDurable began (λ s pairs.
+    KeepsEach began.season s IsLast began.disk.log pairs asks disk.log)
 
 -- No put has failed: the disk has not failed since, every image is a journal of the pairs and of
--- all that was asked since, and these were kept one after the other.
+-- all that was asked since, and each of these asks was kept before the next one.
 pub record AllKept (began : JournalView) (disk : DiskView) (asks : List Asked) : Type 0 where
   pub faults : disk.faults ≡ began.disk.faults
   pub durable : ForDurable began (λ s pairs.
       AreDurable s disk.log began.season (pairs ++ asks))
-  pub moments : AreMoments began disk asks None
+  pub moments : AreMoments began disk (IsJournalOf began.season) asks
 
 -- A put failed: the disk has failed since, and an image may have one more pair, that of the put.
 pub record MayHaveOneMore (began : JournalView) (disk : DiskView) (asks : List Asked) : Type 0 where
@@ -73,7 +73,7 @@ pub record MayHaveOneMore (began : JournalView) (disk : DiskView) (asks : List A
   pub asked : Asked
   pub left : ForDurable began (λ s pairs.
       MayHavePair s disk.log began.season (pairs ++ asks) asked)
-  pub moments : AreMoments began disk asks (Some asked)
+  pub moments : AreMoments began disk (IsJournalUpTo began.season asked) asks
 
 -- what contracts see of a journal that a ledger keeps: as it was when the ledger began, as it is,
 -- and the put that failed

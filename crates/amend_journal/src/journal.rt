@@ -16,7 +16,7 @@ ghost use Rattle.amend_journal.specs.declared.asked.Asked.{Asked as AskedValue};
 use crate::asked::{Asked, MOST_PAIRS};
 use crate::fault::OpenFault;
 use crate::open::open_file;
-use crate::put::put_slot;
+use crate::put::SlotDisk;
 use crate::slot::Slot;
 use desk_disk::laws::joined_calls;
 use desk_disk::{Disk, DiskFault};
@@ -32,13 +32,13 @@ use std::marker::Model;
 /// Contracts see the disk, the season and the number of pairs. Which pairs are durable is said for
 /// every first content of the disk, over the log of its calls (`AreDurable`).
 #[derive(Drop)]
-pub struct Journal<K: Disk> {
+pub struct Journal<K: SlotDisk> {
     pub(crate) disk: K,
     season: Season,
     count: u32,
 }
 
-impl<K: Disk> Model for Journal<K> {
+impl<K: SlotDisk> Model for Journal<K> {
     ghost use Rattle.std.specs.Prelude.{◌+◌, ◌*◌, ◌≤◌};
     ghost use Rattle.desk_disk.specs.Disks.{shown_length};
     ghost use Rattle.amend_journal.specs.Durable.{JournalView};
@@ -47,13 +47,13 @@ impl<K: Disk> Model for Journal<K> {
     ghost Value = { JournalView };
 
     ghost view = { λ j. record {
-      disk = K.view j.disk;
+      disk = K.stored j.disk;
       season = j.season;
       count = j.count;
     } };
 
     ghost invariant = { λ j. (j.count ≤ MOST_PAIRS)
-        × (17 + 256 * j.count ≤ shown_length (K.view j.disk).log) };
+        × (17 + 256 * j.count ≤ shown_length (K.stored j.disk).log) };
 }
 
 impl<K: Disk> Journal<K> {
@@ -115,7 +115,9 @@ impl<K: Disk> Journal<K> {
             Err(fault) => Err((fault, disk)),
         }
     }
+}
 
+impl<K: SlotDisk> Journal<K> {
     /// How many pairs the journal holds.
     pub fn count(&self) -> u32
         ensures count { result ≡ self.now.count }
@@ -128,7 +130,7 @@ impl<K: Disk> Journal<K> {
     pub fn faults(&self) -> u64
         ensures { result ≡ self.now.disk.faults }
     {
-        self.disk.faults()
+        self.disk.count_faults()
     }
 
     /// A pair laid out for its slot. It takes memory for the text of what is asked, and is refused
@@ -173,14 +175,14 @@ impl<K: Disk> Journal<K> {
         joined_calls();
         printed_items();
         let gate = 16 + 256 * u64::from(self.count);
-        put_slot(&mut self.disk, gate, slot.bytes())?;
+        self.disk.put_slot(gate, slot.bytes())?;
         self.count += 1;
         Ok(())
     }
 
     /// The disk of the journal.
     pub fn into_disk(self) -> K
-        ensures { K.view result ≡ self.disk }
+        ensures { K.stored result ≡ self.disk }
     {
         self.disk
     }

@@ -5,8 +5,8 @@ ghost use Rattle.amend_journal.specs.Kept.{IsKept};
 ghost use Rattle.amend_journal.specs.declared.asked.TheConstants.{MOST_PAIRS};
 
 use crate::journal::Journal;
+use crate::put::SlotDisk;
 use crate::told::{Failure, Told};
-use desk_disk::Disk;
 use desk_disk::laws::joined_calls;
 use scr_reader::Item;
 use slot_ledger::{Beside, EnterFault};
@@ -17,14 +17,14 @@ use std::snapshot::Snapshot;
 /// The journal of a ledger. Contracts see it as it was when the ledger began, as it is, and the put
 /// that failed, after which nothing more is kept.
 #[derive(Drop)]
-pub struct JournalKept<K: Disk> {
+pub struct JournalKept<K: SlotDisk> {
     journal: Journal<K>,
     began: Snapshot<Journal<K>>,
     found: u32,
     failure: Option<Failure>,
 }
 
-impl<K: Disk> Model for JournalKept<K> {
+impl<K: SlotDisk> Model for JournalKept<K> {
     ghost use Rattle.std.specs.Prelude.{◌≡◌, ◌≤◌};
     ghost use Rattle.amend_journal.specs.Kept.{KeptView};
     ghost use Rattle.amend_journal.specs.declared.asked.TheConstants.{MOST_PAIRS};
@@ -40,7 +40,7 @@ impl<K: Disk> Model for JournalKept<K> {
     ghost invariant = { λ k. (k.found ≡ k.began.value.count) × (k.found ≤ MOST_PAIRS) };
 }
 
-impl<K: Disk> JournalKept<K> {
+impl<K: SlotDisk> JournalKept<K> {
     /// A journal of which no put has failed, as a ledger finds it.
     pub fn of(journal: Journal<K>) -> JournalKept<K>
         ensures began { result.began ≡ journal }
@@ -74,13 +74,13 @@ impl<K: Disk> JournalKept<K> {
 
     /// The disk of the journal.
     pub fn into_disk(self) -> K
-        ensures { K.view result ≡ self.journal.disk }
+        ensures { K.stored result ≡ self.journal.disk }
     {
         self.journal.into_disk()
     }
 }
 
-impl<K: Disk> Beside for JournalKept<K> {
+impl<K: SlotDisk> Beside for JournalKept<K> {
     ghost use Rattle.amend_journal.specs.Told.{told_list, read_told, told_caller, EndsBroken};
     ghost use Rattle.amend_journal.specs.Kept.{CanKeep};
     ghost use Rattle.amend_journal.specs.declared.told.Told.TheVariants.{Done};

@@ -42,7 +42,7 @@ pub struct JournalLedger<K: Disk> {
 }
 
 impl<K: Disk> Model for JournalLedger<K> {
-    ghost use Rattle.std.specs.Prelude.{◌≡◌};
+    ghost use Rattle.std.specs.Prelude.{◌≡◌, ◌≤◌};
     ghost use Rattle.turn_lock.specs.Seats.{TurnView};
     ghost use Rattle.slot_ledger.specs.declared.shared.Origin.{Origin};
     ghost use Rattle.amend_journal.specs.Durable.{JournalView};
@@ -51,8 +51,8 @@ impl<K: Disk> Model for JournalLedger<K> {
 
     ghost view = { λ l. l.shared };
 
-    ghost invariant = { λ l.
-        l.shared.origin.beside.season ≡ l.shared.origin.start.declaration.season };
+    ghost invariant = { λ l. (l.shared.origin.beside.season
+        ≡ l.shared.origin.start.declaration.season) × (l.shared.callers ≤ 256) };
 }
 
 impl<K: Disk> JournalLedger<K> {
@@ -97,7 +97,6 @@ impl<K: Disk> JournalLedger<K> {
         ask: &Item,
     ) -> Result<Answer, JournalFault>
         requires rest { IsAtRest self.now pass.old }
-        requires caller { pass.old.number < 256 }
         requires ask { IsFitItem self.now.origin.start.declaration.season ask.now }
         ensures rest { IsAtRest self.now pass.new }
         ensures pass { IsStillPass (first_book self.now.origin.start) self.now.origin.start.most
@@ -113,11 +112,12 @@ impl<K: Disk> JournalLedger<K> {
         self.shared.amend(rt, alloc, pass, ask)
     }
 
-    /// The same ledger, as one that keeps something beside its history.
+    /// The same ledger, as one that keeps a journal beside its history.
     pub fn shared(&self) -> &SharedLedger<JournalKept<K>>
-        ensures same { result.now ≡ self.now }
+        ensures ledger { result.now ≡ self.now }
         ensures season { self.now.origin.beside.season
             ≡ self.now.origin.start.declaration.season }
+        ensures few { self.now.callers ≤ 256 }
     {
         &self.shared
     }
@@ -127,7 +127,8 @@ impl<K: Disk> JournalLedger<K> {
     /// The history is legal from the book at the start, and the book is its replay, which fits.
     /// What each pass has seen begins the history, and its own calls are the entries of its number.
     /// Where no pass has seen a put that failed, what a stop leaves of the disk is a journal of the
-    /// pairs that were found and of all that was asked; else it may have one pair more.
+    /// pairs that were found and of all that was asked; else it may have one pair more. While the
+    /// ledger ran a stop left all that was asked before the put that was under way.
     pub fn close(self, passes: Vec<JournalPass<K>>) -> (Book, Vec<Entry>, K)
         requires all { length passes.items ≡ self.callers }
         requires rest { All (IsAtRest self) passes.items }

@@ -25,5 +25,6 @@ pub use fault::OpenFault;
 pub use journal::Journal;
 pub use kept::JournalKept;
 pub use ledger::{JournalFault, JournalLedger, JournalPass};
+pub use put::SlotDisk;
 pub use slot::Slot;
 pub use told::{Failure, Told};

@@ -105,7 +105,6 @@ pub fn serve_journaled<R: Wait, G: Gate, K: Disk, L: Link>(
     requires rest { IsAtRest ledger.now pass.old }
     requires season { season.now ≡ ledger.now.origin.start.declaration.season }
     requires airport { airport ≡ ledger.now.origin.start.declaration.airport }
-    requires caller { pass.old.number < 256 }
     requires fresh { IsFresh (L.view link.old) }
     ensures rest { IsAtRest ledger.now pass.new }
     ensures number { pass.new.number ≡ pass.old.number }

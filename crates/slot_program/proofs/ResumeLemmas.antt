@@ -24,14 +24,14 @@ use Rattle.amend_journal.specs.declared.fault.OpenFault.{OpenFault}
 use Rattle.amend_journal.specs.declared.fault.OpenFault.TheVariants as openings
 use Rattle.amend_journal.specs.Durable.{JournalView, ReadsAs, AreDurable, MayHavePair, LeavesNoWorse, IsLaterDisk}
 use Rattle.amend_journal.specs.Told.{told_list, EndsBroken}
-use Rattle.amend_journal.specs.Kept.{asks_of, book_after, KeepsEach, KeptView, IsDiskKept, IsKept}
+use Rattle.amend_journal.specs.Kept.{asks_of, book_after, KeptView, IsDiskKept, IsKept}
 use Rattle.amend_journal.specs.declared.asked.Asked.{Asked}
 use Rattle.amend_journal.specs.declared.told.Told.{Told}
 use Rattle.amend_journal.specs.declared.told.Told.TheVariants.{Done, Broke}
 use Rattle.amend_journal.specs.declared.told.Failure.{Failure}
 use Rattle.slot_program.specs.Amendments.{IsOneHistory}
 use Rattle.slot_program.specs.Resumed.{answered_anew}
-use Rattle.slot_program.specs.Journals.{ForFile, IsLeftWith, KeepsAsks}
+use Rattle.slot_program.specs.Journals.{ForFile, IsLeftWith, KeepsInTurn, KeepsAsks}
 use Rattle.series_model.specs.Submissions.{SubmissionView}
 use Rattle.command_words.specs.Words.{Word}
 use Rattle.command_words.specs.declared.job.Job.TheVariants.{Resume}
@@ -115,16 +115,16 @@ module _ (season : Term) (pairs : List Asked) (d : DiskView) (k : KeptView) (ope
   )
 
   moments : (asks : List Asked) (failure : Option Failure) (h : IsDiskKept k asks failure)
-      → ForFile d k.journal.disk (λ s file. (mid : List DiskPassage) × LeavesNoWorse s d.log mid season file × KeepsEach s season mid pairs asks (failed_ask k asks failure h) k.journal.disk.log)
+      → ForFile d k.journal.disk (λ s file. (mid : List DiskPassage) × LeavesNoWorse s d.log mid season file × KeepsInTurn season s (failed_ask k asks failure h) mid pairs asks k.journal.disk.log)
   moments asks None h = λ s file reads agrees. (
     k.began.disk.log,
     opened.images s file reads (later.agrees s agrees),
-    subst (λ (t : Term). KeepsEach s t k.began.disk.log pairs asks None k.journal.disk.log) opened.season_is (h.moments s pairs (durable s file reads agrees) (sym opened.count)),
+    subst (λ (t : Term). KeepsInTurn t s None k.began.disk.log pairs asks k.journal.disk.log) opened.season_is (h.moments s pairs (durable s file reads agrees) (sym opened.count)),
   )
   moments asks (Some failure) h = λ s file reads agrees. (
     k.began.disk.log,
     opened.images s file reads (later.agrees s agrees),
-    subst (λ (t : Term). KeepsEach s t k.began.disk.log pairs asks (Some h.0.asked) k.journal.disk.log) opened.season_is (h.0.moments s pairs (durable s file reads agrees) (sym opened.count)),
+    subst (λ (t : Term). KeepsInTurn t s (Some h.0.asked) k.began.disk.log pairs asks k.journal.disk.log) opened.season_is (h.0.moments s pairs (durable s file reads agrees) (sym opened.count)),
   )
 
   pub keeps_asks : (asks : List Asked) (failure : Option Failure) (h : IsDiskKept k asks failure) → KeepsAsks season pairs asks (failed_ask k asks failure h) d k.journal.disk

@@ -6,11 +6,11 @@ use Rattle.season_days.specs.Term.{Term}
 use Rattle.desk_outside.specs.Cause.{Rose}
 use Rattle.desk_disk.specs.Stops.{DiskPassage, DiskStart, Agrees}
 use Rattle.desk_disk.specs.Disks.{DiskView, TellsTruly}
-use Rattle.amend_journal.specs.Format.{IsFit}
+use Rattle.amend_journal.specs.Format.{IsFit, IsJournalOf}
 use Rattle.amend_journal.specs.Standing.{StandsFor, IsOther, IsBadSlot}
 use Rattle.amend_journal.specs.Durable.{ReadsAs, AreDurable, MayHavePair, LeavesNoWorse, IsLaterDisk}
 use Rattle.amend_journal.specs.Durable.{told_start}
-use Rattle.amend_journal.specs.Kept.{KeepsEach}
+use Rattle.amend_journal.specs.Kept.{IsJournalUpTo, KeepsEach}
 use Rattle.amend_journal.specs.declared.asked.Asked.{Asked}
 use Rattle.slot_program.specs.Reports.{JournalRefusal, no_journal, other_journal, bad_slot}
 use Rattle.slot_program.specs.Reports.{journal_fault}
@@ -54,6 +54,14 @@ IsLeftWith season pairs asks (Some asked) d e =
     Rose d.faults e.faults
     × ForFile d e (λ s file. MayHavePair s e.log season (pairs ++ asks) asked)
 
+-- one ask after the other was kept, and in the end that of a put that failed may stand there, too
+abbrev pub KeepsInTurn : Term → DiskStart → Option Asked → List DiskPassage → List Asked
+    → List Asked → List DiskPassage → Type 0
+KeepsInTurn season s None before pairs asks now =
+    KeepsEach season s (IsJournalOf season) before pairs asks now
+KeepsInTurn season s (Some asked) before pairs asks now =
+    KeepsEach season s (IsJournalUpTo season asked) before pairs asks now
+
 -- The file stood for the pairs. While it was opened every image was one that a stop might have left
 -- before, or stood for the pairs; and from then on one ask after the other was kept, so that no
 -- moment's image has lost one that was entered.
@@ -64,7 +72,7 @@ pub record KeepsAsks (season : Term) (pairs asks : List Asked) (failed : Option 
   pub found : ForFile d e (λ s file. StandsFor season pairs file)
   pub moments : ForFile d e (λ s file. (opened : List DiskPassage)
       × LeavesNoWorse s d.log opened season file
-      × KeepsEach s season opened pairs asks failed e.log)
+      × KeepsInTurn season s failed opened pairs asks e.log)
   pub left : IsLeftWith season pairs asks failed d e
 
 -- ---- a disk that tells

@@ -19,7 +19,7 @@ returns-in_err-put_slot-clause-moments g c =
     let few : c.self.inside.count < MOST_PAIRS = omega (arith, c.requires, ap (λ (v : JournalView). v.count) c.self.view_is) in
     rw (← c.self.view_is)
     (λ s asks asked durable count ready.
-    put_moments c.self.inside.season asks asked c.args.slot s (g.K.Disk.view c.self.inside.disk).log (g.K.Disk.view c.put_slot.new.disk).log c.self.inside.count c.printed_items.ensures.short durable count few ready
+    put_moments c.self.inside.season asks asked c.args.slot s (g.K.SlotDisk.stored c.self.inside.disk).log (g.K.SlotDisk.stored c.put_slot.new.self).log c.self.inside.count c.printed_items.ensures.short durable count few ready
     (λ block pair here slot closed. c.put_slot.ensures.moments s block pair (here ∙ ap (λ (n : ℕ). 16 + 256 * n) (sym c.from.ensures)) (c.bytes.ensures.bytes ∙ slot) closed))
 
 pub returns-in_err-put_slot-clause-left : goal.returns-in_err-put_slot-clause-left
@@ -27,8 +27,8 @@ returns-in_err-put_slot-clause-left g c =
     let few : c.self.inside.count < MOST_PAIRS = omega (arith, c.requires, ap (λ (v : JournalView). v.count) c.self.view_is) in
     rw (← c.self.view_is)
     (λ s asks asked durable count ready.
-    last_moment (λ f. IsJournalOf c.self.inside.season asks f ⊎ IsJournalOf c.self.inside.season (asks ++ asked ∷ []) f) s (g.K.Disk.view c.self.inside.disk).log (g.K.Disk.view c.put_slot.new.disk).log c.joined_calls.ensures.left
-    (put_moments c.self.inside.season asks asked c.args.slot s (g.K.Disk.view c.self.inside.disk).log (g.K.Disk.view c.put_slot.new.disk).log c.self.inside.count c.printed_items.ensures.short durable count few ready
+    last_moment (λ f. IsJournalOf c.self.inside.season asks f ⊎ IsJournalOf c.self.inside.season (asks ++ asked ∷ []) f) s (g.K.SlotDisk.stored c.self.inside.disk).log (g.K.SlotDisk.stored c.put_slot.new.self).log c.joined_calls.ensures.left
+    (put_moments c.self.inside.season asks asked c.args.slot s (g.K.SlotDisk.stored c.self.inside.disk).log (g.K.SlotDisk.stored c.put_slot.new.self).log c.self.inside.count c.printed_items.ensures.short durable count few ready
     (λ block pair here slot closed. c.put_slot.ensures.moments s block pair (here ∙ ap (λ (n : ℕ). 16 + 256 * n) (sym c.from.ensures)) (c.bytes.ensures.bytes ∙ slot) closed)))
 
 pub returns-clause-moments : goal.returns-clause-moments
@@ -36,7 +36,7 @@ returns-clause-moments g c =
     let few : c.self.inside.count < MOST_PAIRS = omega (arith, c.requires, ap (λ (v : JournalView). v.count) c.self.view_is) in
     rw (← c.self.view_is)
     (λ s asks asked durable count ready.
-    put_moments c.self.inside.season asks asked c.args.slot s (g.K.Disk.view c.self.inside.disk).log (g.K.Disk.view c.put_slot.new.disk).log c.self.inside.count c.printed_items.ensures.short durable count few ready
+    put_moments c.self.inside.season asks asked c.args.slot s (g.K.SlotDisk.stored c.self.inside.disk).log (g.K.SlotDisk.stored c.put_slot.new.self).log c.self.inside.count c.printed_items.ensures.short durable count few ready
     (λ block pair here slot closed. c.put_slot.ensures.moments s block pair (here ∙ ap (λ (n : ℕ). 16 + 256 * n) (sym c.from.ensures)) (c.bytes.ensures.bytes ∙ slot) closed))
 
 pub returns-clause-left : goal.returns-clause-left
@@ -44,8 +44,8 @@ returns-clause-left g c =
     let few : c.self.inside.count < MOST_PAIRS = omega (arith, c.requires, ap (λ (v : JournalView). v.count) c.self.view_is) in
     rw (← c.self.view_is)
     (λ s asks asked durable count ready.
-    last_moment (λ f. IsJournalOf c.self.inside.season asks f ⊎ IsJournalOf c.self.inside.season (asks ++ asked ∷ []) f) s (g.K.Disk.view c.self.inside.disk).log (g.K.Disk.view c.put_slot.new.disk).log c.joined_calls.ensures.left
-    (put_moments c.self.inside.season asks asked c.args.slot s (g.K.Disk.view c.self.inside.disk).log (g.K.Disk.view c.put_slot.new.disk).log c.self.inside.count c.printed_items.ensures.short durable count few ready
+    last_moment (λ f. IsJournalOf c.self.inside.season asks f ⊎ IsJournalOf c.self.inside.season (asks ++ asked ∷ []) f) s (g.K.SlotDisk.stored c.self.inside.disk).log (g.K.SlotDisk.stored c.put_slot.new.self).log c.joined_calls.ensures.left
+    (put_moments c.self.inside.season asks asked c.args.slot s (g.K.SlotDisk.stored c.self.inside.disk).log (g.K.SlotDisk.stored c.put_slot.new.self).log c.self.inside.count c.printed_items.ensures.short durable count few ready
     (λ block pair here slot closed. c.put_slot.ensures.moments s block pair (here ∙ ap (λ (n : ℕ). 16 + 256 * n) (sym c.from.ensures)) (c.bytes.ensures.bytes ∙ slot) closed)))
 
 pub returns-clause-kept : goal.returns-clause-kept
@@ -53,5 +53,5 @@ returns-clause-kept g c =
     let few : c.self.inside.count < MOST_PAIRS = omega (arith, c.requires, ap (λ (v : JournalView). v.count) c.self.view_is) in
     rw (← c.self.view_is)
     (λ s asks asked durable count ready.
-    put_kept c.self.inside.season asks asked c.args.slot s (g.K.Disk.view c.self.inside.disk).log (g.K.Disk.view c.put_slot.new.disk).log c.self.inside.count c.printed_items.ensures.short durable count few ready
+    put_kept c.self.inside.season asks asked c.args.slot s (g.K.SlotDisk.stored c.self.inside.disk).log (g.K.SlotDisk.stored c.put_slot.new.self).log c.self.inside.count c.printed_items.ensures.short durable count few ready
     (λ block pair here slot closed. c.in_ok-put_slot.ensures.kept s block pair (here ∙ ap (λ (n : ℕ). 16 + 256 * n) (sym c.from.ensures)) (c.bytes.ensures.bytes ∙ slot) closed))

@@ -2,7 +2,7 @@ use Rattle.std.proofs.Common.{◌≡◌, ℕ, ◌+◌, List, [], ◌∷◌, ◌+
 use Rattle.desk_disk.specs.Stops.{DiskPassage, wrote_at, write_failed_at, synced, sync_failed, MayLeave}
 use Rattle.amend_journal.proofs.MomentLemmas.{one_more}
 use Rattle.amend_journal.proofs.PutLemmas.{before, in_body, after_body, in_gate, after_gate}
-use Rattle.amend_journal.proofs.put.put_slot.Goals as goal
+use Rattle.amend_journal.proofs.put.AnySlotDisk.put_slot.Goals as goal
 
 -- the first write, with the bytes as the clause has them
 wrote_pair : (log now : List DiskPassage) (at : ℕ) (slot pair : List ℕ) → now ≡ log ++ wrote_at at slot ∷ [] → slot ≡ pair ++ 0 ∷ [] → now ≡ log ++ wrote_at at (pair ++ 0 ∷ []) ∷ []
@@ -11,7 +11,7 @@ wrote_pair log now at slot pair is same = is ∙ ap (λ (b : List ℕ). log ++ w
 pub returns-in_err-write_at-clause-moments : goal.returns-in_err-write_at-clause-moments
 returns-in_err-write_at-clause-moments g c s block pair here slot closed =
     let at = c.args.gate in
-    let log = (g.K.Disk.view c.args.disk.now).log in
+    let log = (g.K.Disk.view c.args.self.now).log in
     let among = c.joined_calls.ensures.among s log in (
       write_failed_at (at + 1) (pair ++ 0 ∷ []) ∷ [],
       c.in_err-write_at.ensures.log ∙ ap (λ (b : List ℕ). log ++ write_failed_at (at + 1) b ∷ []) slot,
@@ -21,7 +21,7 @@ returns-in_err-write_at-clause-moments g c s block pair here slot closed =
 pub returns-in_err-sync-clause-moments : goal.returns-in_err-sync-clause-moments
 returns-in_err-sync-clause-moments g c s block pair here slot closed =
     let at = c.args.gate in
-    let log = (g.K.Disk.view c.args.disk.now).log in
+    let log = (g.K.Disk.view c.args.self.now).log in
     let among = c.joined_calls.ensures.among s log in
     let w = wrote_at (at + 1) (pair ++ 0 ∷ []) in
     let e1 = wrote_pair log _ (at + 1) _ pair c.in_ok-write_at.ensures.log slot in (
@@ -33,7 +33,7 @@ returns-in_err-sync-clause-moments g c s block pair here slot closed =
 pub returns-in_err-write_at-2-clause-moments : goal.returns-in_err-write_at-2-clause-moments
 returns-in_err-write_at-2-clause-moments g c s block pair here slot closed =
     let at = c.args.gate in
-    let log = (g.K.Disk.view c.args.disk.now).log in
+    let log = (g.K.Disk.view c.args.self.now).log in
     let among = c.joined_calls.ensures.among s log in
     let w = wrote_at (at + 1) (pair ++ 0 ∷ []) in
     let e1 = wrote_pair log _ (at + 1) _ pair c.in_ok-write_at.ensures.log slot in
@@ -46,7 +46,7 @@ returns-in_err-write_at-2-clause-moments g c s block pair here slot closed =
 pub returns-in_err-sync-2-clause-moments : goal.returns-in_err-sync-2-clause-moments
 returns-in_err-sync-2-clause-moments g c s block pair here slot closed =
     let at = c.args.gate in
-    let log = (g.K.Disk.view c.args.disk.now).log in
+    let log = (g.K.Disk.view c.args.self.now).log in
     let among = c.joined_calls.ensures.among s log in
     let w = wrote_at (at + 1) (pair ++ 0 ∷ []) in
     let v = wrote_at at (1 ∷ []) in
@@ -61,7 +61,7 @@ returns-in_err-sync-2-clause-moments g c s block pair here slot closed =
 pub returns-clause-moments : goal.returns-clause-moments
 returns-clause-moments g c s block pair here slot closed =
     let at = c.args.gate in
-    let log = (g.K.Disk.view c.args.disk.now).log in
+    let log = (g.K.Disk.view c.args.self.now).log in
     let among = c.joined_calls.ensures.among s log in
     let w = wrote_at (at + 1) (pair ++ 0 ∷ []) in
     let v = wrote_at at (1 ∷ []) in
@@ -77,7 +77,7 @@ returns-clause-moments g c s block pair here slot closed =
 pub returns-clause-kept : goal.returns-clause-kept
 returns-clause-kept g c s block pair here slot closed f left =
     let at = c.args.gate in
-    let log = (g.K.Disk.view c.args.disk.now).log in
+    let log = (g.K.Disk.view c.args.self.now).log in
     let among = c.joined_calls.ensures.among s log in
     let w = wrote_at (at + 1) (pair ++ 0 ∷ []) in
     let v = wrote_at at (1 ∷ []) in
