@@ -18,11 +18,11 @@ ghost use Rattle.slot_program.specs.Desk.{world_of};
 ghost use Rattle.slot_program.specs.Ends.{IsDoneBy, JobStopsBy};
 
 use crate::season::{read_certificate, read_season};
-use crate::serve::{MOST_ENTRIES, ServiceOutput, served};
+use crate::serve::{ServiceOutput, served};
 use crate::service_lines::{links_total, resumed_lines, resumption_status};
 use crate::stop::{Answer, NoJournal, Stop};
 use crate::writes::write_one;
-use amend_journal::{Asked, Journal, JournalKept, OpenFault, replayed};
+use amend_journal::{Asked, Journal, JournalKept, MOST_PAIRS, OpenFault, replayed};
 use cert_format::Certificate;
 use command_words::NameList;
 use desk_disk::Disk;
@@ -125,7 +125,7 @@ fn resumed_output<R: Threads + Wait + Sync, D: Door + Drop, G: Gate, K: Disk>(
     let book = replayed(alloc, start, &pairs)?;
     let _after = book.declaration();
     let beside = JournalKept::of(journal);
-    let most = MOST_ENTRIES - beside.found_pairs();
+    let most = MOST_PAIRS - beside.found_pairs();
     let (history, works, kept) = served(rt, alloc, book, beside, links, most, doors, gate)?;
     let failure = kept.failure();
     let failed = failure.is_some();
