@@ -316,7 +316,7 @@ fn images_of_a_stop_are_opened(rt: HostRuntime) -> Result<(), Fail> {
     }
     for pairs in 0..2 {
         let gate = 16 + 256 * pairs;
-        let slot = part(two, gate + 1, gate + 257)?;
+        let slot = part(two, gate + 1, gate + 256)?;
         let mut front = Vec::from_slice(alloc, part(two, 0, gate)?)?;
         front.push(0)?;
         for count in [0, 1, 2, 63, 254, 255, 256] {
