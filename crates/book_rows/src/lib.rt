@@ -19,4 +19,6 @@ mod lines;
 #[cfg(test)]
 mod listed;
 #[cfg(test)]
+mod sessions;
+#[cfg(test)]
 mod walk;

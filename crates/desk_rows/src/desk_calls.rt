@@ -90,7 +90,8 @@ fn link_of(
     let takes = if piece == 0 { 0 } else { input.len() + 1 };
     let sizes = vec![in alloc; piece; takes]?;
     let failing = list_of(alloc, failing)?;
-    Ok(MemoryLink::new(alloc, input, sizes, 300_000, failing)?)
+    let room = 300_000 + input.len();
+    Ok(MemoryLink::new(alloc, input, sizes, room, failing)?)
 }
 
 /// The links of a door: their inputs, at most three, stand between bars. A call of the first one is

@@ -1,6 +1,6 @@
 //! Scripts of runs of the desk.
 //!
-//! A line of a script is a word and what follows it. In a text `;` stands for a line end, `^` for
+//! A line of a script is a word and what follows it. In a text `;` stands for LF, `~` for CR, `^` for
 //! the byte 255, and `{3 AB}` for `AB` three times.
 //! - `file NAME TEXT` puts a file into the cabinet of each run below.
 //! - `words WORDS` sets the words of each run below.

@@ -3,7 +3,7 @@
 
 use crate::desk_calls::{call_desk, door_of, new_cabinet};
 use crate::play::play_script;
-use crate::texts::spelled_out;
+use crate::texts::{folded, spelled_out};
 use desk_links::MemoryDoor;
 use desk_outside::{Failure, MemoryCabinet};
 use std::alloc::Global;
@@ -22,6 +22,7 @@ file SCR SCR;S25;20NOV;ABC;FBA001 30MAR25OCT 1234567 180320 JFK0610 J;
 words allocate CAP SCR CERT REPLIES
 says 0 STAGE 1 OPTIMAL 0;*
 take CERT
+file RECORD OLD;
 words serve CAP SCR CERT RECORD
 says 0 ENTRIES 0;LINKS 0;
 holds RECORD 
@@ -45,32 +46,43 @@ holds RECORD ENTRY 1 CALLER 0;NBA002 30MAR25OCT 1234567 180320 JFK0620 J;\
     HBA002 30MAR31MAY 1234567 180320 JFK0620 J;HBA002 01JUL25OCT 1234567 180320 JFK0620 J;\
     ENTRY 6 CALLER 0;ZBA009 30MAR25OCT 1234567 180320 JFK0700 J;\
     WBA009 30MAR25OCT 1234567 180320 JFK0700 J;
-take RECORD
 piece 1
 says 0 ENTRIES 6;LINKS 1;
+sent 0 0 SCR;S25;20NOV;ABC;KBA002 *;WBA009 30MAR25OCT 1234567 180320 JFK0700 J;;
+holds RECORD ENTRY 1 CALLER 0;NBA002 *ENTRY 6 CALLER 0;*WBA009 30MAR25OCT 1234567 180320 JFK0700 J;
 piece 2
 says 0 ENTRIES 6;LINKS 1;
+sent 0 0 SCR;S25;20NOV;ABC;KBA002 *;WBA009 30MAR25OCT 1234567 180320 JFK0700 J;;
+holds RECORD ENTRY 1 CALLER 0;NBA002 *ENTRY 6 CALLER 0;*WBA009 30MAR25OCT 1234567 180320 JFK0700 J;
 piece 3
 says 0 ENTRIES 6;LINKS 1;
+sent 0 0 SCR;S25;20NOV;ABC;KBA002 *;WBA009 30MAR25OCT 1234567 180320 JFK0700 J;;
+holds RECORD ENTRY 1 CALLER 0;NBA002 *ENTRY 6 CALLER 0;*WBA009 30MAR25OCT 1234567 180320 JFK0700 J;
 piece 7
 says 0 ENTRIES 6;LINKS 1;
+sent 0 0 SCR;S25;20NOV;ABC;KBA002 *;WBA009 30MAR25OCT 1234567 180320 JFK0700 J;;
+holds RECORD ENTRY 1 CALLER 0;NBA002 *ENTRY 6 CALLER 0;*WBA009 30MAR25OCT 1234567 180320 JFK0700 J;
 piece 4096
 says 0 ENTRIES 6;LINKS 1;
 sent 0 0 SCR;S25;20NOV;ABC;KBA002 *;WBA009 30MAR25OCT 1234567 180320 JFK0700 J;;
-holds RECORD ENTRY 1 CALLER 0;*ENTRY 6 CALLER 0;*WBA009 30MAR25OCT 1234567 180320 JFK0700 J;
+holds RECORD ENTRY 1 CALLER 0;NBA002 *ENTRY 6 CALLER 0;*WBA009 30MAR25OCT 1234567 180320 JFK0700 J;
 piece 0
 cabinet 0|5 CABINET CAP READ;
+holds RECORD OLD;
 cabinet 1|5 CABINET SCR READ;
 cabinet 2|5 CABINET CERT READ;
+holds RECORD OLD;
 cabinet 3|5 CABINET RECORD WRITE;
 cabinet 3:8|5 CABINET RECORD WRITE;
 holds RECORD ENTRY 1 
 cabinet 4|0 ENTRIES 6;LINKS 1;
 sink 0|6 
+holds RECORD ENTRY 1 CALLER 0;*
 sink 0:7|6 ENTRIES
 holds RECORD ENTRY 1 CALLER 0;*
 line CERT 2|CERT 3|3 FORM CERT 1;
 line COST 0|COST 1|1 NO 5 COST;
+holds RECORD OLD;
 shut
 door SCR;S25;20NOV;ABC;NBA002 30MAR25OCT 1234567 180320 JFK0620 J;;\
     SCR;S25;20NOV;ABC;NBA003 30MAR25OCT 1234567 180320 JFK0700 J;;|SCR;S25;20NOV;ABC;QBA003;;
@@ -79,6 +91,8 @@ says 0 ENTRIES 3;LINKS 2;
 link 2|0 ENTRIES 3;LINKS 2;
 sent 0 0 SCR;S25;20NOV;ABC;KBA002 30MAR25OCT 1234567 180320 JFK0620 J;;
 sent 0 1 SCR;S25;20NOV;ABC;HBA003 30MAR25OCT 1234567 180320 JFK0700 J;;
+holds RECORD ENTRY 1 CALLER 0;NBA002 *;KBA002 *;ENTRY 2 CALLER 0;NBA003 *;KBA003 *;\
+    ENTRY 3 CALLER 0;QBA003;HBA003 *
 link 2:6|0 ENTRIES 3;LINKS 2;
 sent 0 0 SCR;S25;20NOV;ABC;KBA002 30MAR25OCT 1234567 180320 JFK0620 J;;SCR;S2
 link 1|0 ENTRIES 2;LINKS 2;
@@ -95,6 +109,7 @@ says 0 ENTRIES 4;LINKS 4;
 accept 0|10 ENTRIES 2;LINKS 2;
 holds RECORD ENTRY 1 CALLER 1;*ENTRY 2 CALLER 1;*
 accept 1|10 ENTRIES 3;LINKS 3;
+holds RECORD ENTRY 1 CALLER *;*ENTRY 3 CALLER *;QBA001;HBA001 *
 accept 2|0 ENTRIES 4;LINKS 4;
 words serve CAP SCR CERT RECORD --links 3
 says 0 ENTRIES 4;LINKS 4;
@@ -137,6 +152,16 @@ sent 0 0 SCR;S25;20NOV;ABC;;
 shut
 door SCR;S25;20NOV;ABC;QBA001;{5000  };SCR;S25;20NOV;ABC;QBA001;;
 says 0 ENTRIES 2;LINKS 1;
+sent 0 0 SCR;S25;20NOV;ABC;HBA001 30MAR25OCT 1234567 180320 JFK0610 J;;\
+    SCR;S25;20NOV;ABC;HBA001 30MAR25OCT 1234567 180320 JFK0610 J;;
+shut
+door SCR~;S25~;20NOV~;ABC~;QBA001~;~;~;SCR~;S25 ~;20NOV~;ABC~;QBA001~~;~;
+says 0 ENTRIES 1;LINKS 1;
+sent 0 0 SCR;S25;20NOV;ABC;HBA001 30MAR25OCT 1234567 180320 JFK0610 J;;BAD 5;;
+piece 1
+says 0 ENTRIES 1;LINKS 1;
+sent 0 0 SCR;S25;20NOV;ABC;HBA001 30MAR25OCT 1234567 180320 JFK0610 J;;BAD 5;;
+piece 0
 shut
 door SCR;S25;20NOV;ABC;QBA001;;SCR;S25;20NOV;ABC;SI {201 A};QBA001;;|SCR;S25;20NOV;ABC;QBA001;;
 says 0 ENTRIES 2;LINKS 2;
@@ -144,6 +169,7 @@ sent 0 0 SCR;S25;20NOV;ABC;HBA001 30MAR25OCT 1234567 180320 JFK0610 J;;
 shut
 door SCR;S25;20NOV;ABC;{995 SI x;}QBA001;;SCR;S25;20NOV;ABC;{996 SI x;}QBA001;;
 says 0 ENTRIES 1;LINKS 1;
+sent 0 0 SCR;S25;20NOV;ABC;HBA001 30MAR25OCT 1234567 180320 JFK0610 J;;
 shut
 door SCR;S25;20NOV;ABC;QBA001;;SCR;S25;20NOV;ABC;ZBA009;;\
     SCR;S25;20NOV;ABC;NBA002 30MAR25OCT 1234567 180320 JFK0620 J;;
@@ -153,8 +179,10 @@ sent 0 0 SCR;S25;20NOV;ABC;HBA001 30MAR25OCT 1234567 180320 JFK0610 J;;BAD 5;;\
 shut
 door ;;SCR;S25;20NOV;ABC;QBA001;;;;
 says 0 ENTRIES 1;LINKS 1;
+sent 0 0 SCR;S25;20NOV;ABC;HBA001 30MAR25OCT 1234567 180320 JFK0610 J;;
 piece 1
 says 0 ENTRIES 1;LINKS 1;
+sent 0 0 SCR;S25;20NOV;ABC;HBA001 30MAR25OCT 1234567 180320 JFK0610 J;;
 shut
 piece 0
 door SCR;S25;20NOV;ABC;NBA002 30MAR25OCT 1234567 180320 JFK0620 J;;
@@ -178,6 +206,10 @@ const CAP: &str = "AIRPORT ABC;SEASON S25;STEP 5;FLEX 60;GROUND 40;REFUSE NONE;\
 
 const SCR: &str = "SCR;S25;20NOV;ABC;FBA001 30MAR25OCT 1234567 180320 JFK0610 J;";
 
+const TWO_ENTRIES: &str = "ENTRY 1 CALLER 0;NBA002 30MAR25OCT 1234567 180320 JFK0620 J;\
+    KBA002 30MAR25OCT 1234567 180320 JFK0620 J;ENTRY 2 CALLER 0;QBA002;\
+    HBA002 30MAR25OCT 1234567 180320 JFK0620 J;";
+
 const TWO_ASKS: &str = "SCR;S25;20NOV;ABC;NBA002 30MAR25OCT 1234567 180320 JFK0620 J;QBA002;;";
 
 /// A cabinet with a season and its certificate.
@@ -185,7 +217,7 @@ pub(crate) fn served_cabinet<R: Threads + Wait + Sync>(
     rt: &R,
     alloc: Global,
 ) -> Result<MemoryCabinet, Fail> {
-    let mut cabinet = new_cabinet(alloc, 300_000, None)?;
+    let mut cabinet = new_cabinet(alloc, 4_000_000, None)?;
     let _ = cabinet.load("CAP", &spelled_out(alloc, CAP)?);
     let _ = cabinet.load("SCR", &spelled_out(alloc, SCR)?);
     let words = "allocate CAP SCR CERT REPLIES";
@@ -194,25 +226,22 @@ pub(crate) fn served_cabinet<R: Threads + Wait + Sync>(
     Ok(cabinet)
 }
 
-/// Worker 0 waits before its first line until worker 1 has come to its second.
+/// Worker 1 waits at its first line until worker 0 has come to its first, and worker 0 at each of its
+/// lines until worker 1 has come to its second.
 #[derive(Drop)]
 struct Meeting {
+    came: AtomicU64,
     lines: AtomicU64,
     met: AtomicU64,
 }
 
 const TURNS: u64 = 400_000_000;
 
-impl Gate for Meeting {
-    fn before_node(&self, _worker: u32) {}
-
-    fn before_line(&self, worker: u32) {
-        if worker == 1 {
-            self.lines.fetch_add(1, Ordering::SeqCst);
-            return;
-        }
+impl Meeting {
+    /// Waits until there are so many, and counts the waits that end in time.
+    fn wait(&self, count: &AtomicU64, most: u64) {
         for _ in 0..TURNS {
-            if self.lines.load(Ordering::SeqCst) >= 2 {
+            if count.load(Ordering::SeqCst) >= most {
                 self.met.fetch_add(1, Ordering::SeqCst);
                 return;
             }
@@ -220,7 +249,21 @@ impl Gate for Meeting {
     }
 }
 
-// Where both run at once, each of worker 0's two lines comes behind worker 1's second.
+impl Gate for Meeting {
+    fn before_node(&self, _worker: u32) {}
+
+    fn before_line(&self, worker: u32) {
+        if worker == 0 {
+            self.came.fetch_add(1, Ordering::SeqCst);
+            self.wait(&self.lines, 2);
+        } else {
+            self.wait(&self.came, 1);
+            self.lines.fetch_add(1, Ordering::SeqCst);
+        }
+    }
+}
+
+// Served one after the other, in either order, a worker would wait in vain.
 #[test]
 fn two_workers_serve_at_once(rt: HostRuntime) -> Result<(), Fail> {
     let alloc = rt.alloc();
@@ -229,13 +272,37 @@ fn two_workers_serve_at_once(rt: HostRuntime) -> Result<(), Fail> {
     doors.push(door_of(alloc, TWO_ASKS, 0, None, None)?)?;
     doors.push(door_of(alloc, TWO_ASKS, 0, None, None)?)?;
     let gate = Meeting {
+        came: AtomicU64::new(0),
         lines: AtomicU64::new(0),
         met: AtomicU64::new(0),
     };
     let words = "serve CAP SCR CERT RECORD --workers 2";
     let said = call_desk(&rt, alloc, words, &mut cabinet, None, &mut doors, &gate)?;
     assert_eq!(rt; said.as_str(), "0 ENTRIES 4;LINKS 2;");
-    assert_eq!(rt; gate.met.load(Ordering::SeqCst), 2);
+    assert_eq!(rt; gate.met.load(Ordering::SeqCst), 4);
+    Ok(())
+}
+
+// 101 messages of 991 queries for a flight that holds nothing: the history is full behind the 900th
+// ask of the last one, which has no reply.
+#[test]
+fn a_history_is_full(rt: HostRuntime) -> Result<(), Fail> {
+    let alloc = rt.alloc();
+    let mut cabinet = served_cabinet(&rt, alloc)?;
+    let mut text = String::new(alloc);
+    for _message in 0..101 {
+        text.push_str("SCR;S25;20NOV;ABC;{991 QBA009;};")?;
+    }
+    let words = "serve CAP SCR CERT RECORD";
+    let mut doors = Vec::new(alloc);
+    doors.push(door_of(alloc, text.as_str(), 0, None, None)?)?;
+    let said = call_desk(&rt, alloc, words, &mut cabinet, None, &mut doors, &RealGate)?;
+    assert_eq!(rt; said.as_str(), "11 ENTRIES 100000;LINKS 1;");
+    let sent = doors
+        .get(0)
+        .and_then(|door| door.kept().get(0))
+        .map(|link| link.sent().len());
+    assert_eq!(rt; sent, Some(695_600));
     Ok(())
 }
 
@@ -259,6 +326,9 @@ fn each_call_of_a_link_fails(rt: HostRuntime) -> Result<(), Fail> {
             .and_then(|door| door.kept().get(0))
             .map(|link| link.sent().len());
         assert_eq!(rt; sent == Some(0), call <= takes);
+        let due = if call < takes { "" } else { TWO_ENTRIES };
+        let record = cabinet.file("RECORD").unwrap_or(b"none");
+        assert_eq!(rt; folded(alloc, record)?.as_str(), due);
     }
     Ok(())
 }

@@ -3,19 +3,27 @@
 use std::alloc::{AllocError, Global};
 use std::test::Fail;
 
-/// The bytes for which a text stands: `^` is the byte 255, and `{3 AB}` is `AB` three times.
+/// The bytes for which a text stands: `^` is the byte 255, `~` a CR, and each `{3 AB}` is `AB` three
+/// times.
 pub(crate) fn spelled_out(alloc: Global, text: &str) -> Result<Vec<u8>, Fail> {
     let mut out = Vec::new(alloc);
-    let Some((front, rest)) = text.split_once('{') else {
-        put_text(&mut out, text)?;
-        return Ok(out);
-    };
-    let (group, back) = rest.split_once('}').ok_or("a closing brace")?;
-    let (times, part) = group.split_once(' ').ok_or("a number of times")?;
-    put_text(&mut out, front)?;
-    put_times(&mut out, times.parse()?, part)?;
-    put_text(&mut out, back)?;
+    for (place, part) in text.split('{').enumerate() {
+        if place == 0 {
+            put_text(&mut out, part)?;
+        } else {
+            put_group(&mut out, part)?;
+        }
+    }
     Ok(out)
+}
+
+/// What stands behind an opening brace: a part that is put so many times, and a text.
+fn put_group(out: &mut Vec<u8>, text: &str) -> Result<(), Fail> {
+    let (group, back) = text.split_once('}').ok_or("a closing brace")?;
+    let (times, part) = group.split_once(' ').ok_or("a number of times")?;
+    put_times(out, times.parse()?, part)?;
+    put_text(out, back)?;
+    Ok(())
 }
 
 fn put_times(out: &mut Vec<u8>, times: u32, part: &str) -> Result<(), AllocError> {
@@ -30,6 +38,7 @@ fn put_text(out: &mut Vec<u8>, text: &str) -> Result<(), AllocError> {
         out.push(match *byte {
             b';' => b'\n',
             b'^' => 255,
+            b'~' => b'\r',
             other => other,
         })?;
     }

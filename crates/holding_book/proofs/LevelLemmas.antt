@@ -1,10 +1,9 @@
 -- A search by rising cost finds the first cheapest of the times that fit.
-use Rattle.std.proofs.Common.{◌≡◌, ℕ, zero, suc, ◌+◌, ◌<◌, ◌≤◌, ◌==◌, ◌&&◌, nat_le, Bool, true, false, cond, List, [], ◌∷◌, ◌++◌, length, get_or, drop, map, filter, refl, sym, ap, ◌∙◌, subst, arith, inl, inr, Option, Some, None}
+use Rattle.std.proofs.Common.{◌≡◌, ℕ, zero, suc, ◌<◌, ◌≤◌, ◌==◌, ◌&&◌, nat_le, Bool, true, false, cond, List, [], ◌∷◌, ◌++◌, length, get_or, map, filter, refl, sym, ap, ◌∙◌, subst, arith, inl, inr, Option, Some, None}
 use Rattle.std.specs.Prelude.{All, Contains, sum_by, is_some}
 use Rattle.std.specs.Option.{ForSome}
 use Rattle.std.proofs.lemmas.Bool.{cases_Bool, cases_lt, eqb-true, eqb-false, leb-true, leb-false, le-leb, lt-leb, and_parts, and_cases, both_ways}
 use Rattle.std.proofs.lemmas.List.Elements.{All-nil, All-cons, All-head, All-tail, All-push, All-weaker, Contains-push, Contains-append_left}
-use Rattle.std.proofs.lemmas.List.{get_or-map, at_drop_more}
 use Rattle.std.proofs.lemmas.List.Sums.{sum_by-cons}
 use Rattle.series_model.specs.declared.times.Times.{Times}
 use Rattle.holding_book.specs.Books.{cheaper, first_cheapest}
@@ -153,24 +152,6 @@ module _ (cost : Times → ℕ) (fits : Times → Bool) where
           All-cons (λ (t : Times). fits t ≡ true → level ≤ cost t) first shifts (λ fit. here refl)
           (all_above level shifts (All-tail (λ (n : ℕ). is_passed None n ≡ false → level ≤ n) (cost first) (map cost shifts) is))
 
-  -- a shift that does not pass is left behind
-  pub level_next : (level : ℕ) (shifts : List Times) (costs : List ℕ) (n : ℕ) (d : Times) → costs ≡ map cost shifts → n < length shifts → (get_or costs n 0 == level && fits (get_or shifts n d)) ≡ false → first_at_level cost fits level (drop n shifts) ≡ first_at_level cost fits level (drop (n + 1) shifts)
-  level_next level shifts costs n d same lt fails =
-      let times = get_or shifts n d in
-      let is : get_or costs n 0 ≡ cost times = ap (λ (cs : List ℕ). get_or cs n 0) same ∙ get_or-map cost shifts n d 0 lt in
-      let test : (cost times == level && fits times) ≡ false = subst (λ (c : ℕ). (c == level && fits times) ≡ false) is fails in
-      at_drop_more (λ (ts : List Times). first_at_level cost fits level ts) shifts n d lt
-      ∙ ap (λ (b : Bool). cond b (Some times) (first_at_level cost fits level (drop (n + 1) shifts))) test
-
-  -- one that passes is the one that is found
-  pub level_here : (level : ℕ) (shifts : List Times) (costs : List ℕ) (n : ℕ) (d : Times) → costs ≡ map cost shifts → n < length shifts → (get_or costs n 0 == level && fits (get_or shifts n d)) ≡ true → first_at_level cost fits level (drop n shifts) ≡ Some (get_or shifts n d)
-  level_here level shifts costs n d same lt yes =
-      let times = get_or shifts n d in
-      let is : get_or costs n 0 ≡ cost times = ap (λ (cs : List ℕ). get_or cs n 0) same ∙ get_or-map cost shifts n d 0 lt in
-      let test : (cost times == level && fits times) ≡ true = subst (λ (c : ℕ). (c == level && fits times) ≡ true) is yes in
-      at_drop_more (λ (ts : List Times). first_at_level cost fits level ts) shifts n d lt
-      ∙ ap (λ (b : Bool). cond b (Some times) (first_at_level cost fits level (drop (n + 1) shifts))) test
-
 -- ---- which level comes next
 
 -- one cost more
@@ -219,18 +200,17 @@ level_there last costs (Some level) is = λ x e. let same : level ≡ x = cc e i
 one_fewer : (level next cost : ℕ) → level < next → cond (nat_le next cost) 1 0 ≤ cond (nat_le level cost) 1 0
 one_fewer level next cost lt =
     elim (cases_Bool (nat_le next cost)) [
-      | inl yes ↦
-          let one : cond (nat_le next cost) 1 0 ≡ 1 = ap (λ (b : Bool). cond b 1 0) yes in
-          let other : cond (nat_le level cost) 1 0 ≡ 1 = ap (λ (b : Bool). cond b 1 0) (le_true level cost (omega (arith, lt, leb-true next cost yes))) in
-          omega (arith, one, other)
-      | inr no ↦ let none : cond (nat_le next cost) 1 0 ≡ 0 = ap (λ (b : Bool). cond b 1 0) no in omega (arith, none)
+      | inl le ↦
+          let other = le_true level cost (omega (arith, lt, leb-true next cost le)) in
+          rw (le, other) (omega arith)
+      | inr gt ↦ rw gt (omega arith)
     ]
 
 here_fewer : (level next cost : ℕ) → level < next → cost ≡ level → cond (nat_le next cost) 1 0 < cond (nat_le level cost) 1 0
 here_fewer level next cost lt e =
-    let none : cond (nat_le next cost) 1 0 ≡ 0 = ap (λ (b : Bool). cond b 1 0) (le_false next cost (omega (arith, lt, e))) in
-    let one : cond (nat_le level cost) 1 0 ≡ 1 = ap (λ (b : Bool). cond b 1 0) (le_true level cost (omega (arith, e))) in
-    omega (arith, none, one)
+    let above = le_false next cost (omega (arith, lt, e)) in
+    let here = le_true level cost (omega (arith, e)) in
+    rw (above, here) (omega arith)
 
 no_more : (level next : ℕ) (costs : List ℕ) → level < next → sum_by (λ (cost : ℕ). cond (nat_le next cost) 1 0) costs ≤ sum_by (λ (cost : ℕ). cond (nat_le level cost) 1 0) costs
 no_more level next [] lt = omega arith

@@ -28,8 +28,8 @@ impl Loads {
     ///
     /// The requested times are tested first: two tests. Else each minute of a movement is tested
     /// once at most, one step a use, and none that costs more than the answer; two that fit alone
-    /// are tested together where they can share a resource. One step for each alternative and each
-    /// cost.
+    /// are tested together where they can share a resource. For each cost up to the answer's, one
+    /// step an alternative.
     pub fn best_times(&self, alloc: Global, line: &Line) -> Result<Option<Times>, Memory>
         requires { LineFits self.now.declaration.season line.now }
         ensures times { IfOk result (λ best. IfSome best (TimesFit None)) }

@@ -16,6 +16,7 @@ use Rattle.session_desk.specs.Private.Serving.{EndStopped}
 use Rattle.session_desk.specs.declared.worker.DoorEnd.{DoorEnd}
 use Rattle.session_desk.specs.declared.worker.DoorWork.{DoorWork}
 use Rattle.session_desk.specs.declared.worker.DoorEnd.TheVariants.{Full, Broken}
+use Rattle.session_desk.specs.declared.responder.AnswerFault.{AnswerFault}
 
 pub some_of : {X : Type 0} → (xs : List X) → 0 < length xs → X
 some_of [] some = absurd (omega (arith, some))
@@ -114,57 +115,49 @@ starts_length whole front starts =
     let parts : length whole ≡ length front + length starts.0 = ap length starts.1 ∙ length-append front starts.0 in
     omega (arith, parts)
 
-full_end : {X : Type 0} (read : List X → List Entry) (broken : List X → ℕ → Type 0) (most : ℕ) (seen : List X) (end : DoorEnd) → end ≡ Full → EndStopped (StopsAt read broken most seen) end
-    → length (read seen) ≡ most
-full_end read broken most seen end is stopped =
-    let at : EndStopped (StopsAt read broken most seen) Full = subst (λ (e : DoorEnd). EndStopped (StopsAt read broken most seen) e) is stopped in
-    at.1
-
--- the history is as long as a pass has seen it with which an ask was refused since it was full
-pub full_at_close : {W O X : Type 0} (read : List X → List Entry) (broken : List X → ℕ → Type 0) (seat : W → SeatView O X) (work : W → DoorWork) (us vs : List W) (ss : List (SeatView O X))
-    (ks : List DoorWork) (h : List Entry) (most : ℕ)
+-- The pass that was given back at a place, and how its worker stopped.
+stopped_at : {W O X : Type 0} (Stopped : List X → AnswerFault → Type 0) (seat : W → SeatView O X) (work : W → DoorWork) (us vs : List W) (ss : List (SeatView O X)) (ks : List DoorWork)
     → length vs ≡ length us → reverse (map work vs) ≡ ks → reverse (map seat vs) ≡ ss
-    → All (λ s. HasSeen entry_caller h (read_pass read s)) ss
-    → length h ≤ most
-    → ((j : ℕ) (w : W) → j < length us → EndStopped (StopsAt read broken most (seat (get_or vs j w)).seen) (work (get_or vs j w)).end)
-    → (i : ℕ) (k : DoorWork) → i < length us → (get_or ks i k).end ≡ Full → length h ≡ most
-full_at_close read broken seat work us vs ss ks h most same works seats seen few stopped i k lt is =
+    → ((j : ℕ) (w : W) → j < length us → EndStopped (Stopped (seat (get_or vs j w)).seen) (work (get_or vs j w)).end)
+    → (i : ℕ) (k : DoorWork) → i < length us
+    → (s : SeatView O X) × (i < length ss) × (get_or ss i s ≡ s) × EndStopped (Stopped s.seen) (get_or ks i k).end
+stopped_at Stopped seat work us vs ss ks same works seats stopped i k lt =
     let there : i < length vs = omega (arith, lt, same) in
     let w = some_of vs (omega (arith, there)) in
     let j = length vs - 1 - i in
     let below : j < length us = omega (arith, there, same) in
-    let s = seat (get_or vs j w) in
-    let ended : (work (get_or vs j w)).end ≡ Full = ap (λ x. x.end) (sym (paired work vs ks i k w works there)) ∙ is in
-    let whole : length (read s.seen) ≡ most = full_end read broken most s.seen (work (get_or vs j w)).end ended (stopped j w below) in
-    let has : HasSeen entry_caller h (read_pass read (get_or ss i s)) = All-get_or (λ x. HasSeen entry_caller h (read_pass read x)) ss i s (omega (arith, there, paired-length seat vs ss seats)) seen in
-    let begins : StartsWith h (read s.seen) = subst (λ x. StartsWith h (read x.seen)) (paired seat vs ss i s w seats there) has.0 in
-    omega (arith, few, whole, starts_length h (read s.seen) begins)
+    let s = seat (get_or vs j w) in (
+      s,
+      (let few : i < length ss = omega (arith, there, paired-length seat vs ss seats) in few),
+      paired seat vs ss i s w seats there,
+      subst (λ (x : DoorWork). EndStopped (Stopped s.seen) x.end) (sym (paired work vs ks i k w works there)) (stopped j w below),
+    )
 
-broken_end : {X : Type 0} (read : List X → List Entry) (broken : List X → ℕ → Type 0) (most : ℕ) (seen : List X) (end : DoorEnd) → end ≡ Broken → EndStopped (StopsAt read broken most seen) end
-    → (faults : ℕ) × broken seen faults
-broken_end read broken most seen end is stopped =
-    subst (λ (e : DoorEnd). EndStopped (StopsAt read broken most seen) e) is stopped
+-- what holds of a pass where it ended so
+ended_so : (P : AnswerFault → Type 0) (end other : DoorEnd) → end ≡ other → EndStopped P end → EndStopped P other
+ended_so P end other is stopped = subst (λ (e : DoorEnd). EndStopped P e) is stopped
 
--- the list of the turn begins with what a pass has seen with which an ask was refused since what is kept
--- had failed, and that says so
-pub broken_at_close : {W O X : Type 0} (read : List X → List Entry) (number : X → ℕ) (broken : List X → ℕ → Type 0) (seat : W → SeatView O X) (work : W → DoorWork) (us vs : List W) (ss : List (SeatView O X))
-    (ks : List DoorWork) (told : List X) (most : ℕ)
-    → length vs ≡ length us → reverse (map work vs) ≡ ks → reverse (map seat vs) ≡ ss
-    → All (HasSeen number told) ss
-    → ((j : ℕ) (w : W) → j < length us → EndStopped (StopsAt read broken most (seat (get_or vs j w)).seen) (work (get_or vs j w)).end)
-    → (i : ℕ) (k : DoorWork) → i < length us → (get_or ks i k).end ≡ Broken
-    → (seen : List X) × StartsWith told seen × ((faults : ℕ) × broken seen faults)
-broken_at_close read number broken seat work us vs ss ks told most same works seats seen stopped i k lt is =
-    let there : i < length vs = omega (arith, lt, same) in
-    let w = some_of vs (omega (arith, there)) in
-    let j = length vs - 1 - i in
-    let below : j < length us = omega (arith, there, same) in
-    let s = seat (get_or vs j w) in
-    let ended : (work (get_or vs j w)).end ≡ Broken = ap (λ x. x.end) (sym (paired work vs ks i k w works there)) ∙ is in
-    let why = broken_end read broken most s.seen (work (get_or vs j w)).end ended (stopped j w below) in
-    let has : HasSeen number told (get_or ss i s) = All-get_or (HasSeen number told) ss i s (omega (arith, there, paired-length seat vs ss seats)) seen in
-    let begins : StartsWith told s.seen = subst (λ x. StartsWith told x.seen) (paired seat vs ss i s w seats there) has.0 in
-    (s.seen, begins, why)
+module _ {W O X : Type 0} (read : List X → List Entry) (broken : List X → ℕ → Type 0) (most : ℕ) (seat : W → SeatView O X) (work : W → DoorWork) (us vs : List W) (ss : List (SeatView O X)) (ks : List DoorWork)
+    (same : length vs ≡ length us) (works : reverse (map work vs) ≡ ks) (seats : reverse (map seat vs) ≡ ss)
+    (stopped : (j : ℕ) (w : W) → j < length us → EndStopped (StopsAt read broken most (seat (get_or vs j w)).seen) (work (get_or vs j w)).end) where
+  -- the history is as long as a pass has seen it with which an ask was refused since it was full
+  pub full_at_close : (h : List Entry) → All (λ s. HasSeen entry_caller h (read_pass read s)) ss → length h ≤ most
+      → (i : ℕ) (k : DoorWork) → i < length us → (get_or ks i k).end ≡ Full → length h ≡ most
+  full_at_close h seen few i k lt is =
+      let at = stopped_at (StopsAt read broken most) seat work us vs ss ks same works seats stopped i k lt in
+      let full : EndStopped (StopsAt read broken most at.0.seen) Full = ended_so (StopsAt read broken most at.0.seen) (get_or ks i k).end Full is at.3 in
+      let whole : length (read at.0.seen) ≡ most = full.1 in
+      let has : HasSeen entry_caller h (read_pass read (get_or ss i at.0)) = All-get_or (λ x. HasSeen entry_caller h (read_pass read x)) ss i at.0 at.1 seen in
+      let begins : StartsWith h (read at.0.seen) = subst (λ (x : SeatView O X). StartsWith h (read x.seen)) at.2 has.0 in
+      omega (arith, few, whole, starts_length h (read at.0.seen) begins)
+
+  -- what is told in the end begins with what a pass has seen that says of a failure
+  pub broken_at_close : (number : X → ℕ) (told : List X) → All (HasSeen number told) ss
+      → (i : ℕ) (k : DoorWork) → i < length us → (get_or ks i k).end ≡ Broken → (seen : List X) × StartsWith told seen × ((faults : ℕ) × broken seen faults)
+  broken_at_close number told seen i k lt is =
+      let at = stopped_at (StopsAt read broken most) seat work us vs ss ks same works seats stopped i k lt in
+      let has : HasSeen number told (get_or ss i at.0) = All-get_or (HasSeen number told) ss i at.0 at.1 seen in
+      (at.0.seen, subst (λ (x : SeatView O X). StartsWith told x.seen) at.2 has.0, ended_so (StopsAt read broken most at.0.seen) (get_or ks i k).end Broken is at.3)
 
 -- what holds of all passes of the workers holds of the passes taken apart
 pub all_apart : {W Y : Type 0} (Q : Y → Type 0) (f : W → Y) (ws : List W) (ys : List Y) → reverse (map f ws) ≡ ys → All (λ w. Q (f w)) ws → All Q ys

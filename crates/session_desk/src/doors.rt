@@ -3,7 +3,6 @@ ghost use Rattle.std.specs.Prelude.{◌≡◌, ◌≤◌, ◌<◌, ◌+◌, ◌^
 ghost use Rattle.std.specs.Prelude.{IfOk, IfErr, OnErr, slice_index_or};
 ghost use Rattle.turn_lock.specs.Seats.{SeatView, IsAtRest};
 ghost use Rattle.turn_lock.specs.History.{StartsWith, own};
-ghost use Rattle.amend_journal.specs.Told.{read_told, EndsBroken};
 ghost use Rattle.scr_reader.specs.Again.{IsFitItem};
 ghost use Rattle.scr_reader.specs.declared.line.Item.{Item as ItemValue};
 ghost use Rattle.holding_book.specs.Histories.{IsLegal};
@@ -16,8 +15,7 @@ ghost use Rattle.session_desk.specs.Sessions.{IsSession, HasSessionCause};
 ghost use Rattle.session_desk.specs.Served.{HasServed};
 ghost use Rattle.session_desk.specs.declared.doors.TheConstants.{MOST_DOORS};
 ghost use Rattle.session_desk.specs.declared.worker.DoorWork.{DoorWork as DoorWorkValue};
-ghost use Rattle.session_desk.specs.declared.worker.DoorEnd.TheVariants.{Full as full_end};
-ghost use Rattle.session_desk.specs.declared.worker.DoorEnd.TheVariants.{Broken as broken_end};
+ghost use Rattle.session_desk.specs.declared.worker.DoorEnd.TheVariants.{Full as full_end, Broken as broken_end};
 ghost use Rattle.session_desk.specs.Stopped.{StoppedBy, StopsAt};
 ghost use Rattle.session_desk.specs.Private.Serving.{EndStopped};
 ghost use Rattle.session_desk.specs.Begun.{IsAnsweredBy, IsBegunBy, HasBroken, TakesFit};

@@ -15,7 +15,7 @@ use std::alloc::Global;
 ///
 /// The turn has one list: the entries of the history, and behind them a mark where what is kept has
 /// failed. How that list is read as the history is for the type to say.
-pub trait Beside: Send + Drop {
+pub trait Beside: Drop {
     ghost use Rattle.scr_reader.specs.declared.line.Item.{Item as ItemValue};
     ghost use Rattle.holding_book.specs.declared.answer.Entry.{Entry as EntryValue};
 

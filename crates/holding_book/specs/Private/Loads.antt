@@ -1,5 +1,5 @@
 -- A declaration, and what each of its resources has left.
-use Rattle.std.specs.Prelude.{◌≡◌, ℕ, ◌+◌, ◌<◌, nat_le, nat_lt, Bool, true, false, ◌&&◌, ◌||◌, is_some, if◌then◌else◌, List, length, slice_index, filter, Option, Some, None}
+use Rattle.std.specs.Prelude.{◌≡◌, ℕ, ◌+◌, ◌<◌, nat_le, Bool, true, false, ◌||◌, is_some, List, length, slice_index, filter, Option}
 use Rattle.std.specs.List.{list_all, list_any}
 use Rattle.season_days.specs.Capacity.{Capacity, capacity_of, declared_resources, IsDeclaration}
 use Rattle.season_days.specs.declared.declaration.Declaration.{Declaration}

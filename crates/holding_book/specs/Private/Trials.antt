@@ -1,17 +1,13 @@
 -- What a search has tried of the movements of a line.
-use Rattle.std.specs.Prelude.{◌≡◌, ℕ, ◌<◌, ◌↔◌, nat_lt, Bool, true, List, length, slice_index_or, Option, Some, None, All, IsTrue}
+use Rattle.std.specs.Prelude.{◌≡◌, ℕ, ◌<◌, ◌↔◌, List, length, slice_index_or, Option, All, IsTrue}
 use Rattle.season_days.specs.Capacity.{capacity_of}
 use Rattle.season_days.specs.declared.day.Period.{Period}
 use Rattle.season_days.specs.declared.declaration.Kind.{Kind}
 use Rattle.season_days.specs.declared.declaration.Kind.TheVariants.{Arr, Dep}
-use Rattle.season_days.specs.declared.declaration.Declaration.{Declaration}
 use Rattle.scr_reader.specs.declared.line.Line.{Line}
 use Rattle.scr_reader.specs.declared.line.Stop.{Stop}
 use Rattle.choice_problem.specs.Counts.{HasUses}
 use Rattle.window_counts.specs.Counts.{some_uses}
-use Rattle.series_model.specs.declared.times.Times.{Times}
-use Rattle.series_model.specs.Displacement.{cost_at}
-use Rattle.series_model.specs.Options.{TimesFit}
 use Rattle.holding_book.specs.declared.trials.Trial.{Trial}
 use Rattle.holding_book.specs.declared.trials.Trials.{Trials}
 use Rattle.holding_book.specs.Private.Loads.{LoadsView}

@@ -1,4 +1,4 @@
-use Rattle.std.proofs.Common.{rules, ◌≡◌, ℕ, ◌+◌, ◌<◌, List, [], ◌∷◌, ◌++◌, length, get_or, take, sym, subst, Option}
+use Rattle.std.proofs.Common.{rules, ℕ, ◌+◌, ◌<◌, List, [], ◌∷◌, ◌++◌, length, get_or, take, sym, subst, Option}
 use Rattle.std.proofs.lemmas.List.{take_more}
 use Rattle.holding_book.specs.Private.Levels.{lesser, IsNextLevel}
 use Rattle.holding_book.proofs.LevelLemmas.{next_more}

@@ -101,8 +101,10 @@ returns-clause-full g c i k lt is =
     let whole = written_back vs us c.pair_up.new.workers.len same (omega (arith, c.pair_up.new.workers.ok.0)) in
     let stopped = rw c.as_mut_slice.ensures.value at c.serve_all.ensures.stopped in
     let there : i < length us = omega (arith, lt, paired-length (λ w. w.door) us c.args.doors.now.items c.pair_up.ensures.doors) in
-    full_at_close g.B.Beside.read g.B.Beside.broken (λ w. w.pass) (λ w. w.work) us vs c.take_apart.new.passes.items c.take_apart.new.works.items c.close-history.result.1.items origin.start.most
-    same (sym (c.take_apart.ensures.works ∙ ap (λ l. reverse (map (λ w. w.work) l)) whole)) (sym (c.take_apart.ensures.passes ∙ ap (λ l. reverse (map (λ w. w.pass) l)) whole)) c.close-history.ensures.seen c.close-history.ensures.few stopped i k there is
+    let works = sym (c.take_apart.ensures.works ∙ ap (λ l. reverse (map (λ w. w.work) l)) whole) in
+    let seats = sym (c.take_apart.ensures.passes ∙ ap (λ l. reverse (map (λ w. w.pass) l)) whole) in
+    full_at_close g.B.Beside.read g.B.Beside.broken origin.start.most (λ w. w.pass) (λ w. w.work) us vs c.take_apart.new.passes.items c.take_apart.new.works.items same works seats stopped
+    c.close-history.result.1.items c.close-history.ensures.seen c.close-history.ensures.few i k there is
     ∙ c.in_ok-ledger.ensures.most
 
 pub returns-clause-broken : goal.returns-clause-broken
@@ -114,6 +116,7 @@ returns-clause-broken g c i k lt is =
     let whole = written_back vs us c.pair_up.new.workers.len same (omega (arith, c.pair_up.new.workers.ok.0)) in
     let stopped = rw c.as_mut_slice.ensures.value at c.serve_all.ensures.stopped in
     let there : i < length us = omega (arith, lt, paired-length (λ w. w.door) us c.args.doors.now.items c.pair_up.ensures.doors) in
-    broken_at_close g.B.Beside.read g.B.Beside.number g.B.Beside.broken (λ w. w.pass) (λ w. w.work) us vs c.take_apart.new.passes.items c.take_apart.new.works.items
-    (g.B.Beside.told c.close-history.result.2 c.close-history.result.1.items) origin.start.most
-    same (sym (c.take_apart.ensures.works ∙ ap (λ l. reverse (map (λ w. w.work) l)) whole)) (sym (c.take_apart.ensures.passes ∙ ap (λ l. reverse (map (λ w. w.pass) l)) whole)) c.close-history.ensures.told stopped i k there is
+    let works = sym (c.take_apart.ensures.works ∙ ap (λ l. reverse (map (λ w. w.work) l)) whole) in
+    let seats = sym (c.take_apart.ensures.passes ∙ ap (λ l. reverse (map (λ w. w.pass) l)) whole) in
+    broken_at_close g.B.Beside.read g.B.Beside.broken origin.start.most (λ w. w.pass) (λ w. w.work) us vs c.take_apart.new.passes.items c.take_apart.new.works.items same works seats stopped
+    g.B.Beside.number (g.B.Beside.told c.close-history.result.2 c.close-history.result.1.items) c.close-history.ensures.told i k there is
