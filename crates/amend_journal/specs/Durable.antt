@@ -61,8 +61,8 @@ abbrev pub told_start : Option ToldDisk → Option DiskStart
 told_start None = None
 told_start (Some t) = Some t.start
 
--- The same disk after more calls: it tells of the same first content, and goes on to tell truly; and
--- a first content with which all calls agree is one with which the earlier ones did.
+-- The same disk after more calls: it tells of the same first content, and goes on to tell truly;
+-- and a first content with which all calls agree is one with which the earlier ones did.
 pub record IsLaterDisk (before now : DiskView) : Type 0 where
   pub start : told_start now.told ≡ told_start before.told
   pub truly : TellsTruly before → TellsTruly now

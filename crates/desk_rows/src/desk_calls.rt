@@ -39,8 +39,8 @@ fn split_words(alloc: Global, words: &str) -> Result<Vec<String>, AllocError> {
     Ok(list)
 }
 
-/// Runs the desk without a disk on these words, with a blank between two. Gives the status, a blank,
-/// and what was printed.
+/// Runs the desk without a disk on these words, with a blank between two. Gives the status, a
+/// blank, and what was printed.
 pub(crate) fn call_desk<R: Threads + Wait + Sync, G: Gate>(
     rt: &R,
     alloc: Global,

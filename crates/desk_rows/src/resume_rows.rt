@@ -299,8 +299,9 @@ fn image(alloc: Global, front: &[u8], count: usize, filling: &[u8]) -> Result<Ve
     Ok(bytes)
 }
 
-/// A stop while a short file is made anew, and while a pair is put, before its first sync: any length
-/// and any bytes behind what stood before. Then while its gate is opened: any value of the gate.
+/// A stop while a short file is made anew, and while a pair is put, before its first sync: any
+/// length and any bytes behind what stood before. Then while its gate is opened: any value of the
+/// gate.
 #[test]
 fn images_of_a_stop_are_opened(rt: HostRuntime) -> Result<(), Fail> {
     let alloc = rt.alloc();
@@ -335,8 +336,8 @@ fn images_of_a_stop_are_opened(rt: HostRuntime) -> Result<(), Fail> {
     Ok(())
 }
 
-/// Runs the desk on these files, of which a call is to fail, or the output, and gives what it said and
-/// how many pairs the journal has then.
+/// Runs the desk on these files, of which a call is to fail, or the output, and gives what it said
+/// and how many pairs the journal has then.
 fn run_failing<R: Threads + Wait + Sync>(
     rt: &R,
     alloc: Global,

@@ -341,12 +341,12 @@ pub record MarksAreProved (capacity requests : List ℕ) (s : SubmissionView) (c
 
 -- The marks are true. Of `allocate`: of the certificate that is written, whose stage lines are
 -- printed, for the season that was read. Of `check`, `amend`, `serve` and `resume`: of the
--- certificate that was read. Of `trial`: of the one whose lines are printed, for the generated season. `make` proves
--- nothing. And of `amend`: what is written are the answers of one legal history from the
--- certificate's book. Of `serve`: what is written is the text of such a history, by which each
--- worker answered the clients of its door. Of `resume`: the same, of the history that follows the
--- pairs of the journal; these, answered anew, and it are one legal history from the certificate's
--- book, and the journal keeps all of it.
+-- certificate that was read. Of `trial`: of the one whose lines are printed, for the generated
+-- season. `make` proves nothing. And of `amend`: what is written are the answers of one legal history
+-- from the certificate's book. Of `serve`: what is written is the text of such a history, by which
+-- each worker answered the clients of its door. Of `resume`: the same, of the history that follows
+-- the pairs of the journal; these, answered anew, and it are one legal history from the
+-- certificate's book, and the journal keeps all of it.
 abbrev pub HeadlineHolds : Job → List NamedBytes → List NamedBytes → OutsideChange → ℕ → List ℕ
     → Type 0
 HeadlineHolds (Allocate names nodes workers) (capacity ∷ requests ∷ [])

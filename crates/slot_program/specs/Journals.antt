@@ -8,8 +8,8 @@ use Rattle.desk_disk.specs.Stops.{DiskPassage, DiskStart, Agrees}
 use Rattle.desk_disk.specs.Disks.{DiskView, TellsTruly}
 use Rattle.amend_journal.specs.Format.{IsFit, IsJournalOf}
 use Rattle.amend_journal.specs.Standing.{StandsFor, IsOther, IsBadSlot}
-use Rattle.amend_journal.specs.Durable.{ReadsAs, AreDurable, MayHavePair, LeavesNoWorse, IsLaterDisk}
-use Rattle.amend_journal.specs.Durable.{told_start}
+use Rattle.amend_journal.specs.Durable.{ReadsAs, AreDurable, MayHavePair, LeavesNoWorse}
+use Rattle.amend_journal.specs.Durable.{IsLaterDisk, told_start}
 use Rattle.amend_journal.specs.Kept.{IsJournalUpTo, KeepsEach}
 use Rattle.amend_journal.specs.declared.asked.Asked.{Asked}
 use Rattle.slot_program.specs.Reports.{JournalRefusal, no_journal, other_journal, bad_slot}
@@ -44,8 +44,8 @@ IsUnopened season why (Some d) (Some e) =
 
 -- ---- a journal that was opened, and kept while asks were entered
 
--- No put failed: the disk has not, and every image is a journal of the pairs and of all asks. Or one
--- did: the disk has failed, and an image may have the pair of that put besides.
+-- No put failed: the disk has not, and every image is a journal of the pairs and of all asks. Or
+-- one did: the disk has failed, and an image may have the pair of that put besides.
 abbrev pub IsLeftWith : Term → List Asked → List Asked → Option Asked → DiskView → DiskView → Type 0
 IsLeftWith season pairs asks None d e =
     (e.faults ≡ d.faults)

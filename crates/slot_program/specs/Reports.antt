@@ -15,9 +15,9 @@ pub data Refusal : Type 0 where
   over_limit : Word → ℕ → Refusal
   not_valid : ℕ → Reason → Refusal
 
--- Why a journal was not opened, behind all files that are read: there is no disk; its file begins as
--- no journal does; the slot of this number is not whole, or spells nothing in the season; or a call
--- of the disk failed.
+-- Why a journal was not opened, behind all files that are read: there is no disk; its file begins
+-- as no journal does; the slot of this number is not whole, or spells nothing in the season; or a
+-- call of the disk failed.
 pub data JournalRefusal : Type 0 where
   no_journal : JournalRefusal
   other_journal : JournalRefusal

@@ -1,7 +1,7 @@
 -- Serving clients: the workers of a desk answer the messages that come over the links of their
 -- doors, by one history of a book.
-use Rattle.std.specs.Prelude.{◌≡◌, ℕ, suc, ◌+◌, ◌≤◌, ◌<◌, Bool, true, false, if◌then◌else◌, List, [], ◌∷◌}
-use Rattle.std.specs.Prelude.{◌++◌, length, codes, All, sum_by}
+use Rattle.std.specs.Prelude.{◌≡◌, ℕ, suc, ◌+◌, ◌≤◌, ◌<◌, Bool, true, false, if◌then◌else◌}
+use Rattle.std.specs.Prelude.{List, [], ◌∷◌, ◌++◌, length, codes, All, sum_by}
 use Rattle.std.specs.Fmt.{decimal}
 use Rattle.std.specs.List.{list_any}
 use Rattle.turn_lock.specs.History.{own}
@@ -93,8 +93,8 @@ served_lines entries links =
 -- ---- all of it
 
 -- The doors were served, each by a worker, at most so many links of each, by one history of the
--- book, behind so many entries that were found; no worker wanted memory. Where one found the history
--- full there are, with those, as many entries as may be.
+-- book, behind so many entries that were found; no worker wanted memory. Where one found the
+-- history full there are, with those, as many entries as may be.
 pub record AreServed {X : Type 0} (broken : List X → ℕ → Type 0) (found : ℕ) (start : SlotBook)
     (links : ℕ) (before after : List DoorView) (history : List Entry) (works : List DoorWork)
     : Type 0 where

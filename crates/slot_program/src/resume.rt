@@ -40,9 +40,9 @@ use std::thread::Threads;
 use wasg_stages::laws::valid_choices;
 use worker_gate::Gate;
 
-/// Reads a season and a certificate of it, which is valid; opens the journal of the disk and answers
-/// its pairs anew; serves the clients of the doors, as `serve` does, where the journal has each
-/// entry before it is answered; and then writes the text of the history since.
+/// Reads a season and a certificate of it, which is valid; opens the journal of the disk and
+/// answers its pairs anew; serves the clients of the doors, as `serve` does, where the journal has
+/// each entry before it is answered; and then writes the text of the history since.
 ///
 /// It waits for clients until all workers have ended. The disk is taken out, and put back whatever
 /// comes, but where memory runs out.

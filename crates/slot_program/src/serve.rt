@@ -124,8 +124,8 @@ fn service_output<R: Threads + Wait + Sync, D: Door + Drop, G: Gate>(
     })
 }
 
-/// The history from a book, what each worker did, and what was kept beside it. Without doors there is
-/// none.
+/// The history from a book, what each worker did, and what was kept beside it. Without doors it is
+/// empty.
 pub(crate) fn served<R: Threads + Wait + Sync, D: Door + Drop, B: Beside + Send, G: Gate>(
     rt: &R,
     alloc: Global,

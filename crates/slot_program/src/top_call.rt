@@ -16,7 +16,8 @@ ghost use Rattle.slot_program.specs.Judgements.{NamedBytes};
 ghost use Rattle.slot_program.specs.Steps.{AllPass, FirstDue, form_steps};
 ghost use Rattle.slot_program.specs.Writing.{read_of, written_of};
 ghost use Rattle.slot_program.specs.Jobs.{AreFilesOf, name_at, steps_of, finishing_of, HeadlineHolds};
-ghost use Rattle.slot_program.specs.Jobs.{calm_statuses, served_statuses, JournalDue, JournalStands};
+ghost use Rattle.slot_program.specs.Jobs.{calm_statuses, served_statuses};
+ghost use Rattle.slot_program.specs.Jobs.{JournalDue, JournalStands};
 ghost use Rattle.slot_program.specs.Outside.{Outside, still, outside_of, outside_change};
 ghost use Rattle.slot_program.specs.Outside.{doors_change, door_faults, disk_faults, SomeRose};
 ghost use Rattle.slot_program.specs.Outside.{DiskRose};
@@ -100,8 +101,8 @@ pub fn desk<R: Threads + Wait + Sync, C: Cabinet, S: Sink, D: Door + Drop, G: Ga
     // and put to each link. With a journal that history follows the pairs which the journal had,
     // answered anew: both are one legal history from the book, and what a stop leaves of the disk
     // is a journal of the pairs and of all that was asked. Exactly the files of the job, under
-    // their names, were read and written, and exactly its text was put, also over a cabinet, a sink,
-    // doors and a disk that tell nothing.
+    // their names, were read and written, and exactly its text was put, also over a cabinet, a
+    // sink, doors and a disk that tell nothing.
     ensures headline { (job : JobValue) → job_of (words_of words.now) ≡ Some job →
         Contains (finishing_of job) result → result ≢ 14 →
         (inputs writes : List NamedBytes) × (text : List ℕ)
@@ -135,8 +136,8 @@ pub fn desk<R: Threads + Wait + Sync, C: Cabinet, S: Sink, D: Door + Drop, G: Ga
         disk_faults (outside_of D.view K.view doors.new.items disk.new)
         ≡ disk_faults (outside_of D.view K.view doors.old.items disk.old) }
 
-    // At 14 the disk failed. The journal was not opened, and nothing was written; or all is as where
-    // the work is done, but for the put that failed.
+    // At 14 the disk failed. The journal was not opened, and nothing was written; or all is as
+    // where the work is done, but for the put that failed.
     ensures disk_risen { result ≡ 14 →
         DiskRose (option_map K.view disk.old) (option_map K.view disk.new)
         × ((job : JobValue) × (job_of (words_of words.now) ≡ Some job)
