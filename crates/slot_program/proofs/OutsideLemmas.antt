@@ -31,10 +31,10 @@ err_numbered port workers (Ok a) h = tt
 err_numbered port workers (Err e) h = h port workers
 
 -- and for each disk, which such a job does not use
-pub ok_served : {A E : Type 0} {P : A → ℕ → ℕ → Option DiskView → Type 0} (port workers : ℕ) (disk : Option DiskView) (r : Result A E) → IfOk r (λ a. (p k : ℕ) (d : Option DiskView) → P a p k d) → IfOk r (λ a. P a port workers disk)
-ok_served port workers disk (Ok a) h = h port workers disk
-ok_served port workers disk (Err e) h = tt
+pub ok_served : {A E : Type 0} (P : A → ℕ → ℕ → Option DiskView → Type 0) (port workers : ℕ) (disk : Option DiskView) (r : Result A E) → IfOk r (λ a. (p k : ℕ) (d : Option DiskView) → P a p k d) → IfOk r (λ a. P a port workers disk)
+ok_served P port workers disk (Ok a) h = h port workers disk
+ok_served P port workers disk (Err e) h = tt
 
-pub err_served : {A E : Type 0} {P : E → ℕ → ℕ → Option DiskView → Type 0} (port workers : ℕ) (disk : Option DiskView) (r : Result A E) → IfErr r (λ e. (p k : ℕ) (d : Option DiskView) → P e p k d) → IfErr r (λ e. P e port workers disk)
-err_served port workers disk (Ok a) h = tt
-err_served port workers disk (Err e) h = h port workers disk
+pub err_served : {A E : Type 0} (P : E → ℕ → ℕ → Option DiskView → Type 0) (port workers : ℕ) (disk : Option DiskView) (r : Result A E) → IfErr r (λ e. (p k : ℕ) (d : Option DiskView) → P e p k d) → IfErr r (λ e. P e port workers disk)
+err_served P port workers disk (Ok a) h = tt
+err_served P port workers disk (Err e) h = h port workers disk

@@ -11,6 +11,9 @@ use Rattle.holding_book.specs.declared.answer.Entry.{Entry}
 use Rattle.holding_book.specs.Books.{SlotBook, IsBook}
 use Rattle.holding_book.specs.Asks.{CanAsk, next}
 use Rattle.holding_book.specs.Histories.{replay}
+use Rattle.holding_book.specs.Starts.{start_book}
+use Rattle.amend_journal.specs.Told.{EndsBroken}
+use Rattle.amend_journal.specs.Kept.{book_after}
 use Rattle.amend_run.specs.Amended.{FitsThroughout}
 use Rattle.session_desk.specs.declared.worker.DoorEnd.{DoorEnd}
 use Rattle.session_desk.specs.declared.worker.DoorEnd.TheVariants as ends
@@ -23,7 +26,7 @@ use Rattle.slot_program.specs.Judgements.{NamedBytes}
 use Rattle.slot_program.specs.Jobs.{searched_statuses, finishing_of, ServiceWorks, ResumeWorks, Works}
 use Rattle.slot_program.specs.Resumed.{ResumesLegally, resumed_status}
 use Rattle.slot_program.specs.Outside.{Outside, OutsideChange, IsStill, door_faults, SomeRose}
-use Rattle.slot_program.specs.Services.{IsWorker, AreWorkers, ServesLegally, is_door_end, is_full_end, is_broken_end, some_ended, served_status}
+use Rattle.slot_program.specs.Services.{IsWorker, AreWorkers, ServesLegally, never_breaks, is_door_end, is_full_end, is_broken_end, some_ended, served_status}
 
 -- ---- door by door
 
@@ -84,7 +87,7 @@ broken_at (work ∷ works) some =
 
 -- what of an end says whether the count rose
 quiet_end : (end : DoorEnd) (links : ℕ) (sessions : List Session) (d e : DoorView) → is_door_end end ≡ false → EndsWorker end links sessions d e → e.faults ≡ d.faults
-quiet_end ends.Served links sessions d e is ended = ended.1.0
+quiet_end ends.Served links sessions d e is ended = ended.1
 quiet_end ends.Full links sessions d e is ended = ended.1
 quiet_end ends.Broken links sessions d e is ended = ended.1
 quiet_end ends.Memory links sessions d e is ended = ended.1
@@ -153,7 +156,7 @@ service_calm names links (capacity ∷ []) writes change status text work is = a
 service_calm names links (capacity ∷ requests ∷ []) writes change status text work is = absurd work
 service_calm names links (capacity ∷ requests ∷ certificate ∷ []) writes change status text work is =
     let out = work.output in
-    quiet_doors _ _ links out.history 0 change.before.doors out.works change.after.doors out.served.workers
+    quiet_doors never_breaks (start_book work.season work.proved) links out.history 0 change.before.doors out.works change.after.doors out.served.workers
     (no_door_else out.works (subst (λ (n : ℕ). (n ≡ 0) ⊎ (n ≡ 11)) out.status_is is))
 service_calm names links (capacity ∷ requests ∷ certificate ∷ more ∷ rest) writes change status text work is = absurd work
 
@@ -164,7 +167,7 @@ service_risen names links (capacity ∷ []) writes change status text work is = 
 service_risen names links (capacity ∷ requests ∷ []) writes change status text work is = absurd work
 service_risen names links (capacity ∷ requests ∷ certificate ∷ []) writes change status text work is =
     let out = work.output in
-    rose_somewhere _ _ links out.history 0 change.before.doors out.works change.after.doors out.served.workers (ten_of_doors out.works (sym out.status_is ∙ is))
+    rose_somewhere never_breaks (start_book work.season work.proved) links out.history 0 change.before.doors out.works change.after.doors out.served.workers (ten_of_doors out.works (sym out.status_is ∙ is))
 service_risen names links (capacity ∷ requests ∷ certificate ∷ more ∷ rest) writes change status text work is = absurd work
 
 -- with a journal
@@ -184,7 +187,7 @@ resume_calm names links (capacity ∷ []) writes change status text work is = ab
 resume_calm names links (capacity ∷ requests ∷ []) writes change status text work is = absurd work
 resume_calm names links (capacity ∷ requests ∷ certificate ∷ []) writes change status text work is =
     let out = work.output in
-    quiet_doors _ _ links out.history 0 change.before.doors out.works change.after.doors out.served.workers
+    quiet_doors EndsBroken (book_after (start_book work.season work.proved) out.pairs) links out.history 0 change.before.doors out.works change.after.doors out.served.workers
     (quiet_resumed (is_some out.failed) out.works (subst (λ (n : ℕ). (n ≡ 0) ⊎ (n ≡ 11)) out.status_is is))
 resume_calm names links (capacity ∷ requests ∷ certificate ∷ more ∷ rest) writes change status text work is = absurd work
 
@@ -195,7 +198,7 @@ resume_risen names links (capacity ∷ []) writes change status text work is = a
 resume_risen names links (capacity ∷ requests ∷ []) writes change status text work is = absurd work
 resume_risen names links (capacity ∷ requests ∷ certificate ∷ []) writes change status text work is =
     let out = work.output in
-    rose_somewhere _ _ links out.history 0 change.before.doors out.works change.after.doors out.served.workers (ten_resumed (is_some out.failed) out.works (sym out.status_is ∙ is))
+    rose_somewhere EndsBroken (book_after (start_book work.season work.proved) out.pairs) links out.history 0 change.before.doors out.works change.after.doors out.served.workers (ten_resumed (is_some out.failed) out.works (sym out.status_is ∙ is))
 resume_risen names links (capacity ∷ requests ∷ certificate ∷ more ∷ rest) writes change status text work is = absurd work
 
 -- any job

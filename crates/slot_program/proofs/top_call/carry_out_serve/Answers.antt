@@ -12,7 +12,7 @@ returns-clause-answer g c = λ port workers disk.
     let v : World = world_of g.C.Cabinet.files g.C.Cabinet.fault_count g.C.Cabinet.log c.serve-ended.new.cabinet in
     let change : OutsideChange = doors_change g.D.Door.view c.args.doors.now.items c.serve-ended.new.doors.items disk in
     c.finish.ensures.answer (Serve c.args.names.now c.args.links port workers) w change v
-    (ok_served port workers disk c.serve-ended.result c.serve-ended.ensures.done) (err_served port workers disk c.serve-ended.result c.serve-ended.ensures.stop)
+    (ok_served _ port workers disk c.serve-ended.result c.serve-ended.ensures.done) (err_served _ port workers disk c.serve-ended.result c.serve-ended.ensures.stop)
 
 pub returns-clause-asked : goal.returns-clause-asked
 returns-clause-asked g c = λ port workers.
@@ -20,4 +20,4 @@ returns-clause-asked g c = λ port workers.
     let v : World = world_of g.C.Cabinet.files g.C.Cabinet.fault_count g.C.Cabinet.log c.serve-ended.new.cabinet in
     let change : OutsideChange = doors_change g.D.Door.view c.args.doors.now.items c.serve-ended.new.doors.items None in
     c.finish.ensures.asked (Serve c.args.names.now c.args.links port workers) w change v
-    (ok_served port workers None c.serve-ended.result c.serve-ended.ensures.done) (err_served port workers None c.serve-ended.result c.serve-ended.ensures.stop)
+    (ok_served _ port workers None c.serve-ended.result c.serve-ended.ensures.done) (err_served _ port workers None c.serve-ended.result c.serve-ended.ensures.stop)
