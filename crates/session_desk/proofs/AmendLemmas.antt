@@ -1,5 +1,5 @@
 -- Items of a message that are answered one after the other.
-use Rattle.std.proofs.Common.{◌≡◌, ◌⊎◌, ℕ, zero, suc, ◌+◌, ◌<◌, List, [], ◌∷◌, ◌++◌, length, map, take, drop, refl, sym, ap, subst, ◌∙◌, append_assoc, append-nil, inl, inr, Result, Ok, Err, arith}
+use Rattle.std.proofs.Common.{◌≡◌, ℕ, zero, suc, ◌<◌, List, [], ◌∷◌, ◌++◌, length, map, take, drop, refl, sym, ap, subst, ◌∙◌, append_assoc, append-nil, inl, inr, Result, Ok, Err, arith}
 use Rattle.std.proofs.lemmas.List.{map-append, take-append-drop}
 use Rattle.std.proofs.lemmas.List.Elements.{All-append, All-nil, All-cons}
 use Rattle.std.specs.Prelude.{All, IfOk}
@@ -7,8 +7,7 @@ use Rattle.season_days.specs.declared.declaration.Declaration.{Declaration}
 use Rattle.scr_reader.specs.Again.{AreAsked, IsFitItem}
 use Rattle.scr_reader.specs.Printed.{ItemsFit}
 use Rattle.scr_reader.specs.declared.line.Item.TheVariants.{One, Pair, Query}
-use Rattle.holding_book.specs.Asks.{CanAsk, reply}
-use Rattle.holding_book.specs.Books.{SlotBook, IsBook}
+use Rattle.holding_book.specs.Asks.{CanAsk}
 use Rattle.season_days.specs.Term.{Term}
 use Rattle.scr_reader.specs.declared.line.Item.{Item}
 use Rattle.scr_reader.specs.declared.message.Placed.{Placed}
@@ -16,14 +15,10 @@ use Rattle.scr_reader.specs.declared.message.Message.{Message}
 use Rattle.holding_book.specs.declared.answer.Answer.{Answer}
 use Rattle.holding_book.specs.declared.answer.Entry.{Entry}
 use Rattle.holding_book.specs.Replied.{HasAnswerLines}
-use Rattle.turn_lock.specs.Seats.{SeatView}
 use Rattle.slot_ledger.specs.Starts.{new_entry}
-use Rattle.slot_ledger.specs.Passes.{HasEntered, IsDue}
-use Rattle.slot_ledger.specs.Beside.{RefusedAt}
-use Rattle.slot_ledger.specs.declared.fault.EnterFault.TheVariants as refused
-use Rattle.scr_replies.specs.Replies.{AreAnswerLines, asks_of, reply_text, bad_text}
+use Rattle.scr_replies.specs.Replies.{AreAnswerLines, bad_text}
 use Rattle.scr_replies.specs.Received.{AreFor, IsGoodMessage, IsBadAt}
-use Rattle.session_desk.specs.Begun.{LeavesAsks, IsAnsweredBy, HasBegunMessage, IsBegunBy, HasBroken}
+use Rattle.session_desk.specs.Begun.{LeavesAsks, IsAnsweredBy, HasBegunMessage, IsBegunBy}
 use Rattle.session_desk.specs.Private.Amended.{item_of, answer_of, HasAnswers, HasOneAnswer, StopsAnswer, HasLeft}
 use Rattle.session_desk.specs.declared.amending.DeskCaller.{DeskCaller}
 use Rattle.session_desk.specs.declared.responder.AnswerFault.{AnswerFault}

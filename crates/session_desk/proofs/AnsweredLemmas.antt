@@ -1,8 +1,8 @@
 -- One message more that was answered.
-use Rattle.std.proofs.Common.{◌≡◌, ℕ, List, [], ◌∷◌, ◌++◌, length, refl, sym, ap, ◌∙◌, append_assoc, append-nil, inl, inr, Result, Ok, Err, arith}
-use Rattle.std.specs.Prelude.{OnOk, IfErr}
+use Rattle.std.proofs.Common.{◌≡◌, ℕ, Bool, true, false, List, [], ◌∷◌, ◌++◌, length, drop, refl, sym, ap, ◌∙◌, append_assoc, append-nil, inl, inr, Result, Ok, Err, arith}
+use Rattle.std.specs.Prelude.{OnOk, IfErr, if◌then◌else◌}
 use Rattle.slot_text.specs.Lines.{lines_of}
-use Rattle.scr_reader.specs.Streams.{complete_messages}
+use Rattle.scr_reader.specs.Streams.{complete_messages, served_messages, is_broken, before_break, breaks_limit}
 use Rattle.desk_outside.specs.Passages.{Passage, took, put}
 use Rattle.desk_links.specs.Links.{taken_of, puts_of}
 use Rattle.session_desk.specs.Answered.{AreAnswered}
@@ -28,6 +28,39 @@ both_ok (Err e) f a b = tt
 pub on_err : {X F : Type 0} {P Q : F → Type 0} (r : Result X F) → ((e : F) → P e → Q e) → IfErr r P → IfErr r Q
 on_err (Ok x) f h = tt
 on_err (Err e) f h = f e h
+
+-- more complete messages stand behind the first ones
+abbrev pub MessagesStay : Type 0
+MessagesStay = (text more : List ℕ) → (later : List (List (List ℕ))) × (complete_messages (text ++ more) ≡ complete_messages text ++ later)
+
+-- until a limit is broken all complete messages are served
+abbrev pub UnbrokenAll : Type 0
+UnbrokenAll = (text : List ℕ) → is_broken text ≡ false → served_messages text ≡ complete_messages text
+
+before_more : (ms ns : List (List (List ℕ))) → before_break ms ≡ ms → before_break (ms ++ ns) ≡ ms ++ before_break ns
+unfolding before_break
+before_more [] ns h = refl
+before_more (m ∷ ms) ns h = by (breaks_limit m) (before_more ms ns) h
+  where
+    by : (broken : Bool) → (before_break ms ≡ ms → before_break (ms ++ ns) ≡ ms ++ before_break ns)
+        → (if broken then [] else m ∷ before_break ms) ≡ m ∷ ms → (if broken then [] else m ∷ before_break (ms ++ ns)) ≡ m ∷ ms ++ before_break ns
+    by true rest same = absurd (omega (arith, ap length same))
+    by false rest same = ap (λ (l : List (List (List ℕ))). m ∷ l) (rest (ap (drop 1) same))
+
+-- while no limit is broken the messages that are complete are the first that are served
+pub served_more : MessagesStay → UnbrokenAll → (text more : List ℕ) → is_broken text ≡ false
+    → (later : List (List (List ℕ))) × (served_messages (text ++ more) ≡ complete_messages text ++ later)
+served_more stay all text more within =
+    let s = stay text more in
+    (before_break s.0, ap before_break s.1 ∙ before_more (complete_messages text) s.0 (all text within))
+
+-- and so is the message that a byte completed
+pub message_first : MessagesStay → UnbrokenAll → (seen : List ℕ) (b : ℕ) (m : List (List ℕ)) → is_broken (seen ++ b ∷ []) ≡ false
+    → complete_messages (seen ++ b ∷ []) ≡ complete_messages seen ++ m ∷ []
+    → (more : List ℕ) → (later : List (List (List ℕ))) × (served_messages ((seen ++ b ∷ []) ++ more) ≡ complete_messages seen ++ m ∷ later)
+message_first stay all seen b m within longer more =
+    let s = served_more stay all (seen ++ b ∷ []) more within in
+    (s.0, s.1 ∙ ap (λ (l : List (List (List ℕ))). l ++ s.0) longer ∙ append_assoc (complete_messages seen) (m ∷ []) s.0)
 
 module _ {E : Type 0} (A : List (List ℕ) → List E → List ℕ → Type 0) (B : AnswerFault → List (List ℕ) → List E → Type 0) (before : List E) where
   answered_more : (ms : List (List (List ℕ))) (es : List E) (ts : List (List ℕ)) (m : List (List ℕ)) (own : List E) (t : List ℕ)
@@ -79,18 +112,18 @@ module _ {E : Type 0} (A : List (List ℕ) → List E → List ℕ → Type 0) (
         };
       }
 
-  message_begun : (fault : AnswerFault) (p q : Pending) (seen : List ℕ) (b : ℕ) (log now : List Passage) (old new : List E)
+  message_begun : (fault : AnswerFault) (p q : Pending) (seen taken : List ℕ) (log now : List Passage) (old new : List E)
       → IsAt A B before p seen log old
-      → complete_messages (seen ++ b ∷ []) ≡ complete_messages seen ++ lines_of q.lines.items ∷ []
+      → ((later : List (List (List ℕ))) × (served_messages taken ≡ complete_messages seen ++ lines_of q.lines.items ∷ later))
       → IsGivenUp A B fault (lines_of q.lines.items) old new log now
-      → HasBegun A B before fault (seen ++ b ∷ []) now new
-  message_begun fault p q seen b log now old new at longer stop = record {
+      → HasBegun A B before fault taken now new
+  message_begun fault p q seen taken log now old new at longer stop = record {
     first = complete_messages seen;
     next = lines_of q.lines.items;
-    later = [];
+    later = longer.0;
     done = old;
     begun = stop.own;
-    messages = longer;
+    messages = longer.1;
     answered = rw stop.log_is at.answered;
     begins = stop.begins;
     entries_are = stop.entries_are;
@@ -102,20 +135,20 @@ module _ {E : Type 0} (A : List (List ℕ) → List E → List ℕ → Type 0) (
 
   pub message_stopped : (fault : SessionFault) (p q : Pending) (seen : List ℕ) (b : ℕ) (log now : List Passage) (old new : List E)
       → IsAt A B before p seen log old
-      → complete_messages (seen ++ b ∷ []) ≡ complete_messages seen ++ lines_of q.lines.items ∷ []
+      → ((more : List ℕ) → (later : List (List (List ℕ))) × (served_messages ((seen ++ b ∷ []) ++ more) ≡ complete_messages seen ++ lines_of q.lines.items ∷ later))
       → AnswerStops A B fault (lines_of q.lines.items) old new log now
       → HasStopped A B before fault (seen ++ b ∷ []) now new
   message_stopped Link p q seen b log now old new at longer stop = record {
     order = rw stop.log_is (order_failed [] 0 log stop.text at.order at.answered.calm);
-    right = record {
+    right = λ more. record {
       first = complete_messages seen;
       next = lines_of q.lines.items;
-      later = [];
+      later = (longer more).0;
       passed = log;
       text = stop.text;
       done = old;
       own = stop.own;
-      messages = longer;
+      messages = (longer more).1;
       failed = stop.log_is;
       answered = at.answered;
       answers = stop.answers;
@@ -125,29 +158,31 @@ module _ {E : Type 0} (A : List (List ℕ) → List E → List ℕ → Type 0) (
   message_stopped TooLong p q seen b log now old new at longer stop = absurd stop
   message_stopped (Full n) p q seen b log now old new at longer stop = record {
     order = begun_order (stops.Full n) (lines_of q.lines.items) log now old new at.order stop;
-    right = message_begun (stops.Full n) p q seen b log now old new at longer stop;
+    right = λ more. message_begun (stops.Full n) p q seen ((seen ++ b ∷ []) ++ more) log now old new at (longer more) stop;
   }
   message_stopped (Broken n) p q seen b log now old new at longer stop = record {
     order = begun_order (stops.Broken n) (lines_of q.lines.items) log now old new at.order stop;
-    right = message_begun (stops.Broken n) p q seen b log now old new at longer stop;
+    right = λ more. message_begun (stops.Broken n) p q seen ((seen ++ b ∷ []) ++ more) log now old new at (longer more) stop;
   }
   message_stopped Memory p q seen b log now old new at longer stop = record {
     order = begun_order stops.Memory (lines_of q.lines.items) log now old new at.order stop;
-    right = inl (message_begun stops.Memory p q seen b log now old new at longer stop);
+    right = λ more. inl (message_begun stops.Memory p q seen ((seen ++ b ∷ []) ++ more) log now old new at (longer more) stop);
   }
 
   -- no memory for a byte
   pub nothing_begun : (p : Pending) (seen : List ℕ) (b : ℕ) (log : List Passage) (entries : List E) → IsAt A B before p seen log entries
-      → ((later : List (List (List ℕ))) × (complete_messages (seen ++ b ∷ []) ≡ complete_messages seen ++ later))
+      → MessagesStay → UnbrokenAll
       → HasStopped A B before Memory (seen ++ b ∷ []) log entries
-  nothing_begun p seen b log entries at more = record {
+  nothing_begun p seen b log entries at stay all = record {
     order = at.order;
-    right = inr (record {
-      first = complete_messages seen;
-      later = more.0;
-      messages = more.1;
-      answered = at.answered;
-    });
+    right = λ more.
+        let longer = served_more stay all seen (b ∷ more) at.held.within in
+        inr (record {
+          first = complete_messages seen;
+          later = longer.0;
+          messages = ap served_messages (append_assoc seen (b ∷ []) more) ∙ longer.1;
+          answered = at.answered;
+        });
   }
 
   -- no message is complete by a byte

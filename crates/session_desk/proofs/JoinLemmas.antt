@@ -1,10 +1,10 @@
 -- Workers paired and taken apart again.
-use Rattle.std.proofs.Common.{◌≡◌, ℕ, zero, suc, ◌+◌, ◌-◌, ◌<◌, ◌≤◌, List, [], ◌∷◌, ◌++◌, length, length-append, map, reverse, take, drop, get_or, refl, sym, ap, subst, ◌∙◌, arith, Some}
+use Rattle.std.proofs.Common.{◌≡◌, ℕ, zero, suc, ◌+◌, ◌-◌, ◌<◌, ◌≤◌, List, [], ◌∷◌, ◌++◌, length, length-append, map, reverse, take, drop, get_or, refl, sym, ap, subst, ◌∙◌, arith}
 use Rattle.std.proofs.lemmas.List.{get_or-map, get_or-reverse, length-map, length-reverse, take_at}
 use Rattle.std.specs.Prelude.{All}
-use Rattle.std.proofs.lemmas.List.Elements.{All-get_or, All-from_get_or}
+use Rattle.std.proofs.lemmas.List.Elements.{All-get_or}
 use Rattle.turn_lock.specs.History.{StartsWith, own}
-use Rattle.turn_lock.specs.Seats.{TableId, TurnView, SeatView, new_seat, new_seats, HasSeen, IsAtRest, IsNumber}
+use Rattle.turn_lock.specs.Seats.{TableId, SeatView, new_seat, new_seats, HasSeen, IsNumber}
 use Rattle.holding_book.specs.declared.answer.Entry.{Entry}
 use Rattle.slot_ledger.specs.Starts.{entry_caller}
 use Rattle.slot_ledger.specs.Passes.{read_pass}

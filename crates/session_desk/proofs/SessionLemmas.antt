@@ -1,5 +1,5 @@
 -- A session from its first take to its end.
-use Rattle.std.proofs.Common.{◌≡◌, ℕ, true, List, [], ◌∷◌, ◌++◌, refl, sym, ap, ◌∙◌, append_assoc, inl, inr, Result, Ok, Err}
+use Rattle.std.proofs.Common.{◌≡◌, ◌⊎◌, ℕ, true, List, [], ◌++◌, refl, sym, ap, subst, ◌∙◌, append_assoc, inl, inr, Result, Ok, Err}
 use Rattle.slot_text.specs.Lines.{lines_of}
 use Rattle.scr_reader.specs.Cuts.{up_to_last}
 use Rattle.scr_reader.specs.Streams.{messages_in, complete_messages, served_messages, is_broken}
@@ -15,7 +15,7 @@ use Rattle.session_desk.specs.declared.responder.AnswerFault.TheVariants as stop
 use Rattle.session_desk.specs.declared.session.SessionEnd.{SessionEnd}
 use Rattle.session_desk.specs.declared.session.SessionFault.{SessionFault}
 use Rattle.session_desk.specs.declared.session.SessionFault.TheVariants.{Link, TooLong, Full, Broken, Memory}
-use Rattle.session_desk.proofs.AnsweredLemmas.{nothing_answered, answered_same}
+use Rattle.session_desk.proofs.AnsweredLemmas.{UnbrokenAll, nothing_answered, answered_same}
 
 none_complete : complete_messages [] ≡ []
 unfolding up_to_last lines_of messages_in
@@ -28,10 +28,6 @@ cause_since before between now r same h = rw same at h
 -- what is served stays so once a limit is broken
 abbrev pub BreaksStay : Type 0
 BreaksStay = (text more : List ℕ) → is_broken text ≡ true → (is_broken (text ++ more) ≡ true) × (served_messages (text ++ more) ≡ served_messages text)
-
--- more complete messages stand behind the first ones
-abbrev pub MessagesStay : Type 0
-MessagesStay = (text more : List ℕ) → (later : List (List (List ℕ))) × (complete_messages (text ++ more) ≡ complete_messages text ++ later)
 
 module _ {E : Type 0} (A : List (List ℕ) → List E → List ℕ → Type 0) (B : AnswerFault → List (List ℕ) → List E → Type 0) (before : List E) where
   pub session_start : (p : Pending) (log : List Passage) → IsHeld p [] → log ≡ [] → IsAt A B before p (taken_of log) log before
@@ -55,73 +51,30 @@ module _ {E : Type 0} (A : List (List ℕ) → List E → List ℕ → Type 0) (
   session_end (Err Memory) v entries ended so order a = absurd so
 
   -- a take failed
-  pub session_failed : (p : Pending) (old now : LinkView) (entries : List E) → now.log ≡ old.log → IsAt A B before p (taken_of old.log) old.log entries → IsSession A B before (Err Link) now entries
-  session_failed p old now entries same at = record { order = rw same at.order; right = inl (rw same at.answered) }
-
-  longer : MessagesStay → (seen more taken : List ℕ) (ms : List (List (List ℕ))) → taken ≡ seen ++ more → complete_messages seen ≡ ms → (later : List (List (List ℕ))) × (complete_messages taken ≡ ms ++ later)
-  longer stay seen more taken ms is are =
-      let s = stay seen more in
-      (s.0, ap complete_messages is ∙ s.1 ∙ ap (λ (l : List (List (List ℕ))). l ++ s.0) are)
-
-  unsent_more : MessagesStay → (seen more taken : List ℕ) (log : List Passage) (entries : List E) → taken ≡ seen ++ more → HasNotSent A B before seen log entries → HasNotSent A B before taken log entries
-  unsent_more stay seen more taken log entries is u =
-      let s = longer stay seen more taken (u.first ++ u.next ∷ u.later) is u.messages in
-      record {
-        first = u.first;
-        next = u.next;
-        later = u.later ++ s.0;
-        passed = u.passed;
-        text = u.text;
-        done = u.done;
-        own = u.own;
-        messages = s.1 ∙ append_assoc u.first (u.next ∷ u.later) s.0;
-        failed = u.failed;
-        answered = u.answered;
-        answers = u.answers;
-        entries_are = u.entries_are;
-      }
-
-  begun_more : MessagesStay → (fault : AnswerFault) (seen more taken : List ℕ) (log : List Passage) (entries : List E) → taken ≡ seen ++ more → HasBegun A B before fault seen log entries → HasBegun A B before fault taken log entries
-  begun_more stay fault seen more taken log entries is u =
-      let s = longer stay seen more taken (u.first ++ u.next ∷ u.later) is u.messages in
-      record {
-        first = u.first;
-        next = u.next;
-        later = u.later ++ s.0;
-        done = u.done;
-        begun = u.begun;
-        messages = s.1 ∙ append_assoc u.first (u.next ∷ u.later) s.0;
-        answered = u.answered;
-        begins = u.begins;
-        entries_are = u.entries_are;
-      }
-
-  first_more : MessagesStay → (seen more taken : List ℕ) (log : List Passage) (entries : List E) → taken ≡ seen ++ more → HasAnsweredFirst A B before seen log entries → HasAnsweredFirst A B before taken log entries
-  first_more stay seen more taken log entries is u =
-      let s = longer stay seen more taken (u.first ++ u.later) is u.messages in
-      record {
-        first = u.first;
-        later = u.later ++ s.0;
-        messages = s.1 ∙ append_assoc u.first u.later s.0;
-        answered = u.answered;
-      }
+  pub session_failed : UnbrokenAll → (p : Pending) (old now : LinkView) (entries : List E) → now.log ≡ old.log → IsAt A B before p (taken_of old.log) old.log entries → IsSession A B before (Err Link) now entries
+  session_failed all p old now entries same at = record {
+    order = rw same at.order;
+    right = inl (rw same (answered_same A B before (complete_messages (taken_of old.log)) (served_messages (taken_of old.log)) old.log entries (all (taken_of old.log) at.held.within) at.answered));
+  }
 
   -- the reading of a piece stopped, of which more bytes were taken than were read
-  pub session_stopped : MessagesStay → BreaksStay → (fault : SessionFault) (seen piece : List ℕ) (v : LinkView) (entries : List E) → taken_of v.log ≡ seen ++ piece
+  pub session_stopped : BreaksStay → (fault : SessionFault) (seen piece : List ℕ) (v : LinkView) (entries : List E) → taken_of v.log ≡ seen ++ piece
       → HasStoppedWithin A B before fault seen piece v.log entries → IsSession A B before (Err fault) v entries
-  session_stopped stay breaks fault seen piece v entries is stop =
+  session_stopped breaks fault seen piece v entries is stop =
       let whole : taken_of v.log ≡ (seen ++ stop.front) ++ stop.back = is ∙ ap (λ (t : List ℕ). seen ++ t) stop.cut ∙ sym (append_assoc seen stop.front stop.back) in
       by fault (seen ++ stop.front) stop.back whole stop.stopped.order stop.stopped.right
     where
       by : (fault : SessionFault) (front back : List ℕ) → taken_of v.log ≡ front ++ back → InOrder [] 0 v.log → StopsRight A B before fault front v.log entries → IsSession A B before (Err fault) v entries
-      by Link front back whole order s = record { order = order; right = inr (unsent_more stay front back (taken_of v.log) v.log entries whole s) }
+      by Link front back whole order s = record { order = order; right = inr (subst (λ (t : List ℕ). HasNotSent A B before t v.log entries) (sym whole) (s back)) }
       by TooLong front back whole order s =
           let later = breaks front back s.0 in
           record {
             order = order;
             right = (inl (ap is_broken whole ∙ later.0), answered_same A B before (served_messages front) (served_messages (taken_of v.log)) v.log entries (ap served_messages whole ∙ later.1) s.1);
           }
-      by (Full n) front back whole order s = record { order = order; right = begun_more stay (stops.Full n) front back (taken_of v.log) v.log entries whole s }
-      by (Broken n) front back whole order s = record { order = order; right = begun_more stay (stops.Broken n) front back (taken_of v.log) v.log entries whole s }
-      by Memory front back whole order (inl s) = record { order = order; right = inl (begun_more stay stops.Memory front back (taken_of v.log) v.log entries whole s) }
-      by Memory front back whole order (inr s) = record { order = order; right = inr (first_more stay front back (taken_of v.log) v.log entries whole s) }
+      by (Full n) front back whole order s = record { order = order; right = subst (λ (t : List ℕ). HasBegun A B before (stops.Full n) t v.log entries) (sym whole) (s back) }
+      by (Broken n) front back whole order s = record { order = order; right = subst (λ (t : List ℕ). HasBegun A B before (stops.Broken n) t v.log entries) (sym whole) (s back) }
+      by Memory front back whole order s = record {
+        order = order;
+        right = subst (λ (t : List ℕ). HasBegun A B before stops.Memory t v.log entries ⊎ HasAnsweredFirst A B before t v.log entries) (sym whole) (s back);
+      }

@@ -52,12 +52,12 @@ module _ {E : Type 0} (Answers : List (List ℕ) → List E → List ℕ → Typ
     pub answered : AreAnswered Answers messages own (puts_of log)
     pub calm : NoneFailed log
 
-  -- the first complete messages are
+  -- the first of the messages that are to be answered are: those before one that breaks a limit
   pub record HasAnsweredFirst (taken : List ℕ) (log : List Passage) (entries : List E)
       : Type 0 where
     pub first : List (List (List ℕ))
     pub later : List (List (List ℕ))
-    pub messages : complete_messages taken ≡ first ++ later
+    pub messages : served_messages taken ≡ first ++ later
     pub answered : HasAnswered first log entries
 
   -- they are, and of the next one some asks were answered before it was given up
@@ -68,7 +68,7 @@ module _ {E : Type 0} (Answers : List (List ℕ) → List E → List ℕ → Typ
     pub later : List (List (List ℕ))
     pub done : List E
     pub begun : List E
-    pub messages : complete_messages taken ≡ first ++ next ∷ later
+    pub messages : served_messages taken ≡ first ++ next ∷ later
     pub answered : HasAnswered first log done
     pub begins : Begins fault next begun
     pub entries_are : entries ≡ done ++ begun
@@ -82,7 +82,7 @@ module _ {E : Type 0} (Answers : List (List ℕ) → List E → List ℕ → Typ
     pub text : List ℕ
     pub done : List E
     pub own : List E
-    pub messages : complete_messages taken ≡ first ++ next ∷ later
+    pub messages : served_messages taken ≡ first ++ next ∷ later
     pub failed : log ≡ passed ++ put_failed text ∷ []
     pub answered : HasAnswered first passed done
     pub answers : Answers next own text
@@ -94,7 +94,7 @@ module _ {E : Type 0} (Answers : List (List ℕ) → List E → List ℕ → Typ
   EndsRight (Ok end) v entries = (v.ended ≡ true) × EndsBy end (taken_of v.log)
       × HasAnswered (complete_messages (taken_of v.log)) v.log entries
   EndsRight (Err Link) v entries =
-      HasAnswered (complete_messages (taken_of v.log)) v.log entries
+      HasAnswered (served_messages (taken_of v.log)) v.log entries
       ⊎ HasNotSent (taken_of v.log) v.log entries
   EndsRight (Err TooLong) v entries = BreaksBy v
       × HasAnswered (served_messages (taken_of v.log)) v.log entries

@@ -68,7 +68,6 @@ pub(crate) fn serve<R: Wait, A: Responder, L: Link>(
         (A.own pass.new) }
     ensures told { HasPassed (L.view link.old).told (L.view link.new) }
 {
-    messages_stay();
     breaks_stay();
     joined_logs();
     let mut pending = Pending::new(alloc);

@@ -32,18 +32,19 @@ module _ {E : Type 0} (Answers : List (List ℕ) → List E → List ℕ → Typ
     pub order : InOrder [] 0 log
     pub answered : HasAnswered Answers Begins before (complete_messages seen) log entries
 
-  -- why the reading stopped, by what was seen
+  -- why the reading stopped, by what was seen, whatever bytes follow it
   abbrev pub StopsRight : SessionFault → List ℕ → List Passage → List E → Type 0
-  StopsRight Link seen log entries = HasNotSent Answers Begins before seen log entries
+  StopsRight Link seen log entries =
+      (more : List ℕ) → HasNotSent Answers Begins before (seen ++ more) log entries
   StopsRight TooLong seen log entries = (is_broken seen ≡ true)
       × HasAnswered Answers Begins before (served_messages seen) log entries
-  StopsRight (Full length) seen log entries =
-      HasBegun Answers Begins before (stops.Full length) seen log entries
-  StopsRight (Broken faults) seen log entries =
-      HasBegun Answers Begins before (stops.Broken faults) seen log entries
-  StopsRight Memory seen log entries =
-      HasBegun Answers Begins before stops.Memory seen log entries
-      ⊎ HasAnsweredFirst Answers Begins before seen log entries
+  StopsRight (Full length) seen log entries = (more : List ℕ)
+      → HasBegun Answers Begins before (stops.Full length) (seen ++ more) log entries
+  StopsRight (Broken faults) seen log entries = (more : List ℕ)
+      → HasBegun Answers Begins before (stops.Broken faults) (seen ++ more) log entries
+  StopsRight Memory seen log entries = (more : List ℕ)
+      → HasBegun Answers Begins before stops.Memory (seen ++ more) log entries
+      ⊎ HasAnsweredFirst Answers Begins before (seen ++ more) log entries
 
   pub record HasStopped (fault : SessionFault) (seen : List ℕ) (log : List Passage)
       (entries : List E) : Type 0 where

@@ -1,4 +1,4 @@
-use Rattle.std.proofs.Common.{◌≡◌, sym}
+use Rattle.std.proofs.Common.{sym}
 use Rattle.session_desk.proofs.doors.serve_all.Goals as goal
 
 pub returns-clause-each : goal.returns-clause-each

@@ -1,9 +1,9 @@
-use Rattle.std.proofs.Common.{◌≡◌, ℕ, ◌<◌, List, [], ◌++◌, length, map, reverse, take, drop, get_or, refl, sym, ap, subst, ◌∙◌, arith}
+use Rattle.std.proofs.Common.{◌≡◌, ◌<◌, [], ◌++◌, length, map, reverse, take, drop, get_or, sym, ap, subst, ◌∙◌, arith}
 use Rattle.season_days.specs.declared.declaration.Declaration.{Declaration}
 use Rattle.scr_reader.specs.Again.{IsFitItem}
-use Rattle.turn_lock.specs.Seats.{SeatView, IsAtRest}
+use Rattle.turn_lock.specs.Seats.{IsAtRest}
 use Rattle.session_desk.specs.Served.{HasServed}
-use Rattle.session_desk.specs.Begun.{IsAnsweredBy, IsBegunBy, HasBroken, desk_caller, ledger_caller}
+use Rattle.session_desk.specs.Begun.{IsAnsweredBy, IsBegunBy, HasBroken, ledger_caller}
 use Rattle.session_desk.specs.declared.amending.DeskCaller.{DeskCaller}
 use Rattle.turn_lock.specs.History.{own}
 use Rattle.slot_ledger.specs.Starts.{entry_caller}

@@ -1,7 +1,8 @@
 use Rattle.std.proofs.Common.{ℕ, List, [], ◌∷◌, ◌++◌}
+use Rattle.slot_text.specs.Lines.{lines_of}
 use Rattle.session_desk.specs.Private.Held.{IsHeld, MakesProgress}
 use Rattle.session_desk.specs.declared.pending.Progress.TheVariants.{More, Complete}
-use Rattle.session_desk.proofs.AnsweredLemmas.{on_ok, both_ok, on_err, message_put, message_stopped, nothing_begun, byte_read}
+use Rattle.session_desk.proofs.AnsweredLemmas.{on_ok, both_ok, on_err, message_put, message_first, message_stopped, nothing_begun, byte_read}
 use Rattle.session_desk.proofs.session.read_byte.Goals as goal
 
 pub returns-in-Ok-Complete-clause-ok : goal.returns-in-Ok-Complete-clause-ok
@@ -18,12 +19,12 @@ returns-in-Ok-Complete-clause-err g c =
     let steps : (text : List ℕ) → IsHeld c.args.pending.now text → MakesProgress c.args.pending.now text c.args.byte Complete c.push.new.self = rw c.in-Ok-Complete.field-0-is at c.in-Ok-Complete.ensures.progress in
     on_err c.answer.result
     (λ fault stop before seen at.
-    message_stopped (g.A.Responder.answers (g.A.Responder.about c.args.responder.now)) (g.A.Responder.begins (g.A.Responder.about c.args.responder.now)) before fault c.args.pending.now c.push.new.self seen c.args.byte _ _ _ _ at (steps seen at.held).1 stop)
+    message_stopped (g.A.Responder.answers (g.A.Responder.about c.args.responder.now)) (g.A.Responder.begins (g.A.Responder.about c.args.responder.now)) before fault c.args.pending.now c.push.new.self seen c.args.byte _ _ _ _ at (message_first c.messages_stay.ensures c.breaks_stay.ensures.unbroken seen c.args.byte (lines_of c.push.new.self.lines.items) (steps seen at.held).0.within (steps seen at.held).1) stop)
     c.answer.ensures.err
 
 pub returns-in-Err-clause-err : goal.returns-in-Err-clause-err
 returns-in-Err-clause-err g c before seen at =
-    nothing_begun (g.A.Responder.answers (g.A.Responder.about c.args.responder.now)) (g.A.Responder.begins (g.A.Responder.about c.args.responder.now)) before c.args.pending.now seen c.args.byte _ _ at (c.messages_stay.ensures seen (c.args.byte ∷ []))
+    nothing_begun (g.A.Responder.answers (g.A.Responder.about c.args.responder.now)) (g.A.Responder.begins (g.A.Responder.about c.args.responder.now)) before c.args.pending.now seen c.args.byte _ _ at c.messages_stay.ensures c.breaks_stay.ensures.unbroken
 
 pub returns-in-Ok-More-clause-ok : goal.returns-in-Ok-More-clause-ok
 returns-in-Ok-More-clause-ok g c before seen at =

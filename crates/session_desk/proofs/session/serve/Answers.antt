@@ -20,7 +20,7 @@ returns-in-Err-clause-cause g c = rw c.loop.invariant.3 at c.in-Err.ensures.caus
 
 pub returns-in-Err-clause-session : goal.returns-in-Err-clause-session
 returns-in-Err-clause-session g c =
-    session_failed (g.A.Responder.answers (g.A.Responder.about c.args.responder.now)) (g.A.Responder.begins (g.A.Responder.about c.args.responder.now)) (g.A.Responder.own c.args.pass.now) c.loop.pending (g.L.Link.view c.loop.link) (g.L.Link.view c.take.new.self) (g.A.Responder.own c.loop.pass) c.in-Err.ensures.taken.0 c.loop.invariant.5
+    session_failed (g.A.Responder.answers (g.A.Responder.about c.args.responder.now)) (g.A.Responder.begins (g.A.Responder.about c.args.responder.now)) (g.A.Responder.own c.args.pass.now) c.breaks_stay.ensures.unbroken c.loop.pending (g.L.Link.view c.loop.link) (g.L.Link.view c.take.new.self) (g.A.Responder.own c.loop.pass) c.in-Err.ensures.taken.0 c.loop.invariant.5
 
 pub returns-in-Err-clause-told : goal.returns-in-Err-clause-told
 returns-in-Err-clause-told g c =
@@ -60,7 +60,7 @@ returns-in-Err-read_piece-clause-session g c =
     let mid = (g.L.Link.view c.take.new.self).log in
     let at = piece_taken (g.A.Responder.answers (g.A.Responder.about c.args.responder.now)) (g.A.Responder.begins (g.A.Responder.about c.args.responder.now)) (g.A.Responder.own c.args.pass.now) c.joined_logs.ensures.puts c.loop.pending old mid _ (g.A.Responder.own c.loop.pass) c.loop.invariant.5 t.log in
     let whole : taken_of (g.L.Link.view c.read_piece.new.link).log ≡ taken_of old ++ c.split_at.result.0.now = c.read_piece.ensures.taken ∙ took_taken c.joined_logs.ensures.taken old mid _ t.log ∙ ap (λ (l : List ℕ). taken_of old ++ l) (sym c.split_at.ensures.front) in
-    session_stopped (g.A.Responder.answers (g.A.Responder.about c.args.responder.now)) (g.A.Responder.begins (g.A.Responder.about c.args.responder.now)) (g.A.Responder.own c.args.pass.now) c.messages_stay.ensures c.breaks_stay.ensures.broken c.in-Err-read_piece.fault (taken_of old) c.split_at.result.0.now (g.L.Link.view c.read_piece.new.link) (g.A.Responder.own c.read_piece.new.pass)
+    session_stopped (g.A.Responder.answers (g.A.Responder.about c.args.responder.now)) (g.A.Responder.begins (g.A.Responder.about c.args.responder.now)) (g.A.Responder.own c.args.pass.now) c.breaks_stay.ensures.broken c.in-Err-read_piece.fault (taken_of old) c.split_at.result.0.now (g.L.Link.view c.read_piece.new.link) (g.A.Responder.own c.read_piece.new.pass)
     whole (c.in-Err-read_piece.ensures.err (g.A.Responder.own c.args.pass.now) (taken_of old) at)
 
 pub returns-in-Err-read_piece-clause-told : goal.returns-in-Err-read_piece-clause-told

@@ -1,4 +1,3 @@
-use Rattle.std.proofs.Common.{◌≡◌, List, ℕ}
 use Rattle.slot_text.specs.Lines.{lines_of}
 use Rattle.scr_replies.specs.Received.{IsGoodMessage, IsBadAt}
 use Rattle.session_desk.specs.Begun.{ledger_caller}
