@@ -8,27 +8,27 @@ use Rattle.slot_program.specs.Desk.{World}
 pub nowhere : Outside
 nowhere = record { doors = []; disk = None }
 
-pub ok_at : {A E : Type 0} {P : A → Outside → Type 0} (o : Outside) (r : Result A E) → IfOk r (λ a. (p : Outside) → P a p) → IfOk r (λ a. P a o)
-ok_at o (Ok a) h = h o
-ok_at o (Err e) h = tt
+pub ok_at : {A E : Type 0} (P : A → Outside → Type 0) (o : Outside) (r : Result A E) → IfOk r (λ a. (p : Outside) → P a p) → IfOk r (λ a. P a o)
+ok_at P o (Ok a) h = h o
+ok_at P o (Err e) h = tt
 
-pub err_at : {A E : Type 0} {P : E → Outside → Type 0} (o : Outside) (r : Result A E) → IfErr r (λ e. (p : Outside) → P e p) → IfErr r (λ e. P e o)
-err_at o (Ok a) h = tt
-err_at o (Err e) h = h o
+pub err_at : {A E : Type 0} (P : E → Outside → Type 0) (o : Outside) (r : Result A E) → IfErr r (λ e. (p : Outside) → P e p) → IfErr r (λ e. P e o)
+err_at P o (Ok a) h = tt
+err_at P o (Err e) h = h o
 
 -- the same of what holds in any world
-pub ok_tried : {A E : Type 0} {P : A → World → Outside → Type 0} (o : Outside) (w : World) (r : Result A E) → IfOk r (λ a. (u : World) (p : Outside) → P a u p) → IfOk r (λ a. P a w o)
-ok_tried o w (Ok a) h = h w o
-ok_tried o w (Err e) h = tt
+pub ok_tried : {A E : Type 0} (P : A → World → Outside → Type 0) (o : Outside) (w : World) (r : Result A E) → IfOk r (λ a. (u : World) (p : Outside) → P a u p) → IfOk r (λ a. P a w o)
+ok_tried P o w (Ok a) h = h w o
+ok_tried P o w (Err e) h = tt
 
 -- and the same for each port and number of workers
-pub ok_numbered : {A E : Type 0} {P : A → ℕ → ℕ → Type 0} (port workers : ℕ) (r : Result A E) → IfOk r (λ a. (p k : ℕ) → P a p k) → IfOk r (λ a. P a port workers)
-ok_numbered port workers (Ok a) h = h port workers
-ok_numbered port workers (Err e) h = tt
+pub ok_numbered : {A E : Type 0} (P : A → ℕ → ℕ → Type 0) (port workers : ℕ) (r : Result A E) → IfOk r (λ a. (p k : ℕ) → P a p k) → IfOk r (λ a. P a port workers)
+ok_numbered P port workers (Ok a) h = h port workers
+ok_numbered P port workers (Err e) h = tt
 
-pub err_numbered : {A E : Type 0} {P : E → ℕ → ℕ → Type 0} (port workers : ℕ) (r : Result A E) → IfErr r (λ e. (p k : ℕ) → P e p k) → IfErr r (λ e. P e port workers)
-err_numbered port workers (Ok a) h = tt
-err_numbered port workers (Err e) h = h port workers
+pub err_numbered : {A E : Type 0} (P : E → ℕ → ℕ → Type 0) (port workers : ℕ) (r : Result A E) → IfErr r (λ e. (p k : ℕ) → P e p k) → IfErr r (λ e. P e port workers)
+err_numbered P port workers (Ok a) h = tt
+err_numbered P port workers (Err e) h = h port workers
 
 -- and for each disk, which such a job does not use
 pub ok_served : {A E : Type 0} (P : A → ℕ → ℕ → Option DiskView → Type 0) (port workers : ℕ) (disk : Option DiskView) (r : Result A E) → IfOk r (λ a. (p k : ℕ) (d : Option DiskView) → P a p k d) → IfOk r (λ a. P a port workers disk)

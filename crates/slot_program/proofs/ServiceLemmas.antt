@@ -47,9 +47,17 @@ workers_by view P m (d ∷ ds) (k ∷ ks) (e ∷ es) works doors each =
           (λ n x y lt. let next_is : m + suc n ≡ suc m + n = omega arith in subst (λ (c : ℕ). P c (view (get_or ds n x)) (get_or ks n y) (view (get_or es n x))) next_is (each (suc n) x y (omega (arith, lt)))),
     )
 
-pub no_workers : {D : Type 0} (view : D → DoorView) (P : ℕ → DoorView → DoorWork → DoorView → Type 0) (ds : List D) → length ds ≡ 0 → AreWorkers P 0 (map view ds) [] (map view ds)
-no_workers view P [] none = tt
-no_workers view P (d ∷ ds) none = absurd (omega (arith, none))
+pub all_workers : {D : Type 0} (view : D → DoorView) (P : ℕ → DoorView → DoorWork → DoorView → Type 0) (ds : List D) (ks : List DoorWork) (es : List D) →
+    length ks ≡ length ds → length es ≡ length ds →
+    ((n : ℕ) (d : D) (k : DoorWork) → n < length ds → P n (view (get_or ds n d)) (get_or ks n k) (view (get_or es n d))) →
+    AreWorkers P 0 (map view ds) ks (map view es)
+all_workers view P ds ks es works doors each =
+    workers_by view P 0 ds ks es works doors (λ n d k lt. let same : n ≡ 0 + n = omega arith in subst (λ (m : ℕ). P m (view (get_or ds n d)) (get_or ks n k) (view (get_or es n d))) same (each n d k lt))
+
+pub no_workers : {D : Type 0} (view : D → DoorView) (P : ℕ → DoorView → DoorWork → DoorView → Type 0) (ds : List D) (works : List DoorWork) → length ds ≡ 0 → works ≡ [] → AreWorkers P 0 (map view ds) works (map view ds)
+no_workers view P [] [] none no = tt
+no_workers view P [] (work ∷ works) none no = let bad : suc (length works) ≡ 0 = ap (λ (l : List DoorWork). length l) no in absurd (omega (arith, bad))
+no_workers view P (d ∷ ds) works none no = absurd (omega (arith, none))
 
 -- the place of one that ended because the history was full
 full_end : (end : DoorEnd) → is_full_end end ≡ true → end ≡ ends.Full

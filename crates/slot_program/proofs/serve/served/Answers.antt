@@ -1,4 +1,4 @@
-use Rattle.std.proofs.Common.{◌≡◌, ◌<◌, ℕ, [], get_or, length, refl, sym, subst, ◌∙◌, arith}
+use Rattle.std.proofs.Common.{◌≡◌, ◌<◌, ℕ, [], get_or, length, refl, sym, subst, ◌∙◌, arith, rules}
 use Rattle.session_desk.specs.declared.worker.DoorWork.{DoorWork}
 use Rattle.turn_lock.specs.History.{own}
 use Rattle.slot_ledger.specs.Starts.{entry_caller}
@@ -6,17 +6,19 @@ use Rattle.session_desk.specs.Served.{HasServed}
 use Rattle.session_desk.specs.Begun.{desk_caller, HasBroken, IsAnsweredBy, IsBegunBy}
 use Rattle.slot_program.specs.Services.{IsWorker}
 use Rattle.slot_program.specs.declared.serve.TheConstants.{MOST_ENTRIES}
-use Rattle.slot_program.proofs.ServiceLemmas.{workers_by, no_workers, full_at, broken_at}
+use Rattle.slot_program.proofs.ServiceLemmas.{all_workers, no_workers, full_at, broken_at}
 use Rattle.slot_program.proofs.serve.served.Goals as goal
 
-pub returns-in-if-clause-workers : goal.returns-in-if-clause-workers
-returns-in-if-clause-workers g c = no_workers g.D.Door.view (IsWorker g.B.Beside.broken c.args.book.book c.args.links c.new.result.items) c.args.doors.now.items (search c)
+pub returns-then-is_empty-clause-workers : goal.returns-then-is_empty-clause-workers
+returns-then-is_empty-clause-workers g c =
+    let none : length c.args.doors.now.items ≡ 0 = search rules in
+    no_workers g.D.Door.view (IsWorker g.B.Beside.broken c.args.book.book c.args.links _) c.args.doors.now.items _ none (search rules)
 
 pub returns-clause-workers : goal.returns-clause-workers
 returns-clause-workers g c =
     let h = c.in_ok-history.history.items in
     let d0 = c.args.book.book.declaration in
-    workers_by g.D.Door.view (IsWorker g.B.Beside.broken c.args.book.book c.args.links h) 0 c.args.doors.now.items c.in_ok-history.works.items c.serve_doors.new.doors.items
+    all_workers g.D.Door.view (IsWorker g.B.Beside.broken c.args.book.book c.args.links h) c.args.doors.now.items c.in_ok-history.works.items c.serve_doors.new.doors.items
     c.in_ok-history.ensures.works c.serve_doors.ensures.doors
     (λ n d k lt. subst (λ (m : ℕ). HasServed (IsAnsweredBy (desk_caller d0 m n)) (IsBegunBy (HasBroken g.B.Beside.broken) (desk_caller d0 m n)) c.args.links (g.D.Door.view (get_or c.args.doors.now.items n d)) []
     (get_or c.in_ok-history.works.items n k) (g.D.Door.view (get_or c.serve_doors.new.doors.items n d)) (own entry_caller n h)) c.requires.most (c.in_ok-history.ensures.each n d k lt))

@@ -21,6 +21,11 @@ returns-in-Ok-Amend-clause-asked g c =
     subst (λ (o : Option Job). LogGrew (g.C.Cabinet.log c.args.cabinet.now) (OnlyOfJob o) (g.C.Cabinet.log c.carry_out_amend.new.cabinet)) (sym (c.in-Ok-Amend.ensures.found ∙ ap Some c.in-Ok-Amend.field-0-is))
     c.carry_out_amend.ensures.asked
 
+pub returns-in-Ok-Check-clause-asked : goal.returns-in-Ok-Check-clause-asked
+returns-in-Ok-Check-clause-asked g c =
+    subst (λ (o : Option Job). LogGrew (g.C.Cabinet.log c.args.cabinet.now) (OnlyOfJob o) (g.C.Cabinet.log c.carry_out_check.new.cabinet)) (sym (c.in-Ok-Check.ensures.found ∙ ap Some c.in-Ok-Check.field-0-is))
+    c.carry_out_check.ensures.asked
+
 pub returns-in-Ok-Make-clause-asked : goal.returns-in-Ok-Make-clause-asked
 returns-in-Ok-Make-clause-asked g c =
     subst (λ (o : Option Job). LogGrew (g.C.Cabinet.log c.args.cabinet.now) (OnlyOfJob o) (g.C.Cabinet.log c.carry_out_make.new.cabinet)) (sym (c.in-Ok-Make.ensures.found ∙ ap Some c.in-Ok-Make.field-0-is))
@@ -28,6 +33,9 @@ returns-in-Ok-Make-clause-asked g c =
 
 pub returns-in_err-from_str-in-Err-Words-clause-asked : goal.returns-in_err-from_str-in-Err-Words-clause-asked
 returns-in_err-from_str-in-Err-Words-clause-asked g c = nothing_asked (job_of (words_of c.args.words.now)) (g.C.Cabinet.log c.args.cabinet.now)
+
+pub returns-in_ok-from_str-in-Err-Words-clause-asked : goal.returns-in_ok-from_str-in-Err-Words-clause-asked
+returns-in_ok-from_str-in-Err-Words-clause-asked g c = nothing_asked (job_of (words_of c.args.words.now)) (g.C.Cabinet.log c.args.cabinet.now)
 
 pub returns-in-Err-Memory-clause-asked : goal.returns-in-Err-Memory-clause-asked
 returns-in-Err-Memory-clause-asked g c = nothing_asked (job_of (words_of c.args.words.now)) (g.C.Cabinet.log c.args.cabinet.now)
@@ -69,7 +77,7 @@ returns-in-Ok-Trial-clause-answer g c =
     let w : World = world_of g.C.Cabinet.files g.C.Cabinet.fault_count g.C.Cabinet.log c.args.cabinet.now in
     let o : Outside = outside_of g.D.Door.view g.K.Disk.view c.args.doors.now.items c.args.disk.now in
     subst (λ (p : Option Job). IfOk c.carry_out_trial.result (λ a. IsAnswer p w (still o) a.status (string_bytes a.text) w)) (sym (c.in-Ok-Trial.ensures.found ∙ ap Some c.in-Ok-Trial.field-0-is))
-    (ok_tried o w c.carry_out_trial.result c.carry_out_trial.ensures)
+    (ok_tried _ o w c.carry_out_trial.result c.carry_out_trial.ensures)
 
 pub returns-in-Ok-Serve-clause-answer : goal.returns-in-Ok-Serve-clause-answer
 returns-in-Ok-Serve-clause-answer g c =
@@ -82,7 +90,7 @@ returns-in-Ok-Serve-clause-answer g c =
 pub returns-in-Ok-Serve-clause-asked : goal.returns-in-Ok-Serve-clause-asked
 returns-in-Ok-Serve-clause-asked g c =
     subst (λ (o : Option Job). LogGrew (g.C.Cabinet.log c.args.cabinet.now) (OnlyOfJob o) (g.C.Cabinet.log c.carry_out_serve.new.cabinet)) (sym (c.in-Ok-Serve.ensures.found ∙ ap Some c.in-Ok-Serve.field-0-is))
-    (c.carry_out_serve.ensures.asked _ _)
+    (c.carry_out_serve.ensures.asked 0 0)
 
 pub returns-in-Ok-Resume-clause-answer : goal.returns-in-Ok-Resume-clause-answer
 returns-in-Ok-Resume-clause-answer g c =
@@ -95,4 +103,4 @@ returns-in-Ok-Resume-clause-answer g c =
 pub returns-in-Ok-Resume-clause-asked : goal.returns-in-Ok-Resume-clause-asked
 returns-in-Ok-Resume-clause-asked g c =
     subst (λ (o : Option Job). LogGrew (g.C.Cabinet.log c.args.cabinet.now) (OnlyOfJob o) (g.C.Cabinet.log c.carry_out_resume.new.cabinet)) (sym (c.in-Ok-Resume.ensures.found ∙ ap Some c.in-Ok-Resume.field-0-is))
-    (c.carry_out_resume.ensures.asked _ _)
+    (c.carry_out_resume.ensures.asked 0 0)

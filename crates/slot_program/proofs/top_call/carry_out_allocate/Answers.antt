@@ -8,10 +8,10 @@ pub returns-clause-answer : goal.returns-clause-answer
 returns-clause-answer g c = λ o.
     let w : World = world_of g.C.Cabinet.files g.C.Cabinet.fault_count g.C.Cabinet.log c.args.cabinet.now in
     let v : World = world_of g.C.Cabinet.files g.C.Cabinet.fault_count g.C.Cabinet.log c.allocate-ended.new.cabinet in
-    c.finish.ensures.answer (Allocate c.args.names.now c.args.nodes c.args.workers) w (still o) v (ok_at o c.allocate-ended.result c.allocate-ended.ensures.done) (err_at o c.allocate-ended.result c.allocate-ended.ensures.stop)
+    c.finish.ensures.answer (Allocate c.args.names.now c.args.nodes c.args.workers) w (still o) v (ok_at _ o c.allocate-ended.result c.allocate-ended.ensures.done) (err_at _ o c.allocate-ended.result c.allocate-ended.ensures.stop)
 
 pub returns-clause-asked : goal.returns-clause-asked
 returns-clause-asked g c =
     let w : World = world_of g.C.Cabinet.files g.C.Cabinet.fault_count g.C.Cabinet.log c.args.cabinet.now in
     let v : World = world_of g.C.Cabinet.files g.C.Cabinet.fault_count g.C.Cabinet.log c.allocate-ended.new.cabinet in
-    c.finish.ensures.asked (Allocate c.args.names.now c.args.nodes c.args.workers) w (still nowhere) v (ok_at nowhere c.allocate-ended.result c.allocate-ended.ensures.done) (err_at nowhere c.allocate-ended.result c.allocate-ended.ensures.stop)
+    c.finish.ensures.asked (Allocate c.args.names.now c.args.nodes c.args.workers) w (still nowhere) v (ok_at _ nowhere c.allocate-ended.result c.allocate-ended.ensures.done) (err_at _ nowhere c.allocate-ended.result c.allocate-ended.ensures.stop)

@@ -12,7 +12,7 @@ returns-clause-answer g c = λ port workers.
     let v : World = world_of g.C.Cabinet.files g.C.Cabinet.fault_count g.C.Cabinet.log c.resume-ended.new.cabinet in
     let change : OutsideChange = outside_change g.D.Door.view g.K.Disk.view c.args.doors.now.items c.args.disk.now c.resume-ended.new.doors.items c.resume-ended.new.disk in
     c.finish.ensures.answer (Resume c.args.names.now c.args.links port workers) w change v
-    (ok_numbered port workers c.resume-ended.result c.resume-ended.ensures.done) (err_numbered port workers c.resume-ended.result c.resume-ended.ensures.stop)
+    (ok_numbered _ port workers c.resume-ended.result c.resume-ended.ensures.done) (err_numbered _ port workers c.resume-ended.result c.resume-ended.ensures.stop)
 
 pub returns-clause-asked : goal.returns-clause-asked
 returns-clause-asked g c = λ port workers.
@@ -20,4 +20,4 @@ returns-clause-asked g c = λ port workers.
     let v : World = world_of g.C.Cabinet.files g.C.Cabinet.fault_count g.C.Cabinet.log c.resume-ended.new.cabinet in
     let change : OutsideChange = outside_change g.D.Door.view g.K.Disk.view c.args.doors.now.items c.args.disk.now c.resume-ended.new.doors.items c.resume-ended.new.disk in
     c.finish.ensures.asked (Resume c.args.names.now c.args.links port workers) w change v
-    (ok_numbered port workers c.resume-ended.result c.resume-ended.ensures.done) (err_numbered port workers c.resume-ended.result c.resume-ended.ensures.stop)
+    (ok_numbered _ port workers c.resume-ended.result c.resume-ended.ensures.done) (err_numbered _ port workers c.resume-ended.result c.resume-ended.ensures.stop)

@@ -6,7 +6,7 @@ use Rattle.command_words.specs.Words.{words_of}
 use Rattle.command_words.specs.Jobs.{job_of}
 use Rattle.slot_program.specs.Reports.{Report, unopened, status_of, text_of}
 use Rattle.slot_program.proofs.JournalLemmas.{Standings}
-use Rattle.slot_program.specs.Jobs.{calm_statuses, served_statuses, finishing_of}
+use Rattle.slot_program.specs.Jobs.{calm_statuses, served_statuses, finishing_of, HeadlineHolds}
 use Rattle.slot_program.specs.Outside.{OutsideChange, outside_of, outside_change}
 use Rattle.slot_program.specs.Desk.{World, world_of, IsFinished, IsStatus}
 use Rattle.slot_program.proofs.DeskLemmas.{is_status, not_six, is_finished, marks_true, told_exact, finishing_not, finished_is_calm, not_calm, two_is_none, disk_is_calm, disk_has_risen, ends_unopened, job_ends, job_said, job_serves, doors_calm, door_risen, none_ends}
@@ -26,7 +26,7 @@ returns-in-Ok-put-clause-headline g c = λ job e one not.
     let marked = marks_true c.valid_marks.ensures job w change (status_of a.report) (text_of a.report) v
     (is_finished (job_of (words_of c.args.words.now)) job w change a.report v e (subst (λ (n : ℕ). Contains (finishing_of job) n) a.status_is one) (λ bad. not (a.status_is ∙ bad)) a.ends) in
     let logs : g.S.Sink.log c.put.new.self ≡ g.S.Sink.log c.args.out.now ++ put (text_of a.report) ∷ [] = search rules in
-    (marked.0, marked.1, text_of a.report, marked.2, logs, marked.3, marked.4)
+    (marked.0, marked.1, text_of a.report, marked.2, logs, marked.3, subst (λ (n : ℕ). HeadlineHolds job marked.0 marked.1 change n (text_of a.report)) (sym a.status_is) marked.4)
 
 pub returns-in-Ok-put-clause-handed : goal.returns-in-Ok-put-clause-handed
 returns-in-Ok-put-clause-handed g c = λ job e one not.
