@@ -1,5 +1,5 @@
 -- What a ledger leaves of its journal at its end.
-use Rattle.std.proofs.Common.{◌≡◌, ◌⊎◌, ◌≤◌, ℕ, List, [], ◌∷◌, ◌++◌, get_or, sym, ap, subst, ◌∙◌, append_assoc, inl, inr, None, Some, arith}
+use Rattle.std.proofs.Common.{◌≡◌, ◌⊎◌, ◌≤◌, ℕ, List, [], ◌∷◌, ◌++◌, sym, ap, subst, ◌∙◌, append_assoc, inl, inr, None, Some, arith}
 use Rattle.std.specs.Prelude.{Option, All, Any}
 use Rattle.desk_outside.specs.Cause.{Rose}
 use Rattle.turn_lock.specs.Seats.{SeatView, HasSeen}

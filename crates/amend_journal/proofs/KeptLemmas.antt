@@ -1,10 +1,9 @@
 -- What a ledger leaves of its journal.
-use Rattle.std.proofs.Common.{◌≡◌, ◌⊎◌, ◌+◌, ◌*◌, ◌<◌, ◌≤◌, ℕ, suc, List, [], ◌∷◌, ◌++◌, length, get_or, take, refl, sym, ap, subst, ◌∙◌, append_assoc, append-nil, length-append, inl, inr, None, Some, arith}
-use Rattle.std.specs.Prelude.{Option}
+use Rattle.std.proofs.Common.{◌≡◌, ◌⊎◌, ◌+◌, ◌*◌, ◌<◌, ◌≤◌, ℕ, suc, List, [], ◌∷◌, ◌++◌, length, get_or, take, refl, sym, ap, subst, ◌∙◌, append_assoc, append-nil, length-append, inl, None, Some, arith}
 use Rattle.std.proofs.lemmas.List.{take_more}
 use Rattle.season_days.specs.Term.{Term}
 use Rattle.desk_outside.specs.Cause.{Rose}
-use Rattle.desk_disk.specs.Stops.{DiskPassage, DiskStart, MayLeave, AtEachMoment}
+use Rattle.desk_disk.specs.Stops.{DiskPassage, DiskStart, AtEachMoment}
 use Rattle.desk_disk.specs.Disks.{DiskView}
 use Rattle.holding_book.specs.declared.answer.Entry.{Entry}
 use Rattle.holding_book.specs.Books.{SlotBook}
@@ -16,9 +15,9 @@ use Rattle.scr_reader.specs.declared.line.Item.{Item}
 use Rattle.scr_reader.specs.declared.line.Item.TheVariants.{One, Pair, Query}
 use Rattle.holding_book.specs.declared.answer.Answer.{Answer}
 use Rattle.slot_ledger.specs.Starts.{new_entry}
-use Rattle.amend_journal.specs.Format.{IsFit, IsJournalOf}
+use Rattle.amend_journal.specs.Format.{IsJournalOf}
 use Rattle.amend_journal.specs.Durable.{JournalView, IsReady, AreDurable, MayHavePair, IsLaterDisk}
-use Rattle.amend_journal.specs.Kept.{asked_by, asks_of, book_after, IsJournalUpTo, KeepsEach, AllKept, MayHaveOneMore, KeptView, IsDiskKept, IsKept, CanKeep}
+use Rattle.amend_journal.specs.Kept.{asked_by, asks_of, book_after, IsJournalUpTo, KeepsEach, AllKept, MayHaveOneMore, KeptView, IsKept, CanKeep}
 use Rattle.amend_journal.specs.declared.asked.Asked.{Asked}
 use Rattle.amend_journal.specs.declared.told.Failure.{Failure}
 use Rattle.amend_journal.proofs.MomentLemmas.{ReadBack, LeftBack, moments_join, moments_weaker, no_moment, later_join}

@@ -6,7 +6,7 @@ use Rattle.turn_lock.specs.History.{own}
 use Rattle.holding_book.specs.declared.answer.Entry.{Entry}
 use Rattle.slot_ledger.specs.Starts.{entry_caller}
 use Rattle.slot_ledger.specs.Beside.{IsUnbroken}
-use Rattle.amend_journal.specs.Told.{failure_told, told_list, read_told, told_caller, EndsBroken}
+use Rattle.amend_journal.specs.Told.{told_list, read_told, told_caller, EndsBroken}
 use Rattle.amend_journal.specs.declared.told.Told.{Told}
 use Rattle.amend_journal.specs.declared.told.Told.TheVariants.{Done, Broke}
 use Rattle.amend_journal.specs.declared.told.Failure.{Failure}

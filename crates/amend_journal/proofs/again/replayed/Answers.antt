@@ -1,4 +1,4 @@
-use Rattle.std.proofs.Common.{rules, ℕ, ◌<◌, length}
+use Rattle.std.proofs.Common.{rules, ◌<◌, length}
 use Rattle.amend_journal.proofs.KeptLemmas.{after_one_more, declared_one_more, few_one_more}
 use Rattle.amend_journal.proofs.again.replayed.Goals as goal
 
