@@ -55,9 +55,9 @@ all_workers view P ds ks es works doors each =
     workers_by view P 0 ds ks es works doors (λ n d k lt. let same : n ≡ 0 + n = omega arith in subst (λ (m : ℕ). P m (view (get_or ds n d)) (get_or ks n k) (view (get_or es n d))) same (each n d k lt))
 
 pub no_workers : {D : Type 0} (view : D → DoorView) (P : ℕ → DoorView → DoorWork → DoorView → Type 0) (ds : List D) (works : List DoorWork) → length ds ≡ 0 → works ≡ [] → AreWorkers P 0 (map view ds) works (map view ds)
-no_workers view P [] [] none no = tt
-no_workers view P [] (work ∷ works) none no = let bad : suc (length works) ≡ 0 = ap (λ (l : List DoorWork). length l) no in absurd (omega (arith, bad))
-no_workers view P (d ∷ ds) works none no = absurd (omega (arith, none))
+no_workers view P [] [] none empty = tt
+no_workers view P [] (work ∷ works) none empty = let bad : suc (length works) ≡ 0 = ap (λ (l : List DoorWork). length l) empty in absurd (omega (arith, bad))
+no_workers view P (d ∷ ds) works none empty = absurd (omega (arith, none))
 
 -- the place of one that ended because the history was full
 full_end : (end : DoorEnd) → is_full_end end ≡ true → end ≡ ends.Full
