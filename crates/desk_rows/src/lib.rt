@@ -12,6 +12,8 @@ mod desk_calls;
 #[cfg(test)]
 mod play;
 #[cfg(test)]
+mod resume_rows;
+#[cfg(test)]
 mod serve_rows;
 #[cfg(test)]
 mod texts;

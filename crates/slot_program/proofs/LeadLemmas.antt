@@ -258,6 +258,7 @@ judged_stops names j name before (stops.Unwritten place) w v all steps why lead 
 judged_stops names j name before (stops.OutOfForm place line) w v all steps why lead = refused_judge name before _ j why w v all steps lead
 judged_stops names j name before (stops.OverLimit limit number) w v all steps why lead = refused_judge name before _ j why w v all steps lead
 judged_stops names j name before (stops.NotValid line reason) w v all steps why lead = refused_judge name before _ j why w v all steps lead
+judged_stops names j name before (stops.Unopened why_not) w v all steps why lead = absurd why
 judged_stops names j name before stops.NoNext w v all steps why lead = refused_judge name before _ j why w v all steps lead
 judged_stops names j name before stops.Memory w v all steps why lead = memory_read w v v all before (judges j name ∷ steps) lead refl
 
@@ -270,6 +271,7 @@ only_memory names j name files (stops.Unwritten place) accepts why = absurd why
 only_memory names j name files (stops.OutOfForm place line) accepts why = absurd (why.rejects accepts)
 only_memory names j name files (stops.OverLimit limit number) accepts why = absurd (why.rejects accepts)
 only_memory names j name files (stops.NotValid line reason) accepts why = absurd (why.rejects accepts)
+only_memory names j name files (stops.Unopened why_not) accepts why = absurd why
 only_memory names j name files stops.NoNext accepts why = absurd (why.rejects accepts)
 only_memory names j name files stops.Memory accepts why = refl
 
@@ -283,5 +285,6 @@ by_property names One Other (stops.Unwritten place) on why = why
 by_property names One Other (stops.OutOfForm place line) on why = on _ why
 by_property names One Other (stops.OverLimit limit number) on why = on _ why
 by_property names One Other (stops.NotValid line reason) on why = on _ why
+by_property names One Other (stops.Unopened why_not) on why = why
 by_property names One Other stops.NoNext on why = on _ why
 by_property names One Other stops.Memory on why = tt

@@ -1,6 +1,8 @@
 mod TextLemmas
 mod OutsideLemmas
 mod ServiceLemmas
+mod JournalLemmas
+mod ResumeLemmas
 mod StageLemmas
 mod LeadLemmas
 mod JudgementLemmas

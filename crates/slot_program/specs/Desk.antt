@@ -7,11 +7,11 @@ use Rattle.desk_outside.specs.Files.{Files}
 use Rattle.desk_outside.specs.Passages.{Passage, read, wrote, write_failed, took, put, put_failed}
 use Rattle.command_words.specs.Words.{Word}
 use Rattle.slot_program.specs.Reports.{Report, Refusal, no_command, refused, unread, unwritten}
-use Rattle.slot_program.specs.Reports.{finished, refusal_status}
+use Rattle.slot_program.specs.Reports.{finished, unopened, JournalRefusal, refusal_status}
 use Rattle.slot_program.specs.Judgements.{NamedBytes}
 use Rattle.slot_program.specs.Steps.{names_read, AllPass, RefuseFrom, ReachFrom}
 use Rattle.slot_program.specs.Writing.{read_of, written_of, AreWritten, StopsAt}
-use Rattle.slot_program.specs.Jobs.{steps_of, names_written, Works}
+use Rattle.slot_program.specs.Jobs.{steps_of, names_written, Works, IsWithoutJournal}
 use Rattle.slot_program.specs.Outside.{OutsideChange, IsStill}
 use Rattle.command_words.specs.declared.job.Job.{Job}
 
@@ -50,6 +50,17 @@ pub record IsRefused (job : Job) (w : World) (refusal : Refusal) (v : World) : T
   pub files : v.files ≡ w.files
   pub calm : refusal_status refusal ≢ 5 → v.faults ≡ w.faults
 
+-- all steps passed, and then the journal was not opened: no file is changed, and no call of the
+-- cabinet failed
+pub record EndsUnopened (job : Job) (w : World) (change : OutsideChange) (why : JournalRefusal)
+    (v : World) : Type 0 where
+  pub inputs : List NamedBytes
+  pub passed : AllPass w.files (steps_of job) inputs
+  pub refused : IsWithoutJournal job inputs change why
+  pub calm : v.faults ≡ w.faults
+  pub log : v.log ≡ w.log ++ map read_of inputs
+  pub files : v.files ≡ w.files
+
 -- a read failed, after the steps before it passed
 pub record IsUnread (job : Job) (w : World) (name : Word) (v : World) : Type 0 where
   pub inputs : List NamedBytes
@@ -75,6 +86,7 @@ pub record IsUnwritten (job : Job) (w : World) (change : OutsideChange) (name : 
 abbrev pub JobEnds : Job → World → OutsideChange → Report → World → Type 0
 JobEnds job w change no_command v = ⊥
 JobEnds job w change (refused refusal) v = IsStill change × IsRefused job w refusal v
+JobEnds job w change (unopened why) v = EndsUnopened job w change why v
 JobEnds job w change (unread name) v = IsStill change × IsUnread job w name v
 JobEnds job w change (unwritten name) v = IsUnwritten job w change name v
 JobEnds job w change (finished status text) v = IsFinished job w change status text v
@@ -111,4 +123,4 @@ names_changed (Some job) = names_written job
 
 abbrev pub IsStatus : ℕ → Type 0
 IsStatus status =
-    Contains (0 ∷ 1 ∷ 2 ∷ 3 ∷ 4 ∷ 5 ∷ 6 ∷ 7 ∷ 8 ∷ 9 ∷ 10 ∷ 11 ∷ 15 ∷ []) status
+    Contains (0 ∷ 1 ∷ 2 ∷ 3 ∷ 4 ∷ 5 ∷ 6 ∷ 7 ∷ 8 ∷ 9 ∷ 10 ∷ 11 ∷ 13 ∷ 14 ∷ 15 ∷ []) status
