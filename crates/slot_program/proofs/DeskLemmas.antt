@@ -247,15 +247,6 @@ module _ (job : Job) (w : World) (change : OutsideChange) (v : World) where
       let done = subst (λ (n : ℕ). IsFinished job w change n text v) is ends in
       (works_disk_risen job done.inputs done.writes change text done.work (works_finishing job done.inputs done.writes change 14 text done.work), inr done)
 
-  -- at one of the statuses of work that is done, and where no season follows, no call of the cabinet
-  -- failed
-  job_calm : (report : Report) → Contains calm_statuses (status_of report) → JobEnds job w change report v → v.faults ≡ w.faults
-  job_calm no_command one ends = absurd ends
-  job_calm (refused refusal) one ends = ends.1.calm (λ five. not_calm 5 (omega arith) (omega arith) (subst (λ (n : ℕ). Contains calm_statuses n) five one))
-  job_calm (unread name) one ends = absurd (not_calm 5 (omega arith) (omega arith) one)
-  job_calm (unwritten name) one ends = absurd (not_calm 5 (omega arith) (omega arith) one)
-  job_calm (finished status text) one ends = ends.calm
-
 -- ---- any words
 
 pub is_status : (job : Option Job) (w : World) (change : OutsideChange) (report : Report) (v : World) → Ends job w change report v → IsStatus (status_of report)
