@@ -171,7 +171,7 @@ told_not (Some held) name most count now refusal all before steps not told =
       forms = λ done h. absurd (no_pass held name most count now refusal not before (form_steps steps) done (told.forms done h));
     }
 
--- either has status 5
+-- a file that is not handed out is refused with status 5
 not_handed_five : (files : Option Files) (count now : ℕ) (name : Word) (most : ℕ) (refusal : Refusal) → IsNotHanded files count now name most refusal → refusal_status refusal ≡ 5
 not_handed_five None count now name most refusal (rose, inl is) = ap refusal_status is
 not_handed_five None count now name most refusal (rose, inr is) = ap refusal_status is
