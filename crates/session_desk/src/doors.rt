@@ -10,6 +10,7 @@ ghost use Rattle.holding_book.specs.Asks.{CanAsk};
 ghost use Rattle.slot_ledger.specs.Starts.{entry_caller};
 ghost use Rattle.slot_ledger.specs.declared.shared.Origin.{Origin};
 ghost use Rattle.desk_links.specs.Links.{IsFresh};
+ghost use Rattle.amend_journal.specs.Told.{read_told, EndsBroken};
 ghost use Rattle.session_desk.specs.Passed.{HasPassed};
 ghost use Rattle.session_desk.specs.Sessions.{IsSession, HasSessionCause};
 ghost use Rattle.session_desk.specs.Served.{HasServed};
