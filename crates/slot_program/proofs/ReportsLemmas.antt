@@ -1,5 +1,5 @@
 -- The judgements of reports and of the season after end in one way alone.
-use Rattle.std.proofs.Common.{◌≡◌, ◌≢◌, ℕ, List, [], ◌∷◌, Result, Ok, Err, refl, sym, ap, ◌∙◌, subst, inl, inr}
+use Rattle.std.proofs.Common.{◌≡◌, ◌≢◌, ℕ, List, ◌∷◌, Result, Ok, Err, refl, ap, ◌∙◌, subst, inl, inr}
 use Rattle.std.specs.Prelude.{◌⊎◌}
 use Rattle.slot_text.specs.Reads.{GivesOr}
 use Rattle.season_days.specs.declared.declaration.Declaration.{Declaration}
@@ -10,7 +10,7 @@ use Rattle.usage_watch.specs.declared.operated.Operated.{Operated}
 use Rattle.usage_watch.specs.declared.fault.OperatedFault.{OperatedFault}
 use Rattle.usage_watch.specs.declared.fault.OperatedFault.TheVariants.{BadLine, Memory}
 use Rattle.command_words.specs.Words.{Word}
-use Rattle.slot_program.specs.Reports.{Refusal, out_of_form, no_next}
+use Rattle.slot_program.specs.Reports.{out_of_form, no_next}
 use Rattle.slot_program.specs.Judgements.{NamedBytes, IsSeasonOf, reports_form, next_season}
 use Rattle.slot_program.specs.Leads.{AcceptsAlone, RefusesAlone}
 

@@ -1,7 +1,6 @@
-use Rattle.std.proofs.Common.{ℕ, List, ◌≡◌, sym, subst}
+use Rattle.std.proofs.Common.{sym, subst}
 use Rattle.season_days.specs.declared.declaration.Declaration.{Declaration}
 use Rattle.usage_watch.specs.Reports.{SaysOperated, HasOperatedFault}
-use Rattle.usage_watch.specs.declared.operated.Operated.{Operated}
 use Rattle.usage_watch.specs.declared.fault.OperatedFault.TheVariants.{BadLine}
 use Rattle.slot_program.specs.Jobs.{name_at}
 use Rattle.slot_program.proofs.ReportsLemmas.{no_fault, no_reading, one_line, bad_is, accepts_reports, refuses_reports}

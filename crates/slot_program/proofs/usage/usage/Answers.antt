@@ -3,9 +3,7 @@ use Rattle.std.proofs.lemmas.Result.{err_from_is_err_and}
 use Rattle.std.specs.String.{string_bytes}
 use Rattle.command_words.specs.declared.job.Job.TheVariants.{Usage}
 use Rattle.command_words.specs.Words.{Word}
-use Rattle.holding_book.specs.Starts.{start_book}
 use Rattle.usage_watch.specs.Reports.{SaysOperated}
-use Rattle.slot_program.specs.Usages.{IsWatched}
 use Rattle.slot_program.specs.Judgements.{NamedBytes, reports_form, next_season}
 use Rattle.slot_program.specs.Steps.{Step, reads, judges}
 use Rattle.slot_program.specs.Jobs.{name_at, certificate_steps, usage_steps, one_file, IsUsage}
