@@ -28,10 +28,7 @@ pub fn book_of<R: Threads + Sync + Files>(
     words: &[String],
 ) -> Result<Option<Book>, Memory> {
     if words.len() < 3 {
-        let (holdings, lines) = match size {
-            Size::Short => (20, 2),
-            Size::Full => (500, 16),
-        };
+        let (holdings, lines) = made_size(size, words.first().map_or("", |word| word.as_str()));
         let capacity = capacity_text(alloc, lines, u64::from(holdings / 5))?;
         let requests = request_text(alloc, holdings)?;
         return first_book(rt, alloc, &capacity, &requests);
@@ -44,6 +41,15 @@ pub fn book_of<R: Threads + Sync + Files>(
         return Ok(None);
     };
     first_book(rt, alloc, &capacity, &requests)
+}
+
+// How many holdings the made book has, and how many capacity lines, for the benchmark of this word.
+fn made_size(size: Size, word: &str) -> (u32, u32) {
+    match size {
+        Size::Short => (20, 2),
+        Size::Full if word == "usage" => (4_000, 1),
+        Size::Full => (500, 16),
+    }
 }
 
 // The book that the run of a season gives, unless a text is too long or has a fault.

@@ -8,6 +8,7 @@ mod callers;
 mod draws;
 mod report;
 mod sessions;
+mod usage;
 
 use books::book_of;
 use holding_book::Book;
@@ -50,13 +51,15 @@ fn run<R: Threads + Wait + Sync + Print + Clock>(
         "asks" => asks::run(rt, alloc, size, book),
         "ledger" => callers::run(rt, alloc, size, book),
         "sessions" => sessions::run(rt, alloc, size, book),
+        "usage" => usage::run(rt, alloc, size, book),
         "short" => {
             asks::run(rt, alloc, size, book)?;
             callers::run(rt, alloc, size, book)?;
-            sessions::run(rt, alloc, size, book)
+            sessions::run(rt, alloc, size, book)?;
+            usage::run(rt, alloc, size, book)
         }
         _ => {
-            println!(rt; "amend_bench WORD [CAP SCR]: asks, ledger, sessions, short")?;
+            println!(rt; "amend_bench WORD [CAP SCR]: asks, ledger, sessions, usage, short")?;
             Ok(())
         }
     }

@@ -71,7 +71,7 @@ pub kept_at_start : (k : KeptView) → k.journal ≡ k.began → k.failure ≡ N
 kept_at_start k same whole = record {
   season = ap (λ (j : JournalView). j.season) same;
   count = ap (λ (j : JournalView). j.count) same ∙ omega arith;
-  later = rw same (record { start = refl; truly = λ h. h });
+  later = rw same (record { start = refl; truly = λ h. h; agrees = λ s h. h });
   disk = rw (whole, same) (all_kept_at_start k.began);
 }
 

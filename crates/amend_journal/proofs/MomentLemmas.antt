@@ -114,4 +114,4 @@ last_moment P s a b law h c left =
 -- ---- what a disk tells
 
 pub later_join : (a b c : DiskView) → IsLaterDisk a b → IsLaterDisk b c → IsLaterDisk a c
-later_join a b c one two = record { start = two.start ∙ one.start; truly = λ h. two.truly (one.truly h) }
+later_join a b c one two = record { start = two.start ∙ one.start; truly = λ h. two.truly (one.truly h); agrees = λ s h. one.agrees s (two.agrees s h) }

@@ -3,7 +3,7 @@
 use Rattle.std.specs.Prelude.{◌≡◌, ◌⊎◌, ℕ, List, [], ◌∷◌, ◌++◌, All, Option, Some, None}
 use Rattle.season_days.specs.Term.{Term}
 use Rattle.desk_disk.specs.Stops.{DiskPassage, synced, sync_failed, DiskStart, MayRead, MayLeave}
-use Rattle.desk_disk.specs.Stops.{AtEachMoment}
+use Rattle.desk_disk.specs.Stops.{Agrees, AtEachMoment}
 use Rattle.desk_disk.specs.Disks.{DiskView, ToldDisk, TellsTruly}
 use Rattle.amend_journal.specs.Format.{slot_bytes, IsFit, IsJournalOf}
 use Rattle.amend_journal.specs.Standing.{StandsFor}
@@ -61,7 +61,9 @@ abbrev pub told_start : Option ToldDisk → Option DiskStart
 told_start None = None
 told_start (Some t) = Some t.start
 
--- The same disk after more calls: it tells of the same first content, and goes on to tell truly.
+-- The same disk after more calls: it tells of the same first content, and goes on to tell truly;
+-- and a first content with which all calls agree is one with which the earlier ones did.
 pub record IsLaterDisk (before now : DiskView) : Type 0 where
   pub start : told_start now.told ≡ told_start before.told
   pub truly : TellsTruly before → TellsTruly now
+  pub agrees : (s : DiskStart) → Agrees s now.log → Agrees s before.log

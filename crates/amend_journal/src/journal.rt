@@ -9,7 +9,7 @@ ghost use Rattle.amend_journal.specs.Format.{IsFit, IsJournalOf};
 ghost use Rattle.amend_journal.specs.Standing.{StandsFor, HasFault};
 ghost use Rattle.amend_journal.specs.Durable.{ReadsAs, AreDurable, LeavesNoWorse, StandsFromSync};
 ghost use Rattle.amend_journal.specs.Durable.{MayHavePair};
-ghost use Rattle.amend_journal.specs.Durable.{IsReady, IsLaterDisk, told_start};
+ghost use Rattle.amend_journal.specs.Durable.{IsReady, IsLaterDisk};
 ghost use Rattle.amend_journal.specs.Faults.{CountsFault};
 ghost use Rattle.amend_journal.specs.declared.asked.Asked.{Asked as AskedValue};
 
@@ -90,9 +90,8 @@ impl<K: Disk> Journal<K> {
             → LeavesNoWorse s (K.view disk).log opened.0.disk.log season.now file)
             (λ refused. Agrees s (K.view refused.1).log
             → LeavesNoWorse s (K.view disk).log (K.view refused.1).log season.now file) }
-        ensures start { MatchResult result
-            (λ opened. told_start opened.0.disk.told ≡ told_start (K.view disk).told)
-            (λ refused. told_start (K.view refused.1).told ≡ told_start (K.view disk).told) }
+        ensures later { MatchResult result (λ opened. IsLaterDisk (K.view disk) opened.0.disk)
+            (λ refused. IsLaterDisk (K.view disk) (K.view refused.1)) }
         ensures truly { MatchResult result (λ opened. TellsTruly opened.0.disk)
             (λ refused. TellsTruly (K.view refused.1)) }
         ensures kept { IfOk result (λ opened. opened.0.disk.faults ≡ (K.view disk).faults) }

@@ -10,7 +10,6 @@ ghost use Rattle.amend_journal.specs.Format.{header, IsFit, IsJournalOf};
 ghost use Rattle.amend_journal.specs.Standing.{StandsFor, HasFault};
 ghost use Rattle.amend_journal.specs.Durable.{ReadsAs, AreDurable, LeavesNoWorse, StandsFromSync};
 ghost use Rattle.amend_journal.specs.Durable.{IsLaterDisk};
-ghost use Rattle.amend_journal.specs.Durable.{told_start};
 ghost use Rattle.amend_journal.specs.Faults.{HasOpenCause};
 ghost use Rattle.amend_journal.specs.Private.{IsShort};
 ghost use Rattle.amend_journal.specs.declared.asked.Asked.{Asked as AskedValue};
@@ -52,7 +51,7 @@ pub(crate) fn open_file<K: Disk>(
     ensures unharmed { (s : DiskStart) (file : List ℕ)
         → ReadsAs s (K.view disk.old).log file → Agrees s (K.view disk.new).log
         → LeavesNoWorse s (K.view disk.old).log (K.view disk.new).log season.now file }
-    ensures start { told_start (K.view disk.new).told ≡ told_start (K.view disk.old).told }
+    ensures later { IsLaterDisk (K.view disk.old) (K.view disk.new) }
     ensures truly { TellsTruly (K.view disk.new) }
     ensures cause { HasOpenCause (K.view disk.old).faults (K.view disk.new).faults result }
 {

@@ -1,4 +1,4 @@
-//! Tests of the book of slots and its ledger, as tables of worked seasons: what each ask is
+//! Tests of the book of slots and its ledgers, as tables of worked seasons: what each ask is
 //! answered, and what is held after it; and how sessions over links end by such a ledger.
 #![tactic(auto)]
 
@@ -12,6 +12,8 @@ mod books;
 mod drawn;
 #[cfg(test)]
 mod draws;
+#[cfg(test)]
+mod journals;
 #[cfg(test)]
 mod ledgers;
 #[cfg(test)]

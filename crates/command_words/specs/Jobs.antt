@@ -8,7 +8,7 @@ use Rattle.command_words.specs.Values.{names_in, values_given, names_exactly, nu
 use Rattle.command_words.specs.Values.{number_or}
 use Rattle.command_words.specs.declared.job.Job.{Job}
 use Rattle.command_words.specs.declared.job.Job.TheVariants.{Allocate, Check, Amend, Serve}
-use Rattle.command_words.specs.declared.job.Job.TheVariants.{Make, Trial}
+use Rattle.command_words.specs.declared.job.Job.TheVariants.{Resume, Usage, Make, Trial}
 
 -- A command: its word, the names of its options, and the job that it makes of the names and of what
 -- each option is given.
@@ -46,6 +46,22 @@ serve_job words (links ∷ port ∷ workers ∷ []) =
     (number_or 1 1000 1 links))
     (names_exactly 4 words)
 serve_job words _ = None
+
+-- `resume CAP SCR CERT JOURNAL RECORD [--links n] [--port p] [--workers k]`
+abbrev pub resume_job : List Word → List (Option Word) → Option Job
+resume_job words (links ∷ port ∷ workers ∷ []) =
+    option_and_then (λ names. option_and_then (λ n. option_and_then (λ p.
+    option_map (λ k. Resume names n p k)
+    (number_or 1 16 4 workers))
+    (number_or 1 65535 7710 port))
+    (number_or 1 1000 1 links))
+    (names_exactly 5 words)
+resume_job words _ = None
+
+-- `usage CAP SCR CERT OPERATED NEXT`
+abbrev pub usage_job : List Word → List (Option Word) → Option Job
+usage_job words [] = option_map Usage (names_exactly 5 words)
+usage_job words (value ∷ values) = None
 
 -- What a command makes of the number of a generated season, from 0 to 65536, how many units it has,
 -- from 1 to 4096, and the words behind these two, which are so many names.
@@ -88,6 +104,16 @@ serve_command = record {
   job = serve_job;
 }
 
+abbrev pub resume_command : Command
+resume_command = record {
+  word = codes "resume";
+  options = codes "links" ∷ codes "port" ∷ codes "workers" ∷ [];
+  job = resume_job;
+}
+
+abbrev pub usage_command : Command
+usage_command = record { word = codes "usage"; options = []; job = usage_job }
+
 abbrev pub make_command : Command
 make_command = record { word = codes "make"; options = []; job = make_job }
 
@@ -97,8 +123,8 @@ trial_command = record { word = codes "trial"; options = []; job = trial_job }
 -- the commands that are served
 abbrev pub commands : List Command
 commands =
-    allocate_command ∷ check_command ∷ amend_command ∷ serve_command ∷ make_command
-    ∷ trial_command ∷ []
+    allocate_command ∷ check_command ∷ amend_command ∷ serve_command ∷ resume_command
+    ∷ usage_command ∷ make_command ∷ trial_command ∷ []
 
 abbrev pub command_named : List Command → Word → Option Command
 command_named cs word = find (λ c. bytes_eq c.word word) cs
@@ -123,6 +149,9 @@ IsJob (Check names) = length names ≡ 3
 IsJob (Amend names) = length names ≡ 5
 IsJob (Serve names links port workers) = (length names ≡ 4) × ((1 ≤ links) × (links ≤ 1000))
     × ((1 ≤ port) × (port ≤ 65535)) × ((1 ≤ workers) × (workers ≤ 16))
+IsJob (Resume names links port workers) = (length names ≡ 5) × ((1 ≤ links) × (links ≤ 1000))
+    × ((1 ≤ port) × (port ≤ 65535)) × ((1 ≤ workers) × (workers ≤ 16))
+IsJob (Usage names) = length names ≡ 5
 IsJob (Make number units names) = (number ≤ 65536) × ((1 ≤ units) × (units ≤ 4096))
     × (length names ≡ 2)
 IsJob (Trial number units) = (number ≤ 65536) × ((1 ≤ units) × (units ≤ 4096))

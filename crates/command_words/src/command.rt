@@ -5,8 +5,8 @@ ghost use Rattle.clap.specs.Words.{app_of, shape_of, FailsBy, fault_of, HasMatch
 ghost use Rattle.clap.specs.declared.builder.command.Command.TheViews.{out-Command};
 ghost use Rattle.command_words.specs.Words.{words_of};
 ghost use Rattle.command_words.specs.Jobs.{allocate_command, check_command};
-ghost use Rattle.command_words.specs.Jobs.{amend_command, serve_command};
-ghost use Rattle.command_words.specs.Jobs.{make_command, trial_command};
+ghost use Rattle.command_words.specs.Jobs.{amend_command, serve_command, resume_command};
+ghost use Rattle.command_words.specs.Jobs.{usage_command, make_command, trial_command};
 ghost use Rattle.command_words.specs.App.{option_arg, names_arg, command_shape, bare_app, reading_app};
 ghost use Rattle.command_words.specs.App.{desk_app};
 
@@ -64,6 +64,24 @@ fn serve<'a>(alloc: Global) -> Result<Command<'a>, AllocError>
         .arg(names(alloc))
 }
 
+fn resume<'a>(alloc: Global) -> Result<Command<'a>, AllocError>
+    ensures shape { IfOk result (λ c. shape_of c ≡ command_shape resume_command) }
+    ensures local { IfOk result (λ c. (out-Command c).has_globals ≡ false) }
+{
+    Command::new(alloc, "resume")
+        .arg(option(alloc, "links"))?
+        .arg(option(alloc, "port"))?
+        .arg(option(alloc, "workers"))?
+        .arg(names(alloc))
+}
+
+fn usage<'a>(alloc: Global) -> Result<Command<'a>, AllocError>
+    ensures shape { IfOk result (λ c. shape_of c ≡ command_shape usage_command) }
+    ensures local { IfOk result (λ c. (out-Command c).has_globals ≡ false) }
+{
+    Command::new(alloc, "usage").arg(names(alloc))
+}
+
 fn make<'a>(alloc: Global) -> Result<Command<'a>, AllocError>
     ensures shape { IfOk result (λ c. shape_of c ≡ command_shape make_command) }
     ensures local { IfOk result (λ c. (out-Command c).has_globals ≡ false) }
@@ -105,10 +123,14 @@ fn desk<'a>(alloc: Global) -> Result<Command<'a>, AllocError>
     ensures { IfOk result (λ c. app_of c ≡ desk_app) }
 {
     let serve = serve(alloc)?;
+    let resume = resume(alloc)?;
+    let usage = usage(alloc)?;
     let make = make(alloc)?;
     let trial = trial(alloc)?;
     reading_desk(alloc)?
         .subcommand(serve)?
+        .subcommand(resume)?
+        .subcommand(usage)?
         .subcommand(make)?
         .subcommand(trial)
 }

@@ -103,6 +103,23 @@ pub enum Job {
         /// How many workers serve, from 1 to 16.
         workers: u32,
     },
+    /// Serve clients as `Serve` does, each entry in a journal before it is answered. The names are
+    /// those of the capacity file, the requests, the certificate, the journal and the record.
+    Resume {
+        names: NameList,
+        /// How many links each worker serves, from 1 to 1,000.
+        links: u32,
+        /// The port at which clients come, from 1 to 65,535.
+        port: u32,
+        /// How many workers serve, from 1 to 16.
+        workers: u32,
+    },
+    /// Say which series of the book of a certificate were operated often enough to have precedence,
+    /// and write their lines for the next equivalent season. The names are those of the capacity
+    /// file, the requests, the certificate, the reports and the next season's lines.
+    Usage {
+        names: NameList,
+    },
     /// Make a generated season, and write it. The names are those of the capacity file and the
     /// requests.
     Make {

@@ -9,8 +9,8 @@ ghost use Rattle.command_words.specs.declared.job.Job.{Job};
 ghost use Rattle.command_words.specs.Words.{Word, words_of};
 ghost use Rattle.command_words.specs.Values.{names_exactly, number_within, number_or};
 ghost use Rattle.command_words.specs.Jobs.{job_of, IsJob, allocate_command, check_command};
-ghost use Rattle.command_words.specs.Jobs.{amend_command, serve_command};
-ghost use Rattle.command_words.specs.Jobs.{make_command, trial_command};
+ghost use Rattle.command_words.specs.Jobs.{amend_command, serve_command, resume_command};
+ghost use Rattle.command_words.specs.Jobs.{usage_command, make_command, trial_command};
 ghost use Rattle.command_words.specs.Jobs.{make_job, trial_job};
 ghost use Rattle.command_words.specs.App.{names_held, job_by_rows, job_named, AsksFor};
 ghost use Rattle.command_words.specs.Answers.{Answers};
@@ -85,6 +85,8 @@ fn read_job(alloc: Global, name: &str, found: &ArgMatches<'_>) -> Result<Job, Wo
         "check" => read_check(alloc, found),
         "amend" => read_amend(alloc, found),
         "serve" => read_serve(alloc, found),
+        "resume" => read_resume(alloc, found),
+        "usage" => read_usage(alloc, found),
         "make" => read_make(alloc, found),
         "trial" => read_trial(found),
         _ => Err(WordFault::Words),
@@ -131,6 +133,28 @@ fn read_serve(alloc: Global, found: &ArgMatches<'_>) -> Result<Job, WordFault>
         port,
         workers,
     })
+}
+
+fn read_resume(alloc: Global, found: &ArgMatches<'_>) -> Result<Job, WordFault>
+    ensures { Answers (job_by_rows resume_command (rows_of (found_of found.now))) result }
+{
+    let names = read_names(alloc, found, 5)?;
+    let links = read_option(found, "links", 1, 1_000, 1)?;
+    let port = read_option(found, "port", 1, 65_535, 7_710)?;
+    let workers = read_option(found, "workers", 1, 16, 4)?;
+    Ok(Job::Resume {
+        names,
+        links,
+        port,
+        workers,
+    })
+}
+
+fn read_usage(alloc: Global, found: &ArgMatches<'_>) -> Result<Job, WordFault>
+    ensures { Answers (job_by_rows usage_command (rows_of (found_of found.now))) result }
+{
+    let names = read_names(alloc, found, 5)?;
+    Ok(Job::Usage { names })
 }
 
 fn read_make(alloc: Global, found: &ArgMatches<'_>) -> Result<Job, WordFault>

@@ -4,6 +4,7 @@ ghost use Rattle.std.specs.Prelude.{All, IfOk, OnOk};
 ghost use Rattle.desk_links.specs.LinksInMemory.{IsUnused};
 
 use crate::texts::{folded, spelled_out};
+use desk_disk::MemoryDisk;
 use desk_links::{MemoryDoor, MemoryLink};
 use desk_outside::{Failure, MemoryCabinet, MemorySink};
 use slot_program::desk;
@@ -38,8 +39,8 @@ fn split_words(alloc: Global, words: &str) -> Result<Vec<String>, AllocError> {
     Ok(list)
 }
 
-/// Runs the desk on these words, with a blank between two. Gives the status, a blank, and what was
-/// printed.
+/// Runs the desk without a disk on these words, with a blank between two. Gives the status, a
+/// blank, and what was printed.
 pub(crate) fn call_desk<R: Threads + Wait + Sync, G: Gate>(
     rt: &R,
     alloc: Global,
@@ -49,12 +50,27 @@ pub(crate) fn call_desk<R: Threads + Wait + Sync, G: Gate>(
     doors: &mut Vec<MemoryDoor>,
     gate: &G,
 ) -> Result<String, Fail> {
+    let mut none = None;
+    call_with_disk(rt, alloc, words, cabinet, failing, doors, gate, &mut none)
+}
+
+/// The same with a disk, if there is one.
+pub(crate) fn call_with_disk<R: Threads + Wait + Sync, G: Gate>(
+    rt: &R,
+    alloc: Global,
+    words: &str,
+    cabinet: &mut MemoryCabinet,
+    failing: Option<Failure>,
+    doors: &mut Vec<MemoryDoor>,
+    gate: &G,
+    disk: &mut Option<MemoryDisk>,
+) -> Result<String, Fail> {
     if doors.len() > 16 {
         return Err("more than 16 doors".into());
     }
     let list = split_words(alloc, words)?;
     let mut sink = MemorySink::new(alloc, 1000, list_of(alloc, failing)?)?;
-    let status = desk(rt, alloc, &list, cabinet, &mut sink, doors, gate);
+    let status = desk(rt, alloc, &list, cabinet, &mut sink, doors, gate, disk);
     let mut said = format!(in alloc; "{status} ")?;
     said.push_str(folded(alloc, sink.bytes())?.as_str())?;
     Ok(said)

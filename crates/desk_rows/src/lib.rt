@@ -12,6 +12,10 @@ mod desk_calls;
 #[cfg(test)]
 mod play;
 #[cfg(test)]
+mod resume_rows;
+#[cfg(test)]
 mod serve_rows;
 #[cfg(test)]
 mod texts;
+#[cfg(test)]
+mod usage_rows;

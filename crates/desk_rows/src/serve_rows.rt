@@ -213,7 +213,10 @@ const TWO_ENTRIES: &str = "ENTRY 1 CALLER 0;NBA002 30MAR25OCT 1234567 180320 JFK
 const TWO_ASKS: &str = "SCR;S25;20NOV;ABC;NBA002 30MAR25OCT 1234567 180320 JFK0620 J;QBA002;;";
 
 /// A cabinet with a season and its certificate.
-fn served_cabinet<R: Threads + Wait + Sync>(rt: &R, alloc: Global) -> Result<MemoryCabinet, Fail> {
+pub(crate) fn served_cabinet<R: Threads + Wait + Sync>(
+    rt: &R,
+    alloc: Global,
+) -> Result<MemoryCabinet, Fail> {
     let mut cabinet = new_cabinet(alloc, 4_000_000, None)?;
     let _ = cabinet.load("CAP", &spelled_out(alloc, CAP)?);
     let _ = cabinet.load("SCR", &spelled_out(alloc, SCR)?);

@@ -10,6 +10,7 @@ ghost use Rattle.holding_book.specs.Asks.{CanAsk};
 ghost use Rattle.slot_ledger.specs.Starts.{entry_caller};
 ghost use Rattle.slot_ledger.specs.declared.shared.Origin.{Origin};
 ghost use Rattle.desk_links.specs.Links.{IsFresh};
+ghost use Rattle.amend_journal.specs.Told.{read_told, EndsBroken};
 ghost use Rattle.session_desk.specs.Passed.{HasPassed};
 ghost use Rattle.session_desk.specs.Sessions.{IsSession, HasSessionCause};
 ghost use Rattle.session_desk.specs.Served.{HasServed};
@@ -24,6 +25,8 @@ ghost use Rattle.session_desk.specs.Begun.{desk_caller, ledger_caller};
 use crate::amending::{Amending, AtGate};
 use crate::session::{SessionEnd, SessionFault, serve};
 use crate::worker::{DoorWork, Worker, pair_up, serve_door, take_apart};
+use amend_journal::{JournalLedger, JournalPass};
+use desk_disk::Disk;
 use desk_links::{Door, Link};
 use holding_book::{Book, Entry};
 use season_days::Season;
@@ -83,6 +86,40 @@ pub fn serve_link<R: Wait, G: Gate, B: Beside, L: Link>(
         caller: pass.number(),
     };
     serve(rt, alloc, &amending, pass, link)
+}
+
+/// Serves one link over a ledger with a journal, which has each ask before it is answered: as
+/// `serve_link`, and `Broken` where a put of the journal has failed.
+pub fn serve_journaled<R: Wait, G: Gate, K: Disk, L: Link>(
+    rt: &R,
+    alloc: Global,
+    gate: &G,
+    ledger: &JournalLedger<K>,
+    pass: &mut JournalPass<K>,
+    season: &Season,
+    airport: Station,
+    link: &mut L,
+    worker: u32,
+) -> Result<SessionEnd, SessionFault>
+    requires rest { IsAtRest ledger.now pass.old }
+    requires season { season.now ≡ ledger.now.origin.start.declaration.season }
+    requires airport { airport ≡ ledger.now.origin.start.declaration.airport }
+    requires fresh { IsFresh (L.view link.old) }
+    ensures rest { IsAtRest ledger.now pass.new }
+    ensures number { pass.new.number ≡ pass.old.number }
+    ensures cause { HasSessionCause (L.view link.old).faults (L.view link.new).faults result }
+    ensures told { HasPassed (L.view link.old).told (L.view link.new) }
+    ensures stopped { IfErr result (StoppedBy (StopsAt read_told EndsBroken
+        ledger.now.origin.start.most pass.new.seen)) }
+    ensures session { IsSession
+        (IsAnsweredBy (ledger_caller ledger.now.origin.beside.count ledger.now.origin.start
+        pass.old.number))
+        (IsBegunBy (HasBroken EndsBroken)
+        (ledger_caller ledger.now.origin.beside.count ledger.now.origin.start pass.old.number))
+        (read_told pass.old.own) result (L.view link.new) (read_told pass.new.own) }
+{
+    let shared = ledger.shared();
+    serve_link(rt, alloc, gate, shared, pass, season, airport, link, worker)
 }
 
 /// The work of one worker at its door.

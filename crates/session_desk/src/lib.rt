@@ -10,7 +10,7 @@ mod session;
 mod worker;
 
 pub use amending::DeskCaller;
-pub use doors::{MOST_DOORS, serve_doors, serve_link};
+pub use doors::{MOST_DOORS, serve_doors, serve_journaled, serve_link};
 pub use responder::AnswerFault;
 pub use session::{SessionEnd, SessionFault};
 pub use worker::{DoorEnd, DoorWork};

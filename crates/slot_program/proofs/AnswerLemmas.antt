@@ -8,7 +8,7 @@ use Rattle.desk_outside.specs.Cause.{Rose}
 use Rattle.desk_outside.specs.Files.{Files}
 use Rattle.desk_outside.specs.Passages.{Passage}
 use Rattle.command_words.specs.Words.{Word}
-use Rattle.slot_program.specs.Reports.{Report, Refusal, refused, unread, unwritten, finished, status_of}
+use Rattle.slot_program.specs.Reports.{Report, Refusal, JournalRefusal, refused, unopened, unread, unwritten, finished, status_of}
 use Rattle.slot_program.specs.Judgements.{NamedBytes}
 use Rattle.slot_program.specs.Steps.{Step, names_read}
 use Rattle.slot_program.specs.Writing.{read_of}
@@ -16,8 +16,8 @@ use Rattle.slot_program.specs.Jobs.{steps_of, names_written, finishing_of}
 use Rattle.slot_program.specs.Outside.{OutsideChange, IsStill}
 use Rattle.slot_program.specs.Desk.{World, JobEnds, LogGrew, IsOfFiles, OnlyOfJob}
 use Rattle.slot_program.specs.Leads.{ToldLead, ToldRefused, RefusedLead, UnreadLead}
-use Rattle.slot_program.specs.Stops.{report_of, StopLeads}
-use Rattle.slot_program.specs.Ends.{IsDoneBy, IsCutShort, JobStopsBy}
+use Rattle.slot_program.specs.Stops.{report_of, journal_refusal, StopLeads}
+use Rattle.slot_program.specs.Ends.{IsDoneBy, IsCutShort, StopsUnopened, JobStopsBy}
 use Rattle.slot_program.specs.Answers.{ToldExact, IsAnswer}
 use Rattle.command_words.specs.declared.job.Job.{Job}
 use Rattle.slot_program.specs.declared.stop.Stop.{Stop}
@@ -40,7 +40,7 @@ module _ (job : Job) (w : World) (change : OutsideChange) (v : World) where
 
   refused_ended : IsStill change → (refusal : Refusal) → RefusedLead w (steps_of job) refusal v → Ended (refused refusal)
   refused_ended same refusal lead =
-      ((same, record { inputs = lead.inputs; due = lead.due; log = lead.log; files = lead.files }), refused_exact w.files refusal lead.told)
+      ((same, record { inputs = lead.inputs; due = lead.due; log = lead.log; files = lead.files; calm = lead.calm }), refused_exact w.files refusal lead.told)
 
   -- after a call that failed anything may have been due
   rose_exact : (files : Option Files) (report : Report) → status_of report ≡ 5 → Rose w.faults v.faults → IfSome files (λ held. ToldExact held job w report v)
@@ -67,6 +67,8 @@ module _ (job : Job) (w : World) (change : OutsideChange) (v : World) where
   stop_ended names (stops.OutOfForm place line) report same lead e = ended_by _ report e (refused_ended same _ lead)
   stop_ended names (stops.OverLimit limit number) report same lead e = ended_by _ report e (refused_ended same _ lead)
   stop_ended names (stops.NotValid line reason) report same lead e = ended_by _ report e (refused_ended same _ lead)
+  stop_ended names (stops.Unopened why) report same lead e = absurd lead
+  stop_ended names stops.NoNext report same lead e = ended_by _ report e (refused_ended same _ lead)
   stop_ended names stops.Memory report same lead e = absurd (none-some report e)
 
   pub finished_exact : (files : Option Files) (done : List NamedBytes) (status : ℕ) (text : List ℕ) → IfSome files (λ held. ToldLead held (steps_of job) done []) → Contains (finishing_of job) status
@@ -75,8 +77,18 @@ module _ (job : Job) (w : World) (change : OutsideChange) (v : World) where
   finished_exact (Some held) done status text told one =
       record {
         due = λ other h. absurd (told.due other h.0 h.1);
-        whole = λ done h. inl one;
-        forms = λ done h. inr (inl one);
+        whole = λ done h. inl (inl one);
+        forms = λ done h. inr (inl (inl one));
+      }
+
+  pub unopened_exact : (files : Option Files) (done : List NamedBytes) (why : JournalRefusal) → IfSome files (λ held. ToldLead held (steps_of job) done [])
+      → IfSome files (λ held. ToldExact held job w (unopened why) v)
+  unopened_exact None done why told = tt
+  unopened_exact (Some held) done why told =
+      record {
+        due = λ other h. absurd (told.due other h.0 h.1);
+        whole = λ done h. inl (inr (why, refl));
+        forms = λ done h. inr (inl (inr (why, refl)));
       }
 
 -- ---- which files passed
@@ -92,6 +104,8 @@ stop_asked names w v all written (stops.Unwritten place) lead = absurd lead
 stop_asked names w v all written (stops.OutOfForm place line) lead = (map read_of lead.inputs, lead.log, files_asked (names_read all) written lead.inputs lead.named)
 stop_asked names w v all written (stops.OverLimit limit number) lead = (map read_of lead.inputs, lead.log, files_asked (names_read all) written lead.inputs lead.named)
 stop_asked names w v all written (stops.NotValid line reason) lead = (map read_of lead.inputs, lead.log, files_asked (names_read all) written lead.inputs lead.named)
+stop_asked names w v all written (stops.Unopened why) lead = absurd lead
+stop_asked names w v all written stops.NoNext lead = (map read_of lead.inputs, lead.log, files_asked (names_read all) written lead.inputs lead.named)
 stop_asked names w v all written stops.Memory lead = (map read_of lead.inputs, lead.log, files_asked (names_read all) written lead.inputs lead.named)
 
 -- ---- the end of a job
@@ -110,6 +124,9 @@ module _ (job : Job) (w : World) (change : OutsideChange) (v : World) where
   cut_ended : (name : Word) → IsCutShort job w change name v → Ended job w change v (unwritten name)
   cut_ended name cut = (cut.unwritten, rose_exact job w change v w.files (unwritten name) refl cut.unwritten.rose)
 
+  unopened_ended : (why : JournalRefusal) → StopsUnopened job w change why v → Ended job w change v (unopened why)
+  unopened_ended why stop = (stop.unopened, unopened_exact job w change v w.files stop.unopened.inputs why stop.told)
+
   pub job_stop_ended : (names : List Word) (stop : Stop) (report : Report) → JobStopsBy names job w change stop v → report_of names stop ≡ Some report → Ended job w change v report
   job_stop_ended names (stops.Unwritten place) report cut e = ended_by job w change v _ report e (cut_ended _ cut)
   job_stop_ended names (stops.Missing place) report h e = stop_ended job w change v names (stops.Missing place) report h.0 h.1 e
@@ -118,6 +135,8 @@ module _ (job : Job) (w : World) (change : OutsideChange) (v : World) where
   job_stop_ended names (stops.OutOfForm place line) report h e = stop_ended job w change v names (stops.OutOfForm place line) report h.0 h.1 e
   job_stop_ended names (stops.OverLimit limit number) report h e = stop_ended job w change v names (stops.OverLimit limit number) report h.0 h.1 e
   job_stop_ended names (stops.NotValid line reason) report h e = stop_ended job w change v names (stops.NotValid line reason) report h.0 h.1 e
+  job_stop_ended names (stops.Unopened why) report stop e = ended_by job w change v _ report e (unopened_ended (journal_refusal why) stop)
+  job_stop_ended names stops.NoNext report h e = stop_ended job w change v names stops.NoNext report h.0 h.1 e
   job_stop_ended names stops.Memory report lead e = absurd (none-some report e)
 
   pub job_stop_asked : (names : List Word) (stop : Stop) → JobStopsBy names job w change stop v → LogGrew w.log (OnlyOfJob (Some job)) v.log
@@ -128,6 +147,8 @@ module _ (job : Job) (w : World) (change : OutsideChange) (v : World) where
   job_stop_asked names (stops.OutOfForm place line) h = stop_asked names w v (steps_of job) (names_written job) (stops.OutOfForm place line) h.1
   job_stop_asked names (stops.OverLimit limit number) h = stop_asked names w v (steps_of job) (names_written job) (stops.OverLimit limit number) h.1
   job_stop_asked names (stops.NotValid line reason) h = stop_asked names w v (steps_of job) (names_written job) (stops.NotValid line reason) h.1
+  job_stop_asked names (stops.Unopened why) stop = stop.asked
+  job_stop_asked names stops.NoNext h = stop_asked names w v (steps_of job) (names_written job) stops.NoNext h.1
   job_stop_asked names stops.Memory lead = stop_asked names w v (steps_of job) (names_written job) stops.Memory lead
 
 -- ---- nothing passed

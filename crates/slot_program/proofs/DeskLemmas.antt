@@ -1,6 +1,6 @@
 -- What the end of a command says of its status.
 use Rattle.std.proofs.Common.{◌≡◌, ℕ, zero, suc, List, [], ◌∷◌, ◌++◌, ◌≤◌, map, Option, Some, None, refl, sym, ◌∙◌, ap, subst, arith, inl, inr, append_assoc}
-use Rattle.std.specs.Prelude.{◌⊎◌, Contains, IfSome}
+use Rattle.std.specs.Prelude.{◌⊎◌, ◌≢◌, Contains, IfSome}
 use Rattle.std.proofs.lemmas.List.{map_push}
 use Rattle.std.proofs.lemmas.Option.{none-some}
 use Rattle.desk_outside.specs.Files.{Files}
@@ -8,28 +8,30 @@ use Rattle.wasg_stages.specs.Valid.{IsValid, MarksHold}
 use Rattle.series_model.specs.Submissions.{SubmissionView}
 use Rattle.cert_format.specs.declared.cert.Certificate.{Certificate}
 use Rattle.command_words.specs.Words.{Word}
-use Rattle.slot_program.specs.Reports.{Report, Refusal, no_command, refused, unread, unwritten, finished, status_of, text_of, refusal_status, missing, large, out_of_form, over_limit, not_valid}
+use Rattle.slot_program.specs.Reports.{Report, Refusal, no_command, refused, unread, unwritten, finished, status_of, text_of, refusal_status, missing, large, out_of_form, over_limit, not_valid, JournalRefusal, no_journal, other_journal, bad_slot, journal_fault, journal_status, unopened, no_next}
 use Rattle.slot_program.specs.Judgements.{NamedBytes}
 use Rattle.slot_program.specs.Steps.{Step, reads, judges, names_read, PassFrom, AllPass}
 use Rattle.slot_program.specs.Writing.{read_of, written_of}
-use Rattle.slot_program.specs.Jobs.{AreFilesOf, name_at, check_steps, steps_of, names_written, searched_statuses, served_statuses, finished_statuses, finishing_of, FileWorks, ServiceWorks, Works, HeadlineHolds}
-use Rattle.slot_program.specs.Outside.{OutsideChange, IsStill, door_faults, SomeRose}
-use Rattle.slot_program.specs.Desk.{World, IsFinished, JobEnds, Ends, IsStatus}
-use Rattle.slot_program.specs.Answers.{ToldExact, IsExact}
+use Rattle.slot_program.specs.Jobs.{AreFilesOf, name_at, check_steps, steps_of, names_written, searched_statuses, served_statuses, resumed_statuses, finished_statuses, calm_statuses, finishing_of, FileWorks, ServiceWorks, ResumeWorks, Works, IsWithoutJournal, JournalDue, JournalStands, HeadlineHolds}
+use Rattle.slot_program.specs.Outside.{OutsideChange, IsStill, door_faults, disk_faults, SomeRose, DiskRose}
+use Rattle.slot_program.specs.Desk.{World, IsFinished, EndsUnopened, JobEnds, Ends, IsStatus}
+use Rattle.slot_program.specs.Answers.{IsThrough, ToldExact, IsExact}
 use Rattle.slot_program.proofs.EndLemmas.{works_finishing}
 use Rattle.slot_program.proofs.ServiceLemmas.{works_calm, works_risen}
+use Rattle.slot_program.proofs.JournalLemmas.{Standings, works_disk_calm, works_disk_risen, without_calm, without_risen, pass_one, work_due, without_due, without_stands, stands_finishing}
 use Rattle.command_words.specs.declared.job.Job.{Job}
-use Rattle.command_words.specs.declared.job.Job.TheVariants.{Allocate, Check, Amend, Serve, Make, Trial}
+use Rattle.command_words.specs.declared.job.Job.TheVariants.{Allocate, Check, Amend, Serve, Resume, Usage, Make, Trial}
 
 -- ---- statuses of work that is done
 
-pub among_finished : (n : ℕ) → Contains finished_statuses n → (n ≡ 0) ⊎ ((8 ≤ n) × (n ≤ 11))
+pub among_finished : (n : ℕ) → Contains finished_statuses n → (n ≡ 0) ⊎ ((8 ≤ n) × (n ≤ 14))
 among_finished n (zero, lt, is) = inl (sym is)
 among_finished n (suc zero, lt, is) = inr (omega (arith, is), omega (arith, is))
 among_finished n (suc (suc zero), lt, is) = inr (omega (arith, is), omega (arith, is))
 among_finished n (suc (suc (suc zero)), lt, is) = inr (omega (arith, is), omega (arith, is))
 among_finished n (suc (suc (suc (suc zero))), lt, is) = inr (omega (arith, is), omega (arith, is))
-among_finished n (suc (suc (suc (suc (suc k)))), lt, is) = absurd (omega (arith, lt))
+among_finished n (suc (suc (suc (suc (suc zero)))), lt, is) = inr (omega (arith, is), omega (arith, is))
+among_finished n (suc (suc (suc (suc (suc (suc k))))), lt, is) = absurd (omega (arith, lt))
 
 among_zero : (n : ℕ) → Contains {X = ℕ} (0 ∷ []) n → Contains finished_statuses n
 among_zero n (zero, lt, is) = (0, omega arith, is)
@@ -47,11 +49,20 @@ among_served n (suc zero, lt, is) = (3, omega arith, is)
 among_served n (suc (suc zero), lt, is) = (4, omega arith, is)
 among_served n (suc (suc (suc k)), lt, is) = absurd (omega (arith, lt))
 
+among_resumed : (n : ℕ) → Contains resumed_statuses n → Contains finished_statuses n
+among_resumed n (zero, lt, is) = (0, omega arith, is)
+among_resumed n (suc zero, lt, is) = (3, omega arith, is)
+among_resumed n (suc (suc zero), lt, is) = (4, omega arith, is)
+among_resumed n (suc (suc (suc zero)), lt, is) = (5, omega arith, is)
+among_resumed n (suc (suc (suc (suc k))), lt, is) = absurd (omega (arith, lt))
+
 pub finishing_among : (job : Job) (n : ℕ) → Contains (finishing_of job) n → Contains finished_statuses n
 finishing_among (Allocate names nodes workers) n one = among_searched n one
 finishing_among (Check names) n one = among_zero n one
 finishing_among (Amend names) n one = among_zero n one
+finishing_among (Usage names) n one = among_zero n one
 finishing_among (Serve names links port workers) n one = among_served n one
+finishing_among (Resume names links port workers) n one = among_resumed n one
 finishing_among (Make number units names) n one = among_zero n one
 finishing_among (Trial number units) n one = among_searched n one
 
@@ -63,6 +74,17 @@ not_finished n low high one =
       | inr range ↦ omega (arith, low, high, range.0)
     ]
 
+pub not_calm : (n : ℕ) → 1 ≤ n → n ≤ 7 → Contains calm_statuses n → ⊥
+not_calm n low high (zero, lt, is) = omega (arith, low, is)
+not_calm n low high (suc zero, lt, is) = omega (arith, high, is)
+not_calm n low high (suc (suc zero), lt, is) = omega (arith, high, is)
+not_calm n low high (suc (suc (suc zero)), lt, is) = omega (arith, high, is)
+not_calm n low high (suc (suc (suc (suc zero))), lt, is) = omega (arith, high, is)
+not_calm n low high (suc (suc (suc (suc (suc zero)))), lt, is) = omega (arith, high, is)
+not_calm n low high (suc (suc (suc (suc (suc (suc zero))))), lt, is) = omega (arith, high, is)
+not_calm n low high (suc (suc (suc (suc (suc (suc (suc zero)))))), lt, is) = omega (arith, high, is)
+not_calm n low high (suc (suc (suc (suc (suc (suc (suc (suc k))))))), lt, is) = absurd (omega (arith, lt))
+
 pub finishing_not : (job : Job) (n : ℕ) → 1 ≤ n → n ≤ 7 → Contains (finishing_of job) n → ⊥
 finishing_not job n low high one = not_finished n low high (finishing_among job n one)
 
@@ -72,16 +94,34 @@ finished_is_status n (suc zero, lt, is) = (8, omega arith, is)
 finished_is_status n (suc (suc zero), lt, is) = (9, omega arith, is)
 finished_is_status n (suc (suc (suc zero)), lt, is) = (10, omega arith, is)
 finished_is_status n (suc (suc (suc (suc zero))), lt, is) = (11, omega arith, is)
-finished_is_status n (suc (suc (suc (suc (suc k)))), lt, is) = absurd (omega (arith, lt))
+finished_is_status n (suc (suc (suc (suc (suc zero)))), lt, is) = (13, omega arith, is)
+finished_is_status n (suc (suc (suc (suc (suc (suc k))))), lt, is) = absurd (omega (arith, lt))
+
+-- 15 is not among them
+not_fifteen : Contains finished_statuses 15 → ⊥
+not_fifteen one =
+    elim (among_finished 15 one) [
+      | inl is ↦ omega (arith, is)
+      | inr range ↦ omega (arith, range.1)
+    ]
 
 -- ---- the status of a refusal
 
-refusal_range : (refusal : Refusal) → (1 ≤ refusal_status refusal) × (refusal_status refusal ≤ 5)
-refusal_range (missing name) = (omega arith, omega arith)
-refusal_range (large name) = (omega arith, omega arith)
-refusal_range (out_of_form name line) = (omega arith, omega arith)
-refusal_range (over_limit name number) = (omega arith, omega arith)
-refusal_range (not_valid line reason) = (omega arith, omega arith)
+refusal_range : (refusal : Refusal) → (1 ≤ refusal_status refusal) × (refusal_status refusal ≢ 6)
+refusal_range (missing name) = (omega arith, λ e. omega (arith, e))
+refusal_range (large name) = (omega arith, λ e. omega (arith, e))
+refusal_range (out_of_form name line) = (omega arith, λ e. omega (arith, e))
+refusal_range (over_limit name number) = (omega arith, λ e. omega (arith, e))
+refusal_range (not_valid line reason) = (omega arith, λ e. omega (arith, e))
+refusal_range no_next = (omega arith, λ e. omega (arith, e))
+
+refusal_not_finished : (refusal : Refusal) → Contains finished_statuses (refusal_status refusal) → ⊥
+refusal_not_finished (missing name) one = not_finished 5 (omega arith) (omega arith) one
+refusal_not_finished (large name) one = not_finished 5 (omega arith) (omega arith) one
+refusal_not_finished (out_of_form name line) one = not_finished 3 (omega arith) (omega arith) one
+refusal_not_finished (over_limit name number) one = not_finished 4 (omega arith) (omega arith) one
+refusal_not_finished (not_valid line reason) one = not_finished 1 (omega arith) (omega arith) one
+refusal_not_finished no_next one = not_fifteen one
 
 refusal_not_two : (refusal : Refusal) → refusal_status refusal ≡ 2 → ⊥
 refusal_not_two (missing name) e = omega (arith, e)
@@ -89,6 +129,15 @@ refusal_not_two (large name) e = omega (arith, e)
 refusal_not_two (out_of_form name line) e = omega (arith, e)
 refusal_not_two (over_limit name number) e = omega (arith, e)
 refusal_not_two (not_valid line reason) e = omega (arith, e)
+refusal_not_two no_next e = omega (arith, e)
+
+refusal_not_fourteen : (refusal : Refusal) → refusal_status refusal ≡ 14 → ⊥
+refusal_not_fourteen (missing name) e = omega (arith, e)
+refusal_not_fourteen (large name) e = omega (arith, e)
+refusal_not_fourteen (out_of_form name line) e = omega (arith, e)
+refusal_not_fourteen (over_limit name number) e = omega (arith, e)
+refusal_not_fourteen (not_valid line reason) e = omega (arith, e)
+refusal_not_fourteen no_next e = omega (arith, e)
 
 refusal_is_status : (refusal : Refusal) → IsStatus (refusal_status refusal)
 refusal_is_status (missing name) = (5, omega arith, refl)
@@ -96,6 +145,38 @@ refusal_is_status (large name) = (5, omega arith, refl)
 refusal_is_status (out_of_form name line) = (3, omega arith, refl)
 refusal_is_status (over_limit name number) = (4, omega arith, refl)
 refusal_is_status (not_valid line reason) = (1, omega arith, refl)
+refusal_is_status no_next = (14, omega arith, refl)
+
+-- ---- the status of a journal that was not opened
+
+journal_range : (why : JournalRefusal) → (13 ≤ journal_status why) × (journal_status why ≤ 14)
+journal_range no_journal = (omega arith, omega arith)
+journal_range other_journal = (omega arith, omega arith)
+journal_range (bad_slot number) = (omega arith, omega arith)
+journal_range journal_fault = (omega arith, omega arith)
+
+journal_is_status : (why : JournalRefusal) → IsStatus (journal_status why)
+journal_is_status no_journal = (12, omega arith, refl)
+journal_is_status other_journal = (12, omega arith, refl)
+journal_is_status (bad_slot number) = (12, omega arith, refl)
+journal_is_status journal_fault = (13, omega arith, refl)
+
+low_or_last : (n : ℕ) → Contains finished_statuses n → (n ≤ 11) ⊎ (n ≡ 14)
+low_or_last n (zero, lt, is) = inl (omega (arith, is))
+low_or_last n (suc zero, lt, is) = inl (omega (arith, is))
+low_or_last n (suc (suc zero), lt, is) = inl (omega (arith, is))
+low_or_last n (suc (suc (suc zero)), lt, is) = inl (omega (arith, is))
+low_or_last n (suc (suc (suc (suc zero))), lt, is) = inl (omega (arith, is))
+low_or_last n (suc (suc (suc (suc (suc zero)))), lt, is) = inr (sym is)
+low_or_last n (suc (suc (suc (suc (suc (suc k))))), lt, is) = absurd (omega (arith, lt))
+
+-- among the statuses of work that is done it is 14 alone
+journal_finishing : (why : JournalRefusal) → Contains finished_statuses (journal_status why) → journal_status why ≡ 14
+journal_finishing why one =
+    elim (low_or_last (journal_status why) one) [
+      | inl low ↦ absurd (omega (arith, low, (journal_range why).0))
+      | inr is ↦ is
+    ]
 
 -- ---- the end of a job
 
@@ -106,6 +187,7 @@ module _ (job : Job) (w : World) (change : OutsideChange) (v : World) where
   job_is_status : (report : Report) → JobEnds job w change report v → IsStatus (status_of report)
   job_is_status no_command ends = absurd ends
   job_is_status (refused refusal) ends = refusal_is_status refusal
+  job_is_status (unopened why) ends = journal_is_status why
   job_is_status (unread name) ends = (5, omega arith, refl)
   job_is_status (unwritten name) ends = (5, omega arith, refl)
   job_is_status (finished status text) ends = finished_is_status status (finished_among status text ends)
@@ -113,23 +195,57 @@ module _ (job : Job) (w : World) (change : OutsideChange) (v : World) where
   job_not_two : (report : Report) → status_of report ≡ 2 → JobEnds job w change report v → ⊥
   job_not_two no_command e ends = ends
   job_not_two (refused refusal) e ends = refusal_not_two refusal e
+  job_not_two (unopened why) e ends = omega (arith, e, (journal_range why).0)
   job_not_two (unread name) e ends = omega (arith, e)
   job_not_two (unwritten name) e ends = omega (arith, e)
   job_not_two (finished status text) e ends = not_finished status (omega (arith, e)) (omega (arith, e)) (finished_among status text ends)
 
   job_not_six : (report : Report) → status_of report ≡ 6 → JobEnds job w change report v → ⊥
   job_not_six no_command e ends = ends
-  job_not_six (refused refusal) e ends = omega (arith, e, (refusal_range refusal).1)
+  job_not_six (refused refusal) e ends = (refusal_range refusal).1 e
+  job_not_six (unopened why) e ends = omega (arith, e, (journal_range why).0)
   job_not_six (unread name) e ends = omega (arith, e)
   job_not_six (unwritten name) e ends = omega (arith, e)
   job_not_six (finished status text) e ends = not_finished status (omega (arith, e)) (omega (arith, e)) (finished_among status text ends)
 
-  pub ended_finished : (report : Report) → Contains finished_statuses (status_of report) → JobEnds job w change report v → IsFinished job w change (status_of report) (text_of report) v
-  ended_finished no_command one ends = absurd ends
-  ended_finished (refused refusal) one ends = absurd (not_finished (refusal_status refusal) (refusal_range refusal).0 (omega (arith, (refusal_range refusal).1)) one)
-  ended_finished (unread name) one ends = absurd (not_finished 5 (omega arith) (omega arith) one)
-  ended_finished (unwritten name) one ends = absurd (not_finished 5 (omega arith) (omega arith) one)
-  ended_finished (finished status text) one ends = ends
+  pub ended_finished : (report : Report) → Contains finished_statuses (status_of report) → (status_of report ≡ 14 → ⊥) → JobEnds job w change report v → IsFinished job w change (status_of report) (text_of report) v
+  ended_finished no_command one not ends = absurd ends
+  ended_finished (refused refusal) one not ends = absurd (refusal_not_finished refusal one)
+  ended_finished (unopened why) one not ends = absurd (not (journal_finishing why one))
+  ended_finished (unread name) one not ends = absurd (not_finished 5 (omega arith) (omega arith) one)
+  ended_finished (unwritten name) one not ends = absurd (not_finished 5 (omega arith) (omega arith) one)
+  ended_finished (finished status text) one not ends = ends
+
+  -- at one of the statuses of work that is done, at that of a journal that was not opened, and where no
+  -- season follows, no call of the cabinet failed
+  job_calm : (report : Report) → Contains calm_statuses (status_of report) → JobEnds job w change report v → v.faults ≡ w.faults
+  job_calm no_command one ends = absurd ends
+  job_calm (refused refusal) one ends = ends.1.calm (λ five. not_calm 5 (omega arith) (omega arith) (subst (λ (n : ℕ). Contains calm_statuses n) five one))
+  job_calm (unopened why) one ends = ends.calm
+  job_calm (unread name) one ends = absurd (not_calm 5 (omega arith) (omega arith) one)
+  job_calm (unwritten name) one ends = absurd (not_calm 5 (omega arith) (omega arith) one)
+  job_calm (finished status text) one ends = ends.calm
+
+  -- the disk stands still but where it failed
+  job_disk_calm : (report : Report) → (status_of report ≡ 5 → ⊥) → (status_of report ≡ 14 → ⊥) → JobEnds job w change report v → disk_faults change.after ≡ disk_faults change.before
+  job_disk_calm no_command five not ends = absurd ends
+  job_disk_calm (refused refusal) five not ends = ap disk_faults ends.0
+  job_disk_calm (unopened why) five not ends = without_calm job ends.inputs change why not ends.refused
+  job_disk_calm (unread name) five not ends = absurd (five refl)
+  job_disk_calm (unwritten name) five not ends = absurd (five refl)
+  job_disk_calm (finished status text) five not ends = works_disk_calm job ends.inputs ends.writes change status text not ends.work
+
+  -- and failed at 14: the journal was not opened, or a put failed
+  job_disk_risen : (report : Report) → status_of report ≡ 14 → JobEnds job w change report v → DiskRose change.before.disk change.after.disk
+      × (((why : JournalRefusal) × (report ≡ unopened why) × EndsUnopened job w change why v) ⊎ IsFinished job w change 14 (text_of report) v)
+  job_disk_risen no_command is ends = absurd ends
+  job_disk_risen (refused refusal) is ends = absurd (refusal_not_fourteen refusal is)
+  job_disk_risen (unopened why) is ends = (without_risen job ends.inputs change why is ends.refused, inl (why, refl, ends))
+  job_disk_risen (unread name) is ends = absurd (omega (arith, is))
+  job_disk_risen (unwritten name) is ends = absurd (omega (arith, is))
+  job_disk_risen (finished status text) is ends =
+      let done = subst (λ (n : ℕ). IsFinished job w change n text v) is ends in
+      (works_disk_risen job done.inputs done.writes change text done.work (works_finishing job done.inputs done.writes change 14 text done.work), inr done)
 
 -- ---- any words
 
@@ -145,9 +261,24 @@ pub not_six : (job : Option Job) (w : World) (change : OutsideChange) (report : 
 not_six None w change report v e ends = omega (arith, e, ap status_of ends.0)
 not_six (Some job) w change report v e ends = job_not_six job w change v report e ends
 
-pub finished_is_calm : (job : Option Job) (w : World) (change : OutsideChange) (report : Report) (v : World) → Contains finished_statuses (status_of report) → Ends job w change report v → v.faults ≡ w.faults
-finished_is_calm None w change report v one ends = absurd (not_finished 2 (omega arith) (omega arith) (subst (λ (n : ℕ). Contains finished_statuses n) (ap status_of ends.0) one))
-finished_is_calm (Some job) w change report v one ends = (ended_finished job w change v report one ends).calm
+pub is_calm : (job : Option Job) (w : World) (change : OutsideChange) (report : Report) (v : World) → Contains calm_statuses (status_of report) → Ends job w change report v → v.faults ≡ w.faults
+is_calm None w change report v one ends = absurd (not_calm 2 (omega arith) (omega arith) (subst (λ (n : ℕ). Contains calm_statuses n) (ap status_of ends.0) one))
+is_calm (Some job) w change report v one ends = job_calm job w change v report one ends
+
+pub disk_is_calm : (job : Option Job) (w : World) (change : OutsideChange) (report : Report) (v : World) → (status_of report ≡ 5 → ⊥) → (status_of report ≡ 14 → ⊥) → Ends job w change report v → disk_faults change.after ≡ disk_faults change.before
+disk_is_calm None w change report v five not ends = ap disk_faults ends.2
+disk_is_calm (Some job) w change report v five not ends = job_disk_calm job w change v report five not ends
+
+pub disk_has_risen : (o : Option Job) (w : World) (change : OutsideChange) (report : Report) (v : World) → status_of report ≡ 14 → Ends o w change report v
+    → (job : Job) × (o ≡ Some job) × DiskRose change.before.disk change.after.disk
+    × (((why : JournalRefusal) × (report ≡ unopened why) × EndsUnopened job w change why v) ⊎ IsFinished job w change 14 (text_of report) v)
+disk_has_risen None w change report v is ends = absurd (omega (arith, is, ap status_of ends.0))
+disk_has_risen (Some job) w change report v is ends = (job, refl, job_disk_risen job w change v report is ends)
+
+-- what is reported of a journal that was not opened
+pub ends_unopened : (o : Option Job) (job : Job) (w : World) (change : OutsideChange) (report : Report) (v : World) (why : JournalRefusal) → o ≡ Some job → report ≡ unopened why → Ends o w change report v → EndsUnopened job w change why v
+ends_unopened o job w change report v why e is ends =
+    subst (λ (r : Report). JobEnds job w change r v) is (subst (λ (p : Option Job). Ends p w change report v) e ends)
 
 pub none_ends : (job : Option Job) (w : World) (change : OutsideChange) (report : Report) (v : World) → job ≡ None → Ends job w change report v → (v ≡ w) × IsStill change × (status_of report ≡ 2)
 none_ends None w change report v e ends = (ends.1, ends.2, ap status_of ends.0)
@@ -161,8 +292,8 @@ no_job None none = refl
 no_job (Some j) none = absurd (none j refl)
 
 -- a job that ended with a status of those that finish it is finished
-pub is_finished : (o : Option Job) (job : Job) (w : World) (change : OutsideChange) (report : Report) (v : World) → o ≡ Some job → Contains (finishing_of job) (status_of report) → Ends o w change report v → IsFinished job w change (status_of report) (text_of report) v
-is_finished o job w change report v e one ends = ended_finished job w change v report (finishing_among job (status_of report) one) (job_ends o job w change report v e ends)
+pub is_finished : (o : Option Job) (job : Job) (w : World) (change : OutsideChange) (report : Report) (v : World) → o ≡ Some job → Contains (finishing_of job) (status_of report) → (status_of report ≡ 14 → ⊥) → Ends o w change report v → IsFinished job w change (status_of report) (text_of report) v
+is_finished o job w change report v e one not ends = ended_finished job w change v report (finishing_among job (status_of report) one) not (job_ends o job w change report v e ends)
 
 -- ---- faults of doors
 
@@ -173,13 +304,13 @@ doors_calm (Some job) w change report v one ends =
       | inl is ↦ (0, omega arith, sym is)
       | inr is ↦ (4, omega arith, sym is)
     ] in
-    let done = ended_finished job w change v report among ends in
+    let done = ended_finished job w change v report among (λ bad. elim one [ inl is ↦ omega (arith, is, bad) | inr is ↦ omega (arith, is, bad) ]) ends in
     works_calm job done.inputs done.writes change (status_of report) (text_of report) done.work one
 
 pub door_risen : (o : Option Job) (w : World) (change : OutsideChange) (report : Report) (v : World) → status_of report ≡ 10 → Ends o w change report v → SomeRose change.before.doors change.after.doors
 door_risen None w change report v ten ends = absurd (omega (arith, ten, ap status_of ends.0))
 door_risen (Some job) w change report v ten ends =
-    let done = ended_finished job w change v report (3, omega arith, sym ten) ends in
+    let done = ended_finished job w change v report (3, omega arith, sym ten) (λ bad. omega (arith, ten, bad)) ends in
     let work = subst (λ (n : ℕ). Works job done.inputs done.writes change n (text_of report)) ten done.work in
     works_risen job done.inputs done.writes change (text_of report) work (works_finishing job done.inputs done.writes change 10 (text_of report) work)
 
@@ -188,6 +319,58 @@ door_risen (Some job) w change report v ten ends =
 pub told_exact : (o : Option Job) (job : Job) (w : World) (report : Report) (v : World) (held : Files) → o ≡ Some job → w.files ≡ Some held → IsExact o w report v → ToldExact held job w report v
 told_exact o job w report v held e told exact =
     subst (λ (f : Option Files). IfSome f (λ h. ToldExact h job w report v)) told (subst (λ (p : Option Job). IsExact p w report v) e exact)
+
+-- ---- the journal, by what its disk tells
+
+module _ (job : Job) (w : World) (change : OutsideChange) (v : World) where
+  -- a job that is through has not opened its journal, or is finished
+  through_ends : (report : Report) → IsThrough job report → JobEnds job w change report v
+      → ((why : JournalRefusal) × (report ≡ unopened why) × EndsUnopened job w change why v) ⊎ IsFinished job w change (status_of report) (text_of report) v
+  through_ends no_command through ends = absurd ends
+  through_ends (refused refusal) through ends =
+      elim through [
+        | inl one ↦ absurd (refusal_not_finished refusal (finishing_among job (refusal_status refusal) one))
+        | inr un ↦ let bad : refused refusal ≡ unopened un.0 = un.1 in absurd cc
+      ]
+  through_ends (unopened why) through ends = inl (why, refl, ends)
+  through_ends (unread name) through ends =
+      elim through [
+        | inl one ↦ absurd (finishing_not job 5 (omega arith) (omega arith) one)
+        | inr un ↦ let bad : unread name ≡ unopened un.0 = un.1 in absurd cc
+      ]
+  through_ends (unwritten name) through ends =
+      elim through [
+        | inl one ↦ absurd (finishing_not job 5 (omega arith) (omega arith) one)
+        | inr un ↦ let bad : unwritten name ≡ unopened un.0 = un.1 in absurd cc
+      ]
+  through_ends (finished status text) through ends = inr ends
+
+  module _ (law : Standings) (held : Files) (inputs : List NamedBytes) (told : w.files ≡ Some held) (pass : AllPass (Some held) (steps_of job) inputs) where
+    same_inputs : (others : List NamedBytes) → AllPass w.files (steps_of job) others → others ≡ inputs
+    same_inputs others passed = pass_one held [] (steps_of job) others inputs (subst (λ (f : Option Files). AllPass f (steps_of job) others) told passed) pass
+
+    pub job_said : (report : Report) (why : JournalRefusal) → IsThrough job report → JobEnds job w change report v → JournalDue job inputs change.before.disk why → (report ≡ unopened why) ⊎ (status_of report ≡ 14)
+    job_said report why through ends due =
+        elim (through_ends report through ends) [
+          | inl un ↦ elim (without_due law job inputs change un.0 why (subst (λ (l : List NamedBytes). IsWithoutJournal job l change un.0) (same_inputs un.2.inputs un.2.passed) un.2.refused) due) [
+            | inl same ↦ inl (un.1 ∙ ap unopened same)
+            | inr fourteen ↦ inr (ap status_of un.1 ∙ fourteen)
+          ]
+          | inr done ↦ absurd (work_due law job inputs done.writes change (status_of report) (text_of report) why
+              (subst (λ (l : List NamedBytes). Works job l done.writes change (status_of report) (text_of report)) (same_inputs done.inputs done.passed) done.work) due)
+        ]
+
+    pub job_serves : (report : Report) → IsThrough job report → JobEnds job w change report v → JournalStands job inputs change.before.disk → (DiskRose change.before.disk change.after.disk → ⊥) → Contains served_statuses (status_of report)
+    job_serves report through ends stands calm =
+        elim (through_ends report through ends) [
+          | inl un ↦
+              let refused_as = subst (λ (l : List NamedBytes). IsWithoutJournal job l change un.0) (same_inputs un.2.inputs un.2.passed) un.2.refused in
+              absurd (calm (without_risen job inputs change un.0 (without_stands law job inputs change un.0 refused_as stands) refused_as))
+          | inr done ↦
+              stands_finishing job inputs change.before.disk (status_of report) stands (works_finishing job done.inputs done.writes change (status_of report) (text_of report) done.work)
+              (λ is. let work = subst (λ (n : ℕ). Works job done.inputs done.writes change n (text_of report)) is done.work in
+              calm (works_disk_risen job done.inputs done.writes change (text_of report) work (works_finishing job done.inputs done.writes change 14 (text_of report) work)))
+        ]
 
 -- ---- the headline
 
@@ -223,7 +406,14 @@ file_named (Amend names) (capacity ∷ requests ∷ []) writes status text work 
 file_named (Amend names) (capacity ∷ requests ∷ certificate ∷ []) writes status text work = absurd work
 file_named (Amend names) (capacity ∷ requests ∷ certificate ∷ asks ∷ []) writes status text work = ap (λ (l : List NamedBytes). named l) work.written
 file_named (Amend names) (capacity ∷ requests ∷ certificate ∷ asks ∷ more ∷ rest) writes status text work = absurd work
+file_named (Usage names) [] writes status text work = absurd work
+file_named (Usage names) (capacity ∷ []) writes status text work = absurd work
+file_named (Usage names) (capacity ∷ requests ∷ []) writes status text work = absurd work
+file_named (Usage names) (capacity ∷ requests ∷ certificate ∷ []) writes status text work = absurd work
+file_named (Usage names) (capacity ∷ requests ∷ certificate ∷ operated ∷ []) writes status text work = ap (λ (l : List NamedBytes). named l) work.written
+file_named (Usage names) (capacity ∷ requests ∷ certificate ∷ operated ∷ more ∷ rest) writes status text work = absurd work
 file_named (Serve names links port workers) inputs writes status text work = absurd work
+file_named (Resume names links port workers) inputs writes status text work = absurd work
 file_named (Make number units names) [] writes status text work = ap (λ (l : List NamedBytes). named l) work.written
 file_named (Make number units names) (file ∷ rest) writes status text work = absurd work
 file_named (Trial number units) [] writes status text work = ap (λ (l : List NamedBytes). named l) work.written
@@ -236,11 +426,20 @@ service_named names links (capacity ∷ requests ∷ []) writes change status te
 service_named names links (capacity ∷ requests ∷ certificate ∷ []) writes change status text work = ap (λ (l : List NamedBytes). named l) work.written
 service_named names links (capacity ∷ requests ∷ certificate ∷ more ∷ rest) writes change status text work = absurd work
 
+resume_named : (names : List Word) (links : ℕ) (inputs writes : List NamedBytes) (change : OutsideChange) (status : ℕ) (text : List ℕ) → ResumeWorks names links inputs writes change status text → named writes ≡ name_at names 4 ∷ []
+resume_named names links [] writes change status text work = absurd work
+resume_named names links (capacity ∷ []) writes change status text work = absurd work
+resume_named names links (capacity ∷ requests ∷ []) writes change status text work = absurd work
+resume_named names links (capacity ∷ requests ∷ certificate ∷ []) writes change status text work = ap (λ (l : List NamedBytes). named l) work.written
+resume_named names links (capacity ∷ requests ∷ certificate ∷ more ∷ rest) writes change status text work = absurd work
+
 works_named : (job : Job) (inputs writes : List NamedBytes) (change : OutsideChange) (status : ℕ) (text : List ℕ) → Works job inputs writes change status text → named writes ≡ names_written job
 works_named (Allocate names nodes workers) inputs writes change status text work = file_named (Allocate names nodes workers) inputs writes status text work.1
 works_named (Check names) inputs writes change status text work = file_named (Check names) inputs writes status text work.1
 works_named (Amend names) inputs writes change status text work = file_named (Amend names) inputs writes status text work.1
+works_named (Usage names) inputs writes change status text work = file_named (Usage names) inputs writes status text work.1
 works_named (Serve names links port workers) inputs writes change status text work = service_named names links inputs writes change status text work
+works_named (Resume names links port workers) inputs writes change status text work = resume_named names links inputs writes change status text work
 works_named (Make number units names) inputs writes change status text work = file_named (Make number units names) inputs writes status text work.1
 works_named (Trial number units) inputs writes change status text work = file_named (Trial number units) inputs writes status text work.1
 
@@ -280,7 +479,16 @@ module _ (marks : (s : SubmissionView) (c : Certificate) → IsValid s c → Mar
       subst (λ (l : List NamedBytes). HeadlineHolds (Amend names) (capacity ∷ requests ∷ certificate ∷ asks ∷ []) l change status text) (sym work.written)
       (work.season, work.proved, work.spelled, record { made = work.made; valid = work.valid; marks = marks work.season work.proved work.valid }, work.output)
   file_marks (Amend names) files (capacity ∷ requests ∷ certificate ∷ asks ∷ more ∷ rest) writes change status text pass work = absurd work
+  file_marks (Usage names) files [] writes change status text pass work = absurd work
+  file_marks (Usage names) files (capacity ∷ []) writes change status text pass work = absurd work
+  file_marks (Usage names) files (capacity ∷ requests ∷ []) writes change status text pass work = absurd work
+  file_marks (Usage names) files (capacity ∷ requests ∷ certificate ∷ []) writes change status text pass work = absurd work
+  file_marks (Usage names) files (capacity ∷ requests ∷ certificate ∷ operated ∷ []) writes change status text pass work =
+      subst (λ (l : List NamedBytes). HeadlineHolds (Usage names) (capacity ∷ requests ∷ certificate ∷ operated ∷ []) l change status text) (sym work.written)
+      (work.season, work.proved, work.spelled, record { made = work.made; valid = work.valid; marks = marks work.season work.proved work.valid }, work.reports, work.said, work.output)
+  file_marks (Usage names) files (capacity ∷ requests ∷ certificate ∷ operated ∷ more ∷ rest) writes change status text pass work = absurd work
   file_marks (Serve names links port workers) files done writes change status text pass work = absurd work
+  file_marks (Resume names links port workers) files done writes change status text pass work = absurd work
   file_marks (Make number units names) files done writes change status text pass work = tt
   file_marks (Trial number units) files [] writes change status text pass work =
       subst (λ (l : List NamedBytes). HeadlineHolds (Trial number units) [] l change status text) (sym work.written)
@@ -296,11 +504,22 @@ module _ (marks : (s : SubmissionView) (c : Certificate) → IsValid s c → Mar
       (work.season, work.proved, work.spelled, record { made = work.made; valid = work.valid; marks = marks work.season work.proved work.valid }, work.output)
   service_marks names links port workers (capacity ∷ requests ∷ certificate ∷ more ∷ rest) writes change status text work = absurd work
 
+  resume_marks : (names : List Word) (links port workers : ℕ) (done writes : List NamedBytes) (change : OutsideChange) (status : ℕ) (text : List ℕ) → ResumeWorks names links done writes change status text → HeadlineHolds (Resume names links port workers) done writes change status text
+  resume_marks names links port workers [] writes change status text work = absurd work
+  resume_marks names links port workers (capacity ∷ []) writes change status text work = absurd work
+  resume_marks names links port workers (capacity ∷ requests ∷ []) writes change status text work = absurd work
+  resume_marks names links port workers (capacity ∷ requests ∷ certificate ∷ []) writes change status text work =
+      subst (λ (l : List NamedBytes). HeadlineHolds (Resume names links port workers) (capacity ∷ requests ∷ certificate ∷ []) l change status text) (sym work.written)
+      (work.season, work.proved, work.spelled, record { made = work.made; valid = work.valid; marks = marks work.season work.proved work.valid }, work.output)
+  resume_marks names links port workers (capacity ∷ requests ∷ certificate ∷ more ∷ rest) writes change status text work = absurd work
+
   work_marks : (job : Job) (files : Option Files) (done writes : List NamedBytes) (change : OutsideChange) (status : ℕ) (text : List ℕ) → AllPass files (steps_of job) done → Works job done writes change status text → HeadlineHolds job done writes change status text
   work_marks (Allocate names nodes workers) files done writes change status text pass work = file_marks (Allocate names nodes workers) files done writes change status text pass work.1
   work_marks (Check names) files done writes change status text pass work = file_marks (Check names) files done writes change status text pass work.1
   work_marks (Amend names) files done writes change status text pass work = file_marks (Amend names) files done writes change status text pass work.1
+  work_marks (Usage names) files done writes change status text pass work = file_marks (Usage names) files done writes change status text pass work.1
   work_marks (Serve names links port workers) files done writes change status text pass work = service_marks names links port workers done writes change status text work
+  work_marks (Resume names links port workers) files done writes change status text pass work = resume_marks names links port workers done writes change status text work
   work_marks (Make number units names) files done writes change status text pass work = file_marks (Make number units names) files done writes change status text pass work.1
   work_marks (Trial number units) files done writes change status text pass work = file_marks (Trial number units) files done writes change status text pass work.1
 

@@ -1,6 +1,6 @@
 -- The work of a job is done, or its writes are cut short.
-use Rattle.std.proofs.Common.{◌≡◌, ℕ, ◌+◌, List, [], ◌∷◌, ◌++◌, map, Option, Some, None, refl, sym, ap, ◌∙◌, subst, append_assoc, arith, inl, inr}
-use Rattle.std.specs.Prelude.{All, Contains}
+use Rattle.std.proofs.Common.{◌≡◌, ℕ, ◌+◌, Bool, true, false, List, [], ◌∷◌, ◌++◌, map, Option, Some, None, refl, sym, ap, ◌∙◌, subst, append_assoc, arith, inl, inr}
+use Rattle.std.specs.Prelude.{All, Contains, is_some}
 use Rattle.std.proofs.lemmas.Bool.{cases_Bool}
 use Rattle.std.proofs.lemmas.List.{append-nil}
 use Rattle.std.proofs.lemmas.List.Elements.{All-nil, All-cons, All-append, All-map}
@@ -11,17 +11,19 @@ use Rattle.command_words.specs.Words.{Word}
 use Rattle.slot_program.specs.Judgements.{NamedBytes}
 use Rattle.slot_program.specs.Steps.{names_read}
 use Rattle.slot_program.specs.Writing.{read_of, AreWritten}
-use Rattle.slot_program.specs.Jobs.{name_at, one_file, two_files, steps_of, names_written, served_statuses, finishing_of, FileWorks, ServiceWorks, Works}
+use Rattle.slot_program.specs.Jobs.{IsWithoutJournal, name_at, one_file, two_files, steps_of, names_written, served_statuses, resumed_statuses, finishing_of, FileWorks, ServiceWorks, ResumeWorks, Works}
 use Rattle.slot_program.specs.Outside.{OutsideChange, still, IsStill}
 use Rattle.slot_program.specs.Services.{some_ended, is_door_end, is_full_end, served_status}
+use Rattle.slot_program.specs.Resumed.{resumed_status}
 use Rattle.session_desk.specs.declared.worker.DoorWork.{DoorWork}
 use Rattle.slot_program.specs.Desk.{World, LogGrew, OnlyOfJob, IsOfFiles}
 use Rattle.slot_program.specs.Leads.{Leads}
-use Rattle.slot_program.specs.Ends.{IsDoneBy, IsCutShort, JobStopsBy, JobStops}
+use Rattle.slot_program.specs.Ends.{IsDoneBy, IsCutShort, StopsUnopened, JobStopsBy, JobStops}
+use Rattle.slot_program.specs.Reports.{JournalRefusal}
 use Rattle.slot_program.specs.Stops.{StopLeads}
 use Rattle.slot_program.proofs.StageLemmas.{marks_among}
 use Rattle.command_words.specs.declared.job.Job.{Job}
-use Rattle.command_words.specs.declared.job.Job.TheVariants.{Allocate, Check, Amend, Serve, Make, Trial}
+use Rattle.command_words.specs.declared.job.Job.TheVariants.{Allocate, Check, Amend, Serve, Resume, Usage, Make, Trial}
 use Rattle.slot_program.specs.declared.stop.Stop.{Stop}
 use Rattle.slot_program.specs.declared.stop.Stop.TheVariants as stops
 
@@ -47,7 +49,14 @@ file_finishing (Amend names) (capacity ∷ requests ∷ []) writes status text w
 file_finishing (Amend names) (capacity ∷ requests ∷ certificate ∷ []) writes status text work = absurd work
 file_finishing (Amend names) (capacity ∷ requests ∷ certificate ∷ asks ∷ []) writes status text work = only_zero status work.status_is
 file_finishing (Amend names) (capacity ∷ requests ∷ certificate ∷ asks ∷ more ∷ rest) writes status text work = absurd work
+file_finishing (Usage names) [] writes status text work = absurd work
+file_finishing (Usage names) (capacity ∷ []) writes status text work = absurd work
+file_finishing (Usage names) (capacity ∷ requests ∷ []) writes status text work = absurd work
+file_finishing (Usage names) (capacity ∷ requests ∷ certificate ∷ []) writes status text work = absurd work
+file_finishing (Usage names) (capacity ∷ requests ∷ certificate ∷ operated ∷ []) writes status text work = only_zero status work.status_is
+file_finishing (Usage names) (capacity ∷ requests ∷ certificate ∷ operated ∷ more ∷ rest) writes status text work = absurd work
 file_finishing (Serve names links port workers) inputs writes status text work = absurd work
+file_finishing (Resume names links port workers) inputs writes status text work = absurd work
 file_finishing (Make number units names) [] writes status text work = only_zero status work.status_is
 file_finishing (Make number units names) (file ∷ rest) writes status text work = absurd work
 file_finishing (Trial number units) [] writes status text work =
@@ -72,11 +81,32 @@ service_finishing names links (capacity ∷ requests ∷ certificate ∷ []) wri
     subst (λ (n : ℕ). Contains served_statuses n) (sym work.output.status_is) (served_among work.output.works)
 service_finishing names links (capacity ∷ requests ∷ certificate ∷ more ∷ rest) writes change status text work = absurd work
 
+resumed_among : (failed : Bool) (works : List DoorWork) → Contains resumed_statuses (resumed_status failed works)
+resumed_among true works = (3, omega arith, refl)
+resumed_among false works =
+    elim (cases_Bool (some_ended is_door_end works)) [
+      | inl door ↦ rw door (1, omega arith, refl)
+      | inr calm ↦ elim (cases_Bool (some_ended is_full_end works)) [
+        | inl full ↦ rw (calm, full) (2, omega arith, refl)
+        | inr free ↦ rw (calm, free) (0, omega arith, refl)
+      ]
+    ]
+
+resume_finishing : (names : List Word) (links : ℕ) (inputs writes : List NamedBytes) (change : OutsideChange) (status : ℕ) (text : List ℕ) → ResumeWorks names links inputs writes change status text → Contains resumed_statuses status
+resume_finishing names links [] writes change status text work = absurd work
+resume_finishing names links (capacity ∷ []) writes change status text work = absurd work
+resume_finishing names links (capacity ∷ requests ∷ []) writes change status text work = absurd work
+resume_finishing names links (capacity ∷ requests ∷ certificate ∷ []) writes change status text work =
+    subst (λ (n : ℕ). Contains resumed_statuses n) (sym work.output.status_is) (resumed_among (is_some work.output.failed) work.output.works)
+resume_finishing names links (capacity ∷ requests ∷ certificate ∷ more ∷ rest) writes change status text work = absurd work
+
 pub works_finishing : (job : Job) (inputs writes : List NamedBytes) (change : OutsideChange) (status : ℕ) (text : List ℕ) → Works job inputs writes change status text → Contains (finishing_of job) status
 works_finishing (Allocate names nodes workers) inputs writes change status text work = file_finishing (Allocate names nodes workers) inputs writes status text work.1
 works_finishing (Check names) inputs writes change status text work = file_finishing (Check names) inputs writes status text work.1
 works_finishing (Amend names) inputs writes change status text work = file_finishing (Amend names) inputs writes status text work.1
+works_finishing (Usage names) inputs writes change status text work = file_finishing (Usage names) inputs writes status text work.1
 works_finishing (Serve names links port workers) inputs writes change status text work = service_finishing names links inputs writes change status text work
+works_finishing (Resume names links port workers) inputs writes change status text work = resume_finishing names links inputs writes change status text work
 works_finishing (Make number units names) inputs writes change status text work = file_finishing (Make number units names) inputs writes status text work.1
 works_finishing (Trial number units) inputs writes change status text work = file_finishing (Trial number units) inputs writes status text work.1
 
@@ -90,6 +120,8 @@ stop_job_by names job w change v (stops.Unwritten place) same lead = absurd lead
 stop_job_by names job w change v (stops.OutOfForm place line) same lead = (same, lead)
 stop_job_by names job w change v (stops.OverLimit limit number) same lead = (same, lead)
 stop_job_by names job w change v (stops.NotValid line reason) same lead = (same, lead)
+stop_job_by names job w change v (stops.Unopened why) same lead = absurd lead
+stop_job_by names job w change v stops.NoNext same lead = (same, lead)
 stop_job_by names job w change v stops.Memory same lead = lead
 
 pub stop_job : (names : List Word) (job : Job) (w v : World) (stop : Stop) → StopLeads names w (steps_of job) stop v → JobStops names job w stop v
@@ -132,6 +164,21 @@ module _ (job : Job) (w v : World) (inputs : List NamedBytes) (lead : Leads w (s
       files = none_written w.files v.files lead.files;
     };
     finishing = works_finishing job inputs [] change status text work;
+    asked = (map read_of inputs, lead.log, reads_asked);
+    told = lead.told;
+  }
+
+  -- nothing is written, since the journal was not opened
+  pub unopened_stops : (why : JournalRefusal) → IsWithoutJournal job inputs change why → StopsUnopened job w change why v
+  unopened_stops why refused = record {
+    unopened = record {
+      inputs = inputs;
+      passed = lead.pass inputs refl;
+      refused = refused;
+      calm = lead.faults;
+      log = lead.log;
+      files = lead.files;
+    };
     asked = (map read_of inputs, lead.log, reads_asked);
     told = lead.told;
   }

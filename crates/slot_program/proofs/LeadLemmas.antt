@@ -10,7 +10,7 @@ use Rattle.desk_outside.specs.Files.{Files, Reads}
 use Rattle.desk_outside.specs.Passages.{Passage, read}
 use Rattle.command_words.specs.Words.{Word}
 use Rattle.slot_program.specs.Reports.{Refusal, refusal_status}
-use Rattle.slot_program.specs.Judgements.{NamedBytes, Judgement, Accepts, Refuses, capacity_form, requests_form, certificate_form, valid_certificate}
+use Rattle.slot_program.specs.Judgements.{NamedBytes, Judgement, Accepts, Refuses, capacity_form, requests_form, certificate_form, valid_certificate, reports_form, next_season}
 use Rattle.slot_program.specs.Steps.{Step, reads, judges, names_read, IsHanded, IsNotHanded, PassFrom, RefuseFrom, form_steps, is_of_form}
 use Rattle.slot_program.specs.Writing.{read_of}
 use Rattle.slot_program.specs.Desk.{World}
@@ -171,6 +171,13 @@ told_not (Some held) name most count now refusal all before steps not told =
       forms = λ done h. absurd (no_pass held name most count now refusal not before (form_steps steps) done (told.forms done h));
     }
 
+-- a file that is not handed out is refused with status 5
+not_handed_five : (files : Option Files) (count now : ℕ) (name : Word) (most : ℕ) (refusal : Refusal) → IsNotHanded files count now name most refusal → refusal_status refusal ≡ 5
+not_handed_five None count now name most refusal (rose, inl is) = ap refusal_status is
+not_handed_five None count now name most refusal (rose, inr is) = ap refusal_status is
+not_handed_five (Some held) count now name most refusal (inl (none, is)) = ap refusal_status is
+not_handed_five (Some held) count now name most refusal (inr (long, is)) = ap refusal_status is
+
 pub refused_read : (w v u : World) (name : Word) (most : ℕ) (refusal : Refusal) (all : List Step) (before : List NamedBytes) (steps : List Step) → Leads w all before (reads name most ∷ steps) v
     → IsNotHanded w.files w.faults u.faults name most refusal → u.files ≡ v.files → u.log ≡ v.log → RefusedLead w all refusal u
 refused_read w v u name most refusal all before steps lead not same quiet =
@@ -179,6 +186,7 @@ refused_read w v u name most refusal all before steps lead not same quiet =
       due = lead.refuse w.faults u.faults refusal before (inl (refl, not));
       log = quiet ∙ lead.log;
       files = same ∙ lead.files;
+      calm = λ other. absurd (other (not_handed_five w.files w.faults u.faults name most refusal not));
       told = told_not w.files name most w.faults u.faults refusal all before steps not lead.told;
       named = lead.named;
     }
@@ -212,6 +220,8 @@ module _ (name : Word) (before : List NamedBytes) (refusal : Refusal) where
   form_stops requests_form held steps done alone h = absurd (alone.rejects h.0)
   form_stops certificate_form held steps done alone h = absurd (alone.rejects h.0)
   form_stops valid_certificate held steps done alone h = valid_status name before refusal alone.refuses
+  form_stops reports_form held steps done alone h = absurd (alone.rejects h.0)
+  form_stops next_season held steps done alone h = absurd (alone.rejects h.0)
 
   module _ (j : Judgement) (alone : RefusesAlone j name before refusal) where
     due_stops : (held : Files) (steps : List Step) (other : Refusal) (done : List NamedBytes) → RefuseFrom (Some held) 0 0 before (judges j name ∷ steps) other done → other ≡ refusal
@@ -234,6 +244,7 @@ module _ (name : Word) (before : List NamedBytes) (refusal : Refusal) where
           due = lead.refuse w.faults v.faults refusal before (inl (refl, alone.refuses));
           log = lead.log;
           files = lead.files;
+          calm = λ other. lead.faults;
           told = told_stops w.files all steps lead.told;
           named = lead.named;
         }
@@ -247,6 +258,8 @@ judged_stops names j name before (stops.Unwritten place) w v all steps why lead 
 judged_stops names j name before (stops.OutOfForm place line) w v all steps why lead = refused_judge name before _ j why w v all steps lead
 judged_stops names j name before (stops.OverLimit limit number) w v all steps why lead = refused_judge name before _ j why w v all steps lead
 judged_stops names j name before (stops.NotValid line reason) w v all steps why lead = refused_judge name before _ j why w v all steps lead
+judged_stops names j name before (stops.Unopened why_not) w v all steps why lead = absurd why
+judged_stops names j name before stops.NoNext w v all steps why lead = refused_judge name before _ j why w v all steps lead
 judged_stops names j name before stops.Memory w v all steps why lead = memory_read w v v all before (judges j name ∷ steps) lead refl
 
 -- files that are accepted stop a judgement for want of memory alone
@@ -258,6 +271,8 @@ only_memory names j name files (stops.Unwritten place) accepts why = absurd why
 only_memory names j name files (stops.OutOfForm place line) accepts why = absurd (why.rejects accepts)
 only_memory names j name files (stops.OverLimit limit number) accepts why = absurd (why.rejects accepts)
 only_memory names j name files (stops.NotValid line reason) accepts why = absurd (why.rejects accepts)
+only_memory names j name files (stops.Unopened why_not) accepts why = absurd why
+only_memory names j name files stops.NoNext accepts why = absurd (why.rejects accepts)
 only_memory names j name files stops.Memory accepts why = refl
 
 -- ---- refusals by a property
@@ -270,4 +285,6 @@ by_property names One Other (stops.Unwritten place) on why = why
 by_property names One Other (stops.OutOfForm place line) on why = on _ why
 by_property names One Other (stops.OverLimit limit number) on why = on _ why
 by_property names One Other (stops.NotValid line reason) on why = on _ why
+by_property names One Other (stops.Unopened why_not) on why = why
+by_property names One Other stops.NoNext on why = on _ why
 by_property names One Other stops.Memory on why = tt

@@ -1,6 +1,8 @@
 mod TextLemmas
 mod OutsideLemmas
 mod ServiceLemmas
+mod JournalLemmas
+mod ResumeLemmas
 mod StageLemmas
 mod LeadLemmas
 mod JudgementLemmas
@@ -9,3 +11,5 @@ mod AnswerLemmas
 mod DeskLemmas
 mod CheckLemmas
 mod AmendLemmas
+mod UsageLemmas
+mod ReportsLemmas

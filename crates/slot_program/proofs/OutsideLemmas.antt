@@ -1,11 +1,12 @@
 -- What holds whatever is outside holds of what is there.
-use Rattle.std.proofs.Common.{[], ℕ, Result, Ok, Err}
+use Rattle.std.proofs.Common.{[], ℕ, Option, None, Result, Ok, Err}
 use Rattle.std.specs.Prelude.{IfOk, IfErr}
+use Rattle.desk_disk.specs.Disks.{DiskView}
 use Rattle.slot_program.specs.Outside.{Outside}
 use Rattle.slot_program.specs.Desk.{World}
 
 pub nowhere : Outside
-nowhere = record { doors = [] }
+nowhere = record { doors = []; disk = None }
 
 pub ok_at : {A E : Type 0} (P : A → Outside → Type 0) (o : Outside) (r : Result A E) → IfOk r (λ a. (p : Outside) → P a p) → IfOk r (λ a. P a o)
 ok_at P o (Ok a) h = h o
@@ -28,3 +29,12 @@ ok_numbered P port workers (Err e) h = tt
 pub err_numbered : {A E : Type 0} (P : E → ℕ → ℕ → Type 0) (port workers : ℕ) (r : Result A E) → IfErr r (λ e. (p k : ℕ) → P e p k) → IfErr r (λ e. P e port workers)
 err_numbered P port workers (Ok a) h = tt
 err_numbered P port workers (Err e) h = h port workers
+
+-- and for each disk, which such a job does not use
+pub ok_served : {A E : Type 0} (P : A → ℕ → ℕ → Option DiskView → Type 0) (port workers : ℕ) (disk : Option DiskView) (r : Result A E) → IfOk r (λ a. (p k : ℕ) (d : Option DiskView) → P a p k d) → IfOk r (λ a. P a port workers disk)
+ok_served P port workers disk (Ok a) h = h port workers disk
+ok_served P port workers disk (Err e) h = tt
+
+pub err_served : {A E : Type 0} (P : E → ℕ → ℕ → Option DiskView → Type 0) (port workers : ℕ) (disk : Option DiskView) (r : Result A E) → IfErr r (λ e. (p k : ℕ) (d : Option DiskView) → P e p k d) → IfErr r (λ e. P e port workers disk)
+err_served P port workers disk (Ok a) h = tt
+err_served P port workers disk (Err e) h = h port workers disk

@@ -1,6 +1,6 @@
 -- Workers at doors: door by door, how they ended, and the history that they share.
-use Rattle.std.proofs.Common.{◌≡◌, ℕ, zero, suc, ◌+◌, ◌<◌, true, false, List, [], ◌∷◌, length, map, get_or, refl, sym, ap, subst, ◌∙◌, arith, inl, inr}
-use Rattle.std.specs.Prelude.{◌⊎◌, All, Contains}
+use Rattle.std.proofs.Common.{◌≡◌, ℕ, zero, suc, ◌+◌, ◌<◌, Bool, true, false, List, [], ◌∷◌, length, map, get_or, refl, sym, ap, subst, ◌∙◌, arith, inl, inr}
+use Rattle.std.specs.Prelude.{◌⊎◌, All, Contains, is_some}
 use Rattle.std.proofs.lemmas.Bool.{cases_Bool}
 use Rattle.std.proofs.lemmas.List.Elements.{All-nil, All-cons, All-head, All-tail}
 use Rattle.desk_outside.specs.Cause.{Rose}
@@ -11,6 +11,8 @@ use Rattle.holding_book.specs.Books.{SlotBook, IsBook}
 use Rattle.holding_book.specs.Asks.{CanAsk, next}
 use Rattle.holding_book.specs.Histories.{replay}
 use Rattle.holding_book.specs.Starts.{start_book}
+use Rattle.amend_journal.specs.Told.{EndsBroken}
+use Rattle.amend_journal.specs.Kept.{book_after}
 use Rattle.amend_run.specs.Amended.{FitsThroughout}
 use Rattle.session_desk.specs.declared.worker.DoorEnd.{DoorEnd}
 use Rattle.session_desk.specs.declared.worker.DoorEnd.TheVariants as ends
@@ -18,11 +20,12 @@ use Rattle.session_desk.specs.declared.worker.DoorWork.{DoorWork}
 use Rattle.session_desk.specs.Served.{Session, EndsWorker}
 use Rattle.command_words.specs.Words.{Word}
 use Rattle.command_words.specs.declared.job.Job.{Job}
-use Rattle.command_words.specs.declared.job.Job.TheVariants.{Allocate, Check, Amend, Serve, Make, Trial}
+use Rattle.command_words.specs.declared.job.Job.TheVariants.{Allocate, Check, Amend, Serve, Resume, Usage, Make, Trial}
 use Rattle.slot_program.specs.Judgements.{NamedBytes}
-use Rattle.slot_program.specs.Jobs.{searched_statuses, finishing_of, ServiceWorks, Works}
+use Rattle.slot_program.specs.Jobs.{searched_statuses, finishing_of, ServiceWorks, ResumeWorks, Works}
+use Rattle.slot_program.specs.Resumed.{resumed_status}
 use Rattle.slot_program.specs.Outside.{OutsideChange, door_faults, SomeRose}
-use Rattle.slot_program.specs.Services.{IsWorker, AreWorkers, is_door_end, is_full_end, some_ended, served_status}
+use Rattle.slot_program.specs.Services.{IsWorker, AreWorkers, never_breaks, is_door_end, is_full_end, is_broken_end, some_ended, served_status}
 
 -- ---- door by door
 
@@ -71,6 +74,22 @@ full_at (work ∷ works) some =
       | inr other ↦ let at = full_at works (rw other at some) in (suc at.0, at.1, omega (arith, at.2), at.3)
     ]
 
+-- the same of one that ended since what is kept beside the history had failed
+broken_end : (end : DoorEnd) → is_broken_end end ≡ true → end ≡ ends.Broken
+broken_end ends.Broken is = refl
+broken_end ends.Served is = absurd cc
+broken_end ends.Full is = absurd cc
+broken_end ends.Door is = absurd cc
+broken_end ends.Memory is = absurd cc
+
+pub broken_at : (works : List DoorWork) → some_ended is_broken_end works ≡ true → (n : ℕ) × (k : DoorWork) × (n < length works) × ((get_or works n k).end ≡ ends.Broken)
+broken_at [] some = absurd cc
+broken_at (work ∷ works) some =
+    elim (cases_Bool (is_broken_end work.end)) [
+      | inl broken ↦ (0, work, omega arith, broken_end work.end broken)
+      | inr other ↦ let at = broken_at works (rw other at some) in (suc at.0, at.1, omega (arith, at.2), at.3)
+    ]
+
 -- ---- faults of doors, by how workers ended
 
 -- what of an end says whether the count rose
@@ -88,7 +107,7 @@ risen_end ends.Full links sessions d e is ended = absurd cc
 risen_end ends.Broken links sessions d e is ended = absurd cc
 risen_end ends.Memory links sessions d e is ended = absurd cc
 
-module _ (start : SlotBook) (links : ℕ) (history : List Entry) where
+module _ {X : Type 0} (broken : List X → ℕ → Type 0) (start : SlotBook) (links : ℕ) (history : List Entry) where
   quiet_doors : (n : ℕ) (ds : List DoorView) (works : List DoorWork) (es : List DoorView) → AreWorkers (IsWorker start links history) n ds works es → some_ended is_door_end works ≡ false
       → map (λ (d : DoorView). d.faults) es ≡ map (λ (d : DoorView). d.faults) ds
   quiet_doors n [] [] [] all none = refl
@@ -144,7 +163,7 @@ service_calm names links (capacity ∷ []) writes change status text work is = a
 service_calm names links (capacity ∷ requests ∷ []) writes change status text work is = absurd work
 service_calm names links (capacity ∷ requests ∷ certificate ∷ []) writes change status text work is =
     let out = work.output in
-    quiet_doors (start_book work.season work.proved) links out.history 0 change.before.doors out.works change.after.doors out.workers
+    quiet_doors never_breaks (start_book work.season work.proved) links out.history 0 change.before.doors out.works change.after.doors out.served.workers
     (no_door_else out.works (subst (λ (n : ℕ). (n ≡ 0) ⊎ (n ≡ 11)) out.status_is is))
 service_calm names links (capacity ∷ requests ∷ certificate ∷ more ∷ rest) writes change status text work is = absurd work
 
@@ -155,8 +174,39 @@ service_risen names links (capacity ∷ []) writes change status text work is = 
 service_risen names links (capacity ∷ requests ∷ []) writes change status text work is = absurd work
 service_risen names links (capacity ∷ requests ∷ certificate ∷ []) writes change status text work is =
     let out = work.output in
-    rose_somewhere (start_book work.season work.proved) links out.history 0 change.before.doors out.works change.after.doors out.workers (ten_of_doors out.works (sym out.status_is ∙ is))
+    rose_somewhere never_breaks (start_book work.season work.proved) links out.history 0 change.before.doors out.works change.after.doors out.served.workers (ten_of_doors out.works (sym out.status_is ∙ is))
 service_risen names links (capacity ∷ requests ∷ certificate ∷ more ∷ rest) writes change status text work is = absurd work
+
+-- with a journal
+quiet_resumed : (failed : Bool) (works : List DoorWork) → (resumed_status failed works ≡ 0) ⊎ (resumed_status failed works ≡ 11) → some_ended is_door_end works ≡ false
+quiet_resumed true works (inl bad) = absurd (omega (arith, bad))
+quiet_resumed true works (inr bad) = absurd (omega (arith, bad))
+quiet_resumed false works is = no_door_else works is
+
+ten_resumed : (failed : Bool) (works : List DoorWork) → resumed_status failed works ≡ 10 → some_ended is_door_end works ≡ true
+ten_resumed true works bad = absurd (omega (arith, bad))
+ten_resumed false works is = ten_of_doors works is
+
+resume_calm : (names : List Word) (links : ℕ) (inputs writes : List NamedBytes) (change : OutsideChange) (status : ℕ) (text : List ℕ) → ResumeWorks names links inputs writes change status text
+    → (status ≡ 0) ⊎ (status ≡ 11) → door_faults change.after ≡ door_faults change.before
+resume_calm names links [] writes change status text work is = absurd work
+resume_calm names links (capacity ∷ []) writes change status text work is = absurd work
+resume_calm names links (capacity ∷ requests ∷ []) writes change status text work is = absurd work
+resume_calm names links (capacity ∷ requests ∷ certificate ∷ []) writes change status text work is =
+    let out = work.output in
+    quiet_doors EndsBroken (book_after (start_book work.season work.proved) out.pairs) links out.history 0 change.before.doors out.works change.after.doors out.served.workers
+    (quiet_resumed (is_some out.failed) out.works (subst (λ (n : ℕ). (n ≡ 0) ⊎ (n ≡ 11)) out.status_is is))
+resume_calm names links (capacity ∷ requests ∷ certificate ∷ more ∷ rest) writes change status text work is = absurd work
+
+resume_risen : (names : List Word) (links : ℕ) (inputs writes : List NamedBytes) (change : OutsideChange) (status : ℕ) (text : List ℕ) → ResumeWorks names links inputs writes change status text
+    → status ≡ 10 → SomeRose change.before.doors change.after.doors
+resume_risen names links [] writes change status text work is = absurd work
+resume_risen names links (capacity ∷ []) writes change status text work is = absurd work
+resume_risen names links (capacity ∷ requests ∷ []) writes change status text work is = absurd work
+resume_risen names links (capacity ∷ requests ∷ certificate ∷ []) writes change status text work is =
+    let out = work.output in
+    rose_somewhere EndsBroken (book_after (start_book work.season work.proved) out.pairs) links out.history 0 change.before.doors out.works change.after.doors out.served.workers (ten_resumed (is_some out.failed) out.works (sym out.status_is ∙ is))
+resume_risen names links (capacity ∷ requests ∷ certificate ∷ more ∷ rest) writes change status text work is = absurd work
 
 -- any job
 pub works_calm : (job : Job) (inputs writes : List NamedBytes) (change : OutsideChange) (status : ℕ) (text : List ℕ) → Works job inputs writes change status text
@@ -164,7 +214,9 @@ pub works_calm : (job : Job) (inputs writes : List NamedBytes) (change : Outside
 works_calm (Allocate names nodes workers) inputs writes change status text work is = ap door_faults work.0
 works_calm (Check names) inputs writes change status text work is = ap door_faults work.0
 works_calm (Amend names) inputs writes change status text work is = ap door_faults work.0
+works_calm (Usage names) inputs writes change status text work is = ap door_faults work.0
 works_calm (Serve names links port workers) inputs writes change status text work is = service_calm names links inputs writes change status text work is
+works_calm (Resume names links port workers) inputs writes change status text work is = resume_calm names links inputs writes change status text work is
 works_calm (Make number units names) inputs writes change status text work is = ap door_faults work.0
 works_calm (Trial number units) inputs writes change status text work is = ap door_faults work.0
 
@@ -184,7 +236,9 @@ pub works_risen : (job : Job) (inputs writes : List NamedBytes) (change : Outsid
 works_risen (Allocate names nodes workers) inputs writes change text work one = absurd (not_ten_searched one)
 works_risen (Check names) inputs writes change text work one = absurd (not_ten_zero one)
 works_risen (Amend names) inputs writes change text work one = absurd (not_ten_zero one)
+works_risen (Usage names) inputs writes change text work one = absurd (not_ten_zero one)
 works_risen (Serve names links port workers) inputs writes change text work one = service_risen names links inputs writes change 10 text work refl
+works_risen (Resume names links port workers) inputs writes change text work one = resume_risen names links inputs writes change 10 text work refl
 works_risen (Make number units names) inputs writes change text work one = absurd (not_ten_zero one)
 works_risen (Trial number units) inputs writes change text work one = absurd (not_ten_searched one)
 

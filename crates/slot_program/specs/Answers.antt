@@ -2,7 +2,8 @@
 use Rattle.std.specs.Prelude.{◌≡◌, ◌⊎◌, ℕ, List, Option, Some, None, IfSome, Contains}
 use Rattle.desk_outside.specs.Cause.{Rose}
 use Rattle.desk_outside.specs.Files.{Files}
-use Rattle.slot_program.specs.Reports.{Report, Refusal, refused, status_of, text_of}
+use Rattle.slot_program.specs.Reports.{Report, Refusal, refused, unopened, status_of, text_of}
+use Rattle.slot_program.specs.Reports.{JournalRefusal}
 use Rattle.slot_program.specs.Judgements.{NamedBytes}
 use Rattle.slot_program.specs.Steps.{AllPass, FirstDue, form_steps}
 use Rattle.slot_program.specs.Jobs.{steps_of, finishing_of}
@@ -10,16 +11,21 @@ use Rattle.slot_program.specs.Outside.{OutsideChange}
 use Rattle.slot_program.specs.Desk.{World, Ends}
 use Rattle.command_words.specs.declared.job.Job.{Job}
 
--- where files are told: what is due is reported, and what passes is finished, unless a call failed
+-- the work of the job is done, or its journal was not opened
+abbrev pub IsThrough : Job → Report → Type 0
+IsThrough job report = Contains (finishing_of job) (status_of report)
+    ⊎ ((why : JournalRefusal) × (report ≡ unopened why))
+
+-- where files are told: what is due is reported, and what passes is through, unless a call failed
 pub record ToldExact (held : Files) (job : Job) (w : World) (report : Report) (v : World) : Type 0
   where
     pub due : (other : Refusal) → FirstDue held (steps_of job) other →
         (report ≡ refused other) ⊎ ((status_of report ≡ 5) × Rose w.faults v.faults)
     pub whole : (read : List NamedBytes) → AllPass (Some held) (steps_of job) read →
-        Contains (finishing_of job) (status_of report) ⊎ Rose w.faults v.faults
+        IsThrough job report ⊎ Rose w.faults v.faults
     pub forms : (read : List NamedBytes) → AllPass (Some held) (form_steps (steps_of job)) read →
         (status_of report ≡ 1)
-        ⊎ (Contains (finishing_of job) (status_of report) ⊎ Rose w.faults v.faults)
+        ⊎ (IsThrough job report ⊎ Rose w.faults v.faults)
 
 abbrev pub IsExact : Option Job → World → Report → World → Type 0
 IsExact None w report v = Unit {0}

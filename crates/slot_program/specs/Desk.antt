@@ -1,17 +1,17 @@
 -- How a command ends: what it reports, why, what passed between it and the cabinet, which files it
 -- leaves, and how it leaves what else is outside.
-use Rattle.std.specs.Prelude.{◌≡◌, ℕ, List, [], ◌∷◌, ◌++◌, map, Option, Some, None, All}
+use Rattle.std.specs.Prelude.{◌≡◌, ◌≢◌, ℕ, List, [], ◌∷◌, ◌++◌, map, Option, Some, None, All}
 use Rattle.std.specs.Prelude.{Contains}
 use Rattle.desk_outside.specs.Cause.{Rose}
 use Rattle.desk_outside.specs.Files.{Files}
 use Rattle.desk_outside.specs.Passages.{Passage, read, wrote, write_failed, took, put, put_failed}
 use Rattle.command_words.specs.Words.{Word}
 use Rattle.slot_program.specs.Reports.{Report, Refusal, no_command, refused, unread, unwritten}
-use Rattle.slot_program.specs.Reports.{finished}
+use Rattle.slot_program.specs.Reports.{finished, unopened, JournalRefusal, refusal_status}
 use Rattle.slot_program.specs.Judgements.{NamedBytes}
 use Rattle.slot_program.specs.Steps.{names_read, AllPass, RefuseFrom, ReachFrom}
 use Rattle.slot_program.specs.Writing.{read_of, written_of, AreWritten, StopsAt}
-use Rattle.slot_program.specs.Jobs.{steps_of, names_written, Works}
+use Rattle.slot_program.specs.Jobs.{steps_of, names_written, Works, IsWithoutJournal}
 use Rattle.slot_program.specs.Outside.{OutsideChange, IsStill}
 use Rattle.command_words.specs.declared.job.Job.{Job}
 
@@ -41,10 +41,23 @@ pub record IsFinished (job : Job) (w : World) (change : OutsideChange) (status :
   pub log : v.log ≡ w.log ++ (map read_of inputs ++ map written_of writes)
   pub files : AreWritten w.files writes v.files
 
--- a step refused: exactly the files of the steps before it were read, and none is changed
+-- a step refused: exactly the files of the steps before it were read, and none is changed; where it
+-- refused what it was handed, no call failed
 pub record IsRefused (job : Job) (w : World) (refusal : Refusal) (v : World) : Type 0 where
   pub inputs : List NamedBytes
   pub due : RefuseFrom w.files w.faults v.faults [] (steps_of job) refusal inputs
+  pub log : v.log ≡ w.log ++ map read_of inputs
+  pub files : v.files ≡ w.files
+  pub calm : refusal_status refusal ≢ 5 → v.faults ≡ w.faults
+
+-- all steps passed, and then the journal was not opened: no file is changed, and no call of the
+-- cabinet failed
+pub record EndsUnopened (job : Job) (w : World) (change : OutsideChange) (why : JournalRefusal)
+    (v : World) : Type 0 where
+  pub inputs : List NamedBytes
+  pub passed : AllPass w.files (steps_of job) inputs
+  pub refused : IsWithoutJournal job inputs change why
+  pub calm : v.faults ≡ w.faults
   pub log : v.log ≡ w.log ++ map read_of inputs
   pub files : v.files ≡ w.files
 
@@ -73,6 +86,7 @@ pub record IsUnwritten (job : Job) (w : World) (change : OutsideChange) (name : 
 abbrev pub JobEnds : Job → World → OutsideChange → Report → World → Type 0
 JobEnds job w change no_command v = ⊥
 JobEnds job w change (refused refusal) v = IsStill change × IsRefused job w refusal v
+JobEnds job w change (unopened why) v = EndsUnopened job w change why v
 JobEnds job w change (unread name) v = IsStill change × IsUnread job w name v
 JobEnds job w change (unwritten name) v = IsUnwritten job w change name v
 JobEnds job w change (finished status text) v = IsFinished job w change status text v
@@ -109,4 +123,4 @@ names_changed (Some job) = names_written job
 
 abbrev pub IsStatus : ℕ → Type 0
 IsStatus status =
-    Contains (0 ∷ 1 ∷ 2 ∷ 3 ∷ 4 ∷ 5 ∷ 6 ∷ 7 ∷ 8 ∷ 9 ∷ 10 ∷ 11 ∷ []) status
+    Contains (0 ∷ 1 ∷ 2 ∷ 3 ∷ 4 ∷ 5 ∷ 6 ∷ 7 ∷ 8 ∷ 9 ∷ 10 ∷ 11 ∷ 13 ∷ 14 ∷ 15 ∷ []) status

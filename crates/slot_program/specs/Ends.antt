@@ -3,9 +3,11 @@ use Rattle.std.specs.Prelude.{ℕ, List, [], Some, IfSome, Contains}
 use Rattle.command_words.specs.Words.{Word}
 use Rattle.slot_program.specs.Jobs.{name_at, steps_of, finishing_of}
 use Rattle.slot_program.specs.Outside.{Outside, OutsideChange, still, IsStill}
+use Rattle.slot_program.specs.Reports.{JournalRefusal}
 use Rattle.slot_program.specs.Desk.{World, LogGrew, OnlyOfJob, IsFinished, IsUnwritten}
+use Rattle.slot_program.specs.Desk.{EndsUnopened}
 use Rattle.slot_program.specs.Leads.{ToldLead}
-use Rattle.slot_program.specs.Stops.{StopLeads}
+use Rattle.slot_program.specs.Stops.{StopLeads, journal_refusal}
 use Rattle.command_words.specs.declared.job.Job.{Job}
 use Rattle.slot_program.specs.declared.stop.Stop.{Stop}
 use Rattle.slot_program.specs.declared.stop.Stop.TheVariants as stops
@@ -24,10 +26,20 @@ pub record IsCutShort (job : Job) (w : World) (change : OutsideChange) (name : W
   pub unwritten : IsUnwritten job w change name v
   pub asked : LogGrew w.log (OnlyOfJob (Some job)) v.log
 
+-- the journal was not opened after all steps passed, only files of the job passed, and where files
+-- are told nothing else was due
+pub record StopsUnopened (job : Job) (w : World) (change : OutsideChange) (why : JournalRefusal)
+    (v : World) : Type 0 where
+  pub unopened : EndsUnopened job w change why v
+  pub asked : LogGrew w.log (OnlyOfJob (Some job)) v.log
+  pub told : IfSome w.files (λ held. ToldLead held (steps_of job) unopened.inputs [])
+
 -- where a job stopped; memory may run out behind what it did outside
 abbrev pub JobStopsBy : List Word → Job → World → OutsideChange → Stop → World → Type 0
 JobStopsBy names job w change (stops.Unwritten place) v =
     IsCutShort job w change (name_at names place) v
+JobStopsBy names job w change (stops.Unopened why) v =
+    StopsUnopened job w change (journal_refusal why) v
 JobStopsBy names job w change stops.Memory v = StopLeads names w (steps_of job) stops.Memory v
 JobStopsBy names job w change stop v = IsStill change × StopLeads names w (steps_of job) stop v
 

@@ -1,7 +1,8 @@
 -- What each job does, by cases: its steps, the files that it writes, its work, and its statuses.
-use Rattle.std.specs.Prelude.{◌≡◌, ℕ, ◌+◌, ◌≤◌, List, [], ◌∷◌, ◌++◌, length, map, slice_index_or, codes, Contains}
+use Rattle.std.specs.Prelude.{◌≡◌, ℕ, ◌+◌, ◌<◌, ◌≤◌, List, [], ◌∷◌, ◌++◌, length, map, slice_index_or, codes, Contains}
 use Rattle.std.specs.Prelude.{Option}
 use Rattle.std.specs.Fmt.{decimal}
+use Rattle.season_days.specs.Term.{Term}
 use Rattle.series_model.specs.Submissions.{SubmissionView}
 use Rattle.cert_format.specs.declared.cert.Certificate.{Certificate}
 use Rattle.wasg_stages.specs.Valid.{IsValid, MarksHold}
@@ -10,19 +11,27 @@ use Rattle.scr_replies.specs.SeasonReplies.{replies_text}
 use Rattle.season_maker.specs.Texts.{generated_capacity, generated_requests}
 use Rattle.holding_book.specs.Starts.{start_book}
 use Rattle.desk_outside.specs.Files.{Files}
+use Rattle.desk_disk.specs.Disks.{DiskView}
 use Rattle.command_words.specs.Words.{Word}
 use Rattle.slot_program.specs.StageLines.{mark_lines, marks_status, node_total}
 use Rattle.slot_program.specs.Judgements.{NamedBytes, IsSeasonOf, SpellsCert, capacity_form}
 use Rattle.slot_program.specs.Judgements.{requests_form, certificate_form, valid_certificate}
+use Rattle.slot_program.specs.Judgements.{reports_form, next_season}
 use Rattle.slot_program.specs.Amendments.{AmendsLegally}
 use Rattle.slot_program.specs.Services.{ServesLegally}
+use Rattle.slot_program.specs.Resumed.{ResumesLegally}
+use Rattle.slot_program.specs.Journals.{IsUnopened, IsDueJournal, TellsPairs}
 use Rattle.slot_program.specs.Outside.{OutsideChange, IsStill}
+use Rattle.slot_program.specs.Reports.{JournalRefusal}
+use Rattle.slot_program.specs.Usages.{IsWatched}
+use Rattle.usage_watch.specs.Reports.{SaysOperated}
+use Rattle.usage_watch.specs.declared.operated.Operated.{Operated}
 use Rattle.slot_program.specs.Steps.{Step, reads, judges, names_read, Holds}
 use Rattle.slot_program.specs.declared.files.TheConstants.{LONGEST_FILE, LONGEST_CERT_FILE}
 use Rattle.slot_program.specs.declared.trial.TheConstants.{TRIAL_NODES}
 use Rattle.command_words.specs.declared.job.Job.{Job}
 use Rattle.command_words.specs.declared.job.Job.TheVariants.{Allocate, Check, Amend, Serve}
-use Rattle.command_words.specs.declared.job.Job.TheVariants.{Make, Trial}
+use Rattle.command_words.specs.declared.job.Job.TheVariants.{Resume, Usage, Make, Trial}
 
 -- the name of this number, counted from 0, in the order in which the command takes names
 abbrev pub name_at : List Word → ℕ → Word
@@ -53,9 +62,15 @@ abbrev pub amend_steps : List Word → List Step
 amend_steps names =
     season_steps names (certificate_steps names (reads (name_at names 3) LONGEST_FILE ∷ []))
 
--- behind a certificate that is valid clients are served
+-- behind a certificate that is valid clients are served; a journal is opened behind it, too
 abbrev pub serve_steps : List Word → List Step
 serve_steps names = check_steps names
+
+-- behind a certificate that is valid reports are read and judged, and then whether a season follows
+abbrev pub usage_steps : List Word → List Step
+usage_steps names =
+    season_steps names (certificate_steps names (reads (name_at names 3) LONGEST_FILE
+    ∷ judges reports_form (name_at names 3) ∷ judges next_season (name_at names 3) ∷ []))
 
 -- a generated season is not read
 abbrev pub steps_of : Job → List Step
@@ -63,6 +78,8 @@ steps_of (Allocate names nodes workers) = allocate_steps names
 steps_of (Check names) = check_steps names
 steps_of (Amend names) = amend_steps names
 steps_of (Serve names links port workers) = serve_steps names
+steps_of (Resume names links port workers) = serve_steps names
+steps_of (Usage names) = usage_steps names
 steps_of (Make number units names) = []
 steps_of (Trial number units) = []
 
@@ -73,6 +90,8 @@ names_written (Allocate names nodes workers) = name_at names 2 ∷ name_at names
 names_written (Check names) = []
 names_written (Amend names) = name_at names 4 ∷ []
 names_written (Serve names links port workers) = name_at names 3 ∷ []
+names_written (Resume names links port workers) = name_at names 4 ∷ []
+names_written (Usage names) = name_at names 4 ∷ []
 names_written (Make number units names) = name_at names 0 ∷ name_at names 1 ∷ []
 names_written (Trial number units) = []
 
@@ -91,15 +110,26 @@ searched_statuses = 0 ∷ 8 ∷ 9 ∷ []
 abbrev pub served_statuses : List ℕ
 served_statuses = 0 ∷ 10 ∷ 11 ∷ []
 
+-- and where a journal was kept, its disk may have failed
+abbrev pub resumed_statuses : List ℕ
+resumed_statuses = 0 ∷ 10 ∷ 11 ∷ 14 ∷ []
+
 -- all of these
 abbrev pub finished_statuses : List ℕ
-finished_statuses = 0 ∷ 8 ∷ 9 ∷ 10 ∷ 11 ∷ []
+finished_statuses = 0 ∷ 8 ∷ 9 ∷ 10 ∷ 11 ∷ 14 ∷ []
+
+-- these, that of a journal that was not opened, and that at which no season follows: no call of the
+-- cabinet or of the output failed
+abbrev pub calm_statuses : List ℕ
+calm_statuses = 0 ∷ 8 ∷ 9 ∷ 10 ∷ 11 ∷ 14 ∷ 13 ∷ 15 ∷ []
 
 abbrev pub finishing_of : Job → List ℕ
 finishing_of (Allocate names nodes workers) = searched_statuses
 finishing_of (Check names) = 0 ∷ []
 finishing_of (Amend names) = 0 ∷ []
 finishing_of (Serve names links port workers) = served_statuses
+finishing_of (Resume names links port workers) = resumed_statuses
+finishing_of (Usage names) = 0 ∷ []
 finishing_of (Make number units names) = 0 ∷ []
 finishing_of (Trial number units) = searched_statuses
 
@@ -171,6 +201,37 @@ pub record IsService (names : List Word) (links : ℕ) (capacity requests certif
   pub output : ServesLegally (start_book season proved) links change.before.doors
       change.after.doors recorded status text
   pub written : writes ≡ one_file names 3 recorded
+  pub disk : change.after.disk ≡ change.before.disk
+
+-- The same with a journal, which was opened in the season.
+pub record IsResumption (names : List Word) (links : ℕ)
+    (capacity requests certificate : List ℕ) (writes : List NamedBytes) (change : OutsideChange)
+    (status : ℕ) (text : List ℕ) : Type 0 where
+  pub season : SubmissionView
+  pub proved : Certificate
+  pub recorded : List ℕ
+  pub made : IsSeasonOf capacity requests season
+  pub year : season.declaration.season.year < 100
+  pub spelled : SpellsCert certificate proved
+  pub valid : IsValid season proved
+  pub output : ResumesLegally (start_book season proved) links change recorded status text
+  pub written : writes ≡ one_file names 4 recorded
+
+-- The certificate that was read is valid for the season, and what was operated of the slots that it
+-- gives is what the reports say.
+pub record IsUsage (names : List Word) (capacity requests certificate operated : List ℕ)
+    (writes : List NamedBytes) (status : ℕ) (text : List ℕ) : Type 0 where
+  pub season : SubmissionView
+  pub proved : Certificate
+  pub reports : List Operated
+  pub next : List ℕ
+  pub made : IsSeasonOf capacity requests season
+  pub spelled : SpellsCert certificate proved
+  pub valid : IsValid season proved
+  pub said : SaysOperated season.declaration.season operated reports
+  pub output : IsWatched season (start_book season proved) reports next text
+  pub written : writes ≡ one_file names 4 next
+  pub status_is : status ≡ 0
 
 -- the capacity file of a generated season is written before its requests, and nothing is printed
 pub record IsMade (number units : ℕ) (names : List Word) (writes : List NamedBytes) (status : ℕ)
@@ -209,6 +270,8 @@ FileWorks (Check names) (capacity ∷ requests ∷ certificate ∷ []) writes st
     (status ≡ 0) × (writes ≡ []) × (text ≡ codes "YES\n")
 FileWorks (Amend names) (capacity ∷ requests ∷ certificate ∷ asks ∷ []) writes status text =
     IsAmendment names capacity.bytes requests.bytes certificate.bytes asks.bytes writes status text
+FileWorks (Usage names) (capacity ∷ requests ∷ certificate ∷ operated ∷ []) writes status text =
+    IsUsage names capacity.bytes requests.bytes certificate.bytes operated.bytes writes status text
 FileWorks (Make number units names) [] writes status text =
     IsMade number units names writes status text
 FileWorks (Trial number units) [] writes status text = IsTrial number units writes status text
@@ -221,7 +284,14 @@ ServiceWorks names links (capacity ∷ requests ∷ certificate ∷ []) writes c
     IsService names links capacity.bytes requests.bytes certificate.bytes writes change status text
 ServiceWorks names links inputs writes change status text = ⊥
 
--- Any job: one that serves no client leaves the doors as they are.
+abbrev pub ResumeWorks : List Word → ℕ → List NamedBytes → List NamedBytes → OutsideChange → ℕ
+    → List ℕ → Type 0
+ResumeWorks names links (capacity ∷ requests ∷ certificate ∷ []) writes change status text =
+    IsResumption names links capacity.bytes requests.bytes certificate.bytes writes change status
+    text
+ResumeWorks names links inputs writes change status text = ⊥
+
+-- Any job: one that serves no client leaves doors and disk as they are.
 abbrev pub Works : Job → List NamedBytes → List NamedBytes → OutsideChange → ℕ → List ℕ → Type 0
 Works (Allocate names nodes workers) inputs writes change status text =
     IsStill change × FileWorks (Allocate names nodes workers) inputs writes status text
@@ -231,10 +301,49 @@ Works (Amend names) inputs writes change status text =
     IsStill change × FileWorks (Amend names) inputs writes status text
 Works (Serve names links port workers) inputs writes change status text =
     ServiceWorks names links inputs writes change status text
+Works (Resume names links port workers) inputs writes change status text =
+    ResumeWorks names links inputs writes change status text
+Works (Usage names) inputs writes change status text =
+    IsStill change × FileWorks (Usage names) inputs writes status text
 Works (Make number units names) inputs writes change status text =
     IsStill change × FileWorks (Make number units names) inputs writes status text
 Works (Trial number units) inputs writes change status text =
     IsStill change × FileWorks (Trial number units) inputs writes status text
+
+-- ---- a journal that was not opened
+
+-- the season of the two texts, in which a journal is opened
+pub record IsSeasonTerm (capacity requests : List ℕ) (season : Term) : Type 0 where
+  pub submission : SubmissionView
+  pub made : IsSeasonOf capacity requests submission
+  pub term : season ≡ submission.declaration.season
+
+-- The journal was not opened in the season of what was read, and no client was served.
+pub record IsJournalless (capacity requests : List ℕ) (change : OutsideChange)
+    (why : JournalRefusal) : Type 0 where
+  pub season : Term
+  pub is : IsSeasonTerm capacity requests season
+  pub year : season.year < 100
+  pub doors : change.after.doors ≡ change.before.doors
+  pub refused : IsUnopened season why change.before.disk change.after.disk
+
+-- of the jobs, one alone has a journal
+abbrev pub IsWithoutJournal : Job → List NamedBytes → OutsideChange → JournalRefusal → Type 0
+IsWithoutJournal (Resume names links port workers) (capacity ∷ requests ∷ certificate ∷ []) change
+    why = IsJournalless capacity.bytes requests.bytes change why
+IsWithoutJournal job inputs change why = ⊥
+
+-- what the disk tells of the journal of a job, by the files that were read: why it is refused, and
+-- that it stands for pairs
+abbrev pub JournalDue : Job → List NamedBytes → Option DiskView → JournalRefusal → Type 0
+JournalDue (Resume names links port workers) (capacity ∷ requests ∷ certificate ∷ []) disk why =
+    IsDueJournal (IsSeasonTerm capacity.bytes requests.bytes) disk why
+JournalDue job inputs disk why = ⊥
+
+abbrev pub JournalStands : Job → List NamedBytes → Option DiskView → Type 0
+JournalStands (Resume names links port workers) (capacity ∷ requests ∷ certificate ∷ []) disk =
+    TellsPairs (IsSeasonTerm capacity.bytes requests.bytes) disk
+JournalStands job inputs disk = ⊥
 
 -- ---- a check of what was written
 
@@ -265,11 +374,14 @@ pub record MarksAreProved (capacity requests : List ℕ) (s : SubmissionView) (c
   pub marks : MarksHold s c
 
 -- The marks are true. Of `allocate`: of the certificate that is written, whose stage lines are
--- printed, for the season that was read. Of `check`, `amend` and `serve`: of the certificate that
--- was read. Of `trial`: of the one whose lines are printed, for the generated season. `make` proves
--- nothing. And of `amend`: what is written are the answers of one legal history from the
--- certificate's book. Of `serve`: what is written is the text of such a history, by which each
--- worker answered the clients of its door.
+-- printed, for the season that was read. Of `check`, `amend`, `serve`, `resume` and `usage`: of the
+-- certificate that was read. Of `trial`: of the one whose lines are printed, for the generated
+-- season. `make` proves nothing. And of `amend`: what is written are the answers of one legal history
+-- from the certificate's book. Of `serve`: what is written is the text of such a history, by which
+-- each worker answered the clients of its door. Of `resume`: the same, of the history that follows
+-- the pairs of the journal; these, answered anew, and it are one legal history from the
+-- certificate's book, and the journal keeps all of it. Of `usage`: what is written and printed is
+-- what the certificate's book keeps, by the reports that were read.
 abbrev pub HeadlineHolds : Job → List NamedBytes → List NamedBytes → OutsideChange → ℕ → List ℕ
     → Type 0
 HeadlineHolds (Allocate names nodes workers) (capacity ∷ requests ∷ [])
@@ -290,6 +402,17 @@ HeadlineHolds (Serve names links port workers) (capacity ∷ requests ∷ certif
     × MarksAreProved capacity.bytes requests.bytes s c
     × ServesLegally (start_book s c) links change.before.doors change.after.doors recorded.bytes
     status text
+HeadlineHolds (Resume names links port workers) (capacity ∷ requests ∷ certificate ∷ [])
+    (recorded ∷ []) change status text =
+    (s : SubmissionView) × (c : Certificate) × SpellsCert certificate.bytes c
+    × MarksAreProved capacity.bytes requests.bytes s c
+    × ResumesLegally (start_book s c) links change recorded.bytes status text
+HeadlineHolds (Usage names) (capacity ∷ requests ∷ certificate ∷ operated ∷ []) (next ∷ []) change
+    status text =
+    (s : SubmissionView) × (c : Certificate) × SpellsCert certificate.bytes c
+    × MarksAreProved capacity.bytes requests.bytes s c
+    × (reports : List Operated) × SaysOperated s.declaration.season operated.bytes reports
+    × IsWatched s (start_book s c) reports next.bytes text
 HeadlineHolds (Make number units names) inputs writes change status text = Unit {0}
 HeadlineHolds (Trial number units) [] [] change status text =
     (s : SubmissionView) × (c : Certificate) × (text ≡ trial_text c)

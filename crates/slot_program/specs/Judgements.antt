@@ -1,6 +1,6 @@
 -- What the files that a command has read are judged to be, and what is refused of them. Each
 -- judgement speaks of the bytes that were handed out so far, in the order of the reads.
-use Rattle.std.specs.Prelude.{◌≡◌, ◌⊎◌, ℕ, ◌+◌, List, ◌∷◌, length, Ok, Err, codes}
+use Rattle.std.specs.Prelude.{◌≡◌, ◌≢◌, ◌⊎◌, ℕ, ◌+◌, List, ◌∷◌, length, Ok, Err, codes}
 use Rattle.slot_text.specs.Forms.{IsFirstBadLine}
 use Rattle.slot_text.specs.Lines.{lines_of}
 use Rattle.season_days.specs.declared.declaration.Declaration.{Declaration}
@@ -22,8 +22,11 @@ use Rattle.cert_format.specs.declared.cert.Certificate.{Certificate}
 use Rattle.wasg_stages.specs.Valid.{IsValid}
 use Rattle.cert_checker.specs.Certificates.{FailsAt}
 use Rattle.cert_checker.specs.declared.verdict.Reason.{Reason}
+use Rattle.usage_watch.specs.Reports.{SaysOperated, HasOperatedFault}
+use Rattle.usage_watch.specs.declared.operated.Operated.{Operated}
+use Rattle.usage_watch.specs.declared.fault.OperatedFault.TheVariants as operated_fault
 use Rattle.command_words.specs.Words.{Word}
-use Rattle.slot_program.specs.Reports.{Refusal, out_of_form, over_limit, not_valid}
+use Rattle.slot_program.specs.Reports.{Refusal, out_of_form, over_limit, not_valid, no_next}
 
 -- the name of a file, and bytes that were read from it or are written to it
 pub record NamedBytes : Type 0 where
@@ -49,14 +52,18 @@ pub record SpellsCert (bytes : List ℕ) (c : Certificate) : Type 0 where
 
 -- capacity_form: a capacity file. requests_form: messages that make a submission under it.
 -- certificate_form: a certificate. valid_certificate: it is valid for the submission.
+-- reports_form: reports of what was operated in the season. next_season: there is a season of the
+-- same half one year later.
 pub data Judgement : Type 0 where
   capacity_form : Judgement
   requests_form : Judgement
   certificate_form : Judgement
   valid_certificate : Judgement
+  reports_form : Judgement
+  next_season : Judgement
 
--- the files that were read are so: the capacity file is the first, the requests are the second, and
--- the certificate is the third
+-- the files that were read are so: the capacity file is the first, the requests are the second, the
+-- certificate is the third, and reports are the fourth
 abbrev pub Accepts : Judgement → List NamedBytes → Type 0
 Accepts capacity_form (capacity ∷ rest) = (d : Declaration) × IsCapacityFile capacity.bytes d
 Accepts requests_form (capacity ∷ requests ∷ rest) =
@@ -66,6 +73,11 @@ Accepts certificate_form (capacity ∷ requests ∷ certificate ∷ rest) =
 Accepts valid_certificate (capacity ∷ requests ∷ certificate ∷ rest) =
     (s : SubmissionView) × (c : Certificate) × IsSeasonOf capacity.bytes requests.bytes s
     × SpellsCert certificate.bytes c × IsValid s c
+Accepts reports_form (capacity ∷ requests ∷ certificate ∷ operated ∷ rest) =
+    (d : Declaration) × (reports : List Operated) × IsCapacityFile capacity.bytes d
+    × SaysOperated d.season operated.bytes reports
+Accepts next_season (capacity ∷ rest) =
+    (d : Declaration) × IsCapacityFile capacity.bytes d × (d.season.year ≢ 99)
 Accepts judgement read = ⊥
 
 -- ---- refusals, each with the name of the file, as the words give it
@@ -126,4 +138,11 @@ Refuses certificate_form name (capacity ∷ requests ∷ certificate ∷ rest) r
     × (refusal ≡ out_of_form name line)
 Refuses valid_certificate name (capacity ∷ requests ∷ certificate ∷ rest) refusal =
     RefusesCertificate capacity.bytes requests.bytes certificate.bytes refusal
+Refuses reports_form name (capacity ∷ requests ∷ certificate ∷ operated ∷ rest) refusal =
+    (d : Declaration) × (line : ℕ) × IsCapacityFile capacity.bytes d
+    × HasOperatedFault d.season operated.bytes (operated_fault.BadLine line)
+    × (refusal ≡ out_of_form name line)
+Refuses next_season name (capacity ∷ rest) refusal =
+    (d : Declaration) × IsCapacityFile capacity.bytes d × (d.season.year ≡ 99)
+    × (refusal ≡ no_next)
 Refuses judgement name read refusal = ⊥

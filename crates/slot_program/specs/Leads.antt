@@ -1,6 +1,6 @@
 -- How far a job has come: what is decided from a step on decides the whole. Contracts of private
 -- functions alone cite this.
-use Rattle.std.specs.Prelude.{◌≡◌, ℕ, List, [], ◌++◌, map, Some, All, IfSome}
+use Rattle.std.specs.Prelude.{◌≡◌, ◌≢◌, ℕ, List, [], ◌++◌, map, Some, All, IfSome}
 use Rattle.std.specs.Prelude.{Contains}
 use Rattle.desk_outside.specs.Cause.{Rose}
 use Rattle.desk_outside.specs.Files.{Files}
@@ -70,6 +70,7 @@ pub record RefusedLead (w : World) (all : List Step) (refusal : Refusal) (v : Wo
   pub due : RefuseFrom w.files w.faults v.faults [] all refusal inputs
   pub log : v.log ≡ w.log ++ map read_of inputs
   pub files : v.files ≡ w.files
+  pub calm : refusal_status refusal ≢ 5 → v.faults ≡ w.faults
   pub told : IfSome w.files (λ held. ToldRefused held all refusal)
   pub named : All (λ (file : NamedBytes). Contains (names_read all) file.name) inputs
 

@@ -4,11 +4,15 @@ pub mod Steps
 pub mod Writing
 pub mod StageLines
 pub mod Amendments
+pub mod Usages
 pub mod Outside
 pub mod Services
+pub mod Journals
+pub mod Resumed
 pub mod Jobs
 pub mod Desk
 pub mod Leads
 pub mod Stops
+pub mod Opened
 pub mod Ends
 pub mod Answers

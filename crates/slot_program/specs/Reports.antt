@@ -7,19 +7,31 @@ use Rattle.command_words.specs.Words.{Word}
 
 -- What is refused before any work is done: a file that is not there, or is larger than what is
 -- read; the first line of a file that is not in its form; a limit that is passed, by which number;
--- and the first failing line of a certificate, and why it fails.
+-- the first failing line of a certificate, and why it fails; and that no season follows for which
+-- lines could be written.
 pub data Refusal : Type 0 where
   missing : Word → Refusal
   large : Word → Refusal
   out_of_form : Word → ℕ → Refusal
   over_limit : Word → ℕ → Refusal
   not_valid : ℕ → Reason → Refusal
+  no_next : Refusal
 
--- How a command ends: the words are no command's; a refusal; a read or a write failed; or the work
--- is done, with this status and text.
+-- Why a journal was not opened, behind all files that are read: there is no disk; its file begins
+-- as no journal does; the slot of this number is not whole, or spells nothing in the season; or a
+-- call of the disk failed.
+pub data JournalRefusal : Type 0 where
+  no_journal : JournalRefusal
+  other_journal : JournalRefusal
+  bad_slot : ℕ → JournalRefusal
+  journal_fault : JournalRefusal
+
+-- How a command ends: the words are no command's; a refusal; a journal that was not opened; a read
+-- or a write failed; or the work is done, with this status and text.
 pub data Report : Type 0 where
   no_command : Report
   refused : Refusal → Report
+  unopened : JournalRefusal → Report
   unread : Word → Report
   unwritten : Word → Report
   finished : ℕ → List ℕ → Report
@@ -32,10 +44,18 @@ refusal_status (large name) = 5
 refusal_status (out_of_form name line) = 3
 refusal_status (over_limit name number) = 4
 refusal_status (not_valid line reason) = 1
+refusal_status no_next = 15
+
+abbrev pub journal_status : JournalRefusal → ℕ
+journal_status no_journal = 13
+journal_status other_journal = 13
+journal_status (bad_slot number) = 13
+journal_status journal_fault = 14
 
 abbrev pub status_of : Report → ℕ
 status_of no_command = 2
 status_of (refused refusal) = refusal_status refusal
+status_of (unopened why) = journal_status why
 status_of (unread name) = 5
 status_of (unwritten name) = 5
 status_of (finished status text) = status
@@ -71,10 +91,18 @@ refusal_text (out_of_form name line) = numbered_line (codes "FORM") name line
 refusal_text (over_limit name number) = numbered_line (codes "LIMIT") name number
 refusal_text (not_valid line reason) =
     codes "NO " ++ (decimal line ++ (32 ∷ (reason_text reason ++ (10 ∷ []))))
+refusal_text no_next = codes "NEXT NONE\n"
+
+abbrev pub journal_text : JournalRefusal → List ℕ
+journal_text no_journal = codes "JOURNAL NONE\n"
+journal_text other_journal = codes "JOURNAL OTHER\n"
+journal_text (bad_slot number) = codes "JOURNAL SLOT " ++ (decimal number ++ (10 ∷ []))
+journal_text journal_fault = codes "JOURNAL FAULT\n"
 
 abbrev pub text_of : Report → List ℕ
 text_of no_command = codes "WORDS\n"
 text_of (refused refusal) = refusal_text refusal
+text_of (unopened why) = journal_text why
 text_of (unread name) = cabinet_line name (codes "READ")
 text_of (unwritten name) = cabinet_line name (codes "WRITE")
 text_of (finished status text) = text

@@ -1,7 +1,7 @@
 -- Serving clients: the workers of a desk answer the messages that come over the links of their
 -- doors, by one history of a book.
-use Rattle.std.specs.Prelude.{◌≡◌, ℕ, suc, ◌≤◌, ◌<◌, Bool, true, false, if◌then◌else◌, List, [], ◌∷◌}
-use Rattle.std.specs.Prelude.{◌++◌, length, codes, All, sum_by}
+use Rattle.std.specs.Prelude.{◌≡◌, ℕ, suc, ◌+◌, ◌≤◌, ◌<◌, Bool, true, false, if◌then◌else◌}
+use Rattle.std.specs.Prelude.{List, [], ◌∷◌, ◌++◌, length, codes, All, sum_by}
 use Rattle.std.specs.Fmt.{decimal}
 use Rattle.std.specs.List.{list_any}
 use Rattle.turn_lock.specs.History.{own}
@@ -24,11 +24,13 @@ never_breaks told faults = ⊥
 
 -- What the worker of this number did at its door, by the one history: it served links one after the
 -- other, at most so many, each by a right session, and the entries of its sessions, one after the
--- other, are those of this caller in the history.
-abbrev pub IsWorker : SlotBook → ℕ → List Entry → ℕ → DoorView → DoorWork → DoorView → Type 0
-IsWorker start links history number d work e =
+-- other, are those of this caller in the history. `broken` says what is kept beside the history has
+-- failed.
+abbrev pub IsWorker : {X : Type 0} → (List X → ℕ → Type 0) → SlotBook → ℕ → List Entry → ℕ
+    → DoorView → DoorWork → DoorView → Type 0
+IsWorker broken start links history number d work e =
     HasServed (IsAnsweredBy (desk_caller start.declaration MOST_ENTRIES number))
-    (IsBegunBy (HasBroken never_breaks) (desk_caller start.declaration MOST_ENTRIES number))
+    (IsBegunBy (HasBroken broken) (desk_caller start.declaration MOST_ENTRIES number))
     links d [] work e (own entry_caller number history)
 
 -- the workers from this number on, each at its door
@@ -62,6 +64,13 @@ is_memory_end ends.Broken = false
 is_memory_end ends.Door = false
 is_memory_end ends.Memory = true
 
+abbrev pub is_broken_end : DoorEnd → Bool
+is_broken_end ends.Served = false
+is_broken_end ends.Full = false
+is_broken_end ends.Broken = true
+is_broken_end ends.Door = false
+is_broken_end ends.Memory = false
+
 abbrev pub some_ended : (DoorEnd → Bool) → List DoorWork → Bool
 some_ended is works = list_any (λ work. is work.end) works
 
@@ -84,18 +93,25 @@ served_lines entries links =
 -- ---- all of it
 
 -- The doors were served, each by a worker, at most so many links of each, by one history of the
--- book, whose text is recorded; no worker wanted memory. Where one found the history full it holds
--- as many entries as it may.
+-- book, behind so many entries that were found; no worker wanted memory. Where one found the
+-- history full there are, with those, as many entries as may be.
+pub record AreServed {X : Type 0} (broken : List X → ℕ → Type 0) (found : ℕ) (start : SlotBook)
+    (links : ℕ) (before after : List DoorView) (history : List Entry) (works : List DoorWork)
+    : Type 0 where
+  pub one : IsOneHistory start history
+  pub few : found + length history ≤ MOST_ENTRIES
+  pub callers : All (λ (entry : Entry). entry.caller < length before) history
+  pub workers : AreWorkers (IsWorker broken start links history) 0 before works after
+  pub remembered : some_ended is_memory_end works ≡ false
+  pub full : some_ended is_full_end works ≡ true → found + length history ≡ MOST_ENTRIES
+
+-- The doors were served, with nothing found and nothing kept beside; the text of the history is
+-- recorded.
 pub record ServesLegally (start : SlotBook) (links : ℕ) (before after : List DoorView)
     (recorded : List ℕ) (status : ℕ) (text : List ℕ) : Type 0 where
   pub history : List Entry
   pub works : List DoorWork
-  pub one : IsOneHistory start history
-  pub few : length history ≤ MOST_ENTRIES
-  pub callers : All (λ (entry : Entry). entry.caller < length before) history
-  pub workers : AreWorkers (IsWorker start links history) 0 before works after
-  pub remembered : some_ended is_memory_end works ≡ false
-  pub full : some_ended is_full_end works ≡ true → length history ≡ MOST_ENTRIES
+  pub served : AreServed never_breaks 0 start links before after history works
   pub recorded_is : recorded ≡ history_text start.declaration.season history
   pub status_is : status ≡ served_status works
   pub printed : text ≡ served_lines (length history) (links_total works)

@@ -9,7 +9,7 @@ use Rattle.command_words.specs.Words.{Word}
 use Rattle.slot_program.specs.Reports.{Refusal, missing, large}
 use Rattle.slot_program.specs.Judgements.{NamedBytes, Judgement, Accepts, Refuses}
 use Rattle.slot_program.specs.Judgements.{capacity_form, requests_form, certificate_form}
-use Rattle.slot_program.specs.Judgements.{valid_certificate}
+use Rattle.slot_program.specs.Judgements.{valid_certificate, reports_form, next_season}
 
 -- a file is read that has at most so many bytes; or what was read so far is judged, and a refusal
 -- names this file
@@ -86,12 +86,14 @@ FirstDue held steps refusal =
     (read : List NamedBytes) × RefuseFrom (Some held) 0 0 [] steps refusal read
 
 -- the steps without the judgement of whether a certificate is valid: all files are there and in
--- their forms where these pass
+-- their forms, and what is written has a season, where these pass
 abbrev pub is_of_form : Judgement → Bool
 is_of_form capacity_form = true
 is_of_form requests_form = true
 is_of_form certificate_form = true
 is_of_form valid_certificate = false
+is_of_form reports_form = true
+is_of_form next_season = true
 
 abbrev pub form_steps : List Step → List Step
 form_steps [] = []

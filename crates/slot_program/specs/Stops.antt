@@ -2,8 +2,10 @@
 use Rattle.std.specs.Prelude.{ℕ, List, Option, Some, None, codes}
 use Rattle.capacity_file.specs.Texts.{cap_limit_text}
 use Rattle.command_words.specs.Words.{Word}
-use Rattle.slot_program.specs.Reports.{Report, Refusal, refused, unread, unwritten}
-use Rattle.slot_program.specs.Reports.{missing, large, out_of_form, over_limit, not_valid}
+use Rattle.slot_program.specs.Reports.{Report, Refusal, refused, unopened, unread, unwritten}
+use Rattle.slot_program.specs.Reports.{missing, large, out_of_form, over_limit, not_valid, no_next}
+use Rattle.slot_program.specs.Reports.{JournalRefusal, no_journal, other_journal, bad_slot}
+use Rattle.slot_program.specs.Reports.{journal_fault}
 use Rattle.slot_program.specs.Judgements.{NamedBytes, Judgement}
 use Rattle.slot_program.specs.Steps.{Step}
 use Rattle.slot_program.specs.Jobs.{name_at}
@@ -11,12 +13,20 @@ use Rattle.slot_program.specs.Desk.{World}
 use Rattle.slot_program.specs.Leads.{RefusesAlone, RefusedLead, UnreadLead, MemoryLead}
 use Rattle.slot_program.specs.declared.stop.Limit.{Limit}
 use Rattle.slot_program.specs.declared.stop.Limit.TheVariants as limits
+use Rattle.slot_program.specs.declared.stop.NoJournal.{NoJournal}
+use Rattle.slot_program.specs.declared.stop.NoJournal.TheVariants as journals
 use Rattle.slot_program.specs.declared.stop.Stop.{Stop}
 use Rattle.slot_program.specs.declared.stop.Stop.TheVariants as stops
 
 abbrev pub limit_text : Limit → List ℕ
 limit_text (limits.Capacity limit) = cap_limit_text limit
 limit_text limits.Units = codes "UNITS"
+
+abbrev pub journal_refusal : NoJournal → JournalRefusal
+journal_refusal journals.Missing = no_journal
+journal_refusal journals.Other = other_journal
+journal_refusal (journals.Slot number) = bad_slot number
+journal_refusal journals.Fault = journal_fault
 
 -- what is reported, by the names of the job; want of memory is no report
 abbrev pub report_of : List Word → Stop → Option Report
@@ -29,6 +39,8 @@ report_of names (stops.OutOfForm place line) =
 report_of names (stops.OverLimit limit number) =
     Some (refused (over_limit (limit_text limit) number))
 report_of names (stops.NotValid line reason) = Some (refused (not_valid line reason))
+report_of names (stops.Unopened why) = Some (unopened (journal_refusal why))
+report_of names stops.NoNext = Some (refused no_next)
 report_of names stops.Memory = None
 
 -- the stop is a refusal that the property has, or want of memory
@@ -40,13 +52,15 @@ IsRefusalBy names Has (stops.Unwritten place) = ⊥
 IsRefusalBy names Has (stops.OutOfForm place line) = Has (out_of_form (name_at names place) line)
 IsRefusalBy names Has (stops.OverLimit limit number) = Has (over_limit (limit_text limit) number)
 IsRefusalBy names Has (stops.NotValid line reason) = Has (not_valid line reason)
+IsRefusalBy names Has (stops.Unopened why) = ⊥
+IsRefusalBy names Has stops.NoNext = Has no_next
 IsRefusalBy names Has stops.Memory = Unit {0}
 
 -- why files that were read are refused, by a judgement
 abbrev pub IsJudged : List Word → Judgement → Word → List NamedBytes → Stop → Type 0
 IsJudged names j name read stop = IsRefusalBy names (RefusesAlone j name read) stop
 
--- where a job stopped that has written nothing
+-- where a job stopped at one of its steps
 abbrev pub StopLeads : List Word → World → List Step → Stop → World → Type 0
 StopLeads names w all (stops.Missing place) v = RefusedLead w all (missing (name_at names place)) v
 StopLeads names w all (stops.Large place) v = RefusedLead w all (large (name_at names place)) v
@@ -58,4 +72,6 @@ StopLeads names w all (stops.OverLimit limit number) v =
     RefusedLead w all (over_limit (limit_text limit) number) v
 StopLeads names w all (stops.NotValid line reason) v =
     RefusedLead w all (not_valid line reason) v
+StopLeads names w all (stops.Unopened why) v = ⊥
+StopLeads names w all stops.NoNext v = RefusedLead w all no_next v
 StopLeads names w all stops.Memory v = MemoryLead w all v

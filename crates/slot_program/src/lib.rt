@@ -1,5 +1,5 @@
 //! The slot coordination desk of one airport and one season, as one call over a cabinet of files,
-//! a sink, and doors at which clients come.
+//! a sink, doors at which clients come, and the disk of a journal.
 #![tactic(auto)]
 
 mod allocate;
@@ -9,6 +9,7 @@ mod files;
 mod finish;
 pub mod laws;
 mod make;
+mod resume;
 mod season;
 mod serve;
 mod service_lines;
@@ -16,6 +17,7 @@ mod stage_lines;
 mod stop;
 mod top_call;
 mod trial;
+mod usage;
 mod writes;
 
 pub use top_call::desk;

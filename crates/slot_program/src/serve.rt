@@ -1,9 +1,13 @@
 //! Serving clients from the book of a certificate.
 
-ghost use Rattle.std.specs.Prelude.{◌≡◌, ◌≤◌, ◌<◌, ◌^◌, ◌∷◌, [], ℕ, All, IfOk, IfErr, length, map};
-ghost use Rattle.std.specs.Prelude.{true};
+ghost use Rattle.std.specs.Prelude.{◌≡◌, ◌≤◌, ◌<◌, ◌+◌, ◌^◌, ◌∷◌, [], ℕ, List, All, Option, true};
+ghost use Rattle.std.specs.Prelude.{IfOk, IfErr, length, map};
 ghost use Rattle.std.specs.String.{string_bytes};
 ghost use Rattle.desk_outside.specs.Files.{ChangesOnly};
+ghost use Rattle.desk_disk.specs.Disks.{DiskView};
+ghost use Rattle.turn_lock.specs.History.{StartsWith};
+ghost use Rattle.scr_reader.specs.Again.{IsFitItem};
+ghost use Rattle.scr_reader.specs.declared.line.Item.{Item as ItemValue};
 ghost use Rattle.wasg_stages.specs.Valid.{IsValid};
 ghost use Rattle.holding_book.specs.Starts.{start_book};
 ghost use Rattle.holding_book.specs.Asks.{CanAsk};
@@ -11,9 +15,9 @@ ghost use Rattle.holding_book.specs.Histories.{IsLegal};
 ghost use Rattle.session_desk.specs.declared.doors.TheConstants.{MOST_DOORS};
 ghost use Rattle.command_words.specs.declared.job.Job.TheVariants.{Serve as ServeJob};
 ghost use Rattle.slot_program.specs.Jobs.{name_at};
-ghost use Rattle.slot_program.specs.Outside.{outside_change, outside_of};
+ghost use Rattle.slot_program.specs.Outside.{doors_change};
 ghost use Rattle.slot_program.specs.Services.{ServesLegally, IsWorker, AreWorkers};
-ghost use Rattle.slot_program.specs.Services.{is_full_end, some_ended};
+ghost use Rattle.slot_program.specs.Services.{is_full_end, is_broken_end, some_ended};
 ghost use Rattle.slot_program.specs.Desk.{world_of};
 ghost use Rattle.slot_program.specs.Ends.{IsDoneBy, JobStopsBy};
 
@@ -31,7 +35,7 @@ use holding_book::{Book, Entry};
 use scr_replies::history_text;
 use series_model::Submission;
 use session_desk::{DoorWork, serve_doors};
-use slot_ledger::Nothing;
+use slot_ledger::{Beside, Nothing};
 use slot_text::Memory;
 use std::alloc::Global;
 use std::sync::Wait;
@@ -44,9 +48,9 @@ pub(crate) const MOST_ENTRIES: u32 = 100_000;
 
 /// What is recorded of clients that were served, and said.
 #[derive(Drop)]
-struct ServiceOutput {
-    recorded: Vec<u8>,
-    answer: Answer,
+pub(crate) struct ServiceOutput {
+    pub recorded: Vec<u8>,
+    pub answer: Answer,
 }
 
 /// Reads a season and a certificate of it, which is valid; serves the clients of the doors, each
@@ -63,15 +67,15 @@ pub(crate) fn serve<R: Threads + Wait + Sync, C: Cabinet, D: Door + Drop, G: Gat
     gate: &G,
 ) -> Result<Answer, Stop>
     requires few { length doors.old.items ≤ MOST_DOORS }
-    ensures done { IfOk result (λ a. (port workers : ℕ) →
+    ensures done { IfOk result (λ a. (port workers : ℕ) (disk : Option DiskView) →
         IsDoneBy (ServeJob names.now links port workers)
         (world_of C.files C.fault_count C.log cabinet.old)
-        (outside_change D.view doors.old.items doors.new.items) a.status (string_bytes a.text)
+        (doors_change D.view doors.old.items doors.new.items disk) a.status (string_bytes a.text)
         (world_of C.files C.fault_count C.log cabinet.new)) }
-    ensures stop { IfErr result (λ stop. (port workers : ℕ) →
+    ensures stop { IfErr result (λ stop. (port workers : ℕ) (disk : Option DiskView) →
         JobStopsBy names.now (ServeJob names.now links port workers)
         (world_of C.files C.fault_count C.log cabinet.old)
-        (outside_change D.view doors.old.items doors.new.items) stop
+        (doors_change D.view doors.old.items doors.new.items disk) stop
         (world_of C.files C.fault_count C.log cabinet.new)) }
     ensures others { ChangesOnly (C.files cabinet.old) (name_at names.now 3 ∷ [])
         (C.files cabinet.new) }
@@ -99,7 +103,7 @@ fn service_output<R: Threads + Wait + Sync, D: Door + Drop, G: Gate>(
     requires few { length doors.old.items ≤ MOST_DOORS }
     ensures served { IfOk result (λ output.
         ServesLegally (start_book submission.now certificate.now) links
-        (outside_of D.view doors.old.items).doors (outside_of D.view doors.new.items).doors
+        (map D.view doors.old.items) (map D.view doors.new.items)
         output.recorded.items output.answer.status (string_bytes output.answer.text)) }
     ensures doors { length doors.new.items ≡ length doors.old.items }
 {
@@ -110,7 +114,7 @@ fn service_output<R: Threads + Wait + Sync, D: Door + Drop, G: Gate>(
     let season = submission.declaration().season;
     let book = Book::of(alloc, submission, certificate)?;
     let _declaration = book.declaration();
-    let (history, works) = served(rt, alloc, book, links, doors, gate)?;
+    let (history, works, _) = served(rt, alloc, book, Nothing, links, MOST_ENTRIES, doors, gate)?;
     let status = service_status(&works)?;
     let recorded = history_text(alloc, &season, &history)?;
     let text = served_lines(alloc, history.len(), links_total(&works))?;
@@ -120,42 +124,48 @@ fn service_output<R: Threads + Wait + Sync, D: Door + Drop, G: Gate>(
     })
 }
 
-/// The history from a book, and what each worker did. Without doors there is none.
-fn served<R: Threads + Wait + Sync, D: Door + Drop, G: Gate>(
+/// The history from a book, what each worker did, and what was kept beside it. Without doors it is
+/// empty.
+pub(crate) fn served<R: Threads + Wait + Sync, D: Door + Drop, B: Beside + Send, G: Gate>(
     rt: &R,
     alloc: Global,
     book: Book,
+    beside: B,
     links: u32,
+    most: u32,
     doors: &mut Vec<D>,
     gate: &G,
-) -> Result<(Vec<Entry>, Vec<DoorWork>), Memory>
+) -> Result<(Vec<Entry>, Vec<DoorWork>, B), Memory>
     requires few { length doors.old.items ≤ MOST_DOORS }
     requires holdings { length book.book.holdings < 2 ^ 31 }
+    requires most { B.found (B.start beside) + most ≡ MOST_ENTRIES }
+    requires agrees { B.agrees beside [] }
+    requires empty { B.told beside [] ≡ [] }
+    requires takes { (n : ℕ) (ask : ItemValue) → n < length doors.old.items
+        → IsFitItem book.book.declaration.season ask → B.takes (B.start beside) n ask }
     ensures doors { length doors.new.items ≡ length doors.old.items }
     ensures legal { IfOk result (λ done. IsLegal book.book done.0.items) }
-    ensures few { IfOk result (λ done. length done.0.items ≤ MOST_ENTRIES) }
+    ensures few { IfOk result (λ done.
+        B.found (B.start beside) + length done.0.items ≤ MOST_ENTRIES) }
     ensures asked { IfOk result (λ done.
         All (λ entry. CanAsk book.book.declaration entry.ask) done.0.items) }
     ensures callers { IfOk result (λ done.
         All (λ entry. entry.caller < length doors.old.items) done.0.items) }
     ensures full { IfOk result (λ done. some_ended is_full_end done.1.items ≡ true
-        → length done.0.items ≡ MOST_ENTRIES) }
+        → B.found (B.start beside) + length done.0.items ≡ MOST_ENTRIES) }
+    ensures broken { IfOk result (λ done. some_ended is_broken_end done.1.items ≡ true
+        → (seen : List B.Told) × StartsWith (B.told done.2 done.0.items) seen
+        × ((faults : ℕ) × B.broken seen faults)) }
     ensures count { IfOk result (λ done. length done.1.items ≡ length doors.old.items) }
-    ensures workers { IfOk result (λ done. AreWorkers (IsWorker book.book links done.0.items) 0
+    ensures workers { IfOk result (λ done. AreWorkers
+        (IsWorker B.broken book.book links done.0.items) 0
         (map D.view doors.old.items) done.1.items (map D.view doors.new.items)) }
+    ensures start { IfOk result (λ done. B.start done.2 ≡ B.start beside) }
+    ensures agrees { IfOk result (λ done. B.agrees done.2 done.0.items) }
 {
     if doors.is_empty() {
-        return Ok((Vec::new(alloc), Vec::new(alloc)));
+        return Ok((Vec::new(alloc), Vec::new(alloc), beside));
     }
-    let (history, works, _) = serve_doors(
-        rt,
-        alloc,
-        gate,
-        book,
-        Nothing,
-        doors,
-        links,
-        MOST_ENTRIES,
-    )?;
-    Ok((history, works))
+    let (history, works, beside) = serve_doors(rt, alloc, gate, book, beside, doors, links, most)?;
+    Ok((history, works, beside))
 }

@@ -5,6 +5,7 @@ ghost use Rattle.std.specs.String.{string_bytes};
 ghost use Rattle.session_desk.specs.declared.doors.TheConstants.{MOST_DOORS};
 ghost use Rattle.slot_program.specs.Services.{is_door_end, is_full_end, is_memory_end, some_ended};
 ghost use Rattle.slot_program.specs.Services.{served_status, served_lines, links_total};
+ghost use Rattle.slot_program.specs.Resumed.{resumed_status, resumed_lines};
 
 use session_desk::{DoorEnd, DoorWork};
 use slot_text::Memory;
@@ -25,6 +26,15 @@ pub(crate) fn service_status(works: &[DoorWork]) -> Result<u8, Memory>
         return Ok(11);
     }
     Ok(0)
+}
+
+/// The status after workers ended whose journal may have failed. `Memory` where one wanted memory.
+pub(crate) fn resumption_status(failed: bool, works: &[DoorWork]) -> Result<u8, Memory>
+    ensures status { IfOk result (λ status. status ≡ resumed_status failed works.now) }
+    ensures memory { IfOk result (λ _. some_ended is_memory_end works.now ≡ false) }
+{
+    let status = service_status(works)?;
+    Ok(if failed { 14 } else { status })
 }
 
 fn some_memory(works: &[DoorWork]) -> bool
@@ -95,5 +105,18 @@ pub(crate) fn served_lines(alloc: Global, entries: usize, links: u64) -> Result<
     ensures { IfOk result (λ text. string_bytes text ≡ served_lines entries links) }
 {
     let text = format!(in alloc; "ENTRIES {entries}\nLINKS {links}\n")?;
+    Ok(text)
+}
+
+/// How many pairs a journal had, how many entries there are since, and how many links were served.
+pub(crate) fn resumed_lines(
+    alloc: Global,
+    kept: usize,
+    entries: usize,
+    links: u64,
+) -> Result<String, Memory>
+    ensures { IfOk result (λ text. string_bytes text ≡ resumed_lines kept entries links) }
+{
+    let text = format!(in alloc; "KEPT {kept}\nENTRIES {entries}\nLINKS {links}\n")?;
     Ok(text)
 }

@@ -6,7 +6,8 @@ ghost use Rattle.std.specs.String.{string_bytes};
 ghost use Rattle.slot_program.specs.Reports.{Report, status_of, text_of, reason_text, cabinet_line, numbered_line};
 ghost use Rattle.command_words.specs.Words.{Word};
 ghost use Rattle.slot_program.specs.Jobs.{name_at};
-ghost use Rattle.slot_program.specs.Stops.{limit_text, report_of};
+ghost use Rattle.slot_program.specs.Reports.{journal_status, journal_text};
+ghost use Rattle.slot_program.specs.Stops.{limit_text, report_of, journal_refusal};
 
 use capacity_file::CapLimit;
 use cert_checker::Reason;
@@ -21,6 +22,19 @@ pub(crate) enum Limit {
     Capacity(CapLimit),
     /// The number of units.
     Units,
+}
+
+/// Why a journal was not opened.
+#[derive(Clone, Copy, Debug, PartialEq, Eq)]
+pub(crate) enum NoJournal {
+    /// There is no disk.
+    Missing,
+    /// The file begins as no journal does.
+    Other,
+    /// The slot of this number is not whole, or spells nothing in the season.
+    Slot(u32),
+    /// A call of the disk failed.
+    Fault,
 }
 
 /// Why a job stopped. A file is given by the place of its name among the names of the job, from 0.
@@ -40,6 +54,10 @@ pub(crate) enum Stop {
     OverLimit(Limit, u64),
     /// The first line of the certificate that fails, and why.
     NotValid(u32, Reason),
+    /// The journal was not opened.
+    Unopened(NoJournal),
+    /// No season follows for which lines could be written.
+    NoNext,
     /// Memory ran out.
     Memory,
 }
@@ -93,6 +111,8 @@ impl Stop {
             Stop::OutOfForm(_, _) => 3,
             Stop::OverLimit(_, _) => 4,
             Stop::NotValid(_, _) => 1,
+            Stop::Unopened(why) => unopened_status(*why),
+            Stop::NoNext => 15,
             Stop::Memory => 7,
             _ => 5,
         }
@@ -117,8 +137,19 @@ impl Stop {
                 Ok(numbered_line(alloc, "LIMIT", limit_name(limit), number)?)
             }
             Stop::NotValid(line, reason) => Ok(verdict_line(alloc, line, reason_name(reason))?),
+            Stop::Unopened(why) => Ok(journal_line(alloc, why)?),
+            Stop::NoNext => Ok(String::from_str(alloc, "NEXT NONE\n")?),
             Stop::Memory => Err(Memory),
         }
+    }
+}
+
+fn unopened_status(why: NoJournal) -> u8
+    ensures { result ≡ journal_status (journal_refusal why) }
+{
+    match why {
+        NoJournal::Fault => 14,
+        _ => 13,
     }
 }
 
@@ -173,5 +204,17 @@ fn verdict_line(alloc: Global, line: u32, reason: &str) -> Result<String, Memory
         ≡ codes "NO " ++ (decimal line ++ (32 ∷ (reason.now ++ (10 ∷ []))))) }
 {
     let text = format!(in alloc; "NO {line} {reason}\n")?;
+    Ok(text)
+}
+
+fn journal_line(alloc: Global, why: NoJournal) -> Result<String, Memory>
+    ensures { IfOk result (λ text. string_bytes text ≡ journal_text (journal_refusal why)) }
+{
+    let text = match why {
+        NoJournal::Missing => String::from_str(alloc, "JOURNAL NONE\n")?,
+        NoJournal::Other => String::from_str(alloc, "JOURNAL OTHER\n")?,
+        NoJournal::Slot(number) => format!(in alloc; "JOURNAL SLOT {number}\n")?,
+        NoJournal::Fault => String::from_str(alloc, "JOURNAL FAULT\n")?,
+    };
     Ok(text)
 }

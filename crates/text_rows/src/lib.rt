@@ -1,5 +1,5 @@
-//! Tests of the text crates, of the outside with its links and disks, of the words of a command
-//! line and of generated seasons: worked rows, as tables of text.
+//! Tests of the text crates, of the outside with its links and disks, of the journal, of the words
+//! of a command line and of generated seasons: worked rows, as tables of text.
 #![tactic(auto)]
 
 #[cfg(test)]
@@ -10,6 +10,8 @@ mod capacity_rows;
 mod disk_rows;
 #[cfg(test)]
 mod generated_rows;
+#[cfg(test)]
+mod journal_rows;
 #[cfg(test)]
 mod link_rows;
 #[cfg(test)]

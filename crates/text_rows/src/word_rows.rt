@@ -53,6 +53,17 @@ fn say_job(alloc: Global, out: &mut Vec<u8>, job: &Job) -> Result<(), Fail> {
             say_numbers(alloc, out, *links, *port)?;
             say(alloc, out, format!(in alloc; " {workers}")?)
         }
+        Job::Resume {
+            names,
+            links,
+            port,
+            workers,
+        } => {
+            say_names(alloc, out, "resume", names)?;
+            say_numbers(alloc, out, *links, *port)?;
+            say(alloc, out, format!(in alloc; " {workers}")?)
+        }
+        Job::Usage { names } => say_names(alloc, out, "usage", names),
         Job::Make {
             number,
             units,
@@ -199,6 +210,10 @@ amend A - B -- -- C|amend A,-,B,--,C
 amend -A B C D E|no
 Amend A B C D E|no
 amend A B C D E --|amend A,B,C,D,E
+usage A B C D E|usage A,B,C,D,E
+usage A B C D|no
+usage A B C D E F|no
+usage A B C D E --workers 1|no
 serve A B C D|serve A,B,C,D 1 7710 4
 serve A B C|no
 serve A B C D E|no
@@ -218,6 +233,16 @@ serve A B C D --port 07|no
 serve A B --port -1 C D|no
 serve -- --links 5 A B|serve --links,5,A,B 1 7710 4
 Serve A B C D|no
+resume A B C D E|resume A,B,C,D,E 1 7710 4
+resume A B C D|no
+resume A B C D E F|no
+resume A B C D E --links 1000 --port 65535 --workers 16|resume A,B,C,D,E 1000 65535 16
+resume --workers=1 A B --port=1 C D --links=1 E|resume A,B,C,D,E 1 1 1
+resume A B C D E --links 0|no
+resume A B C D E --port 65536|no
+resume A B C D E --workers 17|no
+resume A B C D E --nodes 5|no
+resume -- --links 5 A B C|resume --links,5,A,B,C 1 7710 4
 "
             .as_bytes(),
     )

@@ -10,6 +10,8 @@ returns-in_default c =
       other_word n (codes "check") c.in_default.not-check,
       other_word n (codes "amend") c.in_default.not-amend,
       other_word n (codes "serve") c.in_default.not-serve,
+      other_word n (codes "resume") c.in_default.not-resume,
+      other_word n (codes "usage") c.in_default.not-usage,
       other_word n (codes "make") c.in_default.not-make,
       other_word n (codes "trial") c.in_default.not-trial,
     ) refl

@@ -1,10 +1,11 @@
-use Rattle.std.proofs.Common.{[], ◌∷◌, ℕ, List, refl, ap}
+use Rattle.std.proofs.Common.{[], ◌∷◌, ℕ, List, Option, refl, ap}
+use Rattle.desk_disk.specs.Disks.{DiskView}
 use Rattle.std.proofs.lemmas.Result.{err_from_is_err_and}
 use Rattle.std.specs.String.{string_bytes}
 use Rattle.command_words.specs.Words.{Word}
 use Rattle.command_words.specs.declared.job.Job.TheVariants.{Serve}
 use Rattle.slot_program.specs.Jobs.{name_at, certificate_steps, serve_steps, one_file, IsService}
-use Rattle.slot_program.specs.Outside.{OutsideChange, outside_change}
+use Rattle.slot_program.specs.Outside.{doors_change}
 use Rattle.slot_program.specs.Desk.{World, world_of}
 use Rattle.slot_program.proofs.LeadLemmas.{memory_read}
 use Rattle.slot_program.proofs.EndLemmas.{stop_job_by}
@@ -14,21 +15,19 @@ pub returns-in_err-submission-clause-stop : goal.returns-in_err-submission-claus
 returns-in_err-submission-clause-stop g c =
     let w : World = world_of g.C.Cabinet.files g.C.Cabinet.fault_count g.C.Cabinet.log c.args.cabinet.now in
     let v : World = world_of g.C.Cabinet.files g.C.Cabinet.fault_count g.C.Cabinet.log c.read_season.new.cabinet in
-    let change : OutsideChange = outside_change g.D.Door.view c.args.doors.now.items c.args.doors.now.items in
     let names = c.args.names.now in
     let p = err_from_is_err_and c.from_residual.result c.from_residual.ensures.1 in
-    rw (p.1, p.2) (λ port workers. stop_job_by names (Serve names c.args.links port workers) w change v c.in_err-submission.field-0.0 refl
+    rw (p.1, p.2) (λ port workers disk. stop_job_by names (Serve names c.args.links port workers) w (doors_change g.D.Door.view c.args.doors.now.items c.args.doors.now.items disk) v c.in_err-submission.field-0.0 refl
     (c.in_err-submission.ensures.stop (certificate_steps names [])))
 
 pub returns-in_err-certificate-clause-stop : goal.returns-in_err-certificate-clause-stop
 returns-in_err-certificate-clause-stop g c =
     let w : World = world_of g.C.Cabinet.files g.C.Cabinet.fault_count g.C.Cabinet.log c.args.cabinet.now in
     let v : World = world_of g.C.Cabinet.files g.C.Cabinet.fault_count g.C.Cabinet.log c.read_certificate.new.cabinet in
-    let change : OutsideChange = outside_change g.D.Door.view c.args.doors.now.items c.args.doors.now.items in
     let names = c.args.names.now in
     let p = err_from_is_err_and c.from_residual-in_err-certificate.result c.from_residual-in_err-certificate.ensures.1 in
     let s = c.in_ok-submission.ensures.found in
-    rw (p.1, p.2) (λ port workers. stop_job_by names (Serve names c.args.links port workers) w change v c.in_err-certificate.field-0.0 refl
+    rw (p.1, p.2) (λ port workers disk. stop_job_by names (Serve names c.args.links port workers) w (doors_change g.D.Door.view c.args.doors.now.items c.args.doors.now.items disk) v c.in_err-certificate.field-0.0 refl
     (c.in_err-certificate.ensures.stop w (serve_steps names) [] s.0 s.1 s.2 (s.3 (certificate_steps names []))))
 
 pub returns-in_err-output-clause-stop : goal.returns-in_err-output-clause-stop
@@ -39,19 +38,18 @@ returns-in_err-output-clause-stop g c =
     let p = err_from_is_err_and c.from_residual-in_err-output.result c.from_residual-in_err-output.ensures.1 in
     let s = c.in_ok-submission.ensures.found in
     let f = c.in_ok-certificate.ensures.found w (serve_steps names) [] s.0 s.1 s.2 (s.3 (certificate_steps names [])) in
-    rw (p.1, p.2) (λ port workers. memory_read w v v (serve_steps names) (s.0 ∷ s.1 ∷ f.0 ∷ []) [] f.2 refl)
+    rw (p.1, p.2) (λ port workers disk. memory_read w v v (serve_steps names) (s.0 ∷ s.1 ∷ f.0 ∷ []) [] f.2 refl)
 
 -- the work, by what was served
 pub returns-in_err-write_one-clause-stop : goal.returns-in_err-write_one-clause-stop
 returns-in_err-write_one-clause-stop g c =
     let w : World = world_of g.C.Cabinet.files g.C.Cabinet.fault_count g.C.Cabinet.log c.args.cabinet.now in
-    let change : OutsideChange = outside_change g.D.Door.view c.args.doors.now.items c.service_output.new.doors.items in
     let names = c.args.names.now in
     let s = c.in_ok-submission.ensures.found in
     let f = c.in_ok-certificate.ensures.found w (serve_steps names) [] s.0 s.1 s.2 (s.3 (certificate_steps names [])) in
     let out = c.in_ok-output.output in
-    let work : IsService names c.args.links s.0.bytes s.1.bytes f.0.bytes (one_file names 3 c.deref.result.now) change out.answer.status (string_bytes out.answer.text) =
-    record {
+    let work : (disk : Option DiskView) → IsService names c.args.links s.0.bytes s.1.bytes f.0.bytes (one_file names 3 c.deref.result.now) (doors_change g.D.Door.view c.args.doors.now.items c.service_output.new.doors.items disk) out.answer.status (string_bytes out.answer.text) =
+    λ disk. record {
       season = c.in_ok-submission.submission;
       proved = c.in_ok-certificate.certificate;
       recorded = out.recorded.items;
@@ -60,20 +58,20 @@ returns-in_err-write_one-clause-stop g c =
       valid = c.in_ok-certificate.ensures.valid;
       output = c.in_ok-output.ensures.served;
       written = ap (λ (l : List ℕ). one_file names 3 l) c.deref.ensures.value;
+      disk = refl;
     } in
     let p = err_from_is_err_and c.from_residual-in_err-write_one.result c.from_residual-in_err-write_one.ensures.1 in
-    rw (p.1, p.2) (λ port workers. c.in_err-write_one.ensures.stop (Serve names c.args.links port workers) w change (s.0 ∷ s.1 ∷ f.0 ∷ []) out.answer.status (string_bytes out.answer.text) refl f.2 work)
+    rw (p.1, p.2) (λ port workers disk. c.in_err-write_one.ensures.stop (Serve names c.args.links port workers) w (doors_change g.D.Door.view c.args.doors.now.items c.service_output.new.doors.items disk) (s.0 ∷ s.1 ∷ f.0 ∷ []) out.answer.status (string_bytes out.answer.text) refl f.2 (work disk))
 
 pub returns-clause-done : goal.returns-clause-done
 returns-clause-done g c =
     let w : World = world_of g.C.Cabinet.files g.C.Cabinet.fault_count g.C.Cabinet.log c.args.cabinet.now in
-    let change : OutsideChange = outside_change g.D.Door.view c.args.doors.now.items c.service_output.new.doors.items in
     let names = c.args.names.now in
     let s = c.in_ok-submission.ensures.found in
     let f = c.in_ok-certificate.ensures.found w (serve_steps names) [] s.0 s.1 s.2 (s.3 (certificate_steps names [])) in
     let out = c.in_ok-output.output in
-    let work : IsService names c.args.links s.0.bytes s.1.bytes f.0.bytes (one_file names 3 c.deref.result.now) change out.answer.status (string_bytes out.answer.text) =
-    record {
+    let work : (disk : Option DiskView) → IsService names c.args.links s.0.bytes s.1.bytes f.0.bytes (one_file names 3 c.deref.result.now) (doors_change g.D.Door.view c.args.doors.now.items c.service_output.new.doors.items disk) out.answer.status (string_bytes out.answer.text) =
+    λ disk. record {
       season = c.in_ok-submission.submission;
       proved = c.in_ok-certificate.certificate;
       recorded = out.recorded.items;
@@ -82,8 +80,9 @@ returns-clause-done g c =
       valid = c.in_ok-certificate.ensures.valid;
       output = c.in_ok-output.ensures.served;
       written = ap (λ (l : List ℕ). one_file names 3 l) c.deref.ensures.value;
+      disk = refl;
     } in
-    λ port workers. c.in_ok-write_one.ensures.done (Serve names c.args.links port workers) w change (s.0 ∷ s.1 ∷ f.0 ∷ []) out.answer.status (string_bytes out.answer.text) refl f.2 work
+    λ port workers disk. c.in_ok-write_one.ensures.done (Serve names c.args.links port workers) w (doors_change g.D.Door.view c.args.doors.now.items c.service_output.new.doors.items disk) (s.0 ∷ s.1 ∷ f.0 ∷ []) out.answer.status (string_bytes out.answer.text) refl f.2 (work disk)
 
 pub returns-in_err-submission-clause-others : goal.returns-in_err-submission-clause-others
 returns-in_err-submission-clause-others g c =

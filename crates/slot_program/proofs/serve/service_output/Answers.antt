@@ -12,7 +12,7 @@ use Rattle.holding_book.specs.Starts.{start_book}
 use Rattle.scr_replies.specs.History.{history_text, HasEntryLines}
 use Rattle.amend_run.specs.Amended.{FitsThroughout}
 use Rattle.session_desk.specs.declared.worker.DoorWork.{DoorWork}
-use Rattle.slot_program.specs.Services.{IsWorker, AreWorkers, is_memory_end, some_ended, served_status, links_total, served_lines}
+use Rattle.slot_program.specs.Services.{IsWorker, AreWorkers, never_breaks, is_memory_end, some_ended, served_status, links_total, served_lines}
 use Rattle.slot_program.proofs.AmendLemmas.{start_few}
 use Rattle.slot_program.proofs.ServiceLemmas.{fits_throughout}
 use Rattle.slot_program.proofs.serve.service_output.Goals as goal
@@ -55,15 +55,17 @@ returns-clause-served g c =
     record {
       history = h;
       works = works;
-      one = record {
-        legal = subst (λ (x : SlotBook). IsLegal x h) same c.in_ok-history.ensures.legal;
-        fits = subst (λ (x : SlotBook). FitsThroughout x h) same fits;
+      served = record {
+        one = record {
+          legal = subst (λ (x : SlotBook). IsLegal x h) same c.in_ok-history.ensures.legal;
+          fits = subst (λ (x : SlotBook). FitsThroughout x h) same fits;
+        };
+        few = c.in_ok-history.ensures.few;
+        callers = subst (λ (n : ℕ). All (λ (e : Entry). e.caller < n) h) (sym (length-map c.args.doors.now.items g.D.Door.view)) c.in_ok-history.ensures.callers;
+        workers = subst (λ (x : SlotBook). AreWorkers (IsWorker never_breaks x c.args.links h) 0 ds works es) same c.in_ok-history.ensures.workers;
+        remembered = subst (λ (l : List DoorWork). some_ended is_memory_end l ≡ false) c.deref.ensures.value c.in_ok-status.ensures.memory;
+        full = c.in_ok-history.ensures.full;
       };
-      few = c.in_ok-history.ensures.few;
-      callers = subst (λ (n : ℕ). All (λ (e : Entry). e.caller < n) h) (sym (length-map c.args.doors.now.items g.D.Door.view)) c.in_ok-history.ensures.callers;
-      workers = subst (λ (x : SlotBook). AreWorkers (IsWorker x c.args.links h) 0 ds works es) same c.in_ok-history.ensures.workers;
-      remembered = subst (λ (l : List DoorWork). some_ended is_memory_end l ≡ false) c.deref.ensures.value c.in_ok-status.ensures.memory;
-      full = c.in_ok-history.ensures.full;
       recorded_is = c.in_ok-recorded.ensures ∙ (ap (λ (d : Declaration). history_text d.season c.deref-2.result.now) c.declaration.ensures.value ∙ ap (λ (l : List Entry). history_text s.declaration.season l) c.deref-2.ensures.value);
       status_is = c.in_ok-status.ensures.status ∙ ap (λ (l : List DoorWork). served_status l) c.deref.ensures.value;
       printed = c.in_ok-text.ensures ∙ (ap (λ (n : ℕ). served_lines n c.links_total.result) entries ∙ ap (λ (n : ℕ). served_lines (length h) n) links);

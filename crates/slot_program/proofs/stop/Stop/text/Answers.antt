@@ -1,8 +1,8 @@
-use Rattle.std.proofs.Common.{codes, refl, ap, ◌∙◌}
+use Rattle.std.proofs.Common.{codes, refl, ap, ◌∙◌, rules}
 use Rattle.command_words.specs.Words.{Word}
-use Rattle.slot_program.specs.Reports.{refused, unread, unwritten, missing, large, out_of_form, over_limit, not_valid, cabinet_line, numbered_line}
+use Rattle.slot_program.specs.Reports.{refused, unopened, unread, unwritten, missing, large, out_of_form, over_limit, not_valid, no_next, cabinet_line, numbered_line}
 use Rattle.slot_program.specs.Jobs.{name_at}
-use Rattle.slot_program.specs.Stops.{limit_text}
+use Rattle.slot_program.specs.Stops.{limit_text, journal_refusal}
 use Rattle.slot_program.proofs.TextLemmas.{verdict_of}
 use Rattle.slot_program.proofs.stop.Stop.text.Goals as goal
 
@@ -44,3 +44,10 @@ returns-in_ok-verdict_line-in-NotValid c = (
   rw c.in-NotValid.is refl,
   c.in_ok-verdict_line-in-NotValid.ensures ∙ ap (verdict_of c.in-NotValid.line) c.reason_name.ensures,
 )
+
+pub returns-in_ok-journal_line-in-Unopened : goal.returns-in_ok-journal_line-in-Unopened
+returns-in_ok-journal_line-in-Unopened c =
+    (unopened (journal_refusal c.in-Unopened.why), rw c.in-Unopened.is refl, c.in_ok-journal_line-in-Unopened.ensures)
+
+pub returns-in_ok-from_str-in-NoNext : goal.returns-in_ok-from_str-in-NoNext
+returns-in_ok-from_str-in-NoNext c = (refused no_next, rw c.in-NoNext.is refl, search rules)
