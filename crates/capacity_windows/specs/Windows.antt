@@ -1,6 +1,6 @@
 -- The windows of a declaration and its night quota: how they are numbered, how much they may hold,
 -- what they hold, and the load of a list of movements on them.
-use Rattle.std.specs.Prelude.{ℕ, ◌+◌, ◌*◌, ◌-◌, ◌/◌, ◌%◌, ◌<◌, ◌≤◌, ◌==◌, Bool, true, false, ◌&&◌, ◌||◌, nat_le, nat_lt, if◌then◌else◌, List, [], ◌∷◌, take, map, sum_by, count_by, filter, Option, Some, None}
+use Rattle.std.specs.Prelude.{◌≡◌, ◌↔◌, IfSome, slice_get, ℕ, ◌+◌, ◌*◌, ◌-◌, ◌/◌, ◌%◌, ◌<◌, ◌≤◌, ◌==◌, Bool, true, false, ◌&&◌, ◌||◌, nat_le, nat_lt, if◌then◌else◌, List, [], ◌∷◌, take, map, sum_by, count_by, filter, Option, Some, None}
 use Rattle.season_days.specs.Seasons.{date_count, is_on, dates_of}
 use Rattle.season_days.specs.declared.day.Period.{Period}
 use Rattle.season_days.specs.declared.declaration.Kind.{Kind}
@@ -113,6 +113,16 @@ movement_on kind minute later date = record { kind = kind; day = date + later; m
 abbrev pub stop_movements : Capacity → Kind → ℕ → ℕ → Period → List Movement
 stop_movements c kind minute later period =
     map (movement_on kind minute later) (dates_of c.season period)
+
+-- the windows of a capacity line that begin some days before a movement's and hold the movement
+-- have the numbers of this run
+abbrev pub IsHeldRun : Capacity → ℕ → ℕ → Movement → ℕ → ℕ → Type 0
+IsHeldRun c rule ago m first end =
+    (day start : ℕ) → day + ago ≡ m.day →
+    IfSome (slice_get c.rules rule) (λ (of : Rule). start < starts_of c.step of →
+    ((first ≤ first_of c rule + day * starts_of c.step of + start)
+    × (first_of c rule + day * starts_of c.step of + start < end))
+    ↔ (holds c (Window of day start) m ≡ true))
 
 -- ---- how many strips the windows of a stop take
 

@@ -35,6 +35,13 @@ impl Windows {
         }
     }
 
+    /// Whether the resource of a number holds a movement: one step for each capacity line.
+    pub fn is_held(&self, resource: u32, movement: &Movement) -> bool
+        ensures { result ≡ holds self.now (resource_at self.now resource) movement.now }
+    {
+        self.holds(&self.resource_at(resource), movement)
+    }
+
     /// How many movements of a list, of fewer than 2^32, the resource of a number holds: one step
     /// for each movement and for each capacity line. A movement after the season's last date is
     /// held by none.

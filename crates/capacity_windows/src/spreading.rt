@@ -11,9 +11,11 @@ ghost use Rattle.season_days.specs.declared.season.TheConstants.{MOST_DATES};
 ghost use Rattle.season_days.specs.declared.declaration.TheConstants.{MINUTES_OF_DAY, MOST_WINDOWS};
 ghost use Rattle.capacity_windows.specs.Windows.{IsRule, windows_of, window_load, stop_movements, declared_resources, band_strips, rule_strips, most_strips};
 ghost use Rattle.capacity_windows.specs.Bands.{Adds, IsBand, AreStopDates, dated_movements, starts_until, band_of, band_uses, weekday_uses, rule_load, rest_load, listed_dates, option_uses, first_date, end_date, IsWide, IsOptionWide};
+ghost use Rattle.capacity_windows.specs.Windows.{IsHeldRun};
 
 use crate::band::Band;
 use crate::counting::{is_at_night, is_of_kind};
+use crate::movement::Movement;
 use crate::stop_dates::StopDates;
 use crate::windows::Windows;
 use choice_problem::{Part, Strip};
@@ -126,6 +128,37 @@ impl Windows {
             high: starts.min(starts_until(rule.from, self.step(), minute)),
             ago,
         }
+    }
+
+    /// The windows of a capacity line that begin on a movement's day (`ago` 0) or on the day before
+    /// (1) and hold the movement, as a run of resources: the first, and the one after the last,
+    /// which is the first where there is none. A window is at most a day long, so no other window
+    /// of the line holds the movement. Two divisions; no memory.
+    pub fn held_run(&self, rule: u32, ago: u32, movement: Movement) -> (u32, u32)
+        requires rule { rule < length self.now.rules }
+        requires minute { movement.minute < MINUTES_OF_DAY }
+        requires ago { ago < 2 }
+        ensures ordered { result.0 ≤ result.1 }
+        ensures there { result.1 ≤ declared_resources self.now }
+        ensures run { IsHeldRun self.now rule ago movement result.0 result.1 }
+    {
+        let of = self.rules()[rule as usize];
+        if !self.is_listed(movement.day)
+            || movement.day < ago
+            || !is_of_kind(of.kind, movement.kind)
+        {
+            return (0, 0);
+        }
+        let day = movement.day - ago;
+        if !self.is_on(of.days, Day(day)) {
+            return (0, 0);
+        }
+        let first = self.first_of(rule) + day * self.starts_of(&of);
+        let band = self.band_of(&of, first, movement.minute, ago);
+        if band.low >= band.high {
+            return (0, 0);
+        }
+        (first + band.low, first + band.high)
     }
 
     // Adds the strips of a band: one for all days, or one for each weekday.

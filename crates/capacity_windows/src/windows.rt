@@ -142,11 +142,19 @@ impl Windows {
         ensures window { IfSome (slice_get self.now.rules rule)
             (λ of. resource_at self.now result ≡ Window of day.0 start) }
     {
+        self.first_of(rule) + day.0 * starts_of(self.step, &self.rules[rule as usize]) + start
+    }
+
+    // The number of a capacity line's first window.
+    pub(crate) fn first_of(&self, rule: u32) -> u32
+        requires { rule < length self.now.rules }
+        ensures { result ≡ first_of self.now rule }
+    {
         let mut first = 0;
         for earlier in &self.rules[..rule as usize] {
             first += self.days * starts_of(self.step, earlier);
         }
-        first + day.0 * starts_of(self.step, &self.rules[rule as usize]) + start
+        first
     }
 
     // What a number stands for.

@@ -34,7 +34,8 @@ pub use line::{Code, Craft, Flight, Item, Line, Stop};
 pub use message::{MOST_MESSAGE_LINES, Message, MessageList, Piece, Placed, PlacedList};
 pub use period::read_period;
 pub use print::{
-    LONGEST_PRINTED_ITEM, LONGEST_PRINTED_LINE, print_flight, print_header, print_item, print_line,
+    LONGEST_PRINTED_ITEM, LONGEST_PRINTED_LINE, print_day, print_flight, print_header, print_item,
+    print_line,
 };
 pub use stray::StrayLine;
 pub use texts::{read_all, read_message};

@@ -5,7 +5,7 @@ ghost use Rattle.schedule_text.specs.Days.{days_text};
 ghost use Rattle.slot_text.specs.Ended.{ended};
 ghost use Rattle.season_days.specs.Seasons.{date_count};
 ghost use Rattle.scr_reader.specs.Bytes.{three_digits};
-ghost use Rattle.scr_reader.specs.Printed.{code_letter, flight_text, arrival_group_text, departure_group_text, dates_text, stops_text, line_text, LineFits, ItemFits, header_lines, item_text};
+ghost use Rattle.scr_reader.specs.Printed.{code_letter, flight_text, arrival_group_text, departure_group_text, day_text, dates_text, stops_text, line_text, LineFits, ItemFits, header_lines, item_text};
 
 use crate::header::Header;
 use crate::line::{Code, Flight, Item, Line, Stop};
@@ -14,7 +14,7 @@ use crate::put::{
     put_flight,
 };
 use schedule_text::places_of;
-use season_days::Season;
+use season_days::{Day, Season};
 use slot_text::Memory;
 use std::alloc::Global;
 
@@ -71,6 +71,19 @@ pub fn print_flight(alloc: Global, out: &mut Vec<u8>, flight: Flight) -> Result<
 {
     let mut text = Vec::new(alloc);
     put_flight(&mut text, flight)?;
+    out.extend_from_slice(&text)?;
+    Ok(())
+}
+
+/// Appends the date of a day of the season, as a period has it: two digits and a month; no line
+/// end. After an error `out` is as before.
+pub fn print_day(alloc: Global, out: &mut Vec<u8>, season: &Season, day: Day) -> Result<(), Memory>
+    requires { day.0 < date_count season.now }
+    ensures ok { OnOk result (out.new.items ≡ out.old.items ++ day_text season.now day.0) }
+    ensures unchanged { OnErr result (out.new.items ≡ out.old.items) }
+{
+    let mut text = Vec::new(alloc);
+    put_day(&mut text, season, day)?;
     out.extend_from_slice(&text)?;
     Ok(())
 }
