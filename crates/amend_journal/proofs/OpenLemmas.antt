@@ -40,10 +40,10 @@ LeftLaw = (s : DiskStart) (log more : List DiskPassage) (c : List ℕ) → MayLe
 read_before : (p : DiskPassage) (R : List ℕ → Type 0) (c : List ℕ) → read_after p R c → (old : List ℕ) × R old
 read_before (measured n) R c h = (c, h.0)
 read_before (read_at at bytes) R c h = (c, h.0)
-read_before (wrote_at at bytes) R c h = (h.0, h.1.0)
-read_before (write_failed_at at bytes) R c h = (h.0, h.1.0)
-read_before (cut_to n) R c h = (h.0, h.1.0)
-read_before (cut_failed n) R c h = (h.0, h.1.0)
+read_before (wrote_at at bytes) R c h = (h.0, h.1)
+read_before (write_failed_at at bytes) R c h = (h.0, h.1)
+read_before (cut_to n) R c h = (h.0, h.1)
+read_before (cut_failed n) R c h = (h.0, h.1)
 read_before synced R c h = (c, h)
 read_before sync_failed R c h = (c, h)
 
