@@ -1,7 +1,7 @@
 use Rattle.std.proofs.Common.{◌≡◌, Option, Some, sym, ap, ◌∙◌, subst, arith}
 use Rattle.std.specs.Prelude.{option_map}
 use Rattle.desk_disk.specs.Disks.{DiskView}
-use Rattle.slot_program.specs.Opened.{DiskStops}
+use Rattle.slot_program.specs.Opened.{DiskStops, open_stop}
 use Rattle.slot_program.proofs.ResumeLemmas.{open_stops}
 use Rattle.slot_program.proofs.resume.opened.Goals as goal
 
@@ -26,7 +26,7 @@ pub returns-in-Err-clause-stop : goal.returns-in-Err-clause-stop
 returns-in-Err-clause-stop g c =
     let before : option_map g.K.Disk.view c.args.disk.now ≡ Some (g.K.Disk.view c.in-Some.held) = ap (option_map g.K.Disk.view) (sym c.take.ensures.value ∙ c.in-Some.is) in
     rw c.stop_of.ensures
-    (subst (λ (o : Option DiskView). DiskStops c.args.season.now o (Some (g.K.Disk.view c.in-Err.held)) _) (sym before)
+    (subst (λ (o : Option DiskView). DiskStops c.args.season.now o (Some (g.K.Disk.view c.in-Err.held)) (open_stop c.in-Err.fault)) (sym before)
     (open_stops c.args.season.now c.in-Err.fault (g.K.Disk.view c.in-Some.held) (g.K.Disk.view c.in-Err.held) (record {
       later = c.in-Err.ensures.later;
       why = c.in-Err.ensures.refused;

@@ -1,4 +1,4 @@
-use Rattle.std.proofs.Common.{rules, ◌≡◌, ◌≤◌, ◌<◌, ◌+◌, ℕ, Bool, true, false, List, [], length, map, refl, sym, ap, subst, ◌∙◌, arith}
+use Rattle.std.proofs.Common.{rules, ◌≡◌, ◌≤◌, ◌<◌, ◌+◌, ℕ, Bool, true, false, List, [], Some, length, map, refl, sym, ap, subst, ◌∙◌, arith}
 use Rattle.std.specs.Prelude.{All, is_some, option_map}
 use Rattle.std.proofs.lemmas.List.{length-map}
 use Rattle.std.proofs.lemmas.Result.{err_from_is_err_and}
@@ -140,7 +140,7 @@ returns-clause-served g c =
       works = works;
       failed = failed_ask k (asks_of h) k.failure kept.disk;
       handed_in = o.1;
-      given_back = refl;
+      given_back = refl {a = Some (g.K.Disk.view c.into_disk.result)};
       kept = subst (λ (e : DiskView). KeepsAsks s.declaration.season pairs (asks_of h) (failed_ask k (asks_of h) k.failure kept.disk) o.0 e) (sym c.into_disk.ensures)
           (keeps_asks s.declaration.season pairs o.0 k (subst (λ (j : JournalView). IsOpened s.declaration.season pairs o.0 j) (sym began) opened) kept.later (asks_of h) k.failure kept.disk);
       whole = one_whole start pairs h c.replays_fit.ensures.declaration c.replays_fit.ensures.book (subst (λ (b : SlotBook). IsBook b) same c.declaration-declaration.ensures.book) opened.fit
