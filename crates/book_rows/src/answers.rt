@@ -1,7 +1,7 @@
 //! Asks, answers and holdings as texts of lines.
 
 ghost use Rattle.std.specs.Prelude.{IfOk, IfSome};
-ghost use Rattle.scr_reader.specs.Again.{IsAskedItem};
+ghost use Rattle.scr_reader.specs.Again.{IsAskedItem, IsFitItem};
 ghost use Rattle.series_model.specs.Submissions.{ItemPairs};
 ghost use Rattle.holding_book.specs.Asks.{CanAsk};
 
@@ -16,12 +16,18 @@ use std::test::Fail;
 pub(crate) fn ask(alloc: Global, declaration: &Declaration, text: &str) -> Result<Item, Fail>
     ensures { IfOk result (CanAsk declaration.now) }
 {
+    let ask = fit_ask(alloc, &declaration.season, text)?;
+    fit_items_pair(&ask);
+    Ok(ask)
+}
+
+/// The ask of a season of which these are the lines.
+pub(crate) fn fit_ask(alloc: Global, season: &Season, text: &str) -> Result<Item, Fail>
+    ensures { IfOk result (IsFitItem season.now) }
+{
     let text = data_lines(alloc, text)?;
-    match read_item(alloc, &declaration.season, text.as_bytes())? {
-        Some(ask) => {
-            fit_items_pair(&ask);
-            Ok(ask)
-        }
+    match read_item(alloc, season, text.as_bytes())? {
+        Some(ask) => Ok(ask),
         None => Err(Fail::new(format!(in alloc; "no ask: {text}")?)),
     }
 }

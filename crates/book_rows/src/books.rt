@@ -16,6 +16,16 @@ use std::alloc::Global;
 use std::test::Fail;
 use wasg_stages::laws::valid_choices;
 
+/// A book of one arrival, BA001 at 0610 on each day, and room for two in its hour.
+pub(crate) fn small_book(alloc: Global) -> Result<Book, Fail> {
+    start_book(
+        alloc,
+        "CAP ARR 60 0600 0600 1234567 2",
+        "FBA001 0610",
+        "0;;;",
+    )
+}
+
 /// The book with which the amendments of a season begin. The season is S25 at ABC with a step of
 /// five minutes and a least ground time of forty, and these lines of its capacity file, with `FLEX
 /// 60` and no refusals where they do not begin with `FLEX`. The stages are those of a certificate

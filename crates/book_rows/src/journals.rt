@@ -1,17 +1,17 @@
 //! A ledger with a journal: what it answered stands in the journal, and a desk that opens the
 //! journal again goes on from there.
 
-ghost use Rattle.std.specs.Prelude.{IfOk};
+ghost use Rattle.std.specs.Prelude.{◌≡◌};
+ghost use Rattle.turn_lock.specs.Seats.{IsAtRest};
 ghost use Rattle.scr_reader.specs.Again.{IsFitItem};
 
-use crate::answers::put_holdings;
-use crate::books::start_book;
-use crate::lines::data_lines;
+use crate::answers::{fit_ask, put_holdings};
+use crate::books::small_book;
 use amend_journal::{Journal, JournalFault, JournalLedger, JournalPass, replayed};
 use desk_disk::{Disk, MemoryDisk};
 use desk_outside::Failure;
 use holding_book::Book;
-use scr_reader::{Item, read_item};
+use scr_reader::Item;
 use season_days::Season;
 use std::alloc::Global;
 use std::sync::Wait;
@@ -23,33 +23,26 @@ const ROOM: usize = 1041;
 /// What is asked, by two callers in turn.
 const ASKS: [&str; 4] = ["NBA002 0620", "NBA003 0630", "QBA003", "DBA002 0620"];
 
-fn book(alloc: Global) -> Result<Book, Fail> {
-    start_book(
-        alloc,
-        "CAP ARR 60 0600 0600 1234567 2",
-        "FBA001 0610",
-        "0;;;",
-    )
-}
+/// All asks were answered.
+const ALL: Reached = Reached {
+    done: 4,
+    broken: false,
+};
 
-fn item(alloc: Global, season: &Season, text: &str) -> Result<Item, Fail>
-    ensures { IfOk result (IsFitItem season.now) }
-{
-    let text = data_lines(alloc, text)?;
-    match read_item(alloc, season, text.as_bytes())? {
-        Some(ask) => Ok(ask),
-        None => Err("no ask".into()),
-    }
-}
-
-/// What is left of a run: the pairs that were found and the asks that were answered, whether one
-/// was refused since the disk had failed, the holdings, and the bytes of the disk.
+/// What is left of a run: what was reached, the holdings, and the bytes of the disk.
 #[derive(Drop)]
 struct Left {
-    done: usize,
-    broken: bool,
+    reached: Reached,
     held: Vec<u8>,
     bytes: Vec<u8>,
+}
+
+/// How many asks the journal had or were answered, and whether one was refused since the disk had
+/// failed.
+#[derive(Clone, Copy, PartialEq, Eq)]
+struct Reached {
+    done: usize,
+    broken: bool,
 }
 
 /// Opens the journal of these bytes and asks what it lacks of the first so many asks, up to one
@@ -61,60 +54,108 @@ fn run<R: Wait>(
     count: usize,
     failing: Vec<Failure>,
 ) -> Result<Option<Left>, Fail> {
-    let book = book(alloc)?;
-    let season = book.declaration().season;
-    if bytes.len() > ROOM {
+    let book = small_book(alloc)?;
+    if bytes.len() > ROOM || book.count() > 1_000_000 {
         return Err("too long".into());
     }
+    let season = book.declaration().season;
     let disk = MemoryDisk::new(alloc, bytes, ROOM, 99, failing)?;
     let Ok((journal, pairs)) = Journal::open(alloc, disk, &season) else {
         return Ok(None);
     };
+    let mut reached = Reached {
+        done: journal.count() as usize,
+        broken: false,
+    };
     let book = replayed(alloc, book, &pairs)?;
     let (ledger, mut passes) = JournalLedger::start(alloc, journal, book, 2)?;
-    let mut done = pairs.len();
-    let mut broken = false;
-    for (n, text) in ASKS.iter().enumerate() {
-        if n != done || n >= count {
-            continue;
-        }
-        let ask = item(alloc, &season, text)?;
-        let Some(pass) = passes.get_mut(n % 2) else {
-            return Err("a pass".into());
-        };
-        match answered(rt, alloc, &ledger, pass, &ask)? {
-            true => done += 1,
-            false => broken = true,
-        }
-    }
-    let (book, history, disk) = ledger.close(passes);
-    if pairs.len() + history.len() != done {
-        return Err("entries".into());
-    }
+    let mut second = passes.pop().ok_or("a pass")?;
+    let mut first = passes.pop().ok_or("a pass")?;
+    ask_in_turn(
+        rt,
+        alloc,
+        &ledger,
+        &season,
+        &mut first,
+        &mut second,
+        &mut reached,
+        count,
+    )?;
+    let (book, disk) = closed(alloc, ledger, first, second)?;
     let mut held = Vec::new(alloc);
     put_holdings(alloc, &mut held, &season, book.holdings())?;
-    let bytes = Vec::from_slice(alloc, disk.bytes())?;
     Ok(Some(Left {
-        done,
-        broken,
+        reached,
         held,
-        bytes,
+        bytes: Vec::from_slice(alloc, disk.bytes())?,
     }))
 }
 
-/// Whether an ask was answered, and not refused since the disk had failed.
-fn answered<R: Wait>(
+/// Asks from the place on that is reached, one caller's ask behind the other's, up to so many.
+fn ask_in_turn<R: Wait>(
+    rt: &R,
+    alloc: Global,
+    ledger: &JournalLedger<MemoryDisk>,
+    season: &Season,
+    first: &mut JournalPass<MemoryDisk>,
+    second: &mut JournalPass<MemoryDisk>,
+    reached: &mut Reached,
+    count: usize,
+) -> Result<(), Fail>
+    requires first { IsAtRest ledger.now first.old }
+    requires second { IsAtRest ledger.now second.old }
+    requires season { season.now ≡ ledger.now.origin.start.declaration.season }
+    ensures first { IsAtRest ledger.now first.new }
+    ensures second { IsAtRest ledger.now second.new }
+{
+    for (n, text) in ASKS.iter().enumerate() {
+        if n == reached.done && n < count {
+            let ask = fit_ask(alloc, season, text)?;
+            if n % 2 == 0 {
+                ask_one(rt, alloc, ledger, first, reached, &ask)?;
+            } else {
+                ask_one(rt, alloc, ledger, second, reached, &ask)?;
+            }
+        }
+    }
+    Ok(())
+}
+
+/// Asks once.
+fn ask_one<R: Wait>(
     rt: &R,
     alloc: Global,
     ledger: &JournalLedger<MemoryDisk>,
     pass: &mut JournalPass<MemoryDisk>,
+    reached: &mut Reached,
     ask: &Item,
-) -> Result<bool, Fail> {
+) -> Result<(), Fail>
+    requires rest { IsAtRest ledger.now pass.old }
+    requires fit { IsFitItem ledger.now.origin.start.declaration.season ask.now }
+    ensures { IsAtRest ledger.now pass.new }
+{
     match ledger.amend(rt, alloc, pass, ask) {
-        Ok(_answer) => Ok(true),
-        Err(JournalFault::Broken { faults: 1 }) => Ok(false),
-        Err(_) => Err("refused".into()),
+        Ok(_answer) => reached.done = reached.done.wrapping_add(1),
+        Err(JournalFault::Broken { faults: 1 }) => reached.broken = true,
+        Err(_) => return Err("refused".into()),
     }
+    Ok(())
+}
+
+/// The book and the disk of a ledger of two callers.
+fn closed(
+    alloc: Global,
+    ledger: JournalLedger<MemoryDisk>,
+    first: JournalPass<MemoryDisk>,
+    second: JournalPass<MemoryDisk>,
+) -> Result<(Book, MemoryDisk), Fail>
+    requires callers { ledger.callers ≡ 2 }
+    requires first { IsAtRest ledger first }
+    requires second { IsAtRest ledger second }
+{
+    let passes = vec![in alloc; first, second]?;
+    let (book, _history, disk) = ledger.close(passes);
+    Ok((book, disk))
 }
 
 fn run_on<R: Wait>(rt: &R, alloc: Global, bytes: &[u8], count: usize) -> Result<Left, Fail> {
@@ -130,15 +171,23 @@ fn run_on<R: Wait>(rt: &R, alloc: Global, bytes: &[u8], count: usize) -> Result<
 fn a_reopened_ledger_goes_on(rt: HostRuntime) -> Result<(), Fail> {
     let alloc = rt.alloc();
     let whole = run_on(&rt, alloc, b"", 4)?;
-    assert!(rt; whole.done == 4 && !whole.broken && whole.bytes.len() == 1041);
-    assert!(rt; !whole.held.is_empty());
+    assert!(rt; whole.reached == ALL && whole.bytes.len() == ROOM && !whole.held.is_empty());
     for count in 0..4 {
         let first = run_on(&rt, alloc, b"", count)?;
-        assert!(rt; first.done == count && first.bytes.len() == 17 + 256 * count);
-        let rest = run_on(&rt, alloc, &first.bytes, 4)?;
-        assert!(rt; rest.done == 4 && rest.held == whole.held && rest.bytes == whole.bytes);
+        assert!(rt; first.reached.done == count && first.bytes.len() == 17 + 256 * count);
+        assert!(rt; ends_alike(&rt, alloc, &first.bytes, &whole)?);
     }
     Ok(())
+}
+
+/// Whether a run over these bytes ends with all asks answered, as the whole one.
+fn ends_alike<R: Wait>(rt: &R, alloc: Global, bytes: &[u8], whole: &Left) -> Result<bool, Fail> {
+    let rest = run_on(rt, alloc, bytes, 4)?;
+    Ok(
+        rest.reached == ALL
+            && rest.held.as_slice() == whole.held.as_slice()
+            && rest.bytes.as_slice() == whole.bytes.as_slice(),
+    )
 }
 
 /// Each call of the disk fails once, five of the opening and four for each ask. Every ask that was
@@ -150,20 +199,33 @@ fn a_ledger_whose_disk_failed_is_opened_again(rt: HostRuntime) -> Result<(), Fai
     let whole = run_on(&rt, alloc, b"", 4)?;
     for call in 0..21 {
         for part in [0, 1, 200, 999] {
-            let failing = [Failure::after(call, part)].to_vec(alloc)?;
-            let Some(left) = run(&rt, alloc, b"", 4, failing)? else {
-                assert!(rt; call < 5, "call {call}");
-                continue;
-            };
-            assert!(rt; left.broken && call >= 5 && left.done as u64 == (call - 5) / 4);
-            let again = run_on(&rt, alloc, &left.bytes, 0)?;
-            assert!(rt; again.done == left.done || again.done == left.done + 1);
-            let rest = run_on(&rt, alloc, &left.bytes, 4)?;
             assert!(rt;
-                rest.held == whole.held && rest.bytes == whole.bytes,
+                is_opened_again(&rt, alloc, &whole, call, part)?,
                 "call {call}"
             );
         }
     }
     Ok(())
+}
+
+fn is_opened_again<R: Wait>(
+    rt: &R,
+    alloc: Global,
+    whole: &Left,
+    call: u64,
+    part: usize,
+) -> Result<bool, Fail> {
+    let failing = [Failure::after(call, part)].to_vec(alloc)?;
+    let Some(left) = run(rt, alloc, b"", 4, failing)? else {
+        return Ok(call < 5);
+    };
+    let Reached { done, broken } = left.reached;
+    let kept = run_on(rt, alloc, &left.bytes, 0)?.reached.done;
+    Ok(
+        broken
+            && call >= 5
+            && done as u64 == (call - 5) / 4
+            && (kept == done || kept == done.wrapping_add(1))
+            && ends_alike(rt, alloc, &left.bytes, whole)?,
+    )
 }

@@ -6,7 +6,7 @@ ghost use Rattle.turn_lock.specs.Seats.{IsAtRest};
 ghost use Rattle.holding_book.specs.Asks.{CanAsk};
 
 use crate::answers::{ask, fit_items_pair, put_answer, spelled};
-use crate::books::start_book;
+use crate::books::{small_book, start_book};
 use crate::lines::data_lines;
 use holding_book::{Answer, Book, Entry};
 use scr_reader::{Item, read_item};
@@ -468,12 +468,7 @@ fn callers_on_threads_have_one_history(rt: HostRuntime) -> Result<(), Fail> {
 
 // Whether two callers on threads have one history, in which one of them has the last place.
 fn is_shared<R: Threads + Wait + Sync>(rt: &R, alloc: Global) -> Result<bool, Fail> {
-    let mut book = start_book(
-        alloc,
-        "CAP ARR 60 0600 0600 1234567 2",
-        "FBA001 0610",
-        "0;;;",
-    )?;
+    let mut book = small_book(alloc)?;
     let own = (
         "QBA001;NBA002 0620;QBA099;DBA001 05MAY05MAY 1000000 0610",
         "QBA001;NBA003 0630;QBA099;DBA001 05MAY05MAY 1000000 0610",
@@ -524,12 +519,7 @@ fn second_answer(alloc: Global, declaration: &Declaration, said: &Said) -> Resul
 fn a_full_history_stays(rt: HostRuntime) -> Result<(), Fail> {
     let alloc = rt.alloc();
     for most in [0, 1, 2, 100_000] {
-        let book = start_book(
-            alloc,
-            "CAP ARR 60 0600 0600 1234567 2",
-            "FBA001 0610",
-            "0;;;",
-        )?;
+        let book = small_book(alloc)?;
         let (after, history, end) = filled(&rt, alloc, &book, most)?;
         assert_eq!(rt; end, Some(u64::from(most)));
         assert_eq!(rt; history.len() as u64, u64::from(most));

@@ -1,7 +1,7 @@
 //! Sessions over links in memory, by a ledger of one caller: how each one ends, and what it was
 //! sent.
 
-use crate::books::start_book;
+use crate::books::small_book;
 use desk_links::MemoryLink;
 use session_desk::{SessionEnd, SessionFault, serve_link};
 use slot_ledger::Ledger;
@@ -90,12 +90,7 @@ fn put_text(out: &mut Vec<u8>, text: &str) -> Result<(), Fail> {
 
 // How a session over a link with this input ends, and what it was sent.
 fn session<R: Wait>(rt: &R, alloc: Global, most: u32, input: Vec<u8>) -> Result<String, Fail> {
-    let book = start_book(
-        alloc,
-        "CAP ARR 60 0600 0600 1234567 2",
-        "FBA001 0610",
-        "0;;;",
-    )?;
+    let book = small_book(alloc)?;
     if book.count() > 1_000_000 || most > 100_000 {
         return Err("too many".into());
     }
