@@ -1,5 +1,5 @@
 -- What was seen goes on, over several steps and by an ask.
-use Rattle.std.proofs.Common.{◌≡◌, List, [], ◌∷◌, ◌++◌, sym, ap, ◌∙◌, append_assoc, append-nil}
+use Rattle.std.proofs.Common.{List, [], ◌∷◌, ◌++◌, sym, ap, ◌∙◌, append_assoc, append-nil}
 use Rattle.turn_lock.specs.Seats.{SeatView}
 use Rattle.scr_reader.specs.declared.line.Item.{Item}
 use Rattle.holding_book.specs.declared.answer.Answer.{Answer}
