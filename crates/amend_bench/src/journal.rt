@@ -1,14 +1,16 @@
 //! How long a journal takes: entries that it has before they are answered, the opening of a full
 //! one, and the answers to its pairs anew.
 
-ghost use Rattle.std.specs.Prelude.{◌≡◌, ◌<◌, ◌≤◌, length};
+ghost use Rattle.std.specs.Prelude.{◌≡◌, ◌<◌, ◌≤◌, All, length, IfSome};
+ghost use Rattle.amend_journal.specs.Format.{IsFit};
+ghost use Rattle.amend_journal.specs.declared.asked.TheConstants.{MOST_PAIRS};
 ghost use Rattle.amend_bench.specs.declared.journal.TheConstants.{MOST_BYTES};
 
 use crate::asks::{Airline, NEW_AIRLINE};
 use crate::report::{NO_CALLS, Size, Tally, calls_since, print_tally};
 use crate::sessions::{LINKS, doors_of};
-use amend_journal::{Journal, JournalKept, MOST_PAIRS, replayed};
-use desk_disk::MemoryDisk;
+use amend_journal::{Asked, Journal, JournalKept, MOST_PAIRS, replayed};
+use desk_disk::{Disk, MemoryDisk};
 use holding_book::Book;
 use scr_reader::{print_item, read_item};
 use session_desk::{MOST_DOORS, serve_doors};
@@ -43,7 +45,8 @@ pub fn run<R: Threads + Wait + Sync + Print + Clock>(
     };
     println!(rt; "a journal of a book of {} holdings", book.count())?;
     for links in LINKS {
-        let tally = kept_over(rt, alloc, book, links, asks)?;
+        let disk = disk_of(alloc, b"", usize::MAX)?;
+        let tally = kept_over(rt, alloc, book, disk, links, asks)?;
         print!(rt; "links {links}, ")?;
         print_tally(rt, size, "entries", tally)?;
     }
@@ -52,12 +55,13 @@ pub fn run<R: Threads + Wait + Sync + Print + Clock>(
     print_opened(rt, alloc, size, book, &bytes)
 }
 
-// The entries of a ledger with a journal over so many links, each its part of the asks, and how
-// long they took.
-fn kept_over<R: Threads + Wait + Sync + Clock>(
+// The entries of a ledger with a journal on this disk over so many links, each its part of the
+// asks, and how long they took.
+fn kept_over<R: Threads + Wait + Sync + Clock, K: Disk>(
     rt: &R,
     alloc: Global,
     book: &Book,
+    disk: K,
     links: u32,
     asks: u32,
 ) -> anyhow::Result<Tally>
@@ -69,7 +73,6 @@ fn kept_over<R: Threads + Wait + Sync + Clock>(
         return Ok(NO_CALLS);
     }
     let season = copy.declaration().season;
-    let disk = disk_of(alloc, b"", usize::MAX)?;
     let Ok((journal, _pairs)) = Journal::open(alloc, disk, &season) else {
         return Ok(NO_CALLS);
     };
@@ -127,7 +130,7 @@ fn put_drawn(
     Ok(())
 }
 
-// Opens the journal of these bytes and answers its pairs on a copy of the book.
+// Opens the journal of these bytes and answers its pairs anew.
 fn print_opened<R: Print + Clock>(
     rt: &R,
     alloc: Global,
@@ -135,21 +138,61 @@ fn print_opened<R: Print + Clock>(
     book: &Book,
     bytes: &[u8],
 ) -> anyhow::Result<()> {
-    let copy = book.copy(alloc)?;
-    if bytes.len() > MOST_BYTES || copy.count() > 100_000 {
+    if bytes.len() > MOST_BYTES {
         return Ok(());
     }
-    let season = copy.declaration().season;
     let disk = disk_of(alloc, bytes, usize::MAX)?;
     let start = Instant::now(rt)?;
-    let Ok((journal, pairs)) = Journal::open(alloc, disk, &season) else {
+    let Some(pairs) = pairs_in(alloc, book, disk) else {
         return Ok(());
     };
-    let count = u64::from(journal.count());
-    print_tally(rt, size, "opened", calls_since(rt, start, count)?)?;
+    let opening = calls_since(rt, start, pairs.len() as u64)?;
+    print_tally(rt, size, "opened", opening)?;
+    print_answered(rt, alloc, size, book, &pairs)
+}
+
+// The pairs of a journal of the book's season; none where it cannot be opened.
+fn pairs_in(alloc: Global, book: &Book, disk: MemoryDisk) -> Option<Vec<Asked>>
+    ensures fit { IfSome result (λ pairs.
+        All (IsFit book.now.book.declaration.season) pairs.items) }
+    ensures few { IfSome result (λ pairs. length pairs.items ≤ MOST_PAIRS) }
+{
+    match Journal::open(alloc, disk, &book.declaration().season) {
+        Ok((journal, pairs)) => {
+            let _count = journal.count();
+            Some(pairs)
+        }
+        Err(_refused) => None,
+    }
+}
+
+// Answers the pairs on a copy of the book.
+fn print_answered<R: Print + Clock>(
+    rt: &R,
+    alloc: Global,
+    size: Size,
+    book: &Book,
+    pairs: &[Asked],
+) -> anyhow::Result<()>
+    requires fit { All (IsFit book.now.book.declaration.season) pairs.now }
+    requires few { length pairs.now ≤ MOST_PAIRS }
+{
     let start = Instant::now(rt)?;
-    let after = replayed(alloc, copy, &pairs)?;
-    let tally = calls_since(rt, start, count)?;
-    print!(rt; "holdings {}, ", after.count())?;
+    let holdings = answered_anew(alloc, book, pairs)?;
+    let tally = calls_since(rt, start, pairs.len() as u64)?;
+    print!(rt; "holdings {holdings}, ")?;
     print_tally(rt, size, "answered anew", tally)
+}
+
+// How many holdings there are when the pairs are answered on a copy of the book.
+fn answered_anew(alloc: Global, book: &Book, pairs: &[Asked]) -> Result<u32, Memory>
+    requires fit { All (IsFit book.now.book.declaration.season) pairs.now }
+    requires few { length pairs.now ≤ MOST_PAIRS }
+{
+    let copy = book.copy(alloc)?;
+    if copy.count() > 100_000 {
+        return Ok(0);
+    }
+    let after = replayed(alloc, copy, pairs)?;
+    Ok(after.count())
 }
