@@ -60,14 +60,34 @@ fn run<R: Wait>(
     }
     let season = book.declaration().season;
     let disk = MemoryDisk::new(alloc, bytes, ROOM, 99, failing)?;
-    let Ok((journal, pairs)) = Journal::open(alloc, disk, &season) else {
-        return Ok(None);
-    };
+    match Journal::open(alloc, disk, &season) {
+        Ok((journal, pairs)) => {
+            let book = replayed(alloc, book, &pairs)?;
+            Ok(Some(go_on(rt, alloc, journal, book, &season, count)?))
+        }
+        Err(_) => Ok(None),
+    }
+}
+
+/// Asks what a journal lacks of the first so many asks, by a ledger over the book of its pairs.
+fn go_on<R: Wait>(
+    rt: &R,
+    alloc: Global,
+    journal: Journal<MemoryDisk>,
+    book: Book,
+    season: &Season,
+    count: usize,
+) -> Result<Left, Fail>
+    requires journal { journal.season ≡ book.book.declaration.season }
+    requires season { season.now ≡ book.book.declaration.season }
+{
+    if book.count() > 2_000_000 {
+        return Err("too many".into());
+    }
     let mut reached = Reached {
         done: journal.count() as usize,
         broken: false,
     };
-    let book = replayed(alloc, book, &pairs)?;
     let (ledger, mut passes) = JournalLedger::start(alloc, journal, book, 2)?;
     let mut second = passes.pop().ok_or("a pass")?;
     let mut first = passes.pop().ok_or("a pass")?;
@@ -75,20 +95,32 @@ fn run<R: Wait>(
         rt,
         alloc,
         &ledger,
-        &season,
+        season,
         &mut first,
         &mut second,
         &mut reached,
         count,
     )?;
     let (book, disk) = closed(alloc, ledger, first, second)?;
+    left(alloc, reached, season, &book, &disk)
+}
+
+/// What is left of a run that has ended with this book and this disk.
+fn left(
+    alloc: Global,
+    reached: Reached,
+    season: &Season,
+    book: &Book,
+    disk: &MemoryDisk,
+) -> Result<Left, Fail> {
     let mut held = Vec::new(alloc);
-    put_holdings(alloc, &mut held, &season, book.holdings())?;
-    Ok(Some(Left {
+    put_holdings(alloc, &mut held, season, book.holdings())?;
+    let bytes = Vec::from_slice(alloc, disk.bytes())?;
+    Ok(Left {
         reached,
         held,
-        bytes: Vec::from_slice(alloc, disk.bytes())?,
-    }))
+        bytes,
+    })
 }
 
 /// Asks from the place on that is reached, one caller's ask behind the other's, up to so many.

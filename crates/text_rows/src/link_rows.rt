@@ -23,23 +23,31 @@ impl<L: Link> Case for LinkCalls<L> {
     fn find(&mut self, alloc: Global, given: &[u8], out: &mut Vec<u8>) -> Result<(), Fail> {
         let (call, rest) = cut(given, b' ');
         match call {
-            b"take" => {
-                let mut into = [0u8; 16];
-                let room = (number(rest, 1)? as usize).clamp(1, 16);
-                match self.link.take(&mut into[..room]) {
-                    Ok(n) => out.extend_from_slice(&into[..n.min(16)])?,
-                    Err(_) => out.extend_from_slice(b"fault")?,
-                }
-            }
-            b"put" => match self.link.put(rest) {
-                Ok(()) => out.extend_from_slice(b"put")?,
-                Err(_) => out.extend_from_slice(b"fault")?,
-            },
+            b"take" => say_take(&mut self.link, number(rest, 1)?, out)?,
+            b"put" => say_put(&mut self.link, rest, out)?,
             _ => return Err("no such call".into()),
         }
         let (faults, ended) = (self.link.faults(), self.link.ended());
         say(alloc, out, format_args!(" {faults} {ended}"))
     }
+}
+
+fn say_take<L: Link>(link: &mut L, room: u32, out: &mut Vec<u8>) -> Result<(), Fail> {
+    let mut into = [0u8; 16];
+    let room = (room as usize).clamp(1, 16);
+    match link.take(&mut into[..room]) {
+        Ok(n) => out.extend_from_slice(&into[..n.min(16)])?,
+        Err(_) => out.extend_from_slice(b"fault")?,
+    }
+    Ok(())
+}
+
+fn say_put<L: Link>(link: &mut L, bytes: &[u8], out: &mut Vec<u8>) -> Result<(), Fail> {
+    match link.put(bytes) {
+        Ok(()) => out.extend_from_slice(b"put")?,
+        Err(_) => out.extend_from_slice(b"fault")?,
+    }
+    Ok(())
 }
 
 // The input `abcdefgh` in pieces of 3, 0 (which is 1) and 9 bytes, then as they fit; room for 4
@@ -126,8 +134,7 @@ fn a_door_hands_out_its_links(rt: HostRuntime) -> Result<(), Fail> {
     Ok(())
 }
 
-// A door over a listener of the system: a client that sends and half-closes gets what is put; a
-// door without a listener fails.
+// A door over a listener of the system: a client that sends and half-closes gets what is put.
 #[test]
 fn the_system_has_links(rt: HostRuntime) -> Result<(), Fail> {
     let alloc = rt.alloc();
@@ -137,6 +144,14 @@ fn the_system_has_links(rt: HostRuntime) -> Result<(), Fail> {
     let mut client = TcpStream::connect(&rt, address)?;
     client.write_all(b"abc")?;
     client.shutdown(Shutdown::Write)?;
+    serve_one(alloc, &mut door)?;
+    assert!(rt; has_come(alloc, &mut client)?);
+    assert!(rt; door.accept().is_err());
+    Ok(())
+}
+
+/// Takes the bytes of a client, puts others, and hands the link back.
+fn serve_one(alloc: Global, door: &mut RealDoor<TcpListener>) -> Result<(), Fail> {
     let Some(link) = door.accept().map_err(|_| "no link")? else {
         return Err("no link comes".into());
     };
@@ -148,11 +163,19 @@ fn the_system_has_links(rt: HostRuntime) -> Result<(), Fail> {
     )?;
     let LinkCalls { link } = calls;
     door.finish(link);
+    Ok(())
+}
+
+/// Whether what was put has come to the client.
+fn has_come(alloc: Global, client: &mut TcpStream) -> Result<bool, Fail> {
     let mut got = Vec::new(alloc);
     client.read_to_end(&mut got)?;
-    assert_eq!(rt; got.as_slice(), b"xy".as_slice());
-    assert!(rt; door.accept().is_err());
-    let mut unbound = RealDoor::<TcpListener>::new(alloc, None, 1)?;
+    Ok(got.as_slice() == b"xy".as_slice())
+}
+
+#[test]
+fn a_door_without_a_listener_fails(rt: HostRuntime) -> Result<(), Fail> {
+    let mut unbound = RealDoor::<TcpListener>::new(rt.alloc(), None, 1)?;
     assert!(rt; unbound.accept().is_err());
     assert_eq!(rt; unbound.faults(), 1);
     Ok(())
