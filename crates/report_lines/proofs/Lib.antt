@@ -1,0 +1,6 @@
+mod WindowLemmas
+mod PeakLemmas
+mod AboveLemmas
+mod LeastLemmas
+mod DemandLemmas
+mod TextLemmas

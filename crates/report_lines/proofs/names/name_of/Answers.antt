@@ -1,0 +1,62 @@
+use Rattle.std.proofs.Common.{◌≡◌, ℕ, ◌+◌, ◌*◌, ◌%◌, ◌<◌, ◌≤◌, sym, ◌∙◌, ap, arith}
+use Rattle.season_days.specs.Capacity.{Capacity, starts_of, windows_of}
+use Rattle.season_days.specs.Seasons.{date_count}
+use Rattle.std.proofs.lemmas.Nat.{mod_below}
+use Rattle.report_lines.proofs.WindowLemmas.{line_at, starts_at, name_found, name_later, day_fits, start_fits}
+use Rattle.report_lines.proofs.names.name_of.Goals as goal
+
+pub returns-then-rest-count-clause-name : goal.returns-then-rest-count-clause-name
+returns-then-rest-count-clause-name c =
+    let k = c.args.windows.now in
+    let line = c.loop-line.line in
+    let same = c.items-rules.ensures ∙ ap (λ (q : Capacity). q.rules) (sym c.requires) in
+    let at = line_at c.items-rules.result.now k.rules line _ same (omega (arith, c.loop-line-test.true, c.lines-line-end.ensures.count)) in
+    let starts = starts_at k.rules line _ k.step c.starts-starts.result at c.starts-starts.ensures.starts in
+    let size = ap (λ (n : ℕ). n * c.starts-starts.result) c.days.ensures.value ∙ ap (λ (n : ℕ). date_count k.season * n) starts in
+    name_found k line c.loop-line.rest c.starts-starts.result _ c.args.resource c.args.declaration.now.step _ at starts size (ap (λ (q : Capacity). q.step) (sym c.requires)) c.if-rest-count.true c.loop-line.invariant
+
+pub returns-then-rest-count-clause-day : goal.returns-then-rest-count-clause-day
+returns-then-rest-count-clause-day c =
+    let k = c.args.windows.now in
+    let line = c.loop-line.line in
+    let same = c.items-rules.ensures ∙ ap (λ (q : Capacity). q.rules) (sym c.requires) in
+    let at = line_at c.items-rules.result.now k.rules line _ same (omega (arith, c.loop-line-test.true, c.lines-line-end.ensures.count)) in
+    let starts = starts_at k.rules line _ k.step c.starts-starts.result at c.starts-starts.ensures.starts in
+    let fits = day_fits c.loop-line.rest c.starts-starts.result c.days.result (omega (arith, starts)) c.if-rest-count.true in
+    omega (arith, fits, c.days.ensures.value)
+
+pub loop-line-preserved : goal.loop-line-preserved
+loop-line-preserved c =
+    let k = c.args.windows.now in
+    let line = c.loop-line.line in
+    let same = c.items-rules.ensures ∙ ap (λ (q : Capacity). q.rules) (sym c.requires) in
+    let at = line_at c.items-rules.result.now k.rules line _ same (omega (arith, c.loop-line-test.true, c.lines-line-end.ensures.count)) in
+    let starts = starts_at k.rules line _ k.step c.starts-starts.result at c.starts-starts.ensures.starts in
+    let size = ap (λ (n : ℕ). n * c.starts-starts.result) c.days.ensures.value ∙ ap (λ (n : ℕ). date_count k.season * n) starts in
+    name_later k line c.loop-line.rest _ c.args.resource _ at size c.if-rest-count.false c.loop-line.invariant
+
+pub overflow_mul-result : goal.overflow_mul-result
+overflow_mul-result c =
+    let k = c.args.windows.now in
+    let line = c.loop-line.line in
+    let same = c.items-rules.ensures ∙ ap (λ (q : Capacity). q.rules) (sym c.requires) in
+    let at = line_at c.items-rules.result.now k.rules line _ same (omega (arith, c.loop-line-test.true, c.lines-line-end.ensures.count)) in
+    let starts = starts_at k.rules line _ k.step c.starts-starts.result at c.starts-starts.ensures.starts in
+    let step = ap (λ (q : Capacity). q.step) c.requires in
+    let below = mod_below c.loop-line.rest c.starts-starts.result (omega (arith, starts)) in
+    let fits = start_fits k.step _ (c.loop-line.rest % c.starts-starts.result) (omega (arith, below, starts)) in
+    let same_fits = rw step at fits in
+    omega (arith, same_fits)
+
+pub overflow_add-result-then-rest-count : goal.overflow_add-result-then-rest-count
+overflow_add-result-then-rest-count c =
+    let k = c.args.windows.now in
+    let line = c.loop-line.line in
+    let same = c.items-rules.ensures ∙ ap (λ (q : Capacity). q.rules) (sym c.requires) in
+    let at = line_at c.items-rules.result.now k.rules line _ same (omega (arith, c.loop-line-test.true, c.lines-line-end.ensures.count)) in
+    let starts = starts_at k.rules line _ k.step c.starts-starts.result at c.starts-starts.ensures.starts in
+    let step = ap (λ (q : Capacity). q.step) c.requires in
+    let below = mod_below c.loop-line.rest c.starts-starts.result (omega (arith, starts)) in
+    let fits = start_fits k.step _ (c.loop-line.rest % c.starts-starts.result) (omega (arith, below, starts)) in
+    let same_fits = rw step at fits in
+    omega (arith, same_fits)
