@@ -1,5 +1,6 @@
 -- What an opening leaves.
 use Rattle.std.proofs.Common.{◌≡◌, ◌⊎◌, ℕ, ◌+◌, ◌≤◌, List, [], ◌∷◌, ◌++◌, length, take, drop, refl, sym, ap, subst, ◌∙◌, append-nil, length-append, inl, inr, arith, Result, Ok, Err, IfOk, IfErr, Option, Some, None}
+use Rattle.std.specs.Prelude.{IfSome}
 use Rattle.std.proofs.lemmas.List.{length-take, drop_all, nil_from_length}
 use Rattle.std.proofs.lemmas.List.Elements.{All-nil}
 use Rattle.season_days.specs.Term.{Term}
@@ -241,3 +242,26 @@ synced_fault (Err e) season old mid now law is h = λ s file reads agrees. h s f
 pub synced_durable : {T : Type 0} (r : Result T OpenFault) (items : T → List Asked) (season : Term) (old mid now : List DiskPassage) → LeftLaw → mid ≡ old ++ synced ∷ [] → IfOk r (λ t. AreKeptSynced season mid now (items t)) → IfOk r (λ t. AreKept season old now (items t))
 synced_durable (Ok t) items season old mid now law is h = λ s file reads agrees. h s file (synced_leaves s file old mid law is reads) agrees
 synced_durable (Err e) items season old mid now law is h = tt
+
+-- ---- what a disk tells that it holds
+
+pub any_told : (told : Option ToldDisk) → IfSome told (λ (t : ToldDisk). Unit {0})
+any_told None = tt
+any_told (Some t) = tt
+
+-- what is so of all that may be read is so of what the disk told before its calls, and still tells
+pub told_is : (P : List ℕ → Type 0) (before now : DiskView) → TellsTruly now → now.told ≡ before.told → ((s : DiskStart) (c : List ℕ) → MayRead s now.log c → P c) → IfSome before.told (λ (t : ToldDisk). P t.bytes)
+told_is P before now truly same always =
+    subst (λ (o : Option ToldDisk). IfSome o (λ (t : ToldDisk). P t.bytes)) same (of now.told truly)
+  where
+    of : (o : Option ToldDisk) → IfSome o (λ (t : ToldDisk). MayRead t.start now.log t.bytes) → IfSome o (λ (t : ToldDisk). P t.bytes)
+    of None h = tt
+    of (Some t) h = always t.start t.bytes h
+
+pub told_found_of : {T : Type 0} (r : Result T OpenFault) (items : T → List Asked) (season : Term) (before now : DiskView) → TellsTruly now → now.told ≡ before.told → IfOk r (λ t. AlwaysJournalOf season now.log (items t)) → IfOk r (λ t. IfSome before.told (λ (d : ToldDisk). StandsFor season (items t) d.bytes))
+told_found_of (Ok t) items season before now truly same always = told_is (StandsFor season (items t)) before now truly same (λ s c h. inr (always s c h))
+told_found_of (Err e) items season before now truly same always = tt
+
+pub told_fault_of : {T : Type 0} (r : Result T OpenFault) (season : Term) (before now : DiskView) → TellsTruly now → now.told ≡ before.told → IfErr r (AlwaysFaulty season now.log) → IfErr r (λ fault. IfSome before.told (λ (d : ToldDisk). HasFault season fault d.bytes))
+told_fault_of (Ok t) season before now truly same always = tt
+told_fault_of (Err e) season before now truly same always = told_is (HasFault season e) before now truly same always
