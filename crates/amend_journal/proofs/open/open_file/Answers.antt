@@ -1,11 +1,13 @@
-use Rattle.std.proofs.Common.{List, ap, subst, inl, inr}
-use Rattle.std.specs.Prelude.{Option, IfOk, IfErr, IfSome}
+use Rattle.std.proofs.Common.{◌≡◌, List, ap, subst, inl, inr, rules}
+use Rattle.std.specs.Prelude.{Option, IfOk, IfErr, IfSome, IsErrAnd}
 use Rattle.desk_disk.specs.Stops.{DiskPassage, synced, AtEachMoment}
 use Rattle.desk_disk.specs.Disks.{ToldDisk}
 use Rattle.amend_journal.specs.Standing.{StandsFor, HasFault}
 use Rattle.amend_journal.specs.Durable.{told_start}
+use Rattle.amend_journal.specs.declared.fault.OpenFault.{OpenFault}
+use Rattle.amend_journal.specs.declared.fault.OpenFault.TheVariants.{DiskFault}
 use Rattle.amend_journal.proofs.MomentLemmas.{later_join}
-use Rattle.amend_journal.proofs.OpenLemmas.{synced_leaves, synced_found, synced_fault, synced_durable, failed_no_worse, synced_no_worse, later_call, any_told}
+use Rattle.amend_journal.proofs.OpenLemmas.{synced_leaves, synced_found, synced_fault, synced_durable, failed_no_worse, synced_no_worse, later_call, disk_fault_told}
 use Rattle.amend_journal.proofs.open.open_file.Goals as goal
 
 pub returns-in_err-sync-clause-moments : goal.returns-in_err-sync-clause-moments
@@ -55,7 +57,9 @@ returns-clause-later g c =
     later_join _ _ _ first c.open_synced.ensures.later
 
 pub returns-in_err-sync-clause-told_refused : goal.returns-in_err-sync-clause-told_refused
-returns-in_err-sync-clause-told_refused g c = any_told (g.K.Disk.view c.args.disk.now).told
+returns-in_err-sync-clause-told_refused g c =
+    let err : IsErrAnd c.from_residual.result (λ (f : OpenFault). f ≡ DiskFault) = search rules in
+    disk_fault_told c.from_residual.result c.args.season.now (g.K.Disk.view c.args.disk.now).told err
 
 pub returns-clause-told_found : goal.returns-clause-told_found
 returns-clause-told_found g c =

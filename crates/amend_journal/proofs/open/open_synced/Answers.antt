@@ -1,12 +1,15 @@
-use Rattle.std.proofs.Common.{◌≤◌, ℕ, List, length, refl, sym, ap, subst, inl, arith, ◌∙◌}
+use Rattle.std.proofs.Common.{◌≡◌, ◌≤◌, ℕ, List, length, refl, sym, ap, subst, inl, arith, ◌∙◌, rules}
 use Rattle.std.proofs.lemmas.List.Elements.{All-nil}
+use Rattle.std.specs.Prelude.{IsErrAnd}
 use Rattle.desk_disk.specs.Stops.{DiskPassage, measured, AtEachMoment}
 use Rattle.amend_journal.specs.Format.{IsFit}
 use Rattle.amend_journal.specs.Standing.{StandsFor}
 use Rattle.amend_journal.specs.Durable.{AreDurable, told_start}
 use Rattle.amend_journal.specs.declared.asked.Asked.{Asked as AskedValue}
+use Rattle.amend_journal.specs.declared.fault.OpenFault.{OpenFault}
+use Rattle.amend_journal.specs.declared.fault.OpenFault.TheVariants.{DiskFault}
 use Rattle.amend_journal.proofs.MomentLemmas.{looks_join, no_moment, later_join}
-use Rattle.amend_journal.proofs.OpenLemmas.{measured_look, measured_length, new_stands, looked_stands, same_no_worse, new_no_worse, looked_no_worse, found_of, fault_of, durable_of, later_call, any_told, told_is, told_found_of, told_fault_of}
+use Rattle.amend_journal.proofs.OpenLemmas.{measured_look, measured_length, new_stands, looked_stands, same_no_worse, new_no_worse, looked_no_worse, found_of, fault_of, durable_of, later_call, disk_fault_told, told_is, told_found_of, told_fault_of}
 use Rattle.amend_journal.proofs.ReadLemmas.{measured_sized}
 use Rattle.amend_journal.proofs.open.open_synced.Goals as goal
 
@@ -129,10 +132,14 @@ returns-else-size-le-SHORTEST-clause-later g c =
     later_join _ _ _ first c.read_journal.ensures.later
 
 pub returns-in_err-size-clause-told_refused : goal.returns-in_err-size-clause-told_refused
-returns-in_err-size-clause-told_refused g c = any_told (g.K.Disk.view c.args.disk.now).told
+returns-in_err-size-clause-told_refused g c =
+    let err : IsErrAnd c.from_residual.result (λ (f : OpenFault). f ≡ DiskFault) = search rules in
+    disk_fault_told c.from_residual.result c.args.season.now (g.K.Disk.view c.args.disk.now).told err
 
 pub returns-in_err-make_new-clause-told_refused : goal.returns-in_err-make_new-clause-told_refused
-returns-in_err-make_new-clause-told_refused g c = any_told (g.K.Disk.view c.args.disk.now).told
+returns-in_err-make_new-clause-told_refused g c =
+    let err : IsErrAnd c.from_residual-in_err-make_new.result (λ (f : OpenFault). f ≡ DiskFault) = search rules in
+    disk_fault_told c.from_residual-in_err-make_new.result c.args.season.now (g.K.Disk.view c.args.disk.now).told err
 
 pub returns-in_ok-make_new-clause-told_found : goal.returns-in_ok-make_new-clause-told_found
 returns-in_ok-make_new-clause-told_found g c =
