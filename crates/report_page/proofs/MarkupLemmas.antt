@@ -1,6 +1,6 @@
 -- Where markup begins in a text, and that none of it is a script.
 use Rattle.std.specs.Prelude.{◌==◌, if◌then◌else◌}
-use Rattle.std.proofs.Common.{◌≡◌, ℕ, ◌<◌, ◌^◌, Bool, true, false, not, ◌&&◌, ◌||◌, List, [], ◌∷◌, ◌++◌, refl, sym, ◌∙◌, arith, inl, inr}
+use Rattle.std.proofs.Common.{◌≡◌, ℕ, Bool, true, false, not, ◌&&◌, ◌||◌, List, [], ◌∷◌, ◌++◌, refl, sym, ◌∙◌, arith, inl, inr}
 use Rattle.std.proofs.lemmas.Bool.{cases_Bool, eq-eqb, eqb-true, and_parts, or_parts, not-true, and_right, or_from, false_from_ne_true, false≢true}
 use Rattle.report_page.specs.Filled.{escaped, number_of, minute_of, word_piece, next_piece, is_stop, told_words, is_word_mark, piece, words_left, filled}
 use Rattle.report_page.specs.Laws.{IsPlain, begins_with, has}
