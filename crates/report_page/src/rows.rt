@@ -1,0 +1,49 @@
+//! Parts of a page with one row for each line of their kinds.
+
+ghost use Rattle.std.specs.Prelude.{◌≡◌, ◌++◌, OnOk};
+ghost use Rattle.slot_text.specs.Fields.{fields_of};
+ghost use Rattle.slot_text.specs.Lines.{lines_of};
+ghost use Rattle.report_page.specs.Rows.{row_of, section_rows};
+
+use crate::fill::put_filled;
+use crate::layout::{
+    AIRLINE, HEADING, NIGHT, NIGHT_LOAD, OVER, RULES, STAGE, STEP, Section, TITLE,
+};
+use crate::words::word_is;
+use slot_text::{Lines, Memory};
+use std::alloc::Global;
+
+// The template of a line in a part of the page; without bytes where the part does not show it.
+fn row_of(section: Section, line: &[u8]) -> &'static [u8]
+    ensures { result.now ≡ row_of section (fields_of line.now) }
+{
+    match section {
+        Section::Title if word_is(line, 1, b"AIRPORT") => TITLE,
+        Section::Step if word_is(line, 1, b"RULES") => STEP,
+        Section::Heading if word_is(line, 1, b"AIRPORT") => HEADING,
+        Section::Heading if word_is(line, 1, b"RULES") => RULES,
+        Section::Stages if word_is(line, 1, b"STAGE") => STAGE,
+        Section::Stages if word_is(line, 1, b"OVER") => OVER,
+        Section::Airlines if word_is(line, 1, b"AIRLINE") => AIRLINE,
+        Section::Night if word_is(line, 1, b"NIGHT") => NIGHT,
+        Section::Night if word_is(line, 2, b"NIGHT") && word_is(line, 1, b"PROFILE") => NIGHT_LOAD,
+        _ => b"",
+    }
+}
+
+/// Appends the rows of a part of the page.
+pub(crate) fn put_rows(
+    alloc: Global,
+    out: &mut Vec<u8>,
+    section: Section,
+    report: &[u8],
+) -> Result<(), Memory>
+    ensures { OnOk result (out.new.items
+        ≡ out.old.items ++ section_rows section (lines_of report.now)) }
+{
+    let mut lines = Lines::new(report);
+    while let Some(line) = lines.next_line() {
+        put_filled(alloc, out, row_of(section, line), line)?;
+    }
+    Ok(())
+}
