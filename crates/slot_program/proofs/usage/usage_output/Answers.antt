@@ -10,6 +10,7 @@ use Rattle.series_model.specs.Units.{units_of}
 use Rattle.holding_book.specs.declared.holding.Holding.{Holding}
 use Rattle.holding_book.specs.Books.{SlotBook}
 use Rattle.holding_book.specs.Starts.{start_book}
+use Rattle.usage_watch.specs.NextLines.{confirmed_lines, next_lines}
 use Rattle.usage_watch.specs.NextTexts.{IsHistoric}
 use Rattle.slot_program.proofs.AmendLemmas.{start_few}
 use Rattle.slot_program.proofs.UsageLemmas.{next_fits, next_header_season, held_fit, series_are, kept_are, lines_are, watched}
@@ -39,7 +40,7 @@ print_next-requires c =
     let all = c.next_lines_fit.ensures c.declaration.result.now.season c.args.next c.args.operated.now hs fit in
     let season : c.next_header-header.result.season ≡ c.args.next = ap (λ (h : Header). h.season) c.next_header-header.ensures ∙ (next_header_season c.args.submission.now ∙ sym c.requires.next) in
     subst (λ (l : List Line). All (IsHistoric c.next_header-header.result.season) l) (sym (c.items.ensures ∙ c.in_ok-usage.ensures.next))
-    (subst (λ (t : Term). All (IsHistoric t) _) (sym season) all)
+    (subst (λ (t : Term). All (IsHistoric t) (next_lines c.declaration.result.now.season c.args.next c.args.operated.now (confirmed_lines hs))) (sym season) all)
 
 pub returns : goal.returns
 unfolding start_book
