@@ -20,7 +20,7 @@ use Rattle.slot_program.proofs.EndLemmas.{works_finishing}
 use Rattle.slot_program.proofs.ServiceLemmas.{works_calm, works_risen}
 use Rattle.slot_program.proofs.JournalLemmas.{Standings, works_disk_calm, works_disk_risen, without_calm, without_risen, pass_one, work_due, without_due, without_stands, stands_finishing}
 use Rattle.command_words.specs.declared.job.Job.{Job}
-use Rattle.command_words.specs.declared.job.Job.TheVariants.{Allocate, Check, Amend, Serve, Resume, Usage, Make, Trial}
+use Rattle.command_words.specs.declared.job.Job.TheVariants.{Allocate, Check, Amend, Serve, Resume, Usage, Report as ReportJob, Make, Trial}
 
 -- ---- statuses of work that is done
 
@@ -61,6 +61,7 @@ finishing_among (Allocate names nodes workers) n one = among_searched n one
 finishing_among (Check names) n one = among_zero n one
 finishing_among (Amend names) n one = among_zero n one
 finishing_among (Usage names) n one = among_zero n one
+finishing_among (ReportJob names) n one = among_zero n one
 finishing_among (Serve names links port workers) n one = among_served n one
 finishing_among (Resume names links port workers) n one = among_resumed n one
 finishing_among (Make number units names) n one = among_zero n one
@@ -412,6 +413,11 @@ file_named (Usage names) (capacity ∷ requests ∷ []) writes status text work 
 file_named (Usage names) (capacity ∷ requests ∷ certificate ∷ []) writes status text work = absurd work
 file_named (Usage names) (capacity ∷ requests ∷ certificate ∷ operated ∷ []) writes status text work = ap (λ (l : List NamedBytes). named l) work.written
 file_named (Usage names) (capacity ∷ requests ∷ certificate ∷ operated ∷ more ∷ rest) writes status text work = absurd work
+file_named (ReportJob names) [] writes status text work = absurd work
+file_named (ReportJob names) (capacity ∷ []) writes status text work = absurd work
+file_named (ReportJob names) (capacity ∷ requests ∷ []) writes status text work = absurd work
+file_named (ReportJob names) (capacity ∷ requests ∷ certificate ∷ []) writes status text work = ap (λ (l : List NamedBytes). named l) work.written
+file_named (ReportJob names) (capacity ∷ requests ∷ certificate ∷ more ∷ rest) writes status text work = absurd work
 file_named (Serve names links port workers) inputs writes status text work = absurd work
 file_named (Resume names links port workers) inputs writes status text work = absurd work
 file_named (Make number units names) [] writes status text work = ap (λ (l : List NamedBytes). named l) work.written
@@ -438,6 +444,7 @@ works_named (Allocate names nodes workers) inputs writes change status text work
 works_named (Check names) inputs writes change status text work = file_named (Check names) inputs writes status text work.1
 works_named (Amend names) inputs writes change status text work = file_named (Amend names) inputs writes status text work.1
 works_named (Usage names) inputs writes change status text work = file_named (Usage names) inputs writes status text work.1
+works_named (ReportJob names) inputs writes change status text work = file_named (ReportJob names) inputs writes status text work.1
 works_named (Serve names links port workers) inputs writes change status text work = service_named names links inputs writes change status text work
 works_named (Resume names links port workers) inputs writes change status text work = resume_named names links inputs writes change status text work
 works_named (Make number units names) inputs writes change status text work = file_named (Make number units names) inputs writes status text work.1
@@ -487,6 +494,13 @@ module _ (marks : (s : SubmissionView) (c : Certificate) → IsValid s c → Mar
       subst (λ (l : List NamedBytes). HeadlineHolds (Usage names) (capacity ∷ requests ∷ certificate ∷ operated ∷ []) l change status text) (sym work.written)
       (work.season, work.proved, work.spelled, record { made = work.made; valid = work.valid; marks = marks work.season work.proved work.valid }, work.reports, work.said, work.output)
   file_marks (Usage names) files (capacity ∷ requests ∷ certificate ∷ operated ∷ more ∷ rest) writes change status text pass work = absurd work
+  file_marks (ReportJob names) files [] writes change status text pass work = absurd work
+  file_marks (ReportJob names) files (capacity ∷ []) writes change status text pass work = absurd work
+  file_marks (ReportJob names) files (capacity ∷ requests ∷ []) writes change status text pass work = absurd work
+  file_marks (ReportJob names) files (capacity ∷ requests ∷ certificate ∷ []) writes change status text pass work =
+      subst (λ (l : List NamedBytes). HeadlineHolds (ReportJob names) (capacity ∷ requests ∷ certificate ∷ []) l change status text) (sym work.written)
+      (work.season, work.proved, work.spelled, record { made = work.made; valid = work.valid; marks = marks work.season work.proved work.valid }, work.output)
+  file_marks (ReportJob names) files (capacity ∷ requests ∷ certificate ∷ more ∷ rest) writes change status text pass work = absurd work
   file_marks (Serve names links port workers) files done writes change status text pass work = absurd work
   file_marks (Resume names links port workers) files done writes change status text pass work = absurd work
   file_marks (Make number units names) files done writes change status text pass work = tt
@@ -518,6 +532,7 @@ module _ (marks : (s : SubmissionView) (c : Certificate) → IsValid s c → Mar
   work_marks (Check names) files done writes change status text pass work = file_marks (Check names) files done writes change status text pass work.1
   work_marks (Amend names) files done writes change status text pass work = file_marks (Amend names) files done writes change status text pass work.1
   work_marks (Usage names) files done writes change status text pass work = file_marks (Usage names) files done writes change status text pass work.1
+  work_marks (ReportJob names) files done writes change status text pass work = file_marks (ReportJob names) files done writes change status text pass work.1
   work_marks (Serve names links port workers) files done writes change status text pass work = service_marks names links port workers done writes change status text work
   work_marks (Resume names links port workers) files done writes change status text pass work = resume_marks names links port workers done writes change status text work
   work_marks (Make number units names) files done writes change status text pass work = file_marks (Make number units names) files done writes change status text pass work.1

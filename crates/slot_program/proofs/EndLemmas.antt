@@ -23,7 +23,7 @@ use Rattle.slot_program.specs.Reports.{JournalRefusal}
 use Rattle.slot_program.specs.Stops.{StopLeads}
 use Rattle.slot_program.proofs.StageLemmas.{marks_among}
 use Rattle.command_words.specs.declared.job.Job.{Job}
-use Rattle.command_words.specs.declared.job.Job.TheVariants.{Allocate, Check, Amend, Serve, Resume, Usage, Make, Trial}
+use Rattle.command_words.specs.declared.job.Job.TheVariants.{Allocate, Check, Amend, Serve, Resume, Usage, Report, Make, Trial}
 use Rattle.slot_program.specs.declared.stop.Stop.{Stop}
 use Rattle.slot_program.specs.declared.stop.Stop.TheVariants as stops
 
@@ -55,6 +55,11 @@ file_finishing (Usage names) (capacity ∷ requests ∷ []) writes status text w
 file_finishing (Usage names) (capacity ∷ requests ∷ certificate ∷ []) writes status text work = absurd work
 file_finishing (Usage names) (capacity ∷ requests ∷ certificate ∷ operated ∷ []) writes status text work = only_zero status work.status_is
 file_finishing (Usage names) (capacity ∷ requests ∷ certificate ∷ operated ∷ more ∷ rest) writes status text work = absurd work
+file_finishing (Report names) [] writes status text work = absurd work
+file_finishing (Report names) (capacity ∷ []) writes status text work = absurd work
+file_finishing (Report names) (capacity ∷ requests ∷ []) writes status text work = absurd work
+file_finishing (Report names) (capacity ∷ requests ∷ certificate ∷ []) writes status text work = only_zero status work.status_is
+file_finishing (Report names) (capacity ∷ requests ∷ certificate ∷ more ∷ rest) writes status text work = absurd work
 file_finishing (Serve names links port workers) inputs writes status text work = absurd work
 file_finishing (Resume names links port workers) inputs writes status text work = absurd work
 file_finishing (Make number units names) [] writes status text work = only_zero status work.status_is
@@ -105,6 +110,7 @@ works_finishing (Allocate names nodes workers) inputs writes change status text 
 works_finishing (Check names) inputs writes change status text work = file_finishing (Check names) inputs writes status text work.1
 works_finishing (Amend names) inputs writes change status text work = file_finishing (Amend names) inputs writes status text work.1
 works_finishing (Usage names) inputs writes change status text work = file_finishing (Usage names) inputs writes status text work.1
+works_finishing (Report names) inputs writes change status text work = file_finishing (Report names) inputs writes status text work.1
 works_finishing (Serve names links port workers) inputs writes change status text work = service_finishing names links inputs writes change status text work
 works_finishing (Resume names links port workers) inputs writes change status text work = resume_finishing names links inputs writes change status text work
 works_finishing (Make number units names) inputs writes change status text work = file_finishing (Make number units names) inputs writes status text work.1

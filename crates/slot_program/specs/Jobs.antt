@@ -24,6 +24,7 @@ use Rattle.slot_program.specs.Journals.{IsUnopened, IsDueJournal, TellsPairs}
 use Rattle.slot_program.specs.Outside.{OutsideChange, IsStill}
 use Rattle.slot_program.specs.Reports.{JournalRefusal}
 use Rattle.slot_program.specs.Usages.{IsWatched}
+use Rattle.slot_program.specs.Reasons.{IsReported}
 use Rattle.usage_watch.specs.Reports.{SaysOperated}
 use Rattle.usage_watch.specs.declared.operated.Operated.{Operated}
 use Rattle.slot_program.specs.Steps.{Step, reads, judges, names_read, Holds}
@@ -31,7 +32,8 @@ use Rattle.slot_program.specs.declared.files.TheConstants.{LONGEST_FILE, LONGEST
 use Rattle.slot_program.specs.declared.trial.TheConstants.{TRIAL_NODES}
 use Rattle.command_words.specs.declared.job.Job.{Job}
 use Rattle.command_words.specs.declared.job.Job.TheVariants.{Allocate, Check, Amend, Serve}
-use Rattle.command_words.specs.declared.job.Job.TheVariants.{Resume, Usage, Make, Trial}
+use Rattle.command_words.specs.declared.job.Job.TheVariants.{Resume, Usage, Report}
+use Rattle.command_words.specs.declared.job.Job.TheVariants.{Make, Trial}
 
 -- the name of this number, counted from 0, in the order in which the command takes names
 abbrev pub name_at : List Word → ℕ → Word
@@ -80,6 +82,7 @@ steps_of (Amend names) = amend_steps names
 steps_of (Serve names links port workers) = serve_steps names
 steps_of (Resume names links port workers) = serve_steps names
 steps_of (Usage names) = usage_steps names
+steps_of (Report names) = check_steps names
 steps_of (Make number units names) = []
 steps_of (Trial number units) = []
 
@@ -92,6 +95,7 @@ names_written (Amend names) = name_at names 4 ∷ []
 names_written (Serve names links port workers) = name_at names 3 ∷ []
 names_written (Resume names links port workers) = name_at names 4 ∷ []
 names_written (Usage names) = name_at names 4 ∷ []
+names_written (Report names) = name_at names 3 ∷ name_at names 4 ∷ []
 names_written (Make number units names) = name_at names 0 ∷ name_at names 1 ∷ []
 names_written (Trial number units) = []
 
@@ -130,6 +134,7 @@ finishing_of (Amend names) = 0 ∷ []
 finishing_of (Serve names links port workers) = served_statuses
 finishing_of (Resume names links port workers) = resumed_statuses
 finishing_of (Usage names) = 0 ∷ []
+finishing_of (Report names) = 0 ∷ []
 finishing_of (Make number units names) = 0 ∷ []
 finishing_of (Trial number units) = searched_statuses
 
@@ -233,6 +238,21 @@ pub record IsUsage (names : List Word) (capacity requests certificate operated :
   pub written : writes ≡ one_file names 4 next
   pub status_is : status ≡ 0
 
+-- The certificate that was read is valid for the season. The report on it is written before the page
+-- of that report.
+pub record IsReport (names : List Word) (capacity requests certificate : List ℕ)
+    (writes : List NamedBytes) (status : ℕ) (text : List ℕ) : Type 0 where
+  pub season : SubmissionView
+  pub proved : Certificate
+  pub report : List ℕ
+  pub page : List ℕ
+  pub made : IsSeasonOf capacity requests season
+  pub spelled : SpellsCert certificate proved
+  pub valid : IsValid season proved
+  pub output : IsReported season proved report page text
+  pub written : writes ≡ two_files names 3 report page
+  pub status_is : status ≡ 0
+
 -- the capacity file of a generated season is written before its requests, and nothing is printed
 pub record IsMade (number units : ℕ) (names : List Word) (writes : List NamedBytes) (status : ℕ)
     (text : List ℕ) : Type 0 where
@@ -272,6 +292,8 @@ FileWorks (Amend names) (capacity ∷ requests ∷ certificate ∷ asks ∷ []) 
     IsAmendment names capacity.bytes requests.bytes certificate.bytes asks.bytes writes status text
 FileWorks (Usage names) (capacity ∷ requests ∷ certificate ∷ operated ∷ []) writes status text =
     IsUsage names capacity.bytes requests.bytes certificate.bytes operated.bytes writes status text
+FileWorks (Report names) (capacity ∷ requests ∷ certificate ∷ []) writes status text =
+    IsReport names capacity.bytes requests.bytes certificate.bytes writes status text
 FileWorks (Make number units names) [] writes status text =
     IsMade number units names writes status text
 FileWorks (Trial number units) [] writes status text = IsTrial number units writes status text
@@ -305,6 +327,8 @@ Works (Resume names links port workers) inputs writes change status text =
     ResumeWorks names links inputs writes change status text
 Works (Usage names) inputs writes change status text =
     IsStill change × FileWorks (Usage names) inputs writes status text
+Works (Report names) inputs writes change status text =
+    IsStill change × FileWorks (Report names) inputs writes status text
 Works (Make number units names) inputs writes change status text =
     IsStill change × FileWorks (Make number units names) inputs writes status text
 Works (Trial number units) inputs writes change status text =
@@ -374,14 +398,15 @@ pub record MarksAreProved (capacity requests : List ℕ) (s : SubmissionView) (c
   pub marks : MarksHold s c
 
 -- The marks are true. Of `allocate`: of the certificate that is written, whose stage lines are
--- printed, for the season that was read. Of `check`, `amend`, `serve`, `resume` and `usage`: of the
--- certificate that was read. Of `trial`: of the one whose lines are printed, for the generated
+-- printed, for the season that was read. Of `check`, `amend`, `serve`, `resume`, `usage` and `report`:
+-- of the certificate that was read. Of `trial`: of the one whose lines are printed, for the generated
 -- season. `make` proves nothing. And of `amend`: what is written are the answers of one legal history
 -- from the certificate's book. Of `serve`: what is written is the text of such a history, by which
 -- each worker answered the clients of its door. Of `resume`: the same, of the history that follows
 -- the pairs of the journal; these, answered anew, and it are one legal history from the
 -- certificate's book, and the journal keeps all of it. Of `usage`: what is written and printed is
--- what the certificate's book keeps, by the reports that were read.
+-- what the certificate's book keeps, by the reports that were read. Of `report`: what is written is
+-- the report on the certificate and the page of that report, and the tally of all units is printed.
 abbrev pub HeadlineHolds : Job → List NamedBytes → List NamedBytes → OutsideChange → ℕ → List ℕ
     → Type 0
 HeadlineHolds (Allocate names nodes workers) (capacity ∷ requests ∷ [])
@@ -413,6 +438,11 @@ HeadlineHolds (Usage names) (capacity ∷ requests ∷ certificate ∷ operated 
     × MarksAreProved capacity.bytes requests.bytes s c
     × (reports : List Operated) × SaysOperated s.declaration.season operated.bytes reports
     × IsWatched s (start_book s c) reports next.bytes text
+HeadlineHolds (Report names) (capacity ∷ requests ∷ certificate ∷ []) (report ∷ page ∷ []) change
+    status text =
+    (s : SubmissionView) × (c : Certificate) × SpellsCert certificate.bytes c
+    × MarksAreProved capacity.bytes requests.bytes s c
+    × IsReported s c report.bytes page.bytes text
 HeadlineHolds (Make number units names) inputs writes change status text = Unit {0}
 HeadlineHolds (Trial number units) [] [] change status text =
     (s : SubmissionView) × (c : Certificate) × (text ≡ trial_text c)

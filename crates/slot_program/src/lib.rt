@@ -9,6 +9,7 @@ mod files;
 mod finish;
 pub mod laws;
 mod make;
+mod report;
 mod resume;
 mod season;
 mod serve;

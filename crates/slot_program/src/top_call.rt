@@ -32,6 +32,7 @@ ghost use Rattle.command_words.specs.declared.job.Job.TheVariants.{Amend as Amen
 ghost use Rattle.command_words.specs.declared.job.Job.TheVariants.{Serve as ServeJob};
 ghost use Rattle.command_words.specs.declared.job.Job.TheVariants.{Resume as ResumeJob};
 ghost use Rattle.command_words.specs.declared.job.Job.TheVariants.{Usage as UsageJob};
+ghost use Rattle.command_words.specs.declared.job.Job.TheVariants.{Report as ReportJob};
 ghost use Rattle.command_words.specs.declared.job.Job.TheVariants.{Make as MakeJob};
 ghost use Rattle.command_words.specs.declared.job.Job.TheVariants.{Trial as TrialJob};
 
@@ -40,6 +41,7 @@ use crate::amend::amend;
 use crate::check::check;
 use crate::finish::finish;
 use crate::make::make;
+use crate::report::report;
 use crate::resume::resume;
 use crate::serve::serve;
 use crate::stop::Answer;
@@ -301,6 +303,7 @@ fn carry_out<R: Threads + Wait + Sync, C: Cabinet, D: Door + Drop, G: Gate, K: D
             },
         ) => carry_out_serve(rt, alloc, &names, links, cabinet, doors, gate),
         Ok(Job::Usage { names }) => carry_out_usage(alloc, &names, cabinet),
+        Ok(Job::Report { names }) => carry_out_report(alloc, &names, cabinet),
         Ok(
             Job::Resume {
                 names,
@@ -456,6 +459,25 @@ fn carry_out_usage<C: Cabinet>(
         (C.log cabinet.new) }
 {
     let ended = usage(alloc, names, cabinet);
+    finish(alloc, names, ended)
+}
+
+/// Tells why each series was given what it was given, and gives what is to be said.
+fn carry_out_report<C: Cabinet>(
+    alloc: Global,
+    names: &NameList,
+    cabinet: &mut C,
+) -> Result<Answer, Memory>
+    ensures answer { (o : Outside) → IfOk result (λ a.
+        IsAnswer (Some (ReportJob names.now))
+        (world_of C.files C.fault_count C.log cabinet.old) (still o) a.status (string_bytes a.text)
+        (world_of C.files C.fault_count C.log cabinet.new)) }
+    ensures others { ChangesOnly (C.files cabinet.old)
+        (name_at names.now 3 ∷ name_at names.now 4 ∷ []) (C.files cabinet.new) }
+    ensures asked { LogGrew (C.log cabinet.old) (OnlyOfJob (Some (ReportJob names.now)))
+        (C.log cabinet.new) }
+{
+    let ended = report(alloc, names, cabinet);
     finish(alloc, names, ended)
 }
 

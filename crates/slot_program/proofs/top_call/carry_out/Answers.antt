@@ -26,6 +26,11 @@ returns-in-Ok-Usage-clause-asked g c =
     subst (λ (o : Option Job). LogGrew (g.C.Cabinet.log c.args.cabinet.now) (OnlyOfJob o) (g.C.Cabinet.log c.carry_out_usage.new.cabinet)) (sym (c.in-Ok-Usage.ensures.found ∙ ap Some c.in-Ok-Usage.field-0-is))
     c.carry_out_usage.ensures.asked
 
+pub returns-in-Ok-Report-clause-asked : goal.returns-in-Ok-Report-clause-asked
+returns-in-Ok-Report-clause-asked g c =
+    subst (λ (o : Option Job). LogGrew (g.C.Cabinet.log c.args.cabinet.now) (OnlyOfJob o) (g.C.Cabinet.log c.carry_out_report.new.cabinet)) (sym (c.in-Ok-Report.ensures.found ∙ ap Some c.in-Ok-Report.field-0-is))
+    c.carry_out_report.ensures.asked
+
 pub returns-in-Ok-Check-clause-asked : goal.returns-in-Ok-Check-clause-asked
 returns-in-Ok-Check-clause-asked g c =
     subst (λ (o : Option Job). LogGrew (g.C.Cabinet.log c.args.cabinet.now) (OnlyOfJob o) (g.C.Cabinet.log c.carry_out_check.new.cabinet)) (sym (c.in-Ok-Check.ensures.found ∙ ap Some c.in-Ok-Check.field-0-is))
@@ -76,6 +81,14 @@ returns-in-Ok-Usage-clause-answer g c =
     let o : Outside = outside_of g.D.Door.view g.K.Disk.view c.args.doors.now.items c.args.disk.now in
     subst (λ (p : Option Job). IfOk c.carry_out_usage.result (λ a. IsAnswer p w (still o) a.status (string_bytes a.text) v)) (sym (c.in-Ok-Usage.ensures.found ∙ ap Some c.in-Ok-Usage.field-0-is))
     (c.carry_out_usage.ensures.answer o)
+
+pub returns-in-Ok-Report-clause-answer : goal.returns-in-Ok-Report-clause-answer
+returns-in-Ok-Report-clause-answer g c =
+    let w : World = world_of g.C.Cabinet.files g.C.Cabinet.fault_count g.C.Cabinet.log c.args.cabinet.now in
+    let v : World = world_of g.C.Cabinet.files g.C.Cabinet.fault_count g.C.Cabinet.log c.carry_out_report.new.cabinet in
+    let o : Outside = outside_of g.D.Door.view g.K.Disk.view c.args.doors.now.items c.args.disk.now in
+    subst (λ (p : Option Job). IfOk c.carry_out_report.result (λ a. IsAnswer p w (still o) a.status (string_bytes a.text) v)) (sym (c.in-Ok-Report.ensures.found ∙ ap Some c.in-Ok-Report.field-0-is))
+    (c.carry_out_report.ensures.answer o)
 
 pub returns-in-Ok-Make-clause-answer : goal.returns-in-Ok-Make-clause-answer
 returns-in-Ok-Make-clause-answer g c =
