@@ -1,0 +1,103 @@
+//! Why a text is no capacity file.
+
+ghost use Rattle.std.specs.Prelude.{◌≡◌, ◌≢◌, ◌<◌, ◌+◌, ◌^◌, [], length, slice_get, IsSomeAnd, drop};
+ghost use Rattle.slot_text.specs.Fields.{fields_of};
+ghost use Rattle.slot_text.specs.Lines.{lines_of};
+ghost use Rattle.capacity_file.specs.Faults.{HasCapacityFault};
+ghost use Rattle.capacity_file.specs.declared.fault.CapFault.TheVariants.{Memory as NoMemory};
+ghost use Rattle.fault_causes.specs.Capacities.{fields_behind, IsFieldCause, IsBadLineCause, IsTwiceCause, IsCapacityCause};
+
+use crate::cause::{Cause, FieldName, Flaw, LineWord};
+use crate::form::flaw_of;
+use crate::words::{limit_of, line_word, needed, wanted_at};
+use capacity_file::CapFault;
+use slot_text::{LONGEST_LINE, Lines, is_trimmed, split_field};
+
+// The line of a number, counted from 1; without bytes where there is none.
+pub(crate) fn line_of(text: &[u8], number: u32) -> &[u8]
+    ensures { IsSomeAnd (slice_get (lines_of text.now) (number - 1)) (λ line. 1 ≤ number → result.now ≡ line)
+        ⊎ (result.now ≡ []) }
+{
+    let mut lines = Lines::new(text);
+    let mut left = number;
+    while let Some(line) = lines.next_line() {
+        if left <= 1 {
+            return line;
+        }
+        left -= 1;
+    }
+    &[]
+}
+
+// The first bad field behind a word.
+fn field_cause(word: LineWord, rest: &[u8]) -> Cause
+    ensures { IsFieldCause (fields_behind word) [] 2 (fields_of rest.now) result }
+{
+    let mut rest = rest;
+    let mut before: &[u8] = &[];
+    for place in 0..7 {
+        let number = place + 2;
+        match (wanted_at(word, place), split_field(rest)) {
+            (None, None) => return Cause::Step,
+            (None, Some(_)) => return Cause::End(number),
+            (Some(want), None) => return Cause::Field(number, want.name, Flaw::Missing),
+            (Some(want), Some((text, after))) => {
+                if let Some(flaw) = flaw_of(want.form, before, text) {
+                    return Cause::Field(number, want.name, flaw);
+                }
+                before = text;
+                rest = after;
+            }
+        }
+    }
+    Cause::Step
+}
+
+// Why a line is bad.
+fn bad_line_cause(line: &[u8]) -> Cause
+    requires { fields_of line.now ≢ [] }
+    ensures { IsBadLineCause line.now result }
+{
+    if line.len() > LONGEST_LINE {
+        return Cause::Long;
+    }
+    if !is_trimmed(line) {
+        return Cause::Blank;
+    }
+    match split_field(line) {
+        Some((word, rest)) => match line_word(word) {
+            Some(word) => field_cause(word, rest),
+            None => Cause::Field(1, FieldName::Word, Flaw::Form),
+        },
+        None => Cause::Blank,
+    }
+}
+
+// The word of a line that stands twice.
+fn twice_cause(line: &[u8]) -> Cause
+    requires { (cause : _) × IsTwiceCause line.now cause }
+    ensures { IsTwiceCause line.now result }
+{
+    match split_field(line) {
+        Some((word, _)) => match line_word(word) {
+            Some(word) => Cause::Twice(word),
+            None => Cause::Blank,
+        },
+        None => Cause::Blank,
+    }
+}
+
+/// Why a text is no capacity file, by the fault that `capacity_file::read_capacity` answers.
+pub fn capacity_cause(text: &[u8], fault: CapFault) -> Cause
+    requires short { length text.now < 2 ^ 32 }
+    requires has { HasCapacityFault text.now fault }
+    ensures { IsCapacityCause text.now fault result }
+{
+    match fault {
+        CapFault::BadLine { line } => bad_line_cause(line_of(text, line)),
+        CapFault::Missing { name } => Cause::NoLine(needed(name)),
+        CapFault::Twice { line } => twice_cause(line_of(text, line)),
+        CapFault::OverLimit { name, .. } => Cause::Most(limit_of(name)),
+        CapFault::Memory => Cause::Blank,
+    }
+}
