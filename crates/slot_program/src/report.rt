@@ -39,7 +39,7 @@ pub(crate) fn report<C: Cabinet>(
     cabinet: &mut C,
 ) -> Result<Answer, Stop>
     ensures done { IfOk result (λ a. IsDone (ReportJob names.now)
-        (world_of C.files C.fault_count C.log cabinet.old) a.status (string_bytes a.text)
+        (world_of C.files C.fault_count C.log cabinet.old) a.status a.text.items
         (world_of C.files C.fault_count C.log cabinet.new)) }
     ensures stop { IfErr result (λ stop. JobStops names.now (ReportJob names.now)
         (world_of C.files C.fault_count C.log cabinet.old) stop
@@ -54,7 +54,7 @@ pub(crate) fn report<C: Cabinet>(
     write_two(names, 3, &output.report, &output.page, cabinet)?;
     Ok(Answer {
         status: 0,
-        text: output.text,
+        text: output.text.into_bytes(),
     })
 }
 

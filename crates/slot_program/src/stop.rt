@@ -76,7 +76,7 @@ impl From<Memory> for Stop {
 #[derive(Drop)]
 pub(crate) struct Answer {
     pub status: u8,
-    pub text: String,
+    pub text: Vec<u8>,
 }
 
 /// The name of a file of a job, as the words give it.
@@ -93,12 +93,12 @@ impl Stop {
     /// What is said of it; want of memory is not said.
     pub(crate) fn answer(&self, alloc: Global, names: &NameList) -> Result<Answer, Memory>
         ensures { IfOk result (λ a. (report : Report) × (report_of names.now self.now ≡ Some report)
-            × (a.status ≡ status_of report) × (string_bytes a.text ≡ text_of report)) }
+            × (a.status ≡ status_of report) × (a.text.items ≡ text_of report)) }
     {
         let text = self.text(alloc, names)?;
         Ok(Answer {
             status: self.status(),
-            text,
+            text: text.into_bytes(),
         })
     }
 

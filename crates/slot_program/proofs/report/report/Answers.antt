@@ -118,8 +118,8 @@ returns-clause-done g c =
     } in
     let one = c.deref.ensures.value in
     let two = c.deref-2.ensures.value in
-    λ o. c.in_ok-write_two.ensures.done (Report names) w (still o) (s.0 ∷ s.1 ∷ f.0 ∷ []) 0 (string_bytes out.text) refl f.2
-    (refl, rw (one, two) work)
+    λ o. rw c.into_bytes.ensures.value (c.in_ok-write_two.ensures.done (Report names) w (still o) (s.0 ∷ s.1 ∷ f.0 ∷ []) 0 (string_bytes out.text) refl f.2
+    (refl, rw (one, two) work))
 
 pub returns-clause-others : goal.returns-clause-others
 returns-clause-others g c =
