@@ -1,10 +1,10 @@
 //! Why a text is no capacity file.
 
-ghost use Rattle.std.specs.Prelude.{◌≡◌, ◌≢◌, ◌<◌, ◌+◌, ◌^◌, [], length, slice_get, IsSomeAnd, drop};
+ghost use Rattle.std.specs.Prelude.{◌≡◌, ◌≢◌, ◌<◌, ◌-◌, ◌^◌, [], ℕ, List, Some, length, slice_get};
 ghost use Rattle.slot_text.specs.Fields.{fields_of};
 ghost use Rattle.slot_text.specs.Lines.{lines_of};
 ghost use Rattle.capacity_file.specs.Faults.{HasCapacityFault};
-ghost use Rattle.capacity_file.specs.declared.fault.CapFault.TheVariants.{Memory as NoMemory};
+ghost use Rattle.fault_causes.specs.declared.cause.Cause.{Cause as CauseValue};
 ghost use Rattle.fault_causes.specs.Capacities.{fields_behind, IsFieldCause, IsBadLineCause, IsTwiceCause, IsCapacityCause};
 
 use crate::cause::{Cause, FieldName, Flaw, LineWord};
@@ -15,8 +15,8 @@ use slot_text::{LONGEST_LINE, Lines, is_trimmed, split_field};
 
 // The line of a number, counted from 1; without bytes where there is none.
 pub(crate) fn line_of(text: &[u8], number: u32) -> &[u8]
-    ensures { IsSomeAnd (slice_get (lines_of text.now) (number - 1)) (λ line. 1 ≤ number → result.now ≡ line)
-        ⊎ (result.now ≡ []) }
+    ensures { (line : List ℕ) → slice_get (lines_of text.now) (number - 1) ≡ Some line →
+        result.now ≡ line }
 {
     let mut lines = Lines::new(text);
     let mut left = number;
@@ -75,7 +75,7 @@ fn bad_line_cause(line: &[u8]) -> Cause
 
 // The word of a line that stands twice.
 fn twice_cause(line: &[u8]) -> Cause
-    requires { (cause : _) × IsTwiceCause line.now cause }
+    requires { (cause : CauseValue) × IsTwiceCause line.now cause }
     ensures { IsTwiceCause line.now result }
 {
     match split_field(line) {

@@ -6,6 +6,7 @@ pub mod StageLines
 pub mod Amendments
 pub mod Usages
 pub mod Reasons
+pub mod Inspections
 pub mod Outside
 pub mod Services
 pub mod Journals

@@ -7,6 +7,7 @@ mod amend;
 mod check;
 mod files;
 mod finish;
+mod inspect;
 pub mod laws;
 mod make;
 mod report;

@@ -32,6 +32,7 @@ ghost use Rattle.command_words.specs.declared.job.Job.TheVariants.{Serve as Serv
 ghost use Rattle.command_words.specs.declared.job.Job.TheVariants.{Resume as ResumeJob};
 ghost use Rattle.command_words.specs.declared.job.Job.TheVariants.{Usage as UsageJob};
 ghost use Rattle.command_words.specs.declared.job.Job.TheVariants.{Report as ReportJob};
+ghost use Rattle.command_words.specs.declared.job.Job.TheVariants.{Inspect as InspectJob};
 ghost use Rattle.command_words.specs.declared.job.Job.TheVariants.{Make as MakeJob};
 ghost use Rattle.command_words.specs.declared.job.Job.TheVariants.{Trial as TrialJob};
 
@@ -39,6 +40,7 @@ use crate::allocate::allocate;
 use crate::amend::amend;
 use crate::check::check;
 use crate::finish::finish;
+use crate::inspect::inspect;
 use crate::make::make;
 use crate::report::report;
 use crate::resume::resume;
@@ -303,6 +305,7 @@ fn carry_out<R: Threads + Wait + Sync, C: Cabinet, D: Door + Drop, G: Gate, K: D
         ) => carry_out_serve(rt, alloc, &names, links, cabinet, doors, gate),
         Ok(Job::Usage { names }) => carry_out_usage(alloc, &names, cabinet),
         Ok(Job::Report { names }) => carry_out_report(alloc, &names, cabinet),
+        Ok(Job::Inspect { names }) => carry_out_inspect(alloc, &names, cabinet),
         Ok(
             Job::Resume {
                 names,
@@ -367,6 +370,24 @@ fn carry_out_check<C: Cabinet>(
         (C.log cabinet.new) }
 {
     let ended = check(alloc, names, cabinet);
+    finish(alloc, names, ended)
+}
+
+/// Says what a season is, or what is wrong in it, and gives what is to be said.
+fn carry_out_inspect<C: Cabinet>(
+    alloc: Global,
+    names: &NameList,
+    cabinet: &mut C,
+) -> Result<Answer, Memory>
+    ensures answer { (o : Outside) → IfOk result (λ a.
+        IsAnswer (Some (InspectJob names.now))
+        (world_of C.files C.fault_count C.log cabinet.old) (still o) a.status a.text.items
+        (world_of C.files C.fault_count C.log cabinet.new)) }
+    ensures unchanged { C.files cabinet.new ≡ C.files cabinet.old }
+    ensures asked { LogGrew (C.log cabinet.old) (OnlyOfJob (Some (InspectJob names.now)))
+        (C.log cabinet.new) }
+{
+    let ended = inspect(alloc, names, cabinet);
     finish(alloc, names, ended)
 }
 

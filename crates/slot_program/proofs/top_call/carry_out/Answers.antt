@@ -30,6 +30,11 @@ returns-in-Ok-Report-clause-asked g c =
     subst (λ (o : Option Job). LogGrew (g.C.Cabinet.log c.args.cabinet.now) (OnlyOfJob o) (g.C.Cabinet.log c.carry_out_report.new.cabinet)) (sym (c.in-Ok-Report.ensures.found ∙ ap Some c.in-Ok-Report.field-0-is))
     c.carry_out_report.ensures.asked
 
+pub returns-in-Ok-Inspect-clause-asked : goal.returns-in-Ok-Inspect-clause-asked
+returns-in-Ok-Inspect-clause-asked g c =
+    subst (λ (o : Option Job). LogGrew (g.C.Cabinet.log c.args.cabinet.now) (OnlyOfJob o) (g.C.Cabinet.log c.carry_out_inspect.new.cabinet)) (sym (c.in-Ok-Inspect.ensures.found ∙ ap Some c.in-Ok-Inspect.field-0-is))
+    c.carry_out_inspect.ensures.asked
+
 pub returns-in-Ok-Check-clause-asked : goal.returns-in-Ok-Check-clause-asked
 returns-in-Ok-Check-clause-asked g c =
     subst (λ (o : Option Job). LogGrew (g.C.Cabinet.log c.args.cabinet.now) (OnlyOfJob o) (g.C.Cabinet.log c.carry_out_check.new.cabinet)) (sym (c.in-Ok-Check.ensures.found ∙ ap Some c.in-Ok-Check.field-0-is))
@@ -88,6 +93,14 @@ returns-in-Ok-Report-clause-answer g c =
     let o : Outside = outside_of g.D.Door.view g.K.Disk.view c.args.doors.now.items c.args.disk.now in
     subst (λ (p : Option Job). IfOk c.carry_out_report.result (λ a. IsAnswer p w (still o) a.status a.text.items v)) (sym (c.in-Ok-Report.ensures.found ∙ ap Some c.in-Ok-Report.field-0-is))
     (c.carry_out_report.ensures.answer o)
+
+pub returns-in-Ok-Inspect-clause-answer : goal.returns-in-Ok-Inspect-clause-answer
+returns-in-Ok-Inspect-clause-answer g c =
+    let w : World = world_of g.C.Cabinet.files g.C.Cabinet.fault_count g.C.Cabinet.log c.args.cabinet.now in
+    let v : World = world_of g.C.Cabinet.files g.C.Cabinet.fault_count g.C.Cabinet.log c.carry_out_inspect.new.cabinet in
+    let o : Outside = outside_of g.D.Door.view g.K.Disk.view c.args.doors.now.items c.args.disk.now in
+    subst (λ (p : Option Job). IfOk c.carry_out_inspect.result (λ a. IsAnswer p w (still o) a.status a.text.items v)) (sym (c.in-Ok-Inspect.ensures.found ∙ ap Some c.in-Ok-Inspect.field-0-is))
+    (c.carry_out_inspect.ensures.answer o)
 
 pub returns-in-Ok-Make-clause-answer : goal.returns-in-Ok-Make-clause-answer
 returns-in-Ok-Make-clause-answer g c =
