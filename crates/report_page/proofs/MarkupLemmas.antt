@@ -1,10 +1,10 @@
 -- Where markup begins in a text, and that none of it is a script.
-use Rattle.std.proofs.Common.{◌≡◌, ◌≢◌, ℕ, Bool, true, false, not, ◌&&◌, ◌||◌, ◌==◌, if◌then◌else◌, eqb, List, [], ◌∷◌, ◌++◌, refl, sym, ◌∙◌, arith, inl, inr, ◌⊎◌, codes}
-use Rattle.std.specs.Fmt.{decimal}
-use Rattle.std.proofs.lemmas.Bool.{cases_Bool, eq-eqb, eqb-true, eqb-false, and_parts, or_parts, not-true, and_left, and_right, or_from, false_from_ne_true, false≢true}
+use Rattle.std.specs.Prelude.{◌==◌, if◌then◌else◌}
+use Rattle.std.proofs.Common.{◌≡◌, ℕ, ◌<◌, ◌^◌, Bool, true, false, not, ◌&&◌, ◌||◌, List, [], ◌∷◌, ◌++◌, refl, sym, ◌∙◌, arith, inl, inr}
+use Rattle.std.proofs.lemmas.Bool.{cases_Bool, eq-eqb, eqb-true, and_parts, or_parts, not-true, and_right, or_from, false_from_ne_true, false≢true}
 use Rattle.report_page.specs.Filled.{escaped, number_of, minute_of, word_piece, next_piece, is_stop, told_words, is_word_mark, piece, words_left, filled}
 use Rattle.report_page.specs.Laws.{IsPlain, begins_with, has}
-use Rattle.report_page.specs.declared.layout.TheConstants.{WORD, NUMBER, MINUTE, PASSED, WORDS}
+use Rattle.report_page.specs.declared.layout.TheConstants.{WORD, NUMBER, MINUTE, WORDS}
 use Rattle.report_page.proofs.TextLemmas.{escaped_plain, number_small, minute_small, decimal_plain}
 
 -- ---- texts in which no script begins

@@ -1,10 +1,11 @@
 -- No page has a script: each of its parts is a template whose markup is safe.
-use Rattle.std.proofs.Common.{◌≡◌, ℕ, Bool, true, false, ◌&&◌, if◌then◌else◌, List, [], ◌∷◌, ◌++◌, refl, codes}
+use Rattle.std.specs.Prelude.{if◌then◌else◌}
+use Rattle.std.proofs.Common.{◌≡◌, ℕ, Bool, true, false, ◌&&◌, List, [], ◌∷◌, ◌++◌, refl, codes}
 use Rattle.slot_text.specs.Lines.{lines_of}
 use Rattle.slot_text.specs.Fields.{fields_of}
 use Rattle.report_page.specs.Filled.{word_at, word_is, filled}
 use Rattle.report_page.specs.Rows.{row_of, section_rows, is_told, unit_row, told_row, series_rows, is_profile, peak_from, peak_row, peak_part, bar, bars, picture, chart, charts}
-use Rattle.report_page.specs.Pages.{head_part, table_part, last_part, page_of, page_text}
+use Rattle.report_page.specs.Pages.{head_part, table_part, last_part, page_text}
 use Rattle.report_page.specs.declared.layout.Section.{Section}
 use Rattle.report_page.specs.declared.layout.Section.TheVariants.{Title, Step, Heading, Stages, Airlines, Night}
 use Rattle.report_page.specs.declared.layout.TheConstants.{OPENING, STYLE, BODY, STAGES, AIRLINES, CAPACITY, PICTURES, SERIES, CLOSING}

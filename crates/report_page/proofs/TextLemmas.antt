@@ -1,9 +1,10 @@
 -- What is shown of a text, and digits: printed ASCII without the bytes of markup.
-use Rattle.std.proofs.Common.{◌≡◌, ◌≢◌, ℕ, ◌+◌, ◌-◌, ◌*◌, ◌/◌, ◌%◌, ◌^◌, ◌<◌, ◌≤◌, true, false, eqb, nat_le, ◌&&◌, List, [], ◌∷◌, ◌++◌, refl, ap, arith, inl, inr}
+use Rattle.std.specs.Prelude.{nat_le}
+use Rattle.std.proofs.Common.{◌≢◌, ℕ, ◌+◌, ◌%◌, ◌^◌, ◌<◌, ◌≤◌, eqb, ◌&&◌, List, [], ◌∷◌, ◌++◌, arith, rules, inl, inr}
 use Rattle.std.specs.Fmt.{decimal}
 use Rattle.std.proofs.lemmas.Fmt.{decimal_by_steps}
-use Rattle.std.proofs.lemmas.Bool.{cases_Bool, eq-eqb, ne_eqb, eqb-true, eqb-false, leb-true, and_parts}
-use Rattle.report_page.specs.Filled.{shown_byte, escaped, next_number, number_from, number_of, minute_of}
+use Rattle.std.proofs.lemmas.Bool.{cases_Bool, ne_eqb, eqb-false, leb-true, and_parts}
+use Rattle.report_page.specs.Filled.{shown_byte, escaped, next_number, number_from, minute_of}
 use Rattle.report_page.specs.Laws.{IsPlain}
 
 pub IsPlain-append : (a b : List ℕ) → IsPlain a → IsPlain b → IsPlain (a ++ b)
