@@ -62,7 +62,7 @@ pub(crate) fn has_form(form: Form, text: &[u8]) -> bool
         Form::Season => Season::read(text).is_some(),
         Form::Step => is_step(text),
         Form::Number { least, most } => is_number(text, least, most),
-        Form::Price { most } => text == b"NONE" || is_number(text, 1, most),
+        Form::Price { most } => text == b"NONE".as_slice() || is_number(text, 1, most),
         Form::Kind => read_kind(text).is_some(),
         Form::Time | Form::Later | Form::Other => read_time(text).is_some(),
         Form::Days => read_weekdays(text).is_some(),

@@ -1,6 +1,6 @@
 -- No page has a script: each of its parts is a template whose markup is safe.
 use Rattle.std.specs.Prelude.{if◌then◌else◌}
-use Rattle.std.proofs.Common.{◌≡◌, ℕ, Bool, true, false, ◌&&◌, List, [], ◌∷◌, ◌++◌, refl, codes}
+use Rattle.std.proofs.Common.{◌≡◌, ℕ, Bool, true, false, List, [], ◌∷◌, ◌++◌, refl, codes}
 use Rattle.slot_text.specs.Lines.{lines_of}
 use Rattle.slot_text.specs.Fields.{fields_of}
 use Rattle.report_page.specs.Filled.{word_at, word_is, filled}
@@ -36,7 +36,7 @@ row_safe Stages words =
 row_safe Airlines words = either_test (word_is 1 (codes "AIRLINE") words) AIRLINE.now [] refl refl
 row_safe Night words =
     either_test (word_is 1 (codes "NIGHT") words) NIGHT.now _ refl
-    (either_test (word_is 2 (codes "NIGHT") words && word_is 1 (codes "PROFILE") words) NIGHT_LOAD.now [] refl refl)
+    (either_test (is_profile (codes "NIGHT") words) NIGHT_LOAD.now [] refl refl)
 
 section_safe : (section : Section) (lines : List (List ℕ)) → IsSafe (section_rows section lines)
 section_safe section [] = tt

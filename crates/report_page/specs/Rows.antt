@@ -1,5 +1,5 @@
 -- The rows of a page: which template each line of a report fills.
-use Rattle.std.specs.Prelude.{ℕ, nat_lt, Bool, true, false, not, ◌&&◌, if◌then◌else◌, List, [], ◌∷◌, ◌++◌, codes}
+use Rattle.std.specs.Prelude.{ℕ, nat_lt, Bool, not, ◌&&◌, if◌then◌else◌, List, [], ◌∷◌, ◌++◌, codes}
 use Rattle.slot_text.specs.Fields.{fields_of}
 use Rattle.report_page.specs.Filled.{word_at, word_is, number_of, filled}
 use Rattle.report_page.specs.declared.layout.Section.{Section}
@@ -10,21 +10,28 @@ use Rattle.report_page.specs.declared.layout.TheConstants.{UNIT, HELD, ASKED, GI
 
 -- ---- parts with one row for each line of their kinds
 
+-- a template, where a line is shown by it
+abbrev pub where_shown : Bool → List ℕ → List ℕ
+where_shown shown template = if shown then template else []
+
+-- a PROFILE line of the capacity line with this number, or of the night quota
+abbrev pub is_profile : List ℕ → List (List ℕ) → Bool
+is_profile number words = word_is 1 (codes "PROFILE") words && word_is 2 number words
+
 -- the template of a line by its words; none where the part does not show it
 abbrev pub row_of : Section → List (List ℕ) → List ℕ
-row_of Title words = if word_is 1 (codes "AIRPORT") words then TITLE.now else []
-row_of Step words = if word_is 1 (codes "RULES") words then STEP.now else []
+row_of Title words = where_shown (word_is 1 (codes "AIRPORT") words) TITLE.now
+row_of Step words = where_shown (word_is 1 (codes "RULES") words) STEP.now
 row_of Heading words =
     if word_is 1 (codes "AIRPORT") words then HEADING.now
-    else (if word_is 1 (codes "RULES") words then RULES.now else [])
+    else where_shown (word_is 1 (codes "RULES") words) RULES.now
 row_of Stages words =
     if word_is 1 (codes "STAGE") words then STAGE.now
-    else (if word_is 1 (codes "OVER") words then OVER.now else [])
-row_of Airlines words = if word_is 1 (codes "AIRLINE") words then AIRLINE.now else []
+    else where_shown (word_is 1 (codes "OVER") words) OVER.now
+row_of Airlines words = where_shown (word_is 1 (codes "AIRLINE") words) AIRLINE.now
 row_of Night words =
     if word_is 1 (codes "NIGHT") words then NIGHT.now
-    else (if word_is 2 (codes "NIGHT") words && word_is 1 (codes "PROFILE") words
-    then NIGHT_LOAD.now else [])
+    else where_shown (is_profile (codes "NIGHT") words) NIGHT_LOAD.now
 
 abbrev pub section_rows : Section → List (List ℕ) → List ℕ
 section_rows section [] = []
@@ -57,10 +64,6 @@ series_rows told (line ∷ lines) =
     ++ series_rows (is_told told (fields_of line)) lines
 
 -- ---- the pictures of the capacity lines
-
--- a PROFILE line of the capacity line with this number
-abbrev pub is_profile : List ℕ → List (List ℕ) → Bool
-is_profile number words = word_is 1 (codes "PROFILE") words && word_is 2 number words
 
 abbrev pub load_of : List (List ℕ) → ℕ
 load_of words = number_of (word_at 5 words)

@@ -3,22 +3,15 @@
 ghost use Rattle.std.specs.Prelude.{◌≡◌, ◌++◌, [], OnOk};
 ghost use Rattle.slot_text.specs.Fields.{fields_of};
 ghost use Rattle.slot_text.specs.Lines.{lines_of};
-ghost use Rattle.report_page.specs.Rows.{is_profile, load_of, higher, peak_from, peak_row, bar, bars, picture, chart, charts};
+ghost use Rattle.report_page.specs.Rows.{load_of, higher, peak_from, peak_row, bar, bars, picture, chart, charts};
 
 use crate::escape::put;
 use crate::fill::put_filled;
 use crate::layout::{BAR, BAR_TITLE, CAPTION, FRAME, GRID, HOURS, NO_PEAK, PEAK};
 use crate::number::number_of;
-use crate::words::{word_at, word_is};
+use crate::words::{is_profile, word_at, word_is};
 use slot_text::{Lines, Memory};
 use std::alloc::Global;
-
-// Whether a line is about a start of the capacity line with this number.
-fn is_profile(number: &[u8], line: &[u8]) -> bool
-    ensures { result ≡ is_profile number.now (fields_of line.now) }
-{
-    word_is(line, 1, b"PROFILE") && word_is(line, 2, number)
-}
 
 // The load that a line states.
 fn load_of(line: &[u8]) -> u64

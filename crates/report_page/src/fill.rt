@@ -14,7 +14,7 @@ use std::alloc::Global;
 fn is_stop(word: &[u8]) -> bool
     ensures { result ≡ is_stop word.now }
 {
-    word == b"UNITS" || word == b"LIMIT"
+    word == b"UNITS".as_slice() || word == b"LIMIT".as_slice()
 }
 
 // Appends the words up to one that ends them, each with a blank before it; what follows them.
@@ -90,6 +90,7 @@ fn put_piece<'a>(
 }
 
 /// Appends a template, filled with the words of a line.
+#[tactic(auto, unfolding(crate::specs::Filled::filled))]
 pub(crate) fn put_filled(
     alloc: Global,
     out: &mut Vec<u8>,

@@ -3,31 +3,64 @@
 ghost use Rattle.std.specs.Prelude.{◌≡◌, ◌++◌, OnOk};
 ghost use Rattle.slot_text.specs.Fields.{fields_of};
 ghost use Rattle.slot_text.specs.Lines.{lines_of};
-ghost use Rattle.report_page.specs.Rows.{row_of, section_rows};
+ghost use Rattle.report_page.specs.Rows.{where_shown, row_of, section_rows};
 
 use crate::fill::put_filled;
 use crate::layout::{
     AIRLINE, HEADING, NIGHT, NIGHT_LOAD, OVER, RULES, STAGE, STEP, Section, TITLE,
 };
-use crate::words::word_is;
+use crate::words::{is_profile, word_is};
 use slot_text::{Lines, Memory};
 use std::alloc::Global;
+
+// A template, where a line is shown by it.
+fn where_shown(shown: bool, template: &'static [u8]) -> &'static [u8]
+    ensures { result.now ≡ where_shown shown template.now }
+{
+    if shown { template } else { b"" }
+}
 
 // The template of a line in a part of the page; without bytes where the part does not show it.
 fn row_of(section: Section, line: &[u8]) -> &'static [u8]
     ensures { result.now ≡ row_of section (fields_of line.now) }
 {
     match section {
-        Section::Title if word_is(line, 1, b"AIRPORT") => TITLE,
-        Section::Step if word_is(line, 1, b"RULES") => STEP,
-        Section::Heading if word_is(line, 1, b"AIRPORT") => HEADING,
-        Section::Heading if word_is(line, 1, b"RULES") => RULES,
-        Section::Stages if word_is(line, 1, b"STAGE") => STAGE,
-        Section::Stages if word_is(line, 1, b"OVER") => OVER,
-        Section::Airlines if word_is(line, 1, b"AIRLINE") => AIRLINE,
-        Section::Night if word_is(line, 1, b"NIGHT") => NIGHT,
-        Section::Night if word_is(line, 2, b"NIGHT") && word_is(line, 1, b"PROFILE") => NIGHT_LOAD,
-        _ => b"",
+        Section::Title => where_shown(word_is(line, 1, b"AIRPORT"), TITLE),
+        Section::Step => where_shown(word_is(line, 1, b"RULES"), STEP),
+        Section::Heading => heading_row(line),
+        Section::Stages => stage_row(line),
+        Section::Airlines => where_shown(word_is(line, 1, b"AIRLINE"), AIRLINE),
+        Section::Night => night_row(line),
+    }
+}
+
+fn heading_row(line: &[u8]) -> &'static [u8]
+    ensures { result.now ≡ row_of Section.Heading (fields_of line.now) }
+{
+    if word_is(line, 1, b"AIRPORT") {
+        HEADING
+    } else {
+        where_shown(word_is(line, 1, b"RULES"), RULES)
+    }
+}
+
+fn stage_row(line: &[u8]) -> &'static [u8]
+    ensures { result.now ≡ row_of Section.Stages (fields_of line.now) }
+{
+    if word_is(line, 1, b"STAGE") {
+        STAGE
+    } else {
+        where_shown(word_is(line, 1, b"OVER"), OVER)
+    }
+}
+
+fn night_row(line: &[u8]) -> &'static [u8]
+    ensures { result.now ≡ row_of Section.Night (fields_of line.now) }
+{
+    if word_is(line, 1, b"NIGHT") {
+        NIGHT
+    } else {
+        where_shown(is_profile(b"NIGHT", line), NIGHT_LOAD)
     }
 }
 

@@ -1,6 +1,7 @@
 -- Why a job stopped, as the code has it. Contracts of private functions alone cite this.
 use Rattle.std.specs.Prelude.{ℕ, List, Option, Some, None, codes}
 use Rattle.capacity_file.specs.Texts.{cap_limit_text}
+use Rattle.fault_causes.specs.declared.cause.Cause.{Cause}
 use Rattle.command_words.specs.Words.{Word}
 use Rattle.slot_program.specs.Reports.{Report, Refusal, refused, unopened, unread, unwritten}
 use Rattle.slot_program.specs.Reports.{missing, large, out_of_form, over_limit, not_valid, no_next}
@@ -68,6 +69,12 @@ IsRefusalBy names Has stops.Memory = Unit {0}
 -- why files that were read are refused, by a judgement
 abbrev pub IsJudged : List Word → Judgement → Word → List NamedBytes → Stop → Type 0
 IsJudged names j name read stop = IsRefusalBy names (RefusesAlone j name read) stop
+
+-- the same with its cause
+abbrev pub caused : Stop → Cause → Stop
+caused (stops.OutOfForm place line) cause = stops.BadForm place line cause
+caused (stops.OverLimit limit number) cause = stops.PastLimit limit number cause
+caused stop cause = stop
 
 -- where a job stopped at one of its steps
 abbrev pub StopLeads : List Word → World → List Step → Stop → World → Type 0

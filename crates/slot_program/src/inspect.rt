@@ -1,19 +1,23 @@
 //! Looking at a season before it is allotted: what its files hold, or why they are refused.
 
-ghost use Rattle.std.specs.Prelude.{◌≡◌, ◌++◌, ◌∷◌, ◌≤◌, [], ℕ, List, length, IfOk, IfErr, OnOk, Ok};
+ghost use Rattle.std.specs.Prelude.{◌≡◌, ◌⊎◌, ◌++◌, ◌∷◌, ◌≤◌, ◌<◌, ◌^◌, [], ℕ, List, length, All, IfOk, IfErr, OnOk, Ok, Err};
 ghost use Rattle.season_days.specs.Capacity.{IsDeclaration};
-ghost use Rattle.season_days.specs.declared.declaration.Declaration.{Declaration as DeclarationValue};
 ghost use Rattle.capacity_file.specs.Declares.{IsCapacityFile};
 ghost use Rattle.command_words.specs.Words.{Word};
 ghost use Rattle.command_words.specs.declared.job.Job.TheVariants.{Inspect as InspectJob};
-ghost use Rattle.fault_causes.specs.declared.cause.Cause.{Cause as CauseValue};
-ghost use Rattle.slot_program.specs.Judgements.{NamedBytes, IsSeasonOf, capacity_cause as judged_capacity, requests_cause as judged_requests};
-ghost use Rattle.slot_program.specs.Reports.{Refusal, with_cause};
+ghost use Rattle.slot_program.specs.Judgements.{NamedBytes, IsSeasonOf, IsSubmissionRefusal, capacity_cause as judged_capacity, requests_cause as judged_requests};
 ghost use Rattle.slot_program.specs.Jobs.{name_at};
 ghost use Rattle.slot_program.specs.Desk.{world_of};
 ghost use Rattle.slot_program.specs.Ends.{IsDone, JobStops};
 ghost use Rattle.slot_program.specs.Leads.{AcceptsAlone};
-ghost use Rattle.slot_program.specs.Stops.{IsRefusalBy, IsJudged};
+ghost use Rattle.slot_program.specs.Stops.{IsRefusalBy, caused, IsJudged};
+ghost use Rattle.slot_program.specs.declared.stop.Stop.{Stop as StopValue};
+ghost use Rattle.fault_causes.specs.declared.cause.Cause.{Cause as CauseValue};
+ghost use Rattle.fault_causes.specs.Requests.{IsSubmissionCause};
+ghost use Rattle.scr_reader.specs.Printed.{MessagesFit};
+ghost use Rattle.series_model.specs.Submissions.{HasNumbers, MessagePairs, item_count, submission_answer};
+ghost use Rattle.series_model.specs.declared.fault.ModelFault.{ModelFault as ModelFaultValue};
+ghost use Rattle.series_model.specs.declared.fault.ModelFault.TheVariants.{Memory as no_model};
 ghost use Rattle.slot_program.specs.Inspections.{group_count, date_total, movement_total, numbered, airport_line, units_line, dates_line, caps_line, inspection_text};
 ghost use Rattle.slot_program.specs.declared.files.TheConstants.{LONGEST_FILE as MOST_BYTES};
 
@@ -58,9 +62,7 @@ pub(crate) fn inspect<C: Cabinet>(
 
 /// The same stop with its cause.
 fn with_cause(stop: Stop, cause: Cause) -> Stop
-    ensures { (names : List Word) (Has : Refusal → Type 0) → IsRefusalBy names Has stop →
-        IsRefusalBy names (λ refusal. (plain : Refusal) × Has plain
-        × (refusal ≡ with_cause plain cause)) result }
+    ensures { result ≡ caused stop cause }
 {
     match stop {
         Stop::OutOfForm(place, line) => Stop::BadForm(place, line, cause),
@@ -126,7 +128,21 @@ fn make_submission(
     declaration: Declaration,
     messages: MessageList,
     bytes: &[u8],
-) -> Result<Submission, Stop> {
+) -> Result<Submission, Stop>
+    requires keeps { IsDeclaration declaration }
+    requires numbers { All HasNumbers messages }
+    requires few { item_count messages < 2 ^ 31 }
+    requires fits { MessagesFit messages }
+    requires pairs { All MessagePairs messages }
+    ensures made { IfOk result (λ s. submission_answer declaration messages ≡ Ok s) }
+    ensures stop { IfErr result (λ stop. (fault : ModelFaultValue) × (cause : CauseValue)
+        × (plain : StopValue)
+        × (((submission_answer declaration messages ≡ Err fault)
+        × IsSubmissionCause bytes.now fault cause) ⊎ (fault ≡ no_model))
+        × ((names : List Word) →
+        IsRefusalBy names (IsSubmissionRefusal (name_at names place) fault) plain)
+        × (stop ≡ caused plain cause)) }
+{
     match Submission::make(alloc, declaration, messages) {
         Ok(submission) => Ok(submission),
         Err(fault) => Err(with_cause(
