@@ -1,0 +1,214 @@
+//! What was decided of units.
+
+ghost use Rattle.std.specs.Prelude.{◌≡◌, ◌≤◌, All, length, IfOk, is_some, ◌<◌, ◌^◌};
+ghost use Rattle.cert_format.specs.Printable.{IsPrintable};
+ghost use Rattle.series_model.specs.Units.{UnitFits};
+ghost use Rattle.series_model.specs.Stages.{has_slots, AreStates};
+ghost use Rattle.season_report.specs.Private.{IsTold};
+ghost use Rattle.season_report.specs.Tallies.{slots_cost};
+ghost use Rattle.season_report.specs.Decisions.{choice_at, stage_of, decided_of, decided_units, season_decided, states_before, moved_decision, timed_decision, decision, is_decision, has_decision};
+
+use cert_format::Certificate;
+use scr_reader::Line;
+use series_model::{
+    Group, Submission, Times, Unit, UnitState, after_stage, are_same, line_times, states_of,
+};
+use slot_text::Memory;
+use std::alloc::Global;
+
+/// A unit, the last of its stages, and what that gave it: none where the stage has no allotment.
+#[derive(Clone, Copy, Debug, PartialEq, Eq)]
+pub struct Decided {
+    pub unit: Unit,
+    pub stage: u32,
+    pub given: Option<Times>,
+}
+
+/// What a unit's last stage decided.
+#[derive(Clone, Copy, Debug, PartialEq, Eq)]
+pub enum Decision {
+    /// The stage has no allotment.
+    Unallotted,
+    /// No slots.
+    Refused,
+    /// The requested times.
+    Kept,
+    /// The times of the historic line of a pair, which are not the requested ones.
+    Historic,
+    /// Other times.
+    Moved,
+}
+
+impl Decided {
+    /// What was decided.
+    pub fn decision(&self) -> Decision
+        ensures { result ≡ decision self.now }
+    {
+        match self.given {
+            None => Decision::Unallotted,
+            Some(Times::Refused) => Decision::Refused,
+            Some(Times::At { arrival, departure }) => {
+                timed_decision(&self.unit, Times::At { arrival, departure })
+            }
+        }
+    }
+
+    // Whether this was decided.
+    pub(crate) fn is(&self, one: Decision) -> bool
+        ensures { result ≡ has_decision one self.now }
+    {
+        is_decision(one, self.decision())
+    }
+}
+
+// Slots at these times.
+fn timed_decision(unit: &Unit, times: Times) -> Decision
+    ensures { result ≡ timed_decision unit.now times }
+{
+    if are_same(&times, &line_times(&unit.request)) {
+        Decision::Kept
+    } else {
+        moved_decision(unit.historic, times)
+    }
+}
+
+// Slots at other times than the requested ones.
+fn moved_decision(historic: Option<Line>, times: Times) -> Decision
+    ensures { result ≡ moved_decision historic times }
+{
+    match historic {
+        Some(historic) if are_same(&times, &line_times(&historic)) => Decision::Historic,
+        _ => Decision::Moved,
+    }
+}
+
+fn is_decision(one: Decision, other: Decision) -> bool
+    ensures { result ≡ is_decision one other }
+{
+    match (one, other) {
+        (Decision::Unallotted, Decision::Unallotted) => true,
+        (Decision::Refused, Decision::Refused) => true,
+        (Decision::Kept, Decision::Kept) => true,
+        (Decision::Historic, Decision::Historic) => true,
+        (Decision::Moved, Decision::Moved) => true,
+        _ => false,
+    }
+}
+
+// ---- all units of a season
+
+// Whether slots were given.
+fn has_slots(given: Option<Times>) -> bool
+    ensures { result ≡ has_slots given }
+{
+    matches!(given, Some(Times::At { .. }))
+}
+
+// The last of a unit's stages, by what it has after stage 3.
+fn last_stage(state: &UnitState) -> u32
+    ensures stage { result ≡ stage_of state.now }
+    ensures few { result ≤ 4 }
+{
+    match state.unit.group {
+        Group::F => 1,
+        Group::R | Group::L => 2,
+        Group::B if has_slots(state.given) => 3,
+        Group::B | Group::N => 4,
+    }
+}
+
+// Whether a stage, which counts from 1, has an allotment.
+fn has_choice(cert: &Certificate, stage: u32) -> bool
+    requires { 1 ≤ stage }
+    ensures { result ≡ is_some (choice_at cert.now stage) }
+{
+    match cert.stages.items().get(stage as usize - 1) {
+        Some(block) => block.choice.is_some(),
+        None => false,
+    }
+}
+
+// The unit as it is after stage 3, and after stage 4.
+fn decided_of(cert: &Certificate, before: &UnitState, after: &UnitState) -> Decided
+    ensures { result ≡ decided_of cert.now before.now after.now }
+{
+    let stage = last_stage(before);
+    let given = if has_choice(cert, stage) {
+        after.given
+    } else {
+        None
+    };
+    Decided {
+        unit: before.unit,
+        stage,
+        given,
+    }
+}
+
+// The units as they are after stage 3, and after stage 4.
+fn decided_units(
+    alloc: Global,
+    cert: &Certificate,
+    befores: &[UnitState],
+    afters: &[UnitState],
+) -> Result<Vec<Decided>, Memory>
+    requires { length befores.now ≡ length afters.now }
+    ensures { IfOk result (λ units. units.items ≡ decided_units cert.now befores.now afters.now) }
+{
+    let mut units = Vec::new(alloc);
+    for i in 0..befores.len() {
+        units.push(decided_of(cert, &befores[i], &afters[i]))?;
+    }
+    Ok(units)
+}
+
+// The units before a stage.
+pub(crate) fn states_before(
+    alloc: Global,
+    submission: &Submission,
+    cert: &Certificate,
+    stage: u32,
+) -> Result<Vec<UnitState>, Memory>
+    requires form { IsPrintable cert.now }
+    requires stage { 1 ≤ stage }
+    requires few { stage ≤ 5 }
+    ensures states { IfOk result
+        (λ states. states.items ≡ states_before submission.now cert.now stage) }
+    ensures fit { IfOk result (λ states. AreStates submission.now states.items) }
+    ensures count { IfOk result (λ states. length states.items ≡ length submission.now.units) }
+{
+    let mut states = states_of(alloc, submission)?;
+    let blocks = cert.stages.items();
+    for at in 1..stage {
+        states = after_stage(
+            alloc,
+            submission,
+            at,
+            states,
+            &blocks[at as usize - 1].choice,
+        )?;
+    }
+    Ok(states)
+}
+
+/// All units, in the order of the file: the time of `series_model::after_stage` for each stage, and
+/// one step a unit.
+pub(crate) fn season_decided(
+    alloc: Global,
+    submission: &Submission,
+    cert: &Certificate,
+) -> Result<Vec<Decided>, Memory>
+    requires { IsPrintable cert.now }
+    ensures units { IfOk result (λ units. units.items ≡ season_decided submission.now cert.now) }
+    ensures fit { IfOk result
+        (λ units. All (λ u. UnitFits submission.now.declaration.season u.unit) units.items) }
+    ensures told { IfOk result
+        (λ units. All (IsTold submission.now.declaration.season) units.items) }
+    ensures small { IfOk result
+        (λ units. All (λ u. slots_cost submission.now.declaration u < 2 ^ 24) units.items) }
+    ensures count { IfOk result (λ units. length units.items ≡ length submission.now.units) }
+{
+    let befores = states_before(alloc, submission, cert, 4)?;
+    let afters = states_before(alloc, submission, cert, 5)?;
+    decided_units(alloc, cert, &befores, &afters)
+}

@@ -1,0 +1,67 @@
+//! Loads of alternatives of a problem, added and taken away.
+
+ghost use Rattle.std.specs.Prelude.{◌≡◌, ◌<◌, length, slice_index, IfOk};
+ghost use Rattle.window_counts.specs.Placed.{AreZero};
+ghost use Rattle.choice_problem.specs.declared.problems.TheConstants.{MOST_USES};
+ghost use Rattle.choice_problem.specs.Problems.{unit_count, alt_count, alt_uses, resource_count};
+ghost use Rattle.choice_problem.specs.Counts.{GrowsBy, HasRoom, HasUses};
+
+use choice_problem::Problem;
+use slot_text::Memory;
+use std::alloc::Global;
+use window_counts::Counts;
+
+/// Adds the uses of an alternative: one step a use.
+pub(crate) fn add_alt(problem: &Problem, unit: u32, alt: u32, counts: &mut Counts)
+    requires unit { unit < unit_count problem.now }
+    requires alt { alt < alt_count problem.now unit }
+    requires counts { length counts.old ≡ resource_count problem.now }
+    requires room { HasRoom counts.old (λ _. MOST_USES) }
+    ensures length { length counts.new ≡ length counts.old }
+    ensures added { GrowsBy counts.old counts.new (λ r. alt_uses problem.now unit alt r) }
+{
+    let named = problem.alt(unit, alt);
+    if let Some(one) = named.one {
+        counts.add(problem.part(unit, one));
+    }
+    if let Some(two) = named.two {
+        counts.add(problem.part(unit, two));
+    }
+}
+
+/// Takes the uses of an alternative away: one step a use.
+pub(crate) fn take_alt(problem: &Problem, unit: u32, alt: u32, counts: &mut Counts)
+    requires unit { unit < unit_count problem.now }
+    requires alt { alt < alt_count problem.now unit }
+    requires counts { length counts.old ≡ resource_count problem.now }
+    requires added { HasUses counts.old (λ r. alt_uses problem.now unit alt r) }
+    ensures length { length counts.new ≡ length counts.old }
+    ensures taken { GrowsBy counts.new counts.old (λ r. alt_uses problem.now unit alt r) }
+{
+    let named = problem.alt(unit, alt);
+    if let Some(one) = named.one {
+        counts.take(problem.part(unit, one));
+    }
+    if let Some(two) = named.two {
+        counts.take(problem.part(unit, two));
+    }
+}
+
+/// Counts of 0, one for each resource.
+pub(crate) fn no_counts(alloc: Global, resources: u32) -> Result<Counts, Memory>
+    ensures { IfOk result (λ counts. (length counts ≡ resources) × AreZero counts) }
+{
+    Ok(Counts::with(vec![in alloc; 0; resources as usize]?))
+}
+
+/// Adds counts to loads, resource by resource.
+pub(crate) fn add_counts(loads: &mut [u32], counts: &Counts)
+    requires count { length loads.old ≡ length counts.now }
+    requires room { HasRoom loads.old (λ r. slice_index counts.now r) }
+    ensures length { length loads.new ≡ length loads.old }
+    ensures added { GrowsBy loads.old loads.new (λ r. slice_index counts.now r) }
+{
+    for at in 0..loads.len() {
+        loads[at] += counts.count(at as u32);
+    }
+}

@@ -1,0 +1,306 @@
+//! Which resources an alternative puts above their limits, where the counts have the others and the
+//! alternative itself.
+
+ghost use Rattle.std.specs.Prelude.{◌≡◌, ◌↔◌, ◌*◌, ◌<◌, ◌≤◌, ◌^◌, ℕ, List, length, map, IsTrue, pos};
+ghost use Rattle.std.specs.Option.{ForSome};
+ghost use Rattle.capacity_windows.specs.Windows.{capacity_of, declared_resources};
+ghost use Rattle.season_days.specs.declared.declaration.TheConstants.{MINUTES_OF_DAY};
+ghost use Rattle.choice_problem.specs.Problems.{unit_count, alt_count, alt_uses, part_count, resource_count, chooser_at, named_uses};
+ghost use Rattle.choice_problem.specs.Strips.{strip_uses, part_uses, IsStripInRange, IsPartInRange};
+ghost use Rattle.scr_reader.specs.Printed.{LineFits};
+ghost use Rattle.series_model.specs.Movements.{stop_on, movements_on};
+ghost use Rattle.season_report.specs.Reasons.{barred_dates};
+ghost use Rattle.season_report.specs.Private.{IsAboveAt, IsLowest, IsBarredByRule, IsBarredByQuota, IsBarredMovement, SomeBarred, TimesAreNear, AreAbove, lower_of};
+
+use crate::barred::Barred;
+use capacity_windows::{Movement, Windows};
+use choice_problem::{Part, Problem, Strip};
+use scr_reader::{Line, Stop};
+use season_days::{Day, Declaration, Kind, MINUTES_OF_DAY};
+use series_model::Times;
+use window_counts::Counts;
+
+// Whether a count is above its limit.
+fn is_above(counts: &Counts, limits: &[i64], resource: u32) -> bool
+    requires limits { length limits.now ≡ length counts.now }
+    requires there { resource < length counts.now }
+    ensures { IsTrue result ↔ IsAboveAt counts.now limits.now resource }
+{
+    i64::from(counts.count(resource)) > limits[resource as usize]
+}
+
+// The lowest resource of a run that is above its limit.
+fn lowest_in_run(counts: &Counts, limits: &[i64], start: u32, end: u32) -> Option<u32>
+    requires limits { length limits.now ≡ length counts.now }
+    requires there { end ≤ length counts.now }
+    ensures { IsLowest counts.now limits.now (λ r. (start ≤ r) × (r < end)) result }
+{
+    for at in start..end {
+        if is_above(counts, limits, at) {
+            return Some(at);
+        }
+    }
+    None
+}
+
+// The lower of two, where there are.
+fn lower(one: Option<u32>, other: Option<u32>) -> Option<u32>
+    ensures { result ≡ lower_of one other }
+{
+    match (one, other) {
+        (Some(one), Some(other)) => Some(one.min(other)),
+        (Some(one), None) => Some(one),
+        (None, other) => other,
+    }
+}
+
+// The lowest resource of a strip that is above its limit.
+fn lowest_in_strip(counts: &Counts, limits: &[i64], strip: &Strip) -> Option<u32>
+    requires limits { length limits.now ≡ length counts.now }
+    requires few { length counts.now < 2 ^ 32 }
+    requires there { IsStripInRange (length counts.now) strip.now }
+    ensures { IsLowest counts.now limits.now (λ r. 0 < strip_uses strip.now r) result }
+{
+    let mut lowest = None;
+    for i in 0..strip.times {
+        let (start, end) = strip.run(i);
+        lowest = lower(
+            lowest,
+            lowest_in_run(counts, limits, start as u32, end as u32),
+        );
+    }
+    lowest
+}
+
+// The lowest resource of a part that is above its limit.
+fn lowest_in_part(counts: &Counts, limits: &[i64], part: &Part) -> Option<u32>
+    requires limits { length limits.now ≡ length counts.now }
+    requires few { length counts.now < 2 ^ 32 }
+    requires there { IsPartInRange (length counts.now) part.now }
+    ensures { IsLowest counts.now limits.now (λ r. 0 < part_uses part.now r) result }
+{
+    let mut lowest = None;
+    for strip in part.strips() {
+        lowest = lower(lowest, lowest_in_strip(counts, limits, strip));
+    }
+    lowest
+}
+
+// The same of the part that an alternative may name.
+fn lowest_named(counts: &Counts, problem: &Problem, unit: u32, part: Option<u32>) -> Option<u32>
+    requires count { length counts.now ≡ resource_count problem.now }
+    requires unit { unit < unit_count problem.now }
+    requires part { ForSome part (λ k. k < part_count problem.now unit) }
+    ensures { IsLowest counts.now (map pos problem.now.limits)
+        (λ r. 0 < named_uses (chooser_at problem.now unit) part r) result }
+{
+    match part {
+        Some(n) => lowest_in_part(counts, problem.limits(), problem.part(unit, n)),
+        None => None,
+    }
+}
+
+/// The lowest resource that an alternative uses and that is above its limit: one step a use.
+pub(crate) fn lowest_passed(problem: &Problem, unit: u32, alt: u32, counts: &Counts) -> Option<u32>
+    requires count { length counts.now ≡ resource_count problem.now }
+    requires unit { unit < unit_count problem.now }
+    requires alt { alt < alt_count problem.now unit }
+    ensures { IsLowest counts.now (map pos problem.now.limits)
+        (λ r. 0 < alt_uses problem.now unit alt r) result }
+{
+    let named = problem.alt(unit, alt);
+    lower(
+        lowest_named(counts, problem, unit, named.one),
+        lowest_named(counts, problem, unit, named.two),
+    )
+}
+
+// ---- dates
+
+// Whether a window of a capacity line that holds the movement is above its limit.
+fn is_barred_by_rule(
+    windows: &Windows,
+    rule: u32,
+    movement: Movement,
+    counts: &Counts,
+    limits: &[i64],
+) -> bool
+    requires count { length counts.now ≡ declared_resources windows.now }
+    requires limits { length limits.now ≡ declared_resources windows.now }
+    requires rule { rule < length windows.now.rules }
+    requires minute { movement.minute < MINUTES_OF_DAY }
+    ensures { IsTrue result ↔ IsBarredByRule windows.now rule movement counts.now limits.now }
+{
+    let (start, end) = windows.held_run(rule, 0, movement);
+    if lowest_in_run(counts, limits, start, end).is_some() {
+        return true;
+    }
+    let (start, end) = windows.held_run(rule, 1, movement);
+    lowest_in_run(counts, limits, start, end).is_some()
+}
+
+// Whether the night quota holds the movement and is above its limit.
+fn is_barred_by_quota(
+    windows: &Windows,
+    movement: Movement,
+    counts: &Counts,
+    limits: &[i64],
+) -> bool
+    requires count { length counts.now ≡ declared_resources windows.now }
+    requires limits { length limits.now ≡ declared_resources windows.now }
+    ensures { IsTrue result ↔ IsBarredByQuota windows.now movement counts.now limits.now }
+{
+    match windows.night() {
+        Some(quota) => windows.is_held(quota, &movement) && is_above(counts, limits, quota),
+        None => false,
+    }
+}
+
+// Whether a resource that is above its limit holds the movement.
+fn is_barred_movement(
+    windows: &Windows,
+    movement: Movement,
+    counts: &Counts,
+    limits: &[i64],
+) -> bool
+    requires count { length counts.now ≡ declared_resources windows.now }
+    requires limits { length limits.now ≡ declared_resources windows.now }
+    requires minute { movement.minute < MINUTES_OF_DAY }
+    ensures { IsTrue result ↔ IsBarredMovement windows.now movement counts.now limits.now }
+{
+    for rule in 0..windows.lines() {
+        if is_barred_by_rule(windows, rule, movement, counts, limits) {
+            return true;
+        }
+    }
+    is_barred_by_quota(windows, movement, counts, limits)
+}
+
+// The same of the movement of a stop on a date, where the line has the stop and the movement is
+// listed.
+fn is_barred_stop(
+    windows: &Windows,
+    kind: Kind,
+    stop: Option<Stop>,
+    minute: u32,
+    date: u32,
+    counts: &Counts,
+    limits: &[i64],
+) -> bool
+    requires count { length counts.now ≡ declared_resources windows.now }
+    requires limits { length limits.now ≡ declared_resources windows.now }
+    requires date { date < 300 }
+    requires minute { minute < 10 * MINUTES_OF_DAY }
+    ensures { IsTrue result ↔ SomeBarred windows.now counts.now limits.now
+        (stop_on windows.now.season kind stop minute date) }
+{
+    let day = date + minute / MINUTES_OF_DAY;
+    if stop.is_none() || day >= windows.days() {
+        return false;
+    }
+    let movement = Movement {
+        kind,
+        day,
+        minute: minute % MINUTES_OF_DAY,
+    };
+    is_barred_movement(windows, movement, counts, limits)
+}
+
+// The same of one of the movements of a line on a date.
+fn is_barred_on(
+    windows: &Windows,
+    line: &Line,
+    arrival: u32,
+    departure: u32,
+    date: u32,
+    counts: &Counts,
+    limits: &[i64],
+) -> bool
+    requires count { length counts.now ≡ declared_resources windows.now }
+    requires limits { length limits.now ≡ declared_resources windows.now }
+    requires date { date < 300 }
+    requires arrival { arrival < MINUTES_OF_DAY }
+    requires departure { departure < 10 * MINUTES_OF_DAY }
+    ensures { IsTrue result ↔ SomeBarred windows.now counts.now limits.now
+        (movements_on windows.now.season line.now arrival departure date) }
+{
+    is_barred_stop(
+        windows,
+        Kind::Arr,
+        line.arrival,
+        arrival,
+        date,
+        counts,
+        limits,
+    ) || is_barred_stop(
+        windows,
+        Kind::Dep,
+        line.departure,
+        departure,
+        date,
+        counts,
+        limits,
+    )
+}
+
+/// On how many dates of a line one of its movements is held by a resource that is above its limit:
+/// one step for each date, each capacity line, and each window that holds the movement.
+pub(crate) fn barred_dates(
+    declaration: &Declaration,
+    windows: &Windows,
+    line: &Line,
+    times: Times,
+    counts: &Counts,
+    limits: &[i64],
+) -> u32
+    requires windows { windows.now ≡ capacity_of declaration.now }
+    requires count { length counts.now ≡ declared_resources windows.now }
+    requires limits { length limits.now ≡ declared_resources windows.now }
+    requires line { LineFits declaration.now.season line.now }
+    requires times { TimesAreNear times }
+    ensures { (resources : List ℕ) → AreAbove windows.now counts.now limits.now resources →
+        result ≡ barred_dates declaration.now line.now times resources }
+{
+    let Times::At { arrival, departure } = times else {
+        return 0;
+    };
+    let mut count = 0;
+    for date in line.period.first.0..line.period.last.0 + 1 {
+        if declaration.season.is_on(line.period.days, Day(date))
+            && is_barred_on(windows, line, arrival, departure, date, counts, limits)
+        {
+            count += 1;
+        }
+    }
+    count
+}
+
+/// What bars the alternative of a resource that is above its limit, which is used so often by others.
+pub(crate) fn barred_by(
+    declaration: &Declaration,
+    windows: &Windows,
+    line: &Line,
+    times: Times,
+    counts: &Counts,
+    limits: &[i64],
+    resource: u32,
+    uses: u32,
+) -> Barred
+    requires windows { windows.now ≡ capacity_of declaration.now }
+    requires count { length counts.now ≡ declared_resources windows.now }
+    requires limits { length limits.now ≡ declared_resources windows.now }
+    requires line { LineFits declaration.now.season line.now }
+    requires times { TimesAreNear times }
+    ensures { (resources : List ℕ) → AreAbove windows.now counts.now limits.now resources →
+        result ≡ record {
+          resource = resource;
+          uses = uses;
+          dates = barred_dates declaration.now line.now times resources;
+        } }
+{
+    Barred {
+        resource,
+        uses,
+        dates: barred_dates(declaration, windows, line, times, counts, limits),
+    }
+}

@@ -1,0 +1,133 @@
+//! The lines of stages.
+
+ghost use Rattle.std.specs.Prelude.{◌≡◌, ◌++◌, ◌<◌, ◌≤◌, ◌^◌, length, All, OnOk, IfOk};
+ghost use Rattle.choice_problem.specs.declared.problems.TheConstants.{MOST_UNITS};
+ghost use Rattle.series_model.specs.Units.{UnitFits};
+ghost use Rattle.wasg_stages.specs.Valid.{IsValid};
+ghost use Rattle.season_report.specs.declared.decided.Decided.{Decided as DecidedValue};
+ghost use Rattle.season_report.specs.Decisions.{season_decided, states_before};
+ghost use Rattle.season_report.specs.Tallies.{slots_cost};
+ghost use Rattle.season_report.specs.Reports.{cost_word, bound_words, mark_words, stage_line, stages_text, reasons_after};
+ghost use Rattle.season_report.specs.Private.{AreEarlier, texts_of};
+
+use crate::decided::Decided;
+use crate::tallies::{of_stage, put_tally, tally_of};
+use crate::tried::put_tried;
+use cert_format::{Certificate, Mark, StageCert};
+use report_lines::{put, put_tagged};
+use season_days::Declaration;
+use series_model::{Submission, after_stage, states_of};
+use slot_text::{Memory, put_number};
+use std::alloc::Global;
+
+// Appends what an allotment displaces, if there is one.
+fn put_cost(alloc: Global, out: &mut Vec<u8>, cost: Option<u64>) -> Result<(), Memory>
+    ensures { OnOk result (out.new.items ≡ out.old.items ++ cost_word cost) }
+{
+    match cost {
+        Some(cost) => put_number(alloc, out, cost),
+        None => put(out, b"NONE"),
+    }
+}
+
+// Appends a bound, if there is one.
+fn put_bound(alloc: Global, out: &mut Vec<u8>, bound: Option<u64>) -> Result<(), Memory>
+    ensures { OnOk result (out.new.items ≡ out.old.items ++ bound_words bound) }
+{
+    match bound {
+        Some(bound) => put_tagged(alloc, out, b" BOUND ", bound),
+        None => Ok(()),
+    }
+}
+
+// Appends the mark of a stage.
+fn put_mark(alloc: Global, out: &mut Vec<u8>, block: &StageCert) -> Result<(), Memory>
+    ensures { OnOk result (out.new.items ≡ out.old.items ++ mark_words block.now block.now.mark) }
+{
+    match block.mark {
+        Mark::Optimal => {
+            put(out, b"OPTIMAL ")?;
+            put_cost(alloc, out, block.cost)
+        }
+        Mark::Infeasible => put(out, b"INFEASIBLE"),
+        Mark::Unsettled => {
+            put(out, b"OPEN ")?;
+            put_cost(alloc, out, block.cost)?;
+            put_bound(alloc, out, block.bound)
+        }
+        Mark::NotTried => put(out, b"NOT TRIED"),
+    }
+}
+
+// Appends the line of a stage: its mark, and the tally of the units that were decided in it.
+fn put_stage_line(
+    alloc: Global,
+    out: &mut Vec<u8>,
+    declaration: &Declaration,
+    units: &[Decided],
+    stage: u32,
+    block: &StageCert,
+) -> Result<(), Memory>
+    requires fit { All (λ (u : DecidedValue). UnitFits declaration.now.season u.unit) units.now }
+    requires few { length units.now ≤ MOST_UNITS }
+    requires small { All (λ (u : DecidedValue). slots_cost declaration.now u < 2 ^ 24) units.now }
+    ensures { OnOk result (out.new.items
+        ≡ out.old.items ++ stage_line declaration.now units.now stage block.now) }
+{
+    let own = of_stage(alloc, units, stage)?;
+    put_tagged(alloc, out, b"STAGE ", u64::from(stage))?;
+    put(out, b" ")?;
+    put_mark(alloc, out, block)?;
+    put(out, b" ")?;
+    put_tally(alloc, out, &tally_of(declaration, &own))?;
+    put(out, b"\n")
+}
+
+/// Appends what is told of each stage, and to the text of each unit its reasons, stage by stage. The
+/// result is the load of each resource by all that the stages gave.
+///
+/// Beside the texts one stage's problem is kept at a time. The time is that of
+/// `wasg_stages::problem_after` for each stage, and that of the lines.
+pub(crate) fn put_stages(
+    alloc: Global,
+    out: &mut Vec<u8>,
+    reasons: &mut [Vec<u8>],
+    submission: &Submission,
+    cert: &Certificate,
+    units: &[Decided],
+) -> Result<Vec<u32>, Memory>
+    requires valid { IsValid submission.now cert.now }
+    requires units { units.now ≡ season_decided submission.now cert.now }
+    requires small { All (λ (u : DecidedValue). slots_cost submission.now.declaration u < 2 ^ 24)
+        units.now }
+    requires count { length reasons.old ≡ length submission.now.units }
+    ensures text { OnOk result (out.new.items
+        ≡ out.old.items ++ stages_text submission.now cert.now 1 cert.now.stages) }
+    ensures reasons { OnOk result (texts_of reasons.new
+        ≡ reasons_after submission.now cert.now 1 (texts_of reasons.old) cert.now.stages) }
+    ensures given { IfOk result (λ given. AreEarlier submission.now.declaration
+        (states_before submission.now cert.now 5) given.items) }
+{
+    let resources = submission.windows().resources() as usize;
+    let mut given = vec![in alloc; 0; resources]?;
+    let mut states = states_of(alloc, submission)?;
+    let mut stage = 1;
+    for block in cert.stages.items() {
+        put_stage_line(alloc, out, submission.declaration(), units, stage, block)?;
+        if block.mark.is_tried() {
+            put_tried(
+                alloc,
+                out,
+                reasons,
+                submission,
+                stage,
+                &states,
+                &block.choice,
+                &mut given,
+            )?;
+        }
+        states = after_stage(alloc, submission, stage, states, &block.choice)?;
+        stage += 1;
+    }
+    Ok(given)
+}

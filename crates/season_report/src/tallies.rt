@@ -1,0 +1,113 @@
+//! Tallies of units.
+
+ghost use Rattle.std.specs.Prelude.{◌≡◌, ◌++◌, ◌≤◌, ◌<◌, ◌^◌, length, filter, count_by, sum_by, All, IfOk, OnOk};
+ghost use Rattle.choice_problem.specs.declared.problems.TheConstants.{MOST_UNITS};
+ghost use Rattle.series_model.specs.Units.{UnitFits};
+ghost use Rattle.season_report.specs.Decisions.{has_decision, is_of_stage};
+ghost use Rattle.season_report.specs.Tallies.{slots_cost, tally_of, tally_words};
+ghost use Rattle.season_report.specs.declared.decided.Decided.{Decided as DecidedValue};
+
+use crate::decided::{Decided, Decision};
+use report_lines::put_tagged;
+use season_days::Declaration;
+use series_model::{Times, displacement};
+use slot_text::Memory;
+use std::alloc::Global;
+
+/// How many units there are, how many of them were decided how, and what their slots cost, in
+/// minutes over all their dates.
+#[derive(Clone, Copy, Debug, PartialEq, Eq)]
+pub struct Tally {
+    pub units: u64,
+    pub kept: u64,
+    pub historic: u64,
+    pub moved: u64,
+    pub refused: u64,
+    pub unallotted: u64,
+    pub minutes: u64,
+}
+
+// How many units were decided so.
+fn count(units: &[Decided], one: Decision) -> u64
+    requires { length units.now ≤ MOST_UNITS }
+    ensures { result ≡ count_by (has_decision one) units.now }
+{
+    let mut count = 0;
+    for unit in units {
+        if unit.is(one) {
+            count += 1;
+        }
+    }
+    count
+}
+
+// What the slots of a unit cost.
+fn slots_cost(declaration: &Declaration, unit: &Decided) -> u64
+    requires { UnitFits declaration.now.season unit.now.unit }
+    ensures { result ≡ slots_cost declaration.now unit.now }
+{
+    match unit.given {
+        Some(Times::At { arrival, departure }) => {
+            displacement(&unit.unit, Times::At { arrival, departure }, declaration)
+        }
+        Some(Times::Refused) | None => 0,
+    }
+}
+
+// What the slots of all units cost.
+fn slots_costs(declaration: &Declaration, units: &[Decided]) -> u64
+    requires fit { All (λ (u : DecidedValue). UnitFits declaration.now.season u.unit) units.now }
+    requires few { length units.now ≤ MOST_UNITS }
+    requires small { All (λ (u : DecidedValue). slots_cost declaration.now u < 2 ^ 24) units.now }
+    ensures { result ≡ sum_by (slots_cost declaration.now) units.now }
+{
+    let mut minutes = 0;
+    for unit in units {
+        minutes += slots_cost(declaration, unit);
+    }
+    minutes
+}
+
+/// The tally of units.
+pub(crate) fn tally_of(declaration: &Declaration, units: &[Decided]) -> Tally
+    requires fit { All (λ (u : DecidedValue). UnitFits declaration.now.season u.unit) units.now }
+    requires few { length units.now ≤ MOST_UNITS }
+    requires small { All (λ (u : DecidedValue). slots_cost declaration.now u < 2 ^ 24) units.now }
+    ensures { result ≡ tally_of declaration.now units.now }
+{
+    Tally {
+        units: units.len() as u64,
+        kept: count(units, Decision::Kept),
+        historic: count(units, Decision::Historic),
+        moved: count(units, Decision::Moved),
+        refused: count(units, Decision::Refused),
+        unallotted: count(units, Decision::Unallotted),
+        minutes: slots_costs(declaration, units),
+    }
+}
+
+/// Appends a tally.
+pub(crate) fn put_tally(alloc: Global, out: &mut Vec<u8>, tally: &Tally) -> Result<(), Memory>
+    ensures { OnOk result (out.new.items ≡ out.old.items ++ tally_words tally.now) }
+{
+    put_tagged(alloc, out, b"UNITS ", tally.units)?;
+    put_tagged(alloc, out, b" KEPT ", tally.kept)?;
+    put_tagged(alloc, out, b" HISTORIC ", tally.historic)?;
+    put_tagged(alloc, out, b" MOVED ", tally.moved)?;
+    put_tagged(alloc, out, b" REFUSED ", tally.refused)?;
+    put_tagged(alloc, out, b" NONE ", tally.unallotted)?;
+    put_tagged(alloc, out, b" MINUTES ", tally.minutes)
+}
+
+/// The units that were decided in a stage.
+pub(crate) fn of_stage(alloc: Global, units: &[Decided], stage: u32) -> Result<Vec<Decided>, Memory>
+    ensures { IfOk result (λ found. found.items ≡ filter (is_of_stage stage) units.now) }
+{
+    let mut found = Vec::new(alloc);
+    for unit in units {
+        if unit.stage == stage {
+            found.push(*unit)?;
+        }
+    }
+    Ok(found)
+}
