@@ -48,7 +48,7 @@ given_in c stage given = if is_some (choice_at c stage) then given else None
 abbrev pub decided_of : Certificate → UnitState → UnitState → Decided
 decided_of c before after =
     record {
-      unit = before.unit;
+      unit = after.unit;
       stage = stage_of before;
       given = given_in c (stage_of before) after.given;
     }

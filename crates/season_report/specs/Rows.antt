@@ -4,7 +4,7 @@ use Rattle.std.specs.Fmt.{decimal}
 use Rattle.std.specs.List.{flat_map}
 use Rattle.season_days.specs.declared.declaration.Declaration.{Declaration}
 use Rattle.scr_reader.specs.declared.line.Line.{Line}
-use Rattle.capacity_windows.specs.Windows.{capacity_of}
+use Rattle.capacity_windows.specs.Windows.{Capacity, capacity_of}
 use Rattle.series_model.specs.declared.unit.Unit.{Unit as SlotUnit}
 use Rattle.series_model.specs.declared.times.Times.{Times}
 use Rattle.series_model.specs.declared.times.Times.TheVariants.{Refused, At}
@@ -81,22 +81,28 @@ span_words stage line row =
     ++ (codes " COUNT " ++ (decimal row.count
     ++ (codes " COST " ++ decimal row.cost)))))))
 
-abbrev pub barred_words : AllottedStage → ℕ → Barred → List ℕ
-barred_words a place barred =
+-- what bars them, with the limit of that resource, and what earlier stages and the others use of it
+abbrev pub barred_words : Capacity → (ℕ → ℕ) → (ℕ → ℕ) → (ℕ → ℕ) → Barred → List ℕ
+barred_words c limit earlier others barred =
     codes " DATES " ++ (decimal barred.dates
-    ++ (codes " BY " ++ (resource_words (capacity_of a.declaration) barred.resource
-    ++ (codes " LIMIT " ++ (decimal (limit_in a barred.resource)
-    ++ (codes " EARLIER " ++ (decimal (earlier_load a.declaration a.states barred.resource)
-    ++ (codes " OTHERS " ++ (decimal (others_load a place barred.resource)
+    ++ (codes " BY " ++ (resource_words c barred.resource
+    ++ (codes " LIMIT " ++ (decimal (limit barred.resource)
+    ++ (codes " EARLIER " ++ (decimal (earlier barred.resource)
+    ++ (codes " OTHERS " ++ (decimal (others barred.resource)
     ++ (codes " USES " ++ decimal barred.uses))))))))))
 
-abbrev pub row_by : AllottedStage → ℕ → Line → Row → Option Barred → List ℕ
-row_by a place line row None = codes "FITS " ++ (span_words a.stage line row ++ 10 ∷ [])
-row_by a place line row (Some barred) =
-    codes "NOT " ++ (span_words a.stage line row ++ (barred_words a place barred ++ 10 ∷ []))
+abbrev pub row_by : Capacity → (ℕ → ℕ) → (ℕ → ℕ) → (ℕ → ℕ) → ℕ → Line → Row → Option Barred →
+    List ℕ
+row_by c limit earlier others stage line row None =
+    codes "FITS " ++ (span_words stage line row ++ 10 ∷ [])
+row_by c limit earlier others stage line row (Some barred) =
+    codes "NOT "
+    ++ (span_words stage line row ++ (barred_words c limit earlier others barred ++ 10 ∷ []))
 
 abbrev pub row_line : AllottedStage → ℕ → Line → Row → List ℕ
-row_line a place line row = row_by a place line row row.barred
+row_line a place line row =
+    row_by (capacity_of a.declaration) (limit_in a) (earlier_load a.declaration a.states)
+    (others_load a place) a.stage line row row.barred
 
 -- the lines of one unit of a stage, which was given these times
 abbrev pub unit_rows : AllottedStage → ℕ → SlotUnit → Times → List Row

@@ -1,13 +1,12 @@
 //! The airlines of units, each with its tally.
 
-ghost use Rattle.std.specs.Prelude.{◌≡◌, ◌++◌, ◌<◌, ◌≤◌, ◌^◌, length, filter, All, IfOk, OnOk, AllPairs, IfSome, slice_get, take, true, false};
+ghost use Rattle.std.specs.Prelude.{◌≡◌, ◌++◌, ◌≤◌, length, filter, All, IfOk, OnOk, AllPairs, IfSome, slice_get, take, true, false};
 ghost use Rattle.choice_problem.specs.declared.problems.TheConstants.{MOST_UNITS};
 ghost use Rattle.scr_reader.specs.Parts.{airline_text};
 ghost use Rattle.series_model.specs.Submissions.{are_letters};
-ghost use Rattle.series_model.specs.Units.{UnitFits};
-ghost use Rattle.season_report.specs.Tallies.{airline_of, is_of_airline, comes_before, with_airline, airlines_of, airline_line, slots_cost};
+ghost use Rattle.season_report.specs.Tallies.{airline_of, is_of_airline, comes_before, with_airline, airlines_of, airline_line};
 ghost use Rattle.season_report.specs.Reports.{airlines_text};
-ghost use Rattle.season_report.specs.declared.decided.Decided.{Decided as DecidedValue};
+ghost use Rattle.season_report.specs.Private.{IsTold};
 
 use crate::decided::Decided;
 use crate::tallies::{put_tally, tally_of};
@@ -94,7 +93,9 @@ fn airlines_of(alloc: Global, units: &[Decided]) -> Result<Vec<Airline>, Memory>
 
 // The units of an airline.
 fn of_airline(alloc: Global, units: &[Decided], airline: Airline) -> Result<Vec<Decided>, Memory>
-    ensures { IfOk result (λ found. found.items ≡ filter (is_of_airline airline) units.now) }
+    ensures found { IfOk result
+        (λ found. found.items ≡ filter (is_of_airline airline) units.now) }
+    ensures few { IfOk result (λ found. length found.items ≤ length units.now) }
 {
     let mut found = Vec::new(alloc);
     for unit in units {
@@ -125,9 +126,8 @@ fn put_airline(
     units: &[Decided],
     airline: Airline,
 ) -> Result<(), Memory>
-    requires fit { All (λ (u : DecidedValue). UnitFits declaration.now.season u.unit) units.now }
+    requires told { All (IsTold declaration.now) units.now }
     requires few { length units.now ≤ MOST_UNITS }
-    requires small { All (λ (u : DecidedValue). slots_cost declaration.now u < 2 ^ 24) units.now }
     ensures { OnOk result
         (out.new.items ≡ out.old.items ++ airline_line declaration.now units.now airline) }
 {
@@ -146,9 +146,8 @@ pub(crate) fn put_airlines(
     declaration: &Declaration,
     units: &[Decided],
 ) -> Result<(), Memory>
-    requires fit { All (λ (u : DecidedValue). UnitFits declaration.now.season u.unit) units.now }
+    requires told { All (IsTold declaration.now) units.now }
     requires few { length units.now ≤ MOST_UNITS }
-    requires small { All (λ (u : DecidedValue). slots_cost declaration.now u < 2 ^ 24) units.now }
     ensures { OnOk result
         (out.new.items ≡ out.old.items ++ airlines_text declaration.now units.now) }
 {

@@ -1,15 +1,16 @@
 //! What was decided of units.
 
-ghost use Rattle.std.specs.Prelude.{◌≡◌, ◌≤◌, All, length, IfOk, is_some, ◌<◌, ◌^◌};
+ghost use Rattle.std.specs.Prelude.{◌≡◌, ◌≤◌, All, length, IfOk, is_some};
+ghost use Rattle.choice_problem.specs.declared.problems.TheConstants.{MOST_UNITS};
 ghost use Rattle.cert_format.specs.Printable.{IsPrintable};
-ghost use Rattle.series_model.specs.Units.{UnitFits};
-ghost use Rattle.series_model.specs.Stages.{has_slots, AreStates};
-ghost use Rattle.season_report.specs.Private.{IsTold};
-ghost use Rattle.season_report.specs.Tallies.{slots_cost};
+ghost use Rattle.series_model.specs.Stages.{has_slots, AreStates, after_stage};
+ghost use Rattle.season_report.specs.Private.{IsTold, IsAnswered};
 ghost use Rattle.season_report.specs.Decisions.{choice_at, stage_of, decided_of, decided_units, season_decided, states_before, moved_decision, timed_decision, decision, is_decision, has_decision};
 
 use cert_format::Certificate;
+use choice_problem::Choice;
 use scr_reader::Line;
+use series_model::laws::{one_more_stage, option_bounds, spelled_alternatives};
 use series_model::{
     Group, Submission, Times, Unit, UnitState, after_stage, are_same, line_times, states_of,
 };
@@ -139,7 +140,7 @@ fn decided_of(cert: &Certificate, before: &UnitState, after: &UnitState) -> Deci
         None
     };
     Decided {
-        unit: before.unit,
+        unit: after.unit,
         stage,
         given,
     }
@@ -162,8 +163,33 @@ fn decided_units(
     Ok(units)
 }
 
+// The units after one more stage; what they have been given can be printed.
+fn after_next(
+    alloc: Global,
+    submission: &Submission,
+    stage: u32,
+    states: Vec<UnitState>,
+    choice: &Option<Choice>,
+) -> Result<Vec<UnitState>, Memory>
+    requires states { AreStates submission.now states.items }
+    requires answered { All (IsAnswered submission.now.declaration) states.items }
+    ensures after { IfOk result
+        (λ after. after.items
+        ≡ after_stage submission.now.declaration stage states.items choice.now) }
+    ensures fit { IfOk result (λ after. AreStates submission.now after.items) }
+    ensures answered { IfOk result
+        (λ after. All (IsAnswered submission.now.declaration) after.items) }
+    ensures count { IfOk result (λ after. length after.items ≡ length states.items) }
+{
+    option_bounds();
+    spelled_alternatives();
+    let _keeps = submission.declaration();
+    let after = after_stage(alloc, submission, stage, states, choice)?;
+    Ok(after)
+}
+
 // The units before a stage.
-pub(crate) fn states_before(
+fn states_before(
     alloc: Global,
     submission: &Submission,
     cert: &Certificate,
@@ -174,19 +200,17 @@ pub(crate) fn states_before(
     requires few { stage ≤ 5 }
     ensures states { IfOk result
         (λ states. states.items ≡ states_before submission.now cert.now stage) }
-    ensures fit { IfOk result (λ states. AreStates submission.now states.items) }
+    ensures answered { IfOk result
+        (λ states. All (IsAnswered submission.now.declaration) states.items) }
     ensures count { IfOk result (λ states. length states.items ≡ length submission.now.units) }
+    ensures few { IfOk result (λ states. length states.items ≤ MOST_UNITS) }
 {
+    one_more_stage();
     let mut states = states_of(alloc, submission)?;
     let blocks = cert.stages.items();
     for at in 1..stage {
-        states = after_stage(
-            alloc,
-            submission,
-            at,
-            states,
-            &blocks[at as usize - 1].choice,
-        )?;
+        let choice = &blocks[at as usize - 1].choice;
+        states = after_next(alloc, submission, at, states, choice)?;
     }
     Ok(states)
 }
@@ -200,13 +224,10 @@ pub(crate) fn season_decided(
 ) -> Result<Vec<Decided>, Memory>
     requires { IsPrintable cert.now }
     ensures units { IfOk result (λ units. units.items ≡ season_decided submission.now cert.now) }
-    ensures fit { IfOk result
-        (λ units. All (λ u. UnitFits submission.now.declaration.season u.unit) units.items) }
     ensures told { IfOk result
-        (λ units. All (IsTold submission.now.declaration.season) units.items) }
-    ensures small { IfOk result
-        (λ units. All (λ u. slots_cost submission.now.declaration u < 2 ^ 24) units.items) }
+        (λ units. All (IsTold submission.now.declaration) units.items) }
     ensures count { IfOk result (λ units. length units.items ≡ length submission.now.units) }
+    ensures few { IfOk result (λ units. length units.items ≤ MOST_UNITS) }
 {
     let befores = states_before(alloc, submission, cert, 4)?;
     let afters = states_before(alloc, submission, cert, 5)?;

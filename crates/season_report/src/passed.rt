@@ -1,18 +1,19 @@
 //! Which resources an alternative puts above their limits, where the counts have the others and the
 //! alternative itself.
 
-ghost use Rattle.std.specs.Prelude.{◌≡◌, ◌↔◌, ◌*◌, ◌<◌, ◌≤◌, ◌^◌, ℕ, List, length, map, IsTrue, pos};
+ghost use Rattle.std.specs.Prelude.{◌≡◌, ◌*◌, ◌<◌, ◌≤◌, ◌^◌, length, map, false, IsTrue, pos};
+ghost use Rattle.std.specs.List.{list_any};
 ghost use Rattle.std.specs.Option.{ForSome};
-ghost use Rattle.capacity_windows.specs.Windows.{capacity_of, declared_resources};
+ghost use Rattle.capacity_windows.specs.Windows.{capacity_of, declared_resources, IsCapacity};
 ghost use Rattle.season_days.specs.declared.declaration.TheConstants.{MINUTES_OF_DAY};
 ghost use Rattle.choice_problem.specs.Problems.{unit_count, alt_count, alt_uses, part_count, resource_count, chooser_at, named_uses};
 ghost use Rattle.choice_problem.specs.Strips.{strip_uses, part_uses, IsStripInRange, IsPartInRange};
 ghost use Rattle.scr_reader.specs.Printed.{LineFits};
 ghost use Rattle.series_model.specs.Movements.{stop_on, movements_on};
-ghost use Rattle.season_report.specs.Reasons.{barred_dates};
-ghost use Rattle.season_report.specs.Private.{IsAboveAt, IsLowest, IsBarredByRule, IsBarredByQuota, IsBarredMovement, SomeBarred, TimesAreNear, AreAbove, lower_of};
+ghost use Rattle.season_report.specs.Reasons.{barred_dates, is_held_by};
+ghost use Rattle.season_report.specs.Private.{is_above_at, resources_above, IsLowest, IsBarred, IsClearOf, IsClearOfQuota, TimesAreNear, lower_of};
 
-use crate::barred::Barred;
+use capacity_windows::laws::held_windows;
 use capacity_windows::{Movement, Windows};
 use choice_problem::{Part, Problem, Strip};
 use scr_reader::{Line, Stop};
@@ -24,7 +25,7 @@ use window_counts::Counts;
 fn is_above(counts: &Counts, limits: &[i64], resource: u32) -> bool
     requires limits { length limits.now ≡ length counts.now }
     requires there { resource < length counts.now }
-    ensures { IsTrue result ↔ IsAboveAt counts.now limits.now resource }
+    ensures { result ≡ is_above_at counts.now limits.now resource }
 {
     i64::from(counts.count(resource)) > limits[resource as usize]
 }
@@ -117,25 +118,26 @@ pub(crate) fn lowest_passed(problem: &Problem, unit: u32, alt: u32, counts: &Cou
 
 // ---- dates
 
-// Whether a window of a capacity line that holds the movement is above its limit.
-fn is_barred_by_rule(
+// Whether a window of a capacity line that begins so many days before the movement's, and holds the
+// movement, is above its limit.
+fn is_barred_by_run(
     windows: &Windows,
     rule: u32,
+    ago: u32,
     movement: Movement,
     counts: &Counts,
     limits: &[i64],
 ) -> bool
     requires count { length counts.now ≡ declared_resources windows.now }
-    requires limits { length limits.now ≡ declared_resources windows.now }
+    requires limits { length limits.now ≡ length counts.now }
     requires rule { rule < length windows.now.rules }
+    requires ago { ago < 2 }
     requires minute { movement.minute < MINUTES_OF_DAY }
-    ensures { IsTrue result ↔ IsBarredByRule windows.now rule movement counts.now limits.now }
+    ensures some { IsTrue result → IsBarred windows.now movement counts.now limits.now }
+    ensures none { result ≡ false →
+        IsClearOf windows.now rule ago movement counts.now limits.now }
 {
-    let (start, end) = windows.held_run(rule, 0, movement);
-    if lowest_in_run(counts, limits, start, end).is_some() {
-        return true;
-    }
-    let (start, end) = windows.held_run(rule, 1, movement);
+    let (start, end) = windows.held_run(rule, ago, movement);
     lowest_in_run(counts, limits, start, end).is_some()
 }
 
@@ -147,8 +149,10 @@ fn is_barred_by_quota(
     limits: &[i64],
 ) -> bool
     requires count { length counts.now ≡ declared_resources windows.now }
-    requires limits { length limits.now ≡ declared_resources windows.now }
-    ensures { IsTrue result ↔ IsBarredByQuota windows.now movement counts.now limits.now }
+    requires limits { length limits.now ≡ length counts.now }
+    ensures some { IsTrue result → IsBarred windows.now movement counts.now limits.now }
+    ensures none { result ≡ false →
+        IsClearOfQuota windows.now movement counts.now limits.now }
 {
     match windows.night() {
         Some(quota) => windows.is_held(quota, &movement) && is_above(counts, limits, quota),
@@ -163,13 +167,19 @@ fn is_barred_movement(
     counts: &Counts,
     limits: &[i64],
 ) -> bool
+    requires keeps { IsCapacity windows.now }
     requires count { length counts.now ≡ declared_resources windows.now }
-    requires limits { length limits.now ≡ declared_resources windows.now }
+    requires limits { length limits.now ≡ length counts.now }
     requires minute { movement.minute < MINUTES_OF_DAY }
-    ensures { IsTrue result ↔ IsBarredMovement windows.now movement counts.now limits.now }
+    ensures { result
+        ≡ is_held_by windows.now (resources_above counts.now limits.now) movement }
 {
+    held_windows();
     for rule in 0..windows.lines() {
-        if is_barred_by_rule(windows, rule, movement, counts, limits) {
+        if is_barred_by_run(windows, rule, 0, movement, counts, limits) {
+            return true;
+        }
+        if is_barred_by_run(windows, rule, 1, movement, counts, limits) {
             return true;
         }
     }
@@ -187,11 +197,13 @@ fn is_barred_stop(
     counts: &Counts,
     limits: &[i64],
 ) -> bool
+    requires keeps { IsCapacity windows.now }
     requires count { length counts.now ≡ declared_resources windows.now }
-    requires limits { length limits.now ≡ declared_resources windows.now }
+    requires limits { length limits.now ≡ length counts.now }
     requires date { date < 300 }
     requires minute { minute < 10 * MINUTES_OF_DAY }
-    ensures { IsTrue result ↔ SomeBarred windows.now counts.now limits.now
+    ensures { result
+        ≡ list_any (is_held_by windows.now (resources_above counts.now limits.now))
         (stop_on windows.now.season kind stop minute date) }
 {
     let day = date + minute / MINUTES_OF_DAY;
@@ -216,12 +228,14 @@ fn is_barred_on(
     counts: &Counts,
     limits: &[i64],
 ) -> bool
+    requires keeps { IsCapacity windows.now }
     requires count { length counts.now ≡ declared_resources windows.now }
-    requires limits { length limits.now ≡ declared_resources windows.now }
+    requires limits { length limits.now ≡ length counts.now }
     requires date { date < 300 }
     requires arrival { arrival < MINUTES_OF_DAY }
     requires departure { departure < 10 * MINUTES_OF_DAY }
-    ensures { IsTrue result ↔ SomeBarred windows.now counts.now limits.now
+    ensures { result
+        ≡ list_any (is_held_by windows.now (resources_above counts.now limits.now))
         (movements_on windows.now.season line.now arrival departure date) }
 {
     is_barred_stop(
@@ -254,12 +268,13 @@ pub(crate) fn barred_dates(
     limits: &[i64],
 ) -> u32
     requires windows { windows.now ≡ capacity_of declaration.now }
+    requires keeps { IsCapacity windows.now }
     requires count { length counts.now ≡ declared_resources windows.now }
-    requires limits { length limits.now ≡ declared_resources windows.now }
+    requires limits { length limits.now ≡ length counts.now }
     requires line { LineFits declaration.now.season line.now }
     requires times { TimesAreNear times }
-    ensures { (resources : List ℕ) → AreAbove windows.now counts.now limits.now resources →
-        result ≡ barred_dates declaration.now line.now times resources }
+    ensures { result ≡ barred_dates declaration.now line.now times
+        (resources_above counts.now limits.now) }
 {
     let Times::At { arrival, departure } = times else {
         return 0;
@@ -273,34 +288,4 @@ pub(crate) fn barred_dates(
         }
     }
     count
-}
-
-/// What bars the alternative of a resource that is above its limit, which is used so often by others.
-pub(crate) fn barred_by(
-    declaration: &Declaration,
-    windows: &Windows,
-    line: &Line,
-    times: Times,
-    counts: &Counts,
-    limits: &[i64],
-    resource: u32,
-    uses: u32,
-) -> Barred
-    requires windows { windows.now ≡ capacity_of declaration.now }
-    requires count { length counts.now ≡ declared_resources windows.now }
-    requires limits { length limits.now ≡ declared_resources windows.now }
-    requires line { LineFits declaration.now.season line.now }
-    requires times { TimesAreNear times }
-    ensures { (resources : List ℕ) → AreAbove windows.now counts.now limits.now resources →
-        result ≡ record {
-          resource = resource;
-          uses = uses;
-          dates = barred_dates declaration.now line.now times resources;
-        } }
-{
-    Barred {
-        resource,
-        uses,
-        dates: barred_dates(declaration, windows, line, times, counts, limits),
-    }
 }

@@ -1,27 +1,29 @@
 //! The lines of reasons of one unit of a stage.
 
-ghost use Rattle.std.specs.Prelude.{◌≡◌, ◌↔◌, ◌++◌, ◌+◌, ◌<◌, ◌^◌, ◌∷◌, [], ℕ, List, OnOk, IfOk, IfSome, IsTrue, Some, slice_get};
-ghost use Rattle.std.specs.List.{flat_map};
+ghost use Rattle.std.specs.Prelude.{◌≡◌, ◌++◌, ◌+◌, ◌<◌, ◌≤◌, ◌^◌, ℕ, List, [], length, false, OnOk, IfOk, IfSome, Some, slice_get, slice_index, slice_index_or};
 ghost use Rattle.capacity_windows.specs.Windows.{declared_resources};
-ghost use Rattle.choice_problem.specs.Problems.{unit_count, alt_count, alt_cost};
-ghost use Rattle.series_model.specs.declared.unit.Unit.{Unit as SlotUnit};
-ghost use Rattle.series_model.specs.declared.times.Times.{Times as TimesValue};
-ghost use Rattle.series_model.specs.Displacement.{displacement_of};
-ghost use Rattle.season_report.specs.declared.barred.Row.{Row as RowValue};
-ghost use Rattle.season_report.specs.declared.barred.Cheaper.{Cheaper as CheaperValue};
-ghost use Rattle.season_report.specs.Reasons.{AllottedStage, cheaper_of, reason_of};
-ghost use Rattle.season_report.specs.Rows.{are_barred_alike, are_near, joins, one_row, with_dates, with_next, span_words, barred_words, row_line, unit_reasons};
-ghost use Rattle.season_report.specs.Private.{IsToldStage, IsAt, IsOption, AreOthers, AreAll, rows_so_far, first_cheaper};
+ghost use Rattle.choice_problem.specs.Problems.{unit_count, alt_count, alt_cost, alt_uses, limit_of, resource_count};
+ghost use Rattle.choice_problem.specs.Counts.{GrowsBy, HasUses};
+ghost use Rattle.window_counts.specs.Placed.{KeepsLimits};
+ghost use Rattle.scr_reader.specs.Printed.{LineFits};
+ghost use Rattle.series_model.specs.Units.{UnitFits};
+ghost use Rattle.series_model.specs.Options.{options_of};
+ghost use Rattle.series_model.specs.Stages.{stage_units, IsFeasibleChoice};
+ghost use Rattle.series_model.specs.declared.times.Times.TheVariants.{Refused};
+ghost use Rattle.season_report.specs.Rows.{are_barred_alike, are_near, joins, one_row, with_dates, with_next, span_words, barred_words, unit_reasons};
+ghost use Rattle.season_report.specs.Private.{IsSettled, IsToldStage, told_stage, IsPlaced, AreAll, TimesAreNear, found_reason, found_cheaper, found_at, found_row, found_rows, found_reasons, next_row, ended_row, row_after, rows_ended, rows_on, IsUnderWay};
 
 use crate::barred::{Barred, Cheaper, Row};
 use crate::loads::{add_alt, take_alt};
-use crate::passed::{barred_by, lowest_passed};
+use crate::passed::{barred_dates, lowest_passed};
 use crate::told::Tried;
 use report_lines::{put, put_resource, put_tagged, put_times};
 use scr_reader::Line;
-use series_model::{Times, Unit, options_of};
+use series_model::laws::option_bounds;
+use series_model::{Times, Unit, UnitState, options_of};
 use slot_text::Memory;
 use std::alloc::Global;
+use wasg_stages::laws::problem_choices;
 use window_counts::Counts;
 
 // ---- neighbours
@@ -123,12 +125,12 @@ fn put_barred(
     others: &Counts,
     barred: &Barred,
 ) -> Result<(), Memory>
-    requires told { (a : AllottedStage) × (place : ℕ) × IsToldStage a tried
-        × AreOthers a place others.now }
-    requires there { barred.now.resource < declared_resources tried.windows.now }
-    ensures { (a : AllottedStage) (place : ℕ) → IsToldStage a tried →
-        AreOthers a place others.now →
-        OnOk result (out.new.items ≡ out.old.items ++ barred_words a place barred.now) }
+    requires settled { IsSettled tried }
+    requires count { length others.now ≡ resource_count tried.problem.now }
+    requires there { barred.now.resource < resource_count tried.problem.now }
+    ensures { OnOk result (out.new.items ≡ out.old.items
+        ++ barred_words tried.windows.now (limit_of tried.problem.now)
+        (slice_index tried.earlier.now) (slice_index others.now) barred.now) }
 {
     let resource = barred.resource;
     put_tagged(alloc, out, b" DATES ", u64::from(barred.dates))?;
@@ -151,29 +153,66 @@ fn put_row(
     line: &Line,
     row: &Row,
 ) -> Result<(), Memory>
-    requires told { (a : AllottedStage) × (place : ℕ) × IsToldStage a tried
-        × AreOthers a place others.now }
+    requires settled { IsSettled tried }
+    requires count { length others.now ≡ resource_count tried.problem.now }
     requires there { IfSome row.now.barred
-        (λ barred. barred.resource < declared_resources tried.windows.now) }
-    ensures { (a : AllottedStage) (place : ℕ) → IsToldStage a tried →
-        AreOthers a place others.now →
-        OnOk result (out.new.items ≡ out.old.items ++ row_line a place line.now row.now) }
+        (λ barred. barred.resource < resource_count tried.problem.now) }
+    ensures { OnOk result
+        (out.new.items ≡ out.old.items ++ found_row tried others.now line.now row.now) }
 {
     match row.barred {
         None => {
             put(out, b"FITS ")?;
             put_span(alloc, out, tried.stage, line, row)?;
+            put(out, b"\n")
         }
         Some(barred) => {
             put(out, b"NOT ")?;
             put_span(alloc, out, tried.stage, line, row)?;
             put_barred(alloc, out, tried, others, &barred)?;
+            put(out, b"\n")
         }
     }
-    put(out, b"\n")
 }
 
 // ---- the alternatives of a unit
+
+// What bars an alternative, where the counts have the other units and the alternative itself.
+fn barred_by(
+    tried: Tried<'_>,
+    place: u32,
+    line: &Line,
+    times: Times,
+    alt: u32,
+    counts: &Counts,
+) -> Option<Barred>
+    requires settled { IsSettled tried }
+    requires place { place < unit_count tried.problem.now }
+    requires alt { alt < alt_count tried.problem.now place }
+    requires line { LineFits tried.declaration.now.season line.now }
+    requires times { TimesAreNear times }
+    requires count { length counts.now ≡ resource_count tried.problem.now }
+    ensures { (others : List ℕ) → KeepsLimits tried.problem.now others →
+        GrowsBy others counts.now (λ r. alt_uses tried.problem.now place alt r) →
+        result ≡ found_reason tried place line.now times alt others }
+{
+    let problem = tried.problem;
+    match lowest_passed(problem, place, alt, counts) {
+        Some(resource) => Some(Barred {
+            resource,
+            uses: problem.uses(place, alt, resource),
+            dates: barred_dates(
+                tried.declaration,
+                tried.windows,
+                line,
+                times,
+                counts,
+                problem.limits(),
+            ),
+        }),
+        None => None,
+    }
+}
 
 // What bars an alternative beside the others, of which the counts are, and are so again after it.
 fn reason_of(
@@ -184,31 +223,18 @@ fn reason_of(
     alt: u32,
     others: &mut Counts,
 ) -> Option<Barred>
-    requires told { (a : AllottedStage) × (unit : SlotUnit) × IsToldStage a tried
-        × IsAt a place unit × (line.now ≡ unit.request) × IsOption a unit alt times
-        × AreOthers a place others.old }
-    ensures reason { (a : AllottedStage) (unit : SlotUnit) → IsToldStage a tried →
-        IsAt a place unit → IsOption a unit alt times → AreOthers a place others.old →
-        result ≡ reason_of a place unit times }
-    ensures others { (a : AllottedStage) → AreOthers a place others.old →
-        AreOthers a place others.new }
+    requires settled { IsSettled tried }
+    requires place { place < unit_count tried.problem.now }
+    requires alt { alt < alt_count tried.problem.now place }
+    requires line { LineFits tried.declaration.now.season line.now }
+    requires times { TimesAreNear times }
+    requires within { KeepsLimits tried.problem.now others.old }
+    ensures reason { result ≡ found_reason tried place line.now times alt others.old }
+    ensures others { others.new ≡ others.old }
 {
-    let problem = tried.problem;
-    add_alt(problem, place, alt, others);
-    let barred = match lowest_passed(problem, place, alt, others) {
-        Some(resource) => Some(barred_by(
-            tried.declaration,
-            tried.windows,
-            line,
-            times,
-            others,
-            problem.limits(),
-            resource,
-            problem.uses(place, alt, resource),
-        )),
-        None => None,
-    };
-    take_alt(problem, place, alt, others);
+    add_alt(tried.problem, place, alt, others);
+    let barred = barred_by(tried, place, line, times, alt, others);
+    take_alt(tried.problem, place, alt, others);
     barred
 }
 
@@ -221,14 +247,16 @@ fn cheaper_of(
     alt: u32,
     others: &mut Counts,
 ) -> Cheaper
-    requires told { (a : AllottedStage) × (unit : SlotUnit) × IsToldStage a tried
-        × IsAt a place unit × (line.now ≡ unit.request) × IsOption a unit alt times
-        × AreOthers a place others.old }
-    ensures cheaper { (a : AllottedStage) (unit : SlotUnit) → IsToldStage a tried →
-        IsAt a place unit → IsOption a unit alt times → AreOthers a place others.old →
-        result ≡ cheaper_of a place unit times }
-    ensures others { (a : AllottedStage) → AreOthers a place others.old →
-        AreOthers a place others.new }
+    requires settled { IsSettled tried }
+    requires place { place < unit_count tried.problem.now }
+    requires alt { alt < alt_count tried.problem.now place }
+    requires line { LineFits tried.declaration.now.season line.now }
+    requires times { TimesAreNear times }
+    requires within { KeepsLimits tried.problem.now others.old }
+    ensures cheaper { result ≡ found_cheaper tried place line.now times alt others.old }
+    ensures there { IfSome result.barred
+        (λ barred. barred.resource < resource_count tried.problem.now) }
+    ensures others { others.new ≡ others.old }
 {
     Cheaper {
         times,
@@ -237,7 +265,7 @@ fn cheaper_of(
     }
 }
 
-// The line under way with one more alternative; where that begins another, the line is appended.
+// The line under way with one alternative more; where that begins another, the line is appended.
 fn next_row(
     alloc: Global,
     out: &mut Vec<u8>,
@@ -247,21 +275,21 @@ fn next_row(
     row: Option<Row>,
     next: &Cheaper,
 ) -> Result<Row, Memory>
-    requires told { (a : AllottedStage) × (place : ℕ) × IsToldStage a tried
-        × AreOthers a place others.now }
+    requires settled { IsSettled tried }
+    requires count { length others.now ≡ resource_count tried.problem.now }
     requires few { IfSome row (λ row. row.count < 2 ^ 31) }
-    ensures { (a : AllottedStage) (place : ℕ) (alternatives : List CheaperValue)
-        (rows : List RowValue) → IsToldStage a tried → AreOthers a place others.now →
-        rows_so_far line.now alternatives row rows →
-        OnOk result ((more : List RowValue)
-        × (out.new.items ≡ out.old.items ++ flat_map (row_line a place line.now) more)
-        × IfOk result (λ after. rows_so_far line.now (alternatives ++ next.now ∷ [])
-        (Some after) (rows ++ more))) }
+    requires there { IfSome row (λ row. IfSome row.barred
+        (λ barred. barred.resource < resource_count tried.problem.now)) }
+    ensures row { IfOk result (λ after. after ≡ next_row line.now row next.now) }
+    ensures text { OnOk result (out.new.items ≡ out.old.items
+        ++ found_rows tried others.now line.now (ended_row line.now row next.now)) }
 {
     match row {
         None => Ok(one_row(next)),
-        Some(row) if joins(line, &row, next) => Ok(with_next(&row, next)),
         Some(row) => {
+            if joins(line, &row, next) {
+                return Ok(with_next(&row, next));
+            }
             put_row(alloc, out, tried, others, line, &row)?;
             Ok(one_row(next))
         }
@@ -281,19 +309,22 @@ fn after_alt(
     row: Option<Row>,
     others: &mut Counts,
 ) -> Result<Option<Row>, Memory>
-    requires told { (a : AllottedStage) × (unit : SlotUnit) × IsToldStage a tried
-        × IsAt a place unit × (line.now ≡ unit.request) × IsOption a unit alt times
-        × AreOthers a place others.old }
-    requires few { IfSome row (λ row. row.count < 2 ^ 31) }
-    ensures text { (a : AllottedStage) (unit : SlotUnit) (rows : List RowValue) →
-        IsToldStage a tried → IsAt a place unit → AreOthers a place others.old →
-        rows_so_far line.now (first_cheaper a place unit cost alt) row rows →
-        OnOk result ((more : List RowValue)
-        × (out.new.items ≡ out.old.items ++ flat_map (row_line a place line.now) more)
-        × IfOk result (λ after. rows_so_far line.now (first_cheaper a place unit cost (alt + 1))
-        after (rows ++ more))) }
-    ensures others { (a : AllottedStage) → AreOthers a place others.old →
-        AreOthers a place others.new }
+    requires settled { IsSettled tried }
+    requires place { place < unit_count tried.problem.now }
+    requires alt { alt < alt_count tried.problem.now place }
+    requires line { LineFits tried.declaration.now.season line.now }
+    requires times { TimesAreNear times }
+    requires within { KeepsLimits tried.problem.now others.old }
+    requires few { alt < 2 ^ 31 }
+    requires row { IfSome row (IsUnderWay (resource_count tried.problem.now) alt) }
+    ensures row { IfOk result (λ after. after
+        ≡ row_after line.now row (found_at tried place line.now cost others.old alt times)) }
+    ensures text { OnOk result (out.new.items ≡ out.old.items
+        ++ found_rows tried others.old line.now
+        (rows_ended line.now row (found_at tried place line.now cost others.old alt times))) }
+    ensures under_way { IfOk result
+        (λ after. IfSome after (IsUnderWay (resource_count tried.problem.now) (alt + 1))) }
+    ensures others { others.new ≡ others.old }
 {
     if tried.problem.alt_cost(place, alt) >= cost {
         return Ok(row);
@@ -301,6 +332,28 @@ fn after_alt(
     let next = cheaper_of(tried, place, line, times, alt, others);
     let row = next_row(alloc, out, tried, others, line, row, &next)?;
     Ok(Some(row))
+}
+
+// Appends the line under way, if there is one.
+fn put_last(
+    alloc: Global,
+    out: &mut Vec<u8>,
+    tried: Tried<'_>,
+    others: &Counts,
+    line: &Line,
+    row: Option<Row>,
+) -> Result<(), Memory>
+    requires settled { IsSettled tried }
+    requires count { length others.now ≡ resource_count tried.problem.now }
+    requires there { IfSome row (λ row. IfSome row.barred
+        (λ barred. barred.resource < resource_count tried.problem.now)) }
+    ensures { OnOk result (out.new.items ≡ out.old.items
+        ++ found_rows tried others.now line.now (rows_on line.now row [])) }
+{
+    match row {
+        Some(row) => put_row(alloc, out, tried, others, line, &row),
+        None => Ok(()),
+    }
 }
 
 // Appends the lines of all alternatives that cost less.
@@ -313,34 +366,32 @@ fn put_cheaper(
     cost: u64,
     others: &mut Counts,
 ) -> Result<(), Memory>
-    requires told { (a : AllottedStage) × IsToldStage a tried × IsAt a place unit.now
-        × AreOthers a place others.old }
-    ensures text { (a : AllottedStage) (given : TimesValue) → IsToldStage a tried →
-        IsAt a place unit.now → AreOthers a place others.old →
-        displacement_of a.declaration unit.now given ≡ cost →
-        OnOk result (out.new.items ≡ out.old.items ++ unit_reasons a place unit.now given) }
-    ensures others { (a : AllottedStage) → AreOthers a place others.old →
-        AreOthers a place others.new }
+    requires settled { IsSettled tried }
+    requires placed { IsPlaced tried place unit.now }
+    requires within { KeepsLimits tried.problem.now others.old }
+    ensures text { OnOk result (out.new.items ≡ out.old.items
+        ++ found_reasons tried place unit.now.request cost others.old
+        (options_of tried.declaration.now unit.now)) }
+    ensures others { others.new ≡ others.old }
 {
+    option_bounds();
     let options = options_of(alloc, unit, tried.declaration)?;
     let line = &unit.request;
     let mut row = None;
-    for (i, times) in options.iter().enumerate() {
+    for i in 0..options.len() {
+        let times = options[i];
         row = after_alt(
-            alloc, out, tried, place, line, *times, i as u32, cost, row, others,
+            alloc, out, tried, place, line, times, i as u32, cost, row, others,
         )?;
     }
-    match row {
-        Some(row) => put_row(alloc, out, tried, others, line, &row),
-        None => Ok(()),
-    }
+    put_last(alloc, out, tried, others, line, row)
 }
 
 // Whether an alternative of a unit costs less.
 fn has_cheaper(tried: Tried<'_>, place: u32, cost: u64) -> bool
     requires { place < unit_count tried.problem.now }
-    ensures { IsTrue result ↔ ((alt : ℕ) × (alt < alt_count tried.problem.now place)
-        × (alt_cost tried.problem.now place alt < cost)) }
+    ensures { result ≡ false → (alt : ℕ) → alt < alt_count tried.problem.now place →
+        cost ≤ alt_cost tried.problem.now place alt }
 {
     for alt in tried.problem.unit_alts(place) {
         if alt.cost < cost {
@@ -350,9 +401,9 @@ fn has_cheaper(tried: Tried<'_>, place: u32, cost: u64) -> bool
     false
 }
 
-/// Appends the lines of one unit of a stage, which took this alternative. The counts are those of
-/// all units, and are so again after it. Four steps for each use of an alternative that costs less.
-pub(crate) fn put_unit_reasons(
+// Appends the lines of the alternatives that cost less than the one taken, of which the counts are
+// without, and are so again after it.
+fn put_found(
     alloc: Global,
     out: &mut Vec<u8>,
     tried: Tried<'_>,
@@ -361,14 +412,17 @@ pub(crate) fn put_unit_reasons(
     taken: u32,
     counts: &mut Counts,
 ) -> Result<(), Memory>
-    requires told { (a : AllottedStage) × (given : TimesValue) × IsToldStage a tried
-        × IsAt a place unit.now × IsOption a unit.now taken given
-        × (slice_get a.times place ≡ Some given) × AreAll a counts.old }
-    ensures text { (a : AllottedStage) (given : TimesValue) → IsToldStage a tried →
-        IsAt a place unit.now → IsOption a unit.now taken given →
-        slice_get a.times place ≡ Some given → AreAll a counts.old →
-        OnOk result (out.new.items ≡ out.old.items ++ unit_reasons a place unit.now given) }
-    ensures all { (a : AllottedStage) → AreAll a counts.old → AreAll a counts.new }
+    requires settled { IsSettled tried }
+    requires placed { IsPlaced tried place unit.now }
+    requires taken { taken < alt_count tried.problem.now place }
+    requires within { KeepsLimits tried.problem.now counts.old }
+    requires added { HasUses counts.old (λ r. alt_uses tried.problem.now place taken r) }
+    ensures text { OnOk result ((others : List ℕ) → length others ≡ length counts.old →
+        GrowsBy others counts.old (λ r. alt_uses tried.problem.now place taken r) →
+        out.new.items ≡ out.old.items
+        ++ found_reasons tried place unit.now.request (alt_cost tried.problem.now place taken)
+        others (options_of tried.declaration.now unit.now)) }
+    ensures counts { OnOk result (counts.new ≡ counts.old) }
 {
     let cost = tried.problem.alt_cost(place, taken);
     if !has_cheaper(tried, place, cost) {
@@ -378,4 +432,41 @@ pub(crate) fn put_unit_reasons(
     put_cheaper(alloc, out, tried, place, unit, cost, counts)?;
     add_alt(tried.problem, place, taken, counts);
     Ok(())
+}
+
+/// Appends the lines of one unit of a stage, which took its alternative of the choice. The counts
+/// are those of all units, and are so again after it. Four steps for each use of an alternative that
+/// costs less.
+pub(crate) fn put_unit_reasons(
+    alloc: Global,
+    out: &mut Vec<u8>,
+    tried: Tried<'_>,
+    states: &[UnitState],
+    choice: &[u32],
+    place: u32,
+    unit: &Unit,
+    counts: &mut Counts,
+) -> Result<(), Memory>
+    requires told { IsToldStage tried states.now }
+    requires fits { UnitFits tried.declaration.now.season unit.now }
+    requires at { slice_get (stage_units tried.stage states.now) place ≡ Some unit.now }
+    requires choice { IsFeasibleChoice tried.declaration.now tried.stage states.now choice.now }
+    requires all { AreAll
+        (told_stage tried states.now choice.now) counts.old }
+    ensures text { OnOk result (out.new.items ≡ out.old.items ++ unit_reasons
+        (told_stage tried states.now choice.now) place unit.now
+        (slice_index_or (options_of tried.declaration.now unit.now)
+        (slice_index choice.now place) Refused)) }
+    ensures counts { OnOk result (counts.new ≡ counts.old) }
+{
+    problem_choices();
+    put_found(
+        alloc,
+        out,
+        tried,
+        place,
+        unit,
+        choice[place as usize],
+        counts,
+    )
 }

@@ -2,10 +2,9 @@
 
 ghost use Rattle.std.specs.Prelude.{◌≡◌, ◌++◌, ◌≤◌, ◌<◌, ◌^◌, length, filter, count_by, sum_by, All, IfOk, OnOk};
 ghost use Rattle.choice_problem.specs.declared.problems.TheConstants.{MOST_UNITS};
-ghost use Rattle.series_model.specs.Units.{UnitFits};
 ghost use Rattle.season_report.specs.Decisions.{has_decision, is_of_stage};
 ghost use Rattle.season_report.specs.Tallies.{slots_cost, tally_of, tally_words};
-ghost use Rattle.season_report.specs.declared.decided.Decided.{Decided as DecidedValue};
+ghost use Rattle.season_report.specs.Private.{IsTold};
 
 use crate::decided::{Decided, Decision};
 use report_lines::put_tagged;
@@ -43,8 +42,9 @@ fn count(units: &[Decided], one: Decision) -> u64
 
 // What the slots of a unit cost.
 fn slots_cost(declaration: &Declaration, unit: &Decided) -> u64
-    requires { UnitFits declaration.now.season unit.now.unit }
-    ensures { result ≡ slots_cost declaration.now unit.now }
+    requires { IsTold declaration.now unit.now }
+    ensures value { result ≡ slots_cost declaration.now unit.now }
+    ensures small { result < 2 ^ 24 }
 {
     match unit.given {
         Some(Times::At { arrival, departure }) => {
@@ -56,9 +56,8 @@ fn slots_cost(declaration: &Declaration, unit: &Decided) -> u64
 
 // What the slots of all units cost.
 fn slots_costs(declaration: &Declaration, units: &[Decided]) -> u64
-    requires fit { All (λ (u : DecidedValue). UnitFits declaration.now.season u.unit) units.now }
+    requires told { All (IsTold declaration.now) units.now }
     requires few { length units.now ≤ MOST_UNITS }
-    requires small { All (λ (u : DecidedValue). slots_cost declaration.now u < 2 ^ 24) units.now }
     ensures { result ≡ sum_by (slots_cost declaration.now) units.now }
 {
     let mut minutes = 0;
@@ -70,9 +69,8 @@ fn slots_costs(declaration: &Declaration, units: &[Decided]) -> u64
 
 /// The tally of units.
 pub(crate) fn tally_of(declaration: &Declaration, units: &[Decided]) -> Tally
-    requires fit { All (λ (u : DecidedValue). UnitFits declaration.now.season u.unit) units.now }
+    requires told { All (IsTold declaration.now) units.now }
     requires few { length units.now ≤ MOST_UNITS }
-    requires small { All (λ (u : DecidedValue). slots_cost declaration.now u < 2 ^ 24) units.now }
     ensures { result ≡ tally_of declaration.now units.now }
 {
     Tally {
@@ -101,7 +99,9 @@ pub(crate) fn put_tally(alloc: Global, out: &mut Vec<u8>, tally: &Tally) -> Resu
 
 /// The units that were decided in a stage.
 pub(crate) fn of_stage(alloc: Global, units: &[Decided], stage: u32) -> Result<Vec<Decided>, Memory>
-    ensures { IfOk result (λ found. found.items ≡ filter (is_of_stage stage) units.now) }
+    ensures found { IfOk result
+        (λ found. found.items ≡ filter (is_of_stage stage) units.now) }
+    ensures few { IfOk result (λ found. length found.items ≤ length units.now) }
 {
     let mut found = Vec::new(alloc);
     for unit in units {

@@ -169,7 +169,9 @@ fn put_asked(
     season: &Season,
     unit: &Decided,
 ) -> Result<(), Memory>
-    requires { IsTold season.now unit.now }
+    requires unit { UnitFits season.now unit.now.unit }
+    requires given { IfSome unit.now.given
+        (λ times. LineFits season.now (line_at unit.now.unit.request times) × IsNear times) }
     ensures { OnOk result (out.new.items ≡ out.old.items
         ++ (held_line season.now unit.now.unit.historic
         ++ (asked_line season.now unit.now.unit.request
@@ -193,7 +195,7 @@ pub(crate) fn put_units(
     reasons: &[Vec<u8>],
 ) -> Result<(), Memory>
     requires count { length reasons.now ≡ length units.now }
-    requires told { All (IsTold declaration.now.season) units.now }
+    requires told { All (IsTold declaration.now) units.now }
     ensures { OnOk result (out.new.items ≡ out.old.items
         ++ units_text declaration.now units.now (map (λ text. text.items) reasons.now)) }
 {

@@ -1,0 +1,5 @@
+mod StateLemmas
+mod ApartLemmas
+mod RowLemmas
+mod BesideLemmas
+mod LawLemmas
