@@ -5,6 +5,7 @@ use Rattle.std.specs.List.{AllZip, range_with_len}
 use Rattle.std.proofs.lemmas.Bool.{ltb-true, ltb-false, lt-ltb, le-ltb, cases_lt}
 use Rattle.std.proofs.lemmas.List.{append-nil, append_assoc, length-append, take_all, length-map}
 use Rattle.std.proofs.lemmas.Option.{slice_get-get_or}
+use Rattle.std.proofs.lemmas.List.Sums.{sum_by-cons}
 use Rattle.std.proofs.lemmas.List.Elements.{All-nil, All-cons, All-head, All-tail, filter_passes}
 use Rattle.season_days.specs.declared.declaration.Declaration.{Declaration}
 use Rattle.season_days.specs.Capacity.{capacity_of, declared_resources}
@@ -69,23 +70,23 @@ cheaper_barred a place unit given times least at was is less =
     let d = a.declaration in
     let n = declared_resources (capacity_of d) in
     some_reason d unit times (passed_by a place unit times) (λ none.
-        let fits : (r : ℕ) → r < n → allotted_load d (units_in a) (set a.times place times) r ≤ limit_in a r = λ r lt.
-            let passes : is_passed a place unit times r ≡ false = nothing_passes (is_passed a place unit times) 0 n none r (omega arith) (omega arith) in
-            let within : others_load a place r + unit_load d unit times r ≤ limit_in a r = ltb-false _ _ passes in
-            omega (arith, within, load_set d (units_in a) a.times place unit given times r at was) in
-        let other : IsFeasibleAllotment d (units_in a) (limit_in a) (set a.times place times) = record {
-          alternatives = alternatives_set d (units_in a) a.times place unit times at is least.feasible.alternatives;
-          fits = fits;
-        } in
-        let cheaper : displacement_of d unit times < displacement_of d unit given = ltb-true _ _ less in
-        let no : ⊥ = omega (
-          arith,
-          cheaper,
-          least.least (set a.times place times) other,
-          cost_apart d (units_in a) a.times place unit given at was,
-          cost_set d (units_in a) a.times place unit given times at was,
-        ) in
-        no)
+    let fits : (r : ℕ) → r < n → allotted_load d (units_in a) (set a.times place times) r ≤ limit_in a r = λ r lt.
+    let passes : is_passed a place unit times r ≡ false = nothing_passes (is_passed a place unit times) 0 n none r (omega arith) (omega arith) in
+    let within : others_load a place r + unit_load d unit times r ≤ limit_in a r = ltb-false _ _ passes in
+    omega (arith, within, load_set d (units_in a) a.times place unit given times r at was) in
+    let other : IsFeasibleAllotment d (units_in a) (limit_in a) (set a.times place times) = record {
+      alternatives = alternatives_set d (units_in a) a.times place unit times at is least.feasible.alternatives;
+      fits = fits;
+    } in
+    let cheaper : displacement_of d unit times < displacement_of d unit given = ltb-true _ _ less in
+    let no : ⊥ = omega (
+      arith,
+      cheaper,
+      least.least (set a.times place times) other,
+      cost_apart d (units_in a) a.times place unit given at was,
+      cost_set d (units_in a) a.times place unit given times at was,
+    ) in
+    no)
 
 some_keeps : KeepsDates (λ (o : Option Barred). IsSome o)
 some_keeps None other is = is
@@ -231,10 +232,12 @@ least_within_load : (d : Declaration) (units : List SlotUnit) (times : List Time
 least_within_load d [] times r are = omega arith
 least_within_load d (unit ∷ units) [] r are = absurd are
 least_within_load d (unit ∷ units) (given ∷ times) r are =
+    let first = sum_by-cons (λ (u : SlotUnit). least_unit_load d u r) unit units in
     let got = got_of (options_of d unit) given are.0 in
     let own : least_unit_load d unit r ≤ unit_load d unit given r = least_below (λ (its : Times). unit_load d unit its r) (options_of d unit) got.0 given got.1 in
     omega (
       arith,
+      first,
       own,
       least_within_load d units times r are.1,
       window_load-append (capacity_of d) (movements_of d.season unit given) (allotted_movements d.season units times) r,
@@ -277,9 +280,11 @@ single_load d [] r all = refl
 single_load d (unit ∷ units) r all =
     let one : Single d unit = All-head (Single d) unit units all in
     let times = map (λ (u : SlotUnit). line_times u.request) units in
+    let first = sum_by-cons (λ (u : SlotUnit). least_unit_load d u r) unit units in
     let own : least_unit_load d unit r ≡ unit_load d unit (line_times unit.request) r = ap (λ (options : List Times). least_number (map (λ (its : Times). unit_load d unit its r) options)) one in
     omega (
       arith,
+      first,
       own,
       single_load d units r (All-tail (Single d) unit units all),
       window_load-append (capacity_of d) (movements_of d.season unit (line_times unit.request)) (allotted_movements d.season units times) r,
@@ -292,12 +297,12 @@ some_below p (suc n) =
     elim (some_below p n) as (λ w. ((r : ℕ) × (r < suc n) × (p r ≡ true)) ⊎ ((r : ℕ) → r < suc n → p r ≡ false)) [
       | inl found ↦ inl (found.0, omega (arith, found.1), found.2)
       | inr none ↦ (elim (p n) as (λ b. p n ≡ b → ((r : ℕ) × (r < suc n) × (p r ≡ true)) ⊎ ((r : ℕ) → r < suc n → p r ≡ false)) [
-          | true ↦ λ is. inl (n, omega arith, is)
-          | false ↦ λ is. inr (λ r lt. elim (cases_lt r n) as (λ w. p r ≡ false) [
-              | inl below ↦ none r below
-              | inr above ↦ let same : n ≡ r = omega arith in subst (λ (k : ℕ). p k ≡ false) same is
-            ])
-        ]) refl
+        | true ↦ λ is. inl (n, omega arith, is)
+        | false ↦ λ is. inr (λ r lt. elim (cases_lt r n) as (λ w. p r ≡ false) [
+          | inl below ↦ none r below
+          | inr above ↦ let same : n ≡ r = omega arith in subst (λ (k : ℕ). p k ≡ false) same is
+        ])
+      ]) refl
     ]
 
 pub first_over : (d : Declaration) (units : List SlotUnit) → HasNoAllotment d (stage_units 1 (first_states units)) (stage_limit d 1 (first_states units)) → HasOverLine d 1 (first_states units)
@@ -309,9 +314,9 @@ first_over d units none =
     elim (some_below (is_above (stage_excess d 1 states)) (declared_resources (capacity_of d))) as (λ w. HasOverLine d 1 states) [
       | inl found ↦ found
       | inr below ↦ absurd (none times (record {
-          alternatives = single_alternatives d own all;
-          fits = λ r lt.
-              let within : least_units_load d own r ≤ stage_limit d 1 states r = ltb-false _ _ (below r lt) in
-              omega (arith, within, single_load d own r all);
-        }))
+        alternatives = single_alternatives d own all;
+        fits = λ r lt.
+            let within : least_units_load d own r ≤ stage_limit d 1 states r = ltb-false _ _ (below r lt) in
+            omega (arith, within, single_load d own r all);
+      }))
     ]

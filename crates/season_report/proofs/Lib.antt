@@ -3,3 +3,10 @@ mod ApartLemmas
 mod RowLemmas
 mod BesideLemmas
 mod LawLemmas
+mod LowestLemmas
+mod MovementLemmas
+mod FoundLemmas
+mod GivenLemmas
+mod TriedLemmas
+mod StageLemmas
+mod AirlineLemmas

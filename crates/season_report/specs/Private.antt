@@ -4,7 +4,7 @@ use Rattle.std.specs.List.{range_with_len, flat_map}
 use Rattle.season_days.specs.Capacity.{Capacity, capacity_of, declared_resources, IsDeclaration}
 use Rattle.season_days.specs.declared.declaration.Declaration.{Declaration}
 use Rattle.season_days.specs.declared.declaration.Rule.{Rule}
-use Rattle.season_days.specs.declared.declaration.TheConstants.{MINUTES_OF_DAY}
+use Rattle.season_days.specs.declared.declaration.TheConstants.{MINUTES_OF_DAY, HIGHEST_NIGHT_LIMIT}
 use Rattle.capacity_windows.specs.Windows.{first_of, windows_of, starts_of, resource_at, holds}
 use Rattle.capacity_windows.specs.declared.movement.Movement.{Movement}
 use Rattle.capacity_windows.specs.declared.resource.Resource.TheVariants.{Window}
@@ -84,6 +84,8 @@ pub record IsSettled (t : Tried) : Type 0 where
   pub windows : t.windows.now ≡ capacity_of t.declaration.now
   pub resources : resource_count t.problem.now ≡ declared_resources (capacity_of t.declaration.now)
   pub earlier : length t.earlier.now ≡ declared_resources (capacity_of t.declaration.now)
+  pub limits : (r : ℕ) → r < resource_count t.problem.now →
+      limit_of t.problem.now r ≤ HIGHEST_NIGHT_LIMIT
 
 -- the problem is of the stage, and the loads are what earlier stages gave
 pub record IsToldStage (t : Tried) (states : List UnitState) : Type 0 where

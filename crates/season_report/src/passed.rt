@@ -8,6 +8,7 @@ ghost use Rattle.capacity_windows.specs.Windows.{capacity_of, declared_resources
 ghost use Rattle.season_days.specs.declared.declaration.TheConstants.{MINUTES_OF_DAY};
 ghost use Rattle.choice_problem.specs.Problems.{unit_count, alt_count, alt_uses, part_count, resource_count, chooser_at, named_uses};
 ghost use Rattle.choice_problem.specs.Strips.{strip_uses, part_uses, IsStripInRange, IsPartInRange};
+ghost use Rattle.season_days.specs.Seasons.{date_count};
 ghost use Rattle.scr_reader.specs.Printed.{LineFits};
 ghost use Rattle.series_model.specs.Movements.{stop_on, movements_on};
 ghost use Rattle.season_report.specs.Reasons.{barred_dates, is_held_by};
@@ -17,6 +18,7 @@ use capacity_windows::laws::held_windows;
 use capacity_windows::{Movement, Windows};
 use choice_problem::{Part, Problem, Strip};
 use scr_reader::{Line, Stop};
+use season_days::laws::lengths;
 use season_days::{Day, Declaration, Kind, MINUTES_OF_DAY};
 use series_model::Times;
 use window_counts::Counts;
@@ -200,14 +202,15 @@ fn is_barred_stop(
     requires keeps { IsCapacity windows.now }
     requires count { length counts.now ≡ declared_resources windows.now }
     requires limits { length limits.now ≡ length counts.now }
-    requires date { date < 300 }
+    requires date { date < date_count windows.now.season }
     requires minute { minute < 10 * MINUTES_OF_DAY }
     ensures { result
         ≡ list_any (is_held_by windows.now (resources_above counts.now limits.now))
         (stop_on windows.now.season kind stop minute date) }
 {
+    let days = windows.days();
     let day = date + minute / MINUTES_OF_DAY;
-    if stop.is_none() || day >= windows.days() {
+    if stop.is_none() || day >= days {
         return false;
     }
     let movement = Movement {
@@ -231,7 +234,7 @@ fn is_barred_on(
     requires keeps { IsCapacity windows.now }
     requires count { length counts.now ≡ declared_resources windows.now }
     requires limits { length limits.now ≡ length counts.now }
-    requires date { date < 300 }
+    requires date { date < date_count windows.now.season }
     requires arrival { arrival < MINUTES_OF_DAY }
     requires departure { departure < 10 * MINUTES_OF_DAY }
     ensures { result
@@ -276,6 +279,7 @@ pub(crate) fn barred_dates(
     ensures { result ≡ barred_dates declaration.now line.now times
         (resources_above counts.now limits.now) }
 {
+    lengths();
     let Times::At { arrival, departure } = times else {
         return 0;
     };

@@ -1,8 +1,10 @@
 //! The report.
 
-ghost use Rattle.std.specs.Prelude.{◌≡◌, IfOk, length};
+ghost use Rattle.std.specs.Prelude.{◌≡◌, [], map, IfOk};
+ghost use Rattle.series_model.specs.declared.unit.Unit.{Unit as SlotUnit};
 ghost use Rattle.wasg_stages.specs.Valid.{IsValid};
 ghost use Rattle.season_report.specs.Reports.{report_text, season_tally};
+ghost use Rattle.season_report.specs.Private.{texts_of};
 
 use crate::airlines::put_airlines;
 use crate::decided::season_decided;
@@ -11,16 +13,16 @@ use crate::tallies::{put_tally, tally_of};
 use crate::units::put_units;
 use cert_format::Certificate;
 use report_lines::{put, put_head, put_profile};
-use series_model::Submission;
+use series_model::{Submission, Unit};
 use slot_text::Memory;
 use std::alloc::Global;
 
 // One empty text for each unit.
-fn no_texts(alloc: Global, units: usize) -> Result<Vec<Vec<u8>>, Memory>
-    ensures { IfOk result (λ texts. length texts.items ≡ units) }
+fn no_texts(alloc: Global, units: &[Unit]) -> Result<Vec<Vec<u8>>, Memory>
+    ensures { IfOk result (λ texts. texts_of texts.items ≡ map (λ (unit : SlotUnit). []) units.now) }
 {
-    let mut texts = Vec::with_capacity(alloc, units)?;
-    for _ in 0..units {
+    let mut texts = Vec::with_capacity(alloc, units.len())?;
+    for _unit in units {
         texts.push(Vec::new(alloc))?;
     }
     Ok(texts)
@@ -47,7 +49,7 @@ pub fn report_text(
 {
     let declaration = submission.declaration();
     let units = season_decided(alloc, submission, certificate)?;
-    let mut reasons = no_texts(alloc, units.len())?;
+    let mut reasons = no_texts(alloc, submission.units())?;
     let mut out = Vec::new(alloc);
     put_head(alloc, &mut out, declaration)?;
     let given = put_stages(
