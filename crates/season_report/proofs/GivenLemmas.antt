@@ -31,23 +31,23 @@ use Rattle.season_report.proofs.ApartLemmas.{window_load-append}
 -- ---- a unit of the stage has no slots before it
 
 due_none : (season : Term) (unit : SlotUnit) (stage : ℕ) (group : Group) (given : Option Times) → (stage ≤ first_stage group → given ≡ None) → is_due stage group given ≡ true → movements_once_given season unit given ≡ []
-due_none season unit stage F given open due =
+due_none season unit stage F given fresh due =
     let at = eqb-true stage 1 due in
-    ap (movements_once_given season unit) (open (omega (arith, at)))
-due_none season unit stage R given open due =
+    ap (movements_once_given season unit) (fresh (omega (arith, at)))
+due_none season unit stage R given fresh due =
     let at = eqb-true stage 2 due in
-    ap (movements_once_given season unit) (open (omega (arith, at)))
-due_none season unit stage L given open due =
+    ap (movements_once_given season unit) (fresh (omega (arith, at)))
+due_none season unit stage L given fresh due =
     let at = eqb-true stage 2 due in
-    ap (movements_once_given season unit) (open (omega (arith, at)))
-due_none season unit stage N given open due =
+    ap (movements_once_given season unit) (fresh (omega (arith, at)))
+due_none season unit stage N given fresh due =
     let at = eqb-true stage 4 due in
-    ap (movements_once_given season unit) (open (omega (arith, at)))
-due_none season unit stage B None open due = refl
-due_none season unit stage B (Some Refused) open due = refl
-due_none season unit stage B (Some (At arrival departure)) open due =
+    ap (movements_once_given season unit) (fresh (omega (arith, at)))
+due_none season unit stage B None fresh due = refl
+due_none season unit stage B (Some Refused) fresh due = refl
+due_none season unit stage B (Some (At arrival departure)) fresh due =
     elim (or_cases (stage == 3) (stage == 4 && false) due) as (λ w. movements_once_given season unit (Some (At arrival departure)) ≡ []) [
-      | inl third ↦ let at = eqb-true stage 3 third in ap (movements_once_given season unit) (open (omega (arith, at)))
+      | inl third ↦ let at = eqb-true stage 3 third in ap (movements_once_given season unit) (fresh (omega (arith, at)))
       | inr fourth ↦ let both = and_parts (stage == 4) false fourth in cc both.1
     ]
 
@@ -69,15 +69,15 @@ units_by stage state states due = if due then state.unit ∷ stage_units stage s
 
 pub load_after : (d : Declaration) (stage : ℕ) (states : List UnitState) (times : List Times) (r : ℕ) → All (IsOpen stage) states →
     earlier_load d (after_allotment stage states times) r ≡ earlier_load d states r + allotted_load d (stage_units stage states) times r
-load_after d stage [] times r open = refl
-load_after d stage (state ∷ states) [] r open =
+load_after d stage [] times r fresh = refl
+load_after d stage (state ∷ states) [] r fresh =
     let c = capacity_of d in
     omega (arith, ap (λ (m : List Movement). window_load c m r) (none_allotted d.season (stage_units stage (state ∷ states))))
-load_after d stage (state ∷ states) (given ∷ times) r open =
+load_after d stage (state ∷ states) (given ∷ times) r fresh =
     let c = capacity_of d in
     let season = d.season in
-    let own = All-head (IsOpen stage) state states open in
-    let others = All-tail (IsOpen stage) state states open in
+    let own = All-head (IsOpen stage) state states fresh in
+    let others = All-tail (IsOpen stage) state states fresh in
     let was = window_load-append c (given_movements season state) (movements_given season states) r in
     (elim (is_due_state stage state) as (λ b. is_due_state stage state ≡ b → earlier_load d (after_by stage state states given times b) r
     ≡ earlier_load d (state ∷ states) r + allotted_load d (units_by stage state states b) (given ∷ times) r) [
@@ -127,14 +127,14 @@ due_first stage B given due =
     ]
 
 open_later : (stage : ℕ) (state : UnitState) → IsOpen stage state → IsOpen (stage + 1) state
-open_later stage state open later = open (omega (arith, later))
+open_later stage state fresh later = fresh (omega (arith, later))
 
 pub open_after : (d : Declaration) (stage : ℕ) (states : List UnitState) (choice : Option (List ℕ)) → All (IsOpen stage) states → All (IsOpen (stage + 1)) (after_stage d stage states choice)
-open_after d stage states None open = All-weaker (IsOpen stage) (IsOpen (stage + 1)) (open_later stage) states open
-open_after d stage states (Some choice) open =
+open_after d stage states None fresh = All-weaker (IsOpen stage) (IsOpen (stage + 1)) (open_later stage) states fresh
+open_after d stage states (Some choice) fresh =
     keeps_after (IsOpen stage) (IsOpen (stage + 1)) stage
     (λ state given due own later. absurd (omega (arith, later, due_first stage state.unit.group state.given due)))
-    (open_later stage) states (stage_times d stage states choice) open
+    (open_later stage) states (stage_times d stage states choice) fresh
 
 open_first : (units : List SlotUnit) → All (IsOpen 1) (first_states units)
 open_first [] = All-nil (IsOpen 1)

@@ -10,3 +10,6 @@ mod GivenLemmas
 mod TriedLemmas
 mod StageLemmas
 mod AirlineLemmas
+mod TallyLemmas
+mod FilterLemmas
+mod LoadLemmas

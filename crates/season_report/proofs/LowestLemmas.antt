@@ -103,12 +103,12 @@ run_lowest counts limits s i start end one other from to low high =
     (λ r is. let both = run_counted a b r is in (omega (arith, from, both.0), omega (arith, to, both.1)))
     high)
 
-pub strip_lowest : (counts : List ℕ) (limits : List ℤ) (strips : List Strip) (i : ℕ) (s : Strip) (one other : Option ℕ) → i < length strips → s ≡ get_or strips i s →
-    IsLowest counts limits (λ r. 0 < part_uses (take i strips) r) one → IsLowest counts limits (λ r. 0 < strip_uses s r) other →
+pub strip_lowest : (counts : List ℕ) (limits : List ℤ) (strips : List Strip) (i : ℕ) (d : Strip) (one other : Option ℕ) → i < length strips →
+    IsLowest counts limits (λ r. 0 < part_uses (take i strips) r) one → IsLowest counts limits (λ r. 0 < strip_uses (get_or strips i d) r) other →
     IsLowest counts limits (λ r. 0 < part_uses (take (i + 1) strips) r) (lower_of one other)
-strip_lowest counts limits strips i s one other lt is low high =
-    sum_lowest counts limits (λ r. part_uses (take i strips) r) (strip_uses s) (λ r. part_uses (take (i + 1) strips) r) one other
-    (λ r. sum_by_more (λ (strip : Strip). strip_uses strip r) strips i s lt ∙ ap (λ (strip : Strip). part_uses (take i strips) r + strip_uses strip r) (sym is))
+strip_lowest counts limits strips i d one other lt low high =
+    sum_lowest counts limits (λ r. part_uses (take i strips) r) (strip_uses (get_or strips i d)) (λ r. part_uses (take (i + 1) strips) r) one other
+    (λ r. sum_by_more (λ (strip : Strip). strip_uses strip r) strips i d lt)
     low high
 
 -- ---- all that are above

@@ -46,9 +46,9 @@ text_next s c units states certs i stage block before written lt is decided are 
     ap (stages_text s c stage) (drop_more certs i block lt ∙ ap (λ (b : StageCert). b ∷ drop (i + 1) certs) (sym is))
     ∙ ap (λ (k : ℕ). own ++ stages_text s c k (drop (i + 1) certs)) next in
     ap (λ (t : List ℕ). t ++ later) (
-      wrote
-      ∙ ap (λ (us : List Decided). before ++ (stage_line d us stage block ++ tried_lines d stage states block (is_tried block.mark))) decided
-      ∙ ap (λ (st : List UnitState). before ++ (stage_line d (season_decided s c) stage block ++ tried_lines d stage st block (is_tried block.mark))) are
+    wrote
+    ∙ ap (λ (us : List Decided). before ++ (stage_line d us stage block ++ tried_lines d stage states block (is_tried block.mark))) decided
+    ∙ ap (λ (st : List UnitState). before ++ (stage_line d (season_decided s c) stage block ++ tried_lines d stage st block (is_tried block.mark))) are
     )
     ∙ append_assoc before own later
     ∙ ap (λ (t : List ℕ). before ++ t) (sym all)
@@ -74,8 +74,8 @@ pub choice_here : (s : SubmissionView) (c : Certificate) (states : List UnitStat
 choice_here s c states i stage block are lt is number before =
     let at : slice_get c.stages i ≡ Some block = slice_get-get_or c.stages i block lt ∙ ap (λ (b : StageCert). Some b) (sym is) in
     for_some (IsFeasibleChoice s.declaration stage states) block.choice (λ x made.
-        subst (λ (st : List UnitState). IsFeasibleChoice s.declaration stage st x) (sym before)
-        (subst (λ (k : ℕ). IsFeasibleChoice s.declaration k (states_before s c k) x) (sym number) (feasible_at s c i block x are at made)))
+    subst (λ (st : List UnitState). IsFeasibleChoice s.declaration stage st x) (sym before)
+    (subst (λ (k : ℕ). IsFeasibleChoice s.declaration k (states_before s c k) x) (sym number) (feasible_at s c i block x are at made)))
 
 printable_at : (version : ℕ) (certs : List StageCert) (i : ℕ) (block : StageCert) → AllByRecursion (IsPrintableStage version) certs → i < length certs → block ≡ get_or certs i block → IsPrintableStage version block
 printable_at version [] i block all lt is = absurd (omega arith)
@@ -106,10 +106,10 @@ fits_after law d stage states (Some x) share fits feasible = law d stage states 
 pub earlier_after : (d : Declaration) (stage : ℕ) (states : List UnitState) (choice counts old new : List ℕ) → All (IsOpen stage) states → length old ≡ declared_resources (capacity_of d) → AreEarlier d states old →
     ((r : ℕ) → r < declared_resources (capacity_of d) → slice_index counts r ≡ allotted_load d (stage_units stage states) (stage_times d stage states choice) r) →
     GrowsBy old new (λ r. slice_index counts r) → AreEarlier d (after_stage d stage states (Some choice)) new
-earlier_after d stage states choice counts old new open long earlier all grown r lt =
+earlier_after d stage states choice counts old new fresh long earlier all grown r lt =
     omega (
       arith,
-      load_after d stage states (stage_times d stage states choice) r open,
+      load_after d stage states (stage_times d stage states choice) r fresh,
       earlier r lt,
       all r lt,
       grown r (omega (arith, lt, long)),

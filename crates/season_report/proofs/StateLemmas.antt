@@ -2,7 +2,7 @@
 use Rattle.std.proofs.Common.{◌≡◌, ℕ, zero, suc, ◌+◌, ◌-◌, ◌<◌, ◌≤◌, Bool, true, false, refl, sym, ◌∙◌, ap, subst, arith, List, [], ◌∷◌, ◌++◌, length, get_or, take, drop, map}
 use Rattle.std.specs.Prelude.{Option, Some, None, is_some, if◌then◌else◌, All, ◌^◌}
 use Rattle.std.specs.Option.{ForSome}
-use Rattle.std.proofs.lemmas.List.{take_more, get_or-map, length-map, length-take-le}
+use Rattle.std.proofs.lemmas.List.{take_more, get_or-map, length-map, length-take-le, get_or_past, get_or_default, drop_more, drop_all, append-nil, append_assoc}
 use Rattle.std.proofs.lemmas.List.Elements.{All-nil, All-cons, All-head, All-tail}
 use Rattle.season_days.specs.declared.declaration.Declaration.{Declaration}
 use Rattle.season_days.specs.declared.declaration.TheConstants.{HIGHEST_REFUSAL_PRICE}
@@ -172,6 +172,16 @@ pub choice_of_block : (c : Certificate) (i : ℕ) (block : StageCert) → i < le
 choice_of_block c i block lt is =
     get_or-map (λ (b : StageCert). b.choice) c.stages i block None lt ∙ ap (λ (b : StageCert). b.choice) (sym is)
 
+-- past the last block, and at one
+pub no_choice : (c : Certificate) (stage : ℕ) → length c.stages ≤ stage - 1 → false ≡ is_some (choice_at c stage)
+no_choice c stage past =
+    let long : length (choices_of c) ≤ stage - 1 = omega (arith, past, length-map c.stages (λ (b : StageCert). b.choice)) in
+    sym (ap (λ (o : Option (List ℕ)). is_some o) (get_or_past (choices_of c) (stage - 1) None long))
+
+pub choice_there : (c : Certificate) (stage : ℕ) (block : StageCert) (b : Bool) → stage - 1 < length c.stages → block ≡ get_or c.stages (stage - 1) block → b ≡ is_some block.choice → b ≡ is_some (choice_at c stage)
+choice_there c stage block b lt is made =
+    made ∙ sym (ap (λ (o : Option (List ℕ)). is_some o) (choice_of_block c (stage - 1) block lt is))
+
 pub before_next : OneMoreStage → (s : SubmissionView) (c : Certificate) (at : ℕ) (choice : Option (List ℕ)) → 1 ≤ at → at ≤ length c.stages → get_or (choices_of c) (at - 1) None ≡ choice →
     states_before s c (at + 1) ≡ after_stage s.declaration at (states_before s c at) choice
 before_next more s c at choice some few is =
@@ -202,6 +212,26 @@ all_told d c (before ∷ befores) (after ∷ afters) all =
     All-cons (IsTold d) (decided_of c before after) (decided_units c befores afters)
     (decided_told d c before after (All-head (IsAnswered d) after afters all))
     (all_told d c befores afters (All-tail (IsAnswered d) after afters all))
+
+-- one unit more
+pub decided_next : (c : Certificate) (befores afters : List UnitState) (i : ℕ) (units new : List Decided) (u : Decided) (d e : UnitState) → i < length befores → length befores ≡ length afters →
+    u ≡ decided_of c (get_or befores i d) (get_or afters i e) → new ≡ units ++ u ∷ [] →
+    new ++ decided_units c (drop (i + 1) befores) (drop (i + 1) afters) ≡ units ++ decided_units c (drop i befores) (drop i afters)
+decided_next c befores afters i units new u d e lt same is made =
+    let later = decided_units c (drop (i + 1) befores) (drop (i + 1) afters) in
+    let one = decided_of c (get_or befores i d) (get_or afters i e) in
+    let all : decided_units c (drop i befores) (drop i afters) ≡ one ∷ later =
+    ap (λ (bs : List UnitState). decided_units c bs (drop i afters)) (drop_more befores i d lt)
+    ∙ ap (λ (as' : List UnitState). decided_units c (get_or befores i d ∷ drop (i + 1) befores) as') (drop_more afters i e (omega (arith, lt, same))) in
+    ap (λ (us : List Decided). us ++ later) (made ∙ ap (λ (w : Decided). units ++ w ∷ []) is)
+    ∙ append_assoc units (one ∷ []) later
+    ∙ ap (λ (us : List Decided). units ++ us) (sym all)
+
+pub decided_end : (c : Certificate) (befores afters : List UnitState) (i : ℕ) (units whole : List Decided) → length befores ≤ i → units ++ decided_units c (drop i befores) (drop i afters) ≡ whole → units ≡ whole
+decided_end c befores afters i units whole past is =
+    sym (append-nil units)
+    ∙ ap (λ (us : List Decided). units ++ us) (sym (ap (λ (bs : List UnitState). decided_units c bs (drop i afters)) (drop_all i befores past)))
+    ∙ is
 
 pub decided_length : (c : Certificate) (befores afters : List UnitState) → length befores ≡ length afters → length (decided_units c befores afters) ≡ length afters
 decided_length c [] [] same = refl

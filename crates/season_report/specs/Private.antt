@@ -28,7 +28,10 @@ use Rattle.season_report.specs.declared.barred.Barred.{Barred}
 use Rattle.season_report.specs.declared.barred.Row.{Row}
 use Rattle.season_report.specs.declared.barred.Cheaper.{Cheaper}
 use Rattle.season_report.specs.declared.decided.Decided.{Decided}
+use Rattle.season_report.specs.declared.decided.Decision.TheVariants.{Unallotted, Refused as refused_decision, Kept, Historic, Moved}
+use Rattle.season_report.specs.declared.tallies.Tally.{Tally}
 use Rattle.season_report.specs.declared.told.Tried.{Tried}
+use Rattle.season_report.specs.Decisions.{has_decision}
 use Rattle.report_lines.specs.Peaks.{AreEarlier}
 use Rattle.season_report.specs.Tallies.{slots_cost, slots_cost_of}
 use Rattle.season_report.specs.Reasons.{AllottedStage, units_in, barred_dates}
@@ -42,6 +45,32 @@ pub record IsTold (d : Declaration) (u : Decided) : Type 0 where
   pub given : IfSome u.given
       (λ times. LineFits d.season (line_at u.unit.request times) × IsNear times)
   pub small : slots_cost d u < 2 ^ 24
+
+-- one unit more in a tally
+abbrev pub one_more : Bool → ℕ → ℕ
+one_more true n = n + 1
+one_more false n = n
+
+abbrev pub with_unit : Declaration → Tally → Decided → Tally
+with_unit d t u = record {
+  units = t.units + 1;
+  kept = one_more (has_decision Kept u) t.kept;
+  historic = one_more (has_decision Historic u) t.historic;
+  moved = one_more (has_decision Moved u) t.moved;
+  refused = one_more (has_decision refused_decision u) t.refused;
+  unallotted = one_more (has_decision Unallotted u) t.unallotted;
+  minutes = t.minutes + slots_cost d u;
+}
+
+-- no number of a tally is great
+pub record IsSmallTally (t : Tally) : Type 0 where
+  pub units : t.units < 2 ^ 32
+  pub kept : t.kept < 2 ^ 32
+  pub historic : t.historic < 2 ^ 32
+  pub moved : t.moved < 2 ^ 32
+  pub refused : t.refused < 2 ^ 32
+  pub unallotted : t.unallotted < 2 ^ 32
+  pub minutes : t.minutes < 2 ^ 60
 
 -- so it is with what stages gave
 pub record IsAnswered (d : Declaration) (state : UnitState) : Type 0 where

@@ -1,11 +1,11 @@
 //! What was decided of units.
 
-ghost use Rattle.std.specs.Prelude.{◌≡◌, ◌≤◌, All, length, IfOk, is_some};
+ghost use Rattle.std.specs.Prelude.{◌≡◌, ◌≤◌, All, length, IfOk, is_some, if◌then◌else◌};
 ghost use Rattle.choice_problem.specs.declared.problems.TheConstants.{MOST_UNITS};
 ghost use Rattle.cert_format.specs.Printable.{IsPrintable};
 ghost use Rattle.series_model.specs.Stages.{has_slots, AreStates, after_stage};
 ghost use Rattle.season_report.specs.Private.{IsTold, IsAnswered};
-ghost use Rattle.season_report.specs.Decisions.{choice_at, stage_of, decided_of, decided_units, season_decided, states_before, moved_decision, timed_decision, decision, is_decision, has_decision};
+ghost use Rattle.season_report.specs.Decisions.{choice_at, stage_of, decided_of, decided_units, season_decided, states_before, given_in, moved_decision, timed_decision, decision};
 
 use cert_format::Certificate;
 use choice_problem::Choice;
@@ -53,13 +53,6 @@ impl Decided {
             }
         }
     }
-
-    // Whether this was decided.
-    pub(crate) fn is(&self, one: Decision) -> bool
-        ensures { result ≡ has_decision one self.now }
-    {
-        is_decision(one, self.decision())
-    }
 }
 
 // Slots at these times.
@@ -78,21 +71,13 @@ fn moved_decision(historic: Option<Line>, times: Times) -> Decision
     ensures { result ≡ moved_decision historic times }
 {
     match historic {
-        Some(historic) if are_same(&times, &line_times(&historic)) => Decision::Historic,
-        _ => Decision::Moved,
-    }
-}
-
-fn is_decision(one: Decision, other: Decision) -> bool
-    ensures { result ≡ is_decision one other }
-{
-    match (one, other) {
-        (Decision::Unallotted, Decision::Unallotted) => true,
-        (Decision::Refused, Decision::Refused) => true,
-        (Decision::Kept, Decision::Kept) => true,
-        (Decision::Historic, Decision::Historic) => true,
-        (Decision::Moved, Decision::Moved) => true,
-        _ => false,
+        Some(historic) => {
+            if are_same(&times, &line_times(&historic)) {
+                return Decision::Historic;
+            }
+            Decision::Moved
+        }
+        None => Decision::Moved,
     }
 }
 
@@ -102,19 +87,30 @@ fn is_decision(one: Decision, other: Decision) -> bool
 fn has_slots(given: Option<Times>) -> bool
     ensures { result ≡ has_slots given }
 {
-    matches!(given, Some(Times::At { .. }))
+    match given {
+        Some(Times::At { .. }) => true,
+        Some(Times::Refused) | None => false,
+    }
+}
+
+// The last stage of a new entrant, by what it has after stage 3.
+fn last_of_entrant(given: Option<Times>) -> u32
+    ensures stage { result ≡ (if has_slots given then 3 else 4) }
+    ensures some { 1 ≤ result }
+{
+    if has_slots(given) { 3 } else { 4 }
 }
 
 // The last of a unit's stages, by what it has after stage 3.
 fn last_stage(state: &UnitState) -> u32
     ensures stage { result ≡ stage_of state.now }
-    ensures few { result ≤ 4 }
+    ensures some { 1 ≤ result }
 {
     match state.unit.group {
         Group::F => 1,
         Group::R | Group::L => 2,
-        Group::B if has_slots(state.given) => 3,
-        Group::B | Group::N => 4,
+        Group::B => last_of_entrant(state.given),
+        Group::N => 4,
     }
 }
 
@@ -123,10 +119,20 @@ fn has_choice(cert: &Certificate, stage: u32) -> bool
     requires { 1 ≤ stage }
     ensures { result ≡ is_some (choice_at cert.now stage) }
 {
-    match cert.stages.items().get(stage as usize - 1) {
-        Some(block) => block.choice.is_some(),
-        None => false,
+    let blocks = cert.stages.items();
+    let at = stage as usize - 1;
+    if at >= blocks.len() {
+        return false;
     }
+    blocks[at].choice.is_some()
+}
+
+// What a unit has at the end, where this stage has an allotment.
+fn given_in(cert: &Certificate, stage: u32, given: Option<Times>) -> Option<Times>
+    requires { 1 ≤ stage }
+    ensures { result ≡ given_in cert.now stage given }
+{
+    if has_choice(cert, stage) { given } else { None }
 }
 
 // The unit as it is after stage 3, and after stage 4.
@@ -134,15 +140,10 @@ fn decided_of(cert: &Certificate, before: &UnitState, after: &UnitState) -> Deci
     ensures { result ≡ decided_of cert.now before.now after.now }
 {
     let stage = last_stage(before);
-    let given = if has_choice(cert, stage) {
-        after.given
-    } else {
-        None
-    };
     Decided {
         unit: after.unit,
         stage,
-        given,
+        given: given_in(cert, stage, after.given),
     }
 }
 
@@ -231,5 +232,6 @@ pub(crate) fn season_decided(
 {
     let befores = states_before(alloc, submission, cert, 4)?;
     let afters = states_before(alloc, submission, cert, 5)?;
-    decided_units(alloc, cert, &befores, &afters)
+    let units = decided_units(alloc, cert, &befores, &afters)?;
+    Ok(units)
 }

@@ -1,15 +1,46 @@
 //! Loads of alternatives of a problem, added and taken away.
 
-ghost use Rattle.std.specs.Prelude.{◌≡◌, ◌<◌, length, slice_index, IfOk};
+ghost use Rattle.std.specs.Prelude.{◌≡◌, ◌<◌, ◌^◌, length, slice_index, IfOk};
+ghost use Rattle.std.specs.Option.{ForSome};
 ghost use Rattle.window_counts.specs.Placed.{AreZero};
 ghost use Rattle.choice_problem.specs.declared.problems.TheConstants.{MOST_USES};
-ghost use Rattle.choice_problem.specs.Problems.{unit_count, alt_count, alt_uses, resource_count};
+ghost use Rattle.choice_problem.specs.Problems.{unit_count, alt_count, part_count, alt_uses, resource_count, chooser_at, named_uses};
 ghost use Rattle.choice_problem.specs.Counts.{GrowsBy, HasRoom, HasUses};
 
 use choice_problem::Problem;
 use slot_text::Memory;
 use std::alloc::Global;
 use window_counts::Counts;
+
+// Adds the uses of the part that an alternative may name.
+fn add_named(problem: &Problem, unit: u32, part: Option<u32>, counts: &mut Counts)
+    requires unit { unit < unit_count problem.now }
+    requires part { ForSome part (λ k. k < part_count problem.now unit) }
+    requires counts { length counts.old ≡ resource_count problem.now }
+    requires room { HasRoom counts.old (λ r. named_uses (chooser_at problem.now unit) part r) }
+    ensures length { length counts.new ≡ length counts.old }
+    ensures added { GrowsBy counts.old counts.new
+        (λ r. named_uses (chooser_at problem.now unit) part r) }
+{
+    if let Some(n) = part {
+        counts.add(problem.part(unit, n));
+    }
+}
+
+// Takes the uses of the part that an alternative may name away.
+fn take_named(problem: &Problem, unit: u32, part: Option<u32>, counts: &mut Counts)
+    requires unit { unit < unit_count problem.now }
+    requires part { ForSome part (λ k. k < part_count problem.now unit) }
+    requires counts { length counts.old ≡ resource_count problem.now }
+    requires added { HasUses counts.old (λ r. named_uses (chooser_at problem.now unit) part r) }
+    ensures length { length counts.new ≡ length counts.old }
+    ensures taken { GrowsBy counts.new counts.old
+        (λ r. named_uses (chooser_at problem.now unit) part r) }
+{
+    if let Some(n) = part {
+        counts.take(problem.part(unit, n));
+    }
+}
 
 /// Adds the uses of an alternative: one step a use.
 pub(crate) fn add_alt(problem: &Problem, unit: u32, alt: u32, counts: &mut Counts)
@@ -20,13 +51,9 @@ pub(crate) fn add_alt(problem: &Problem, unit: u32, alt: u32, counts: &mut Count
     ensures length { length counts.new ≡ length counts.old }
     ensures added { GrowsBy counts.old counts.new (λ r. alt_uses problem.now unit alt r) }
 {
-    let named = problem.alt(unit, alt);
-    if let Some(one) = named.one {
-        counts.add(problem.part(unit, one));
-    }
-    if let Some(two) = named.two {
-        counts.add(problem.part(unit, two));
-    }
+    let chosen = problem.unit_alts(unit)[alt as usize];
+    add_named(problem, unit, chosen.one, counts);
+    add_named(problem, unit, chosen.two, counts);
 }
 
 /// Takes the uses of an alternative away: one step a use.
@@ -38,13 +65,9 @@ pub(crate) fn take_alt(problem: &Problem, unit: u32, alt: u32, counts: &mut Coun
     ensures length { length counts.new ≡ length counts.old }
     ensures taken { GrowsBy counts.new counts.old (λ r. alt_uses problem.now unit alt r) }
 {
-    let named = problem.alt(unit, alt);
-    if let Some(one) = named.one {
-        counts.take(problem.part(unit, one));
-    }
-    if let Some(two) = named.two {
-        counts.take(problem.part(unit, two));
-    }
+    let chosen = problem.unit_alts(unit)[alt as usize];
+    take_named(problem, unit, chosen.one, counts);
+    take_named(problem, unit, chosen.two, counts);
 }
 
 /// Counts of 0, one for each resource.
@@ -57,6 +80,7 @@ pub(crate) fn no_counts(alloc: Global, resources: u32) -> Result<Counts, Memory>
 /// Adds counts to loads, resource by resource.
 pub(crate) fn add_counts(loads: &mut [u32], counts: &Counts)
     requires count { length loads.old ≡ length counts.now }
+    requires few { length loads.old < 2 ^ 32 }
     requires room { HasRoom loads.old (λ r. slice_index counts.now r) }
     ensures length { length loads.new ≡ length loads.old }
     ensures added { GrowsBy loads.old loads.new (λ r. slice_index counts.now r) }

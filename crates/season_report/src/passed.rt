@@ -1,16 +1,16 @@
 //! Which resources an alternative puts above their limits, where the counts have the others and the
 //! alternative itself.
 
-ghost use Rattle.std.specs.Prelude.{◌≡◌, ◌*◌, ◌<◌, ◌≤◌, ◌^◌, length, map, false, IsTrue, pos};
+ghost use Rattle.std.specs.Prelude.{◌≡◌, ◌*◌, ◌<◌, ◌≤◌, ◌^◌, length, map, count_by, false, IsTrue, pos, int_lt, ◌&&◌};
 ghost use Rattle.std.specs.List.{list_any};
 ghost use Rattle.std.specs.Option.{ForSome};
-ghost use Rattle.capacity_windows.specs.Windows.{capacity_of, declared_resources, IsCapacity};
+ghost use Rattle.capacity_windows.specs.Windows.{capacity_of, declared_resources, resource_at, holds, IsCapacity};
 ghost use Rattle.season_days.specs.declared.declaration.TheConstants.{MINUTES_OF_DAY};
 ghost use Rattle.choice_problem.specs.Problems.{unit_count, alt_count, alt_uses, part_count, resource_count, chooser_at, named_uses};
 ghost use Rattle.choice_problem.specs.Strips.{strip_uses, part_uses, IsStripInRange, IsPartInRange};
-ghost use Rattle.season_days.specs.Seasons.{date_count};
+ghost use Rattle.season_days.specs.Seasons.{date_count, is_on, dates_of};
 ghost use Rattle.scr_reader.specs.Printed.{LineFits};
-ghost use Rattle.series_model.specs.Movements.{stop_on, movements_on};
+ghost use Rattle.series_model.specs.Movements.{listed, movement_after, stop_on, movements_on};
 ghost use Rattle.season_report.specs.Reasons.{barred_dates, is_held_by};
 ghost use Rattle.season_report.specs.Private.{is_above_at, resources_above, IsLowest, IsBarred, IsClearOf, IsClearOfQuota, TimesAreNear, lower_of};
 
@@ -19,28 +19,36 @@ use capacity_windows::{Movement, Windows};
 use choice_problem::{Part, Problem, Strip};
 use scr_reader::{Line, Stop};
 use season_days::laws::lengths;
-use season_days::{Day, Declaration, Kind, MINUTES_OF_DAY};
+use season_days::{Day, Declaration, Kind, MINUTES_OF_DAY, Season};
 use series_model::Times;
 use window_counts::Counts;
 
-// Whether a count is above its limit.
+// Whether a count is above a limit.
+fn is_more(count: u32, limit: i64) -> bool
+    ensures { result ≡ int_lt limit (pos count) }
+{
+    i64::from(count) > limit
+}
+
+// Whether the count of a resource is above its limit.
 fn is_above(counts: &Counts, limits: &[i64], resource: u32) -> bool
     requires limits { length limits.now ≡ length counts.now }
     requires there { resource < length counts.now }
     ensures { result ≡ is_above_at counts.now limits.now resource }
 {
-    i64::from(counts.count(resource)) > limits[resource as usize]
+    is_more(counts.count(resource), limits[resource as usize])
 }
 
 // The lowest resource of a run that is above its limit.
-fn lowest_in_run(counts: &Counts, limits: &[i64], start: u32, end: u32) -> Option<u32>
+fn lowest_in_run(counts: &Counts, limits: &[i64], start: u64, end: u64) -> Option<u32>
     requires limits { length limits.now ≡ length counts.now }
+    requires few { length counts.now < 2 ^ 32 }
     requires there { end ≤ length counts.now }
     ensures { IsLowest counts.now limits.now (λ r. (start ≤ r) × (r < end)) result }
 {
     for at in start..end {
-        if is_above(counts, limits, at) {
-            return Some(at);
+        if is_above(counts, limits, at as u32) {
+            return Some(at as u32);
         }
     }
     None
@@ -67,10 +75,7 @@ fn lowest_in_strip(counts: &Counts, limits: &[i64], strip: &Strip) -> Option<u32
     let mut lowest = None;
     for i in 0..strip.times {
         let (start, end) = strip.run(i);
-        lowest = lower(
-            lowest,
-            lowest_in_run(counts, limits, start as u32, end as u32),
-        );
+        lowest = lower(lowest, lowest_in_run(counts, limits, start, end));
     }
     lowest
 }
@@ -132,6 +137,7 @@ fn is_barred_by_run(
 ) -> bool
     requires count { length counts.now ≡ declared_resources windows.now }
     requires limits { length limits.now ≡ length counts.now }
+    requires few { length counts.now < 2 ^ 32 }
     requires rule { rule < length windows.now.rules }
     requires ago { ago < 2 }
     requires minute { movement.minute < MINUTES_OF_DAY }
@@ -140,10 +146,30 @@ fn is_barred_by_run(
         IsClearOf windows.now rule ago movement counts.now limits.now }
 {
     let (start, end) = windows.held_run(rule, ago, movement);
-    lowest_in_run(counts, limits, start, end).is_some()
+    let lowest = lowest_in_run(counts, limits, u64::from(start), u64::from(end));
+    lowest.is_some()
 }
 
-// Whether the night quota holds the movement and is above its limit.
+// Whether a resource holds the movement and is above its limit.
+fn is_barred_at(
+    windows: &Windows,
+    resource: u32,
+    movement: Movement,
+    counts: &Counts,
+    limits: &[i64],
+) -> bool
+    requires limits { length limits.now ≡ length counts.now }
+    requires there { resource < length counts.now }
+    ensures { result ≡ holds windows.now (resource_at windows.now resource) movement
+        && is_above_at counts.now limits.now resource }
+{
+    if !windows.is_held(resource, &movement) {
+        return false;
+    }
+    is_above(counts, limits, resource)
+}
+
+// The same of the night quota, if there is one.
 fn is_barred_by_quota(
     windows: &Windows,
     movement: Movement,
@@ -157,7 +183,7 @@ fn is_barred_by_quota(
         IsClearOfQuota windows.now movement counts.now limits.now }
 {
     match windows.night() {
-        Some(quota) => windows.is_held(quota, &movement) && is_above(counts, limits, quota),
+        Some(quota) => is_barred_at(windows, quota, movement, counts, limits),
         None => false,
     }
 }
@@ -188,8 +214,37 @@ fn is_barred_movement(
     is_barred_by_quota(windows, movement, counts, limits)
 }
 
-// The same of the movement of a stop on a date, where the line has the stop and the movement is
-// listed.
+// The same of the movement so many minutes after the beginning of a date, where it is listed.
+fn is_barred_minute(
+    windows: &Windows,
+    kind: Kind,
+    minute: u32,
+    date: u32,
+    counts: &Counts,
+    limits: &[i64],
+) -> bool
+    requires keeps { IsCapacity windows.now }
+    requires count { length counts.now ≡ declared_resources windows.now }
+    requires limits { length limits.now ≡ length counts.now }
+    requires date { date < date_count windows.now.season }
+    requires minute { minute < 10 * MINUTES_OF_DAY }
+    ensures { result
+        ≡ list_any (is_held_by windows.now (resources_above counts.now limits.now))
+        (listed windows.now.season (movement_after kind date minute)) }
+{
+    let days = windows.days();
+    let movement = Movement {
+        kind,
+        day: date + minute / MINUTES_OF_DAY,
+        minute: minute % MINUTES_OF_DAY,
+    };
+    if movement.day >= days {
+        return false;
+    }
+    is_barred_movement(windows, movement, counts, limits)
+}
+
+// The same of the movement of a stop on a date, where the line has the stop.
 fn is_barred_stop(
     windows: &Windows,
     kind: Kind,
@@ -208,17 +263,10 @@ fn is_barred_stop(
         ≡ list_any (is_held_by windows.now (resources_above counts.now limits.now))
         (stop_on windows.now.season kind stop minute date) }
 {
-    let days = windows.days();
-    let day = date + minute / MINUTES_OF_DAY;
-    if stop.is_none() || day >= days {
-        return false;
+    match stop {
+        Some(_) => is_barred_minute(windows, kind, minute, date, counts, limits),
+        None => false,
     }
-    let movement = Movement {
-        kind,
-        day,
-        minute: minute % MINUTES_OF_DAY,
-    };
-    is_barred_movement(windows, movement, counts, limits)
 }
 
 // The same of one of the movements of a line on a date.
@@ -241,23 +289,73 @@ fn is_barred_on(
         ≡ list_any (is_held_by windows.now (resources_above counts.now limits.now))
         (movements_on windows.now.season line.now arrival departure date) }
 {
-    is_barred_stop(
-        windows,
-        Kind::Arr,
-        line.arrival,
-        arrival,
-        date,
-        counts,
-        limits,
-    ) || is_barred_stop(
-        windows,
-        Kind::Dep,
-        line.departure,
-        departure,
-        date,
-        counts,
-        limits,
-    )
+    let coming = line.arrival;
+    if is_barred_stop(windows, Kind::Arr, coming, arrival, date, counts, limits) {
+        return true;
+    }
+    let going = line.departure;
+    is_barred_stop(windows, Kind::Dep, going, departure, date, counts, limits)
+}
+
+// Whether a date of a line's period is one of its weekdays, and the same is so on it.
+fn is_barred_date(
+    season: &Season,
+    windows: &Windows,
+    line: &Line,
+    arrival: u32,
+    departure: u32,
+    date: u32,
+    counts: &Counts,
+    limits: &[i64],
+) -> bool
+    requires keeps { IsCapacity windows.now }
+    requires count { length counts.now ≡ declared_resources windows.now }
+    requires limits { length limits.now ≡ length counts.now }
+    requires date { date < date_count windows.now.season }
+    requires arrival { arrival < MINUTES_OF_DAY }
+    requires departure { departure < 10 * MINUTES_OF_DAY }
+    ensures { result ≡ is_on season.now line.now.period.days date
+        && list_any (is_held_by windows.now (resources_above counts.now limits.now))
+        (movements_on windows.now.season line.now arrival departure date) }
+{
+    if !season.is_on(line.period.days, Day(date)) {
+        return false;
+    }
+    is_barred_on(windows, line, arrival, departure, date, counts, limits)
+}
+
+// On how many dates of a line it is so.
+fn count_barred(
+    season: &Season,
+    windows: &Windows,
+    line: &Line,
+    arrival: u32,
+    departure: u32,
+    counts: &Counts,
+    limits: &[i64],
+) -> u32
+    requires season { windows.now.season ≡ season.now }
+    requires keeps { IsCapacity windows.now }
+    requires count { length counts.now ≡ declared_resources windows.now }
+    requires limits { length limits.now ≡ length counts.now }
+    requires line { LineFits season.now line.now }
+    requires arrival { arrival < MINUTES_OF_DAY }
+    requires departure { departure < 10 * MINUTES_OF_DAY }
+    ensures { result ≡ count_by
+        (λ date. list_any (is_held_by windows.now (resources_above counts.now limits.now))
+        (movements_on windows.now.season line.now arrival departure date))
+        (dates_of season.now line.now.period) }
+{
+    lengths();
+    let end = line.period.last.0 + 1;
+    let mut count = 0;
+    for date in line.period.first.0..end {
+        let barred = is_barred_date(
+            season, windows, line, arrival, departure, date, counts, limits,
+        );
+        count += u32::from(barred);
+    }
+    count
 }
 
 /// On how many dates of a line one of its movements is held by a resource that is above its limit:
@@ -279,17 +377,11 @@ pub(crate) fn barred_dates(
     ensures { result ≡ barred_dates declaration.now line.now times
         (resources_above counts.now limits.now) }
 {
-    lengths();
-    let Times::At { arrival, departure } = times else {
-        return 0;
-    };
-    let mut count = 0;
-    for date in line.period.first.0..line.period.last.0 + 1 {
-        if declaration.season.is_on(line.period.days, Day(date))
-            && is_barred_on(windows, line, arrival, departure, date, counts, limits)
-        {
-            count += 1;
+    match times {
+        Times::Refused => 0,
+        Times::At { arrival, departure } => {
+            let season = &declaration.season;
+            count_barred(season, windows, line, arrival, departure, counts, limits)
         }
     }
-    count
 }

@@ -101,7 +101,7 @@ fn put_stage(
     requires told { All (IsTold submission.now.declaration) units.now }
     requires few { length units.now ≤ MOST_UNITS }
     requires states { AreStates submission.now states.now }
-    requires open { All (IsOpen stage) states.now }
+    requires fresh { All (IsOpen stage) states.now }
     requires choice { IfSome block.now.choice
         (IsFeasibleChoice submission.now.declaration stage states.now) }
     requires untried { is_tried block.now.mark ≡ false → block.now.choice ≡ None }

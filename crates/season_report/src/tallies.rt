@@ -1,10 +1,10 @@
 //! Tallies of units.
 
-ghost use Rattle.std.specs.Prelude.{◌≡◌, ◌++◌, ◌≤◌, ◌<◌, ◌^◌, length, filter, count_by, sum_by, All, IfOk, OnOk};
+ghost use Rattle.std.specs.Prelude.{◌≡◌, ◌++◌, ◌≤◌, ◌<◌, ◌^◌, length, filter, All, IfOk, OnOk};
 ghost use Rattle.choice_problem.specs.declared.problems.TheConstants.{MOST_UNITS};
-ghost use Rattle.season_report.specs.Decisions.{has_decision, is_of_stage};
+ghost use Rattle.season_report.specs.Decisions.{is_of_stage};
 ghost use Rattle.season_report.specs.Tallies.{slots_cost, tally_of, tally_words};
-ghost use Rattle.season_report.specs.Private.{IsTold};
+ghost use Rattle.season_report.specs.Private.{IsTold, IsSmallTally, with_unit};
 
 use crate::decided::{Decided, Decision};
 use report_lines::put_tagged;
@@ -26,25 +26,11 @@ pub struct Tally {
     pub minutes: u64,
 }
 
-// How many units were decided so.
-fn count(units: &[Decided], one: Decision) -> u64
-    requires { length units.now ≤ MOST_UNITS }
-    ensures { result ≡ count_by (has_decision one) units.now }
-{
-    let mut count = 0;
-    for unit in units {
-        if unit.is(one) {
-            count += 1;
-        }
-    }
-    count
-}
-
 // What the slots of a unit cost.
 fn slots_cost(declaration: &Declaration, unit: &Decided) -> u64
     requires { IsTold declaration.now unit.now }
     ensures value { result ≡ slots_cost declaration.now unit.now }
-    ensures small { result < 2 ^ 24 }
+    ensures small { slots_cost declaration.now unit.now < 2 ^ 24 }
 {
     match unit.given {
         Some(Times::At { arrival, departure }) => {
@@ -54,17 +40,46 @@ fn slots_cost(declaration: &Declaration, unit: &Decided) -> u64
     }
 }
 
-// What the slots of all units cost.
-fn slots_costs(declaration: &Declaration, units: &[Decided]) -> u64
-    requires told { All (IsTold declaration.now) units.now }
-    requires few { length units.now ≤ MOST_UNITS }
-    ensures { result ≡ sum_by (slots_cost declaration.now) units.now }
+// A tally with one unit more.
+fn with_unit(declaration: &Declaration, tally: Tally, unit: &Decided) -> Tally
+    requires told { IsTold declaration.now unit.now }
+    requires small { IsSmallTally tally }
+    ensures { result ≡ with_unit declaration.now tally unit.now }
 {
-    let mut minutes = 0;
-    for unit in units {
-        minutes += slots_cost(declaration, unit);
+    let units = tally.units + 1;
+    let minutes = tally.minutes + slots_cost(declaration, unit);
+    match unit.decision() {
+        Decision::Unallotted => Tally {
+            units,
+            minutes,
+            unallotted: tally.unallotted + 1,
+            ..tally
+        },
+        Decision::Refused => Tally {
+            units,
+            minutes,
+            refused: tally.refused + 1,
+            ..tally
+        },
+        Decision::Kept => Tally {
+            units,
+            minutes,
+            kept: tally.kept + 1,
+            ..tally
+        },
+        Decision::Historic => Tally {
+            units,
+            minutes,
+            historic: tally.historic + 1,
+            ..tally
+        },
+        Decision::Moved => Tally {
+            units,
+            minutes,
+            moved: tally.moved + 1,
+            ..tally
+        },
     }
-    minutes
 }
 
 /// The tally of units.
@@ -73,15 +88,19 @@ pub(crate) fn tally_of(declaration: &Declaration, units: &[Decided]) -> Tally
     requires few { length units.now ≤ MOST_UNITS }
     ensures { result ≡ tally_of declaration.now units.now }
 {
-    Tally {
-        units: units.len() as u64,
-        kept: count(units, Decision::Kept),
-        historic: count(units, Decision::Historic),
-        moved: count(units, Decision::Moved),
-        refused: count(units, Decision::Refused),
-        unallotted: count(units, Decision::Unallotted),
-        minutes: slots_costs(declaration, units),
+    let mut tally = Tally {
+        units: 0,
+        kept: 0,
+        historic: 0,
+        moved: 0,
+        refused: 0,
+        unallotted: 0,
+        minutes: 0,
+    };
+    for unit in units {
+        tally = with_unit(declaration, tally, unit);
     }
+    tally
 }
 
 /// Appends a tally.
@@ -99,8 +118,7 @@ pub(crate) fn put_tally(alloc: Global, out: &mut Vec<u8>, tally: &Tally) -> Resu
 
 /// The units that were decided in a stage.
 pub(crate) fn of_stage(alloc: Global, units: &[Decided], stage: u32) -> Result<Vec<Decided>, Memory>
-    ensures found { IfOk result
-        (λ found. found.items ≡ filter (is_of_stage stage) units.now) }
+    ensures found { IfOk result (λ found. found.items ≡ filter (is_of_stage stage) units.now) }
     ensures few { IfOk result (λ found. length found.items ≤ length units.now) }
 {
     let mut found = Vec::new(alloc);

@@ -113,7 +113,7 @@ fn put_allotted(
     given: &mut [u32],
 ) -> Result<(), Memory>
     requires states { AreStates submission.now states.now }
-    requires open { All (IsOpen stage) states.now }
+    requires fresh { All (IsOpen stage) states.now }
     requires problem { IsStageProblem submission.now.declaration stage states.now problem.now }
     requires choice { IsFeasibleChoice submission.now.declaration stage states.now choice.now }
     requires count { length reasons.old ≡ length states.now }
@@ -156,7 +156,7 @@ pub(crate) fn put_tried(
     given: &mut [u32],
 ) -> Result<(), Memory>
     requires states { AreStates submission.now states.now }
-    requires open { All (IsOpen stage) states.now }
+    requires fresh { All (IsOpen stage) states.now }
     requires choice { IfSome choice.now
         (IsFeasibleChoice submission.now.declaration stage states.now) }
     requires count { length reasons.old ≡ length states.now }

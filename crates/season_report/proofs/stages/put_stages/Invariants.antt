@@ -13,7 +13,7 @@ invariant-loop-block l = record {
   stage : l.stage ≡ l.block-index + 1;
   states : l.states.items ≡ states_before l.submission l.cert l.stage;
   fit : AreStates l.submission l.states.items;
-  open : All (IsOpen l.stage) l.states.items;
+  fresh : All (IsOpen l.stage) l.states.items;
   fits : GivenFits l.submission.declaration l.states.items;
   text : l.out.items ++ stages_text l.submission l.cert l.stage (drop l.block-index l.cert.stages) ≡ l.initial.out.items ++ stages_text l.submission l.cert 1 l.cert.stages;
   reasons : reasons_after l.submission l.cert l.stage (texts_of l.reasons) (drop l.block-index l.cert.stages) ≡ reasons_after l.submission l.cert 1 (texts_of l.initial.reasons) l.cert.stages;
