@@ -79,7 +79,7 @@ filter_below p q start (suc n) same =
     ap (λ (b : Bool). cond b (start ∷ filter p (range_with_len (start + 1) n)) (filter p (range_with_len (start + 1) n))) head
     ∙ ap (λ (rs : List ℕ). cond (q start) (start ∷ rs) rs) rest
 
-all_below : (start n : ℕ) → All (λ r. r < start + n) (range_with_len start n)
+pub all_below : (start n : ℕ) → All (λ r. r < start + n) (range_with_len start n)
 all_below start zero = All-nil (λ r. r < start + 0)
 all_below start (suc n) =
     All-cons (λ r. r < start + suc n) start (range_with_len (start + 1) n) (omega arith)

@@ -3,10 +3,10 @@ use Rattle.std.proofs.Common.{◌≡◌, ℕ, zero, suc, ◌+◌, ◌-◌, ◌<�
 use Rattle.std.specs.Prelude.{Option, Some, None, All, Vec, slice_get, slice_index, if◌then◌else◌}
 use Rattle.std.specs.List.{AllZip}
 use Rattle.std.proofs.lemmas.List.{append-nil, append_assoc, drop_more, take_more_set, drop-set-lt, map-set, length-map, get_or-map}
-use Rattle.std.proofs.lemmas.Option.{slice_get-get_or}
+use Rattle.std.proofs.lemmas.Option.{slice_get-get_or, slice_get_within}
 use Rattle.season_days.specs.declared.declaration.Declaration.{Declaration}
 use Rattle.season_days.specs.Capacity.{capacity_of, declared_resources}
-use Rattle.choice_problem.specs.Problems.{ProblemView, alt_uses, alt_count, limit_of, resource_count}
+use Rattle.choice_problem.specs.Problems.{ProblemView, alt_cost, alt_uses, alt_count, limit_of, resource_count}
 use Rattle.choice_problem.specs.Counts.{HasUses, GrowsBy}
 use Rattle.window_counts.specs.Placed.{KeepsLimits}
 use Rattle.series_model.specs.declared.unit.Unit.{Unit as SlotUnit}
@@ -14,6 +14,7 @@ use Rattle.series_model.specs.declared.times.Times.{Times}
 use Rattle.series_model.specs.declared.times.Times.TheVariants.{Refused}
 use Rattle.series_model.specs.declared.state.UnitState.{UnitState}
 use Rattle.series_model.specs.Options.{options_of}
+use Rattle.series_model.specs.Displacement.{displacement_of}
 use Rattle.series_model.specs.Stages.{is_due_state, stage_units, stage_limit, times_named, stage_times, IsFeasibleChoice}
 use Rattle.report_lines.specs.Peaks.{unit_load}
 use Rattle.season_report.specs.declared.told.Tried.{Tried}
@@ -90,6 +91,18 @@ is_given t states choice place unit told feasible at =
       was = got_at (times_named d units choice) place (given_to t choice place unit) (drop (place + 1) (times_named d units choice)) left;
       left = left;
     }
+
+-- it has a number in the choice, and what it was given costs what its alternative does
+pub in_choice : (t : Tried) (states : List UnitState) (choice : List ℕ) (place : ℕ) (unit : SlotUnit) → IsFeasibleChoice t.declaration.now t.stage states choice → slice_get (stage_units t.stage states) place ≡ Some unit → place < length choice
+in_choice t states choice place unit feasible at =
+    omega (arith, slice_get_within (stage_units t.stage states) place unit at, numbers_length t.declaration.now (stage_units t.stage states) choice feasible.numbers)
+
+pub cost_given : (t : Tried) (states : List UnitState) (choice : List ℕ) (place : ℕ) (unit : SlotUnit) → IsToldStage t states → slice_get (stage_units t.stage states) place ≡ Some unit → IsGiven t states choice place unit →
+    alt_cost t.problem.now place (slice_index choice place) ≡ displacement_of t.declaration.now unit (given_to t choice place unit)
+cost_given t states choice place unit told at given =
+    let d = t.declaration.now in
+    let alternative = alt_there d (stage_units t.stage states) (stage_limit d t.stage states) t.problem.now place unit (slice_index choice place) (given_to t choice place unit) told.problem at given.option in
+    alternative.cost
 
 -- ---- the counts of all units
 

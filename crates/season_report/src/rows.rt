@@ -1,6 +1,6 @@
 //! The lines of reasons of one unit of a stage.
 
-ghost use Rattle.std.specs.Prelude.{◌≡◌, ◌++◌, ◌+◌, ◌<◌, ◌≤◌, ◌^◌, ℕ, List, [], length, false, OnOk, IfOk, IfSome, Some, slice_get, slice_index, slice_index_or};
+ghost use Rattle.std.specs.Prelude.{◌≡◌, ◌++◌, ◌+◌, ◌<◌, ◌≤◌, ◌^◌, ℕ, List, [], All, length, false, OnOk, IfOk, IfSome, Some, slice_get, slice_index, slice_index_or};
 ghost use Rattle.capacity_windows.specs.Windows.{declared_resources};
 ghost use Rattle.choice_problem.specs.Problems.{unit_count, alt_count, alt_cost, alt_uses, limit_of, resource_count};
 ghost use Rattle.choice_problem.specs.Counts.{GrowsBy, HasUses};
@@ -23,7 +23,6 @@ use series_model::laws::option_bounds;
 use series_model::{Times, Unit, UnitState, options_of};
 use slot_text::Memory;
 use std::alloc::Global;
-use wasg_stages::laws::problem_choices;
 use window_counts::Counts;
 
 // ---- neighbours
@@ -197,19 +196,24 @@ fn barred_by(
         result ≡ found_reason tried place line.now times alt others }
 {
     let problem = tried.problem;
+    let limits = problem.limits();
     match lowest_passed(problem, place, alt, counts) {
-        Some(resource) => Some(Barred {
-            resource,
-            uses: problem.uses(place, alt, resource),
-            dates: barred_dates(
+        Some(resource) => {
+            let uses = problem.uses(place, alt, resource);
+            let dates = barred_dates(
                 tried.declaration,
                 tried.windows,
                 line,
                 times,
                 counts,
-                problem.limits(),
-            ),
-        }),
+                limits,
+            );
+            Some(Barred {
+                resource,
+                uses,
+                dates,
+            })
+        }
         None => None,
     }
 }
@@ -258,10 +262,12 @@ fn cheaper_of(
         (λ barred. barred.resource < resource_count tried.problem.now) }
     ensures others { others.new ≡ others.old }
 {
+    let cost = tried.problem.alt_cost(place, alt);
+    let barred = reason_of(tried, place, line, times, alt, others);
     Cheaper {
         times,
-        cost: tried.problem.alt_cost(place, alt),
-        barred: reason_of(tried, place, line, times, alt, others),
+        cost,
+        barred,
     }
 }
 
@@ -326,12 +332,13 @@ fn after_alt(
         (λ after. IfSome after (IsUnderWay (resource_count tried.problem.now) (alt + 1))) }
     ensures others { others.new ≡ others.old }
 {
-    if tried.problem.alt_cost(place, alt) >= cost {
+    let own = tried.problem.alt_cost(place, alt);
+    if own >= cost {
         return Ok(row);
     }
     let next = cheaper_of(tried, place, line, times, alt, others);
-    let row = next_row(alloc, out, tried, others, line, row, &next)?;
-    Ok(Some(row))
+    let after = next_row(alloc, out, tried, others, line, row, &next)?;
+    Ok(Some(after))
 }
 
 // Appends the line under way, if there is one.
@@ -351,12 +358,47 @@ fn put_last(
         ++ found_rows tried others.now line.now (rows_on line.now row [])) }
 {
     match row {
-        Some(row) => put_row(alloc, out, tried, others, line, &row),
+        Some(row) => {
+            put_row(alloc, out, tried, others, line, &row)?;
+            Ok(())
+        }
         None => Ok(()),
     }
 }
 
-// Appends the lines of all alternatives that cost less.
+// Appends the lines of those of some alternatives, all of a unit, that cost less.
+fn put_options(
+    alloc: Global,
+    out: &mut Vec<u8>,
+    tried: Tried<'_>,
+    place: u32,
+    line: &Line,
+    cost: u64,
+    options: &[Times],
+    others: &mut Counts,
+) -> Result<(), Memory>
+    requires settled { IsSettled tried }
+    requires place { place < unit_count tried.problem.now }
+    requires count { length options.now ≡ alt_count tried.problem.now place }
+    requires few { length options.now < 2 ^ 31 }
+    requires line { LineFits tried.declaration.now.season line.now }
+    requires times { All TimesAreNear options.now }
+    requires within { KeepsLimits tried.problem.now others.old }
+    ensures text { OnOk result (out.new.items ≡ out.old.items
+        ++ found_reasons tried place line.now cost others.old options.now) }
+    ensures others { others.new ≡ others.old }
+{
+    let mut row = None;
+    for i in 0..options.len() {
+        row = after_alt(
+            alloc, out, tried, place, line, options[i], i as u32, cost, row, others,
+        )?;
+    }
+    put_last(alloc, out, tried, others, line, row)?;
+    Ok(())
+}
+
+// Appends the lines of all alternatives of a unit that cost less.
 fn put_cheaper(
     alloc: Global,
     out: &mut Vec<u8>,
@@ -376,15 +418,17 @@ fn put_cheaper(
 {
     option_bounds();
     let options = options_of(alloc, unit, tried.declaration)?;
-    let line = &unit.request;
-    let mut row = None;
-    for i in 0..options.len() {
-        let times = options[i];
-        row = after_alt(
-            alloc, out, tried, place, line, times, i as u32, cost, row, others,
-        )?;
-    }
-    put_last(alloc, out, tried, others, line, row)
+    put_options(
+        alloc,
+        out,
+        tried,
+        place,
+        &unit.request,
+        cost,
+        &options,
+        others,
+    )?;
+    Ok(())
 }
 
 // Whether an alternative of a unit costs less.
@@ -393,8 +437,9 @@ fn has_cheaper(tried: Tried<'_>, place: u32, cost: u64) -> bool
     ensures { result ≡ false → (alt : ℕ) → alt < alt_count tried.problem.now place →
         cost ≤ alt_cost tried.problem.now place alt }
 {
-    for alt in tried.problem.unit_alts(place) {
-        if alt.cost < cost {
+    for alt in 0..tried.problem.alts(place) {
+        let own = tried.problem.alt_cost(place, alt);
+        if own < cost {
             return true;
         }
     }
@@ -459,7 +504,6 @@ pub(crate) fn put_unit_reasons(
         (slice_index choice.now place) Refused)) }
     ensures counts { OnOk result (counts.new ≡ counts.old) }
 {
-    problem_choices();
     put_found(
         alloc,
         out,
@@ -468,5 +512,6 @@ pub(crate) fn put_unit_reasons(
         unit,
         choice[place as usize],
         counts,
-    )
+    )?;
+    Ok(())
 }

@@ -3,4 +3,4 @@ use Rattle.choice_problem.specs.Problems.{alt_cost}
 use Rattle.season_report.proofs.rows.has_cheaper.Given as goal
 
 abbrev pub invariant-loop-alt : goal.invariant-loop-alt
-invariant-loop-alt l = (k : ℕ) → k < l.alt-index → l.cost ≤ alt_cost l.tried.problem.now l.place k
+invariant-loop-alt l = (k : ℕ) → k < l.alt → l.cost ≤ alt_cost l.tried.problem.now l.place k
