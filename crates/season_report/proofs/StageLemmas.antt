@@ -27,7 +27,8 @@ use Rattle.report_lines.specs.Peaks.{AreEarlier, earlier_load}
 use Rattle.season_report.specs.declared.decided.Decided.{Decided}
 use Rattle.season_report.specs.Decisions.{states_before, season_decided}
 use Rattle.season_report.specs.Reports.{stage_line, tried_lines, stages_text, with_texts, stage_reasons, reasons_after}
-use Rattle.season_report.specs.Private.{IsOpen}
+use Rattle.season_report.specs.Rows.{allotted_stage}
+use Rattle.season_report.specs.Private.{IsOpen, AreAll}
 use Rattle.season_report.proofs.LawLemmas.{for_some, feasible_at}
 use Rattle.season_report.proofs.GivenLemmas.{load_after, limit_small, declared_small}
 
@@ -130,3 +131,14 @@ loads_room d stage states choice counts old keeps share fits feasible long earli
       limit_small d stage states r share,
       declared_small (capacity_of d) r keeps,
     )
+
+-- the counts of the stage, at equal values
+pub moved_all : (d e : Declaration) (stage : ℕ) (states : List UnitState) (x y counts after : List ℕ) → d ≡ e → x ≡ y → after ≡ counts → AreAll (allotted_stage d stage states x) counts → AreAll (allotted_stage e stage states y) after
+moved_all d e stage states x y counts after same list back all =
+    subst (λ (ns : List ℕ). AreAll (allotted_stage e stage states y) ns) (sym back)
+    (subst (λ (z : List ℕ). AreAll (allotted_stage e stage states z) counts) list
+    (subst (λ (k : Declaration). AreAll (allotted_stage k stage states x) counts) same all))
+
+pub moved_choice : (d e : Declaration) (stage : ℕ) (states : List UnitState) (x y : List ℕ) → d ≡ e → x ≡ y → IsFeasibleChoice e stage states y → IsFeasibleChoice d stage states x
+moved_choice d e stage states x y same list feasible =
+    subst (λ (z : List ℕ). IsFeasibleChoice d stage states z) (sym list) (subst (λ (k : Declaration). IsFeasibleChoice k stage states y) (sym same) feasible)

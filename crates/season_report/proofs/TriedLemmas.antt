@@ -2,13 +2,16 @@
 use Rattle.std.proofs.Common.{◌≡◌, ℕ, zero, suc, ◌+◌, ◌-◌, ◌<◌, ◌≤◌, Bool, true, false, refl, sym, ◌∙◌, ap, subst, arith, List, [], ◌∷◌, ◌++◌, length, get_or, set, take, drop, map}
 use Rattle.std.specs.Prelude.{Option, Some, None, All, Vec, slice_get, slice_index, if◌then◌else◌}
 use Rattle.std.specs.List.{AllZip}
-use Rattle.std.proofs.lemmas.List.{append-nil, append_assoc, drop_more, take_more_set, drop-set-lt, map-set, length-map, get_or-map}
+use Rattle.std.proofs.lemmas.List.{append-nil, append_assoc, drop_more, take_more_set, drop-set-lt, map-set, length-map, get_or-map, take_all, drop_all}
 use Rattle.std.proofs.lemmas.Option.{slice_get-get_or, slice_get_within}
 use Rattle.season_days.specs.declared.declaration.Declaration.{Declaration}
-use Rattle.season_days.specs.Capacity.{capacity_of, declared_resources}
+use Rattle.season_days.specs.Capacity.{capacity_of, declared_resources, IsDeclaration}
 use Rattle.choice_problem.specs.Problems.{ProblemView, alt_cost, alt_uses, alt_count, limit_of, resource_count}
 use Rattle.choice_problem.specs.Counts.{HasUses, GrowsBy}
-use Rattle.window_counts.specs.Placed.{KeepsLimits}
+use Rattle.choice_problem.specs.Choices.{IsChoice, load_of}
+use Rattle.window_counts.specs.Placed.{KeepsLimits, AreLoads}
+use Rattle.wasg_stages.specs.StageProblems.{IsAllotmentProblem, IsStageProblem}
+use Rattle.series_model.specs.Allotments.{allotted_load}
 use Rattle.series_model.specs.declared.unit.Unit.{Unit as SlotUnit}
 use Rattle.series_model.specs.declared.times.Times.{Times}
 use Rattle.series_model.specs.declared.times.Times.TheVariants.{Refused}
@@ -16,13 +19,14 @@ use Rattle.series_model.specs.declared.state.UnitState.{UnitState}
 use Rattle.series_model.specs.Options.{options_of}
 use Rattle.series_model.specs.Displacement.{displacement_of}
 use Rattle.series_model.specs.Stages.{is_due_state, stage_units, stage_limit, times_named, stage_times, IsFeasibleChoice}
-use Rattle.report_lines.specs.Peaks.{unit_load}
+use Rattle.report_lines.specs.Peaks.{AreEarlier, unit_load}
 use Rattle.season_report.specs.declared.told.Tried.{Tried}
 use Rattle.season_report.specs.Reasons.{AllottedStage, units_in, others_load, without}
-use Rattle.season_report.specs.Rows.{reasons_from, unit_reasons}
+use Rattle.season_report.specs.Rows.{allotted_stage, reasons_from, unit_reasons}
 use Rattle.season_report.specs.Reports.{with_texts}
 use Rattle.season_report.specs.Private.{IsToldStage, told_stage, AreAll, IsPlaced, first_reasons, place_after, texts_of}
 use Rattle.season_report.proofs.ApartLemmas.{load_apart}
+use Rattle.season_report.proofs.GivenLemmas.{limit_small, declared_small}
 use Rattle.season_report.proofs.BesideLemmas.{IsBeside, alt_there, place_there, alts_there, reasons_same}
 
 -- ---- what is at a place
@@ -185,6 +189,78 @@ reasons_next a place state states times there =
       | false ↦ λ off. skipped a place state states (drop place times) off
     ]) refl
 
+-- the unit at a place, where it is due
+pub due_at : (stage : ℕ) (state : UnitState) (rest : List UnitState) (units : List SlotUnit) (place : ℕ) → is_due_state stage state ≡ true → drop place units ≡ stage_units stage (state ∷ rest) → slice_get units place ≡ Some state.unit
+due_at stage state rest units place due is =
+    got_at units place state.unit (stage_units stage rest) (is ∙ ap (λ (b : Bool). if b then state.unit ∷ stage_units stage rest else stage_units stage rest) due)
+
+pub place_next : (stage : ℕ) (state : UnitState) (rest : List UnitState) (units : List SlotUnit) (place : ℕ) → drop place units ≡ stage_units stage (state ∷ rest) → drop (place_after stage place state) units ≡ stage_units stage rest
+place_next stage state rest units place is =
+    (elim (is_due_state stage state) as (λ b. drop place units ≡ (if b then state.unit ∷ stage_units stage rest else stage_units stage rest) → drop (if b then place + 1 else place) units ≡ stage_units stage rest) [
+      | true ↦ λ at. rest_at units place state.unit (stage_units stage rest) at
+      | false ↦ λ at. at
+    ]) is
+
+pub place_small : (stage : ℕ) (state : UnitState) (place i : ℕ) → place ≤ i → place_after stage place state ≤ i + 1
+place_small stage state place i le =
+    elim (is_due_state stage state) as (λ b. (if b then place + 1 else place) ≤ i + 1) [
+      | true ↦ omega arith
+      | false ↦ omega arith
+    ]
+
+pub first_off : (a : AllottedStage) (place : ℕ) (state : UnitState) (times : List Times) → is_due_state a.stage state ≡ false → first_reasons a place state times ≡ []
+first_off a place state [] off = refl
+first_off a place state (given ∷ times) off = ap (λ (b : Bool). if b then unit_reasons a place state.unit given else []) off
+
+pub first_due : (a : AllottedStage) (place : ℕ) (state : UnitState) (given : Times) (times rest : List Times) → is_due_state a.stage state ≡ true → times ≡ given ∷ rest → first_reasons a place state times ≡ unit_reasons a place state.unit given
+first_due a place state given times rest due is =
+    ap (first_reasons a place state) is ∙ ap (λ (b : Bool). if b then unit_reasons a place state.unit given else []) due
+
+-- the reasons of the unit at a place of all, and of those after it
+pub reasons_on : (t : Tried) (states : List UnitState) (choice : List ℕ) (place : ℕ) (state : UnitState) (rest : List UnitState) → IsToldStage t states → IsFeasibleChoice t.declaration.now t.stage states choice →
+    drop place (stage_units t.stage states) ≡ stage_units t.stage (state ∷ rest) →
+    reasons_from (told_stage t states choice) place (state ∷ rest) (drop place (stage_times t.declaration.now t.stage states choice))
+    ≡ first_reasons (told_stage t states choice) place state (drop place (stage_times t.declaration.now t.stage states choice))
+    ∷ reasons_from (told_stage t states choice) (place_after t.stage place state) rest (drop (place_after t.stage place state) (stage_times t.declaration.now t.stage states choice))
+reasons_on t states choice place state rest told feasible is =
+    reasons_next (told_stage t states choice) place state rest (stage_times t.declaration.now t.stage states choice) (λ due.
+    let given = is_given t states choice place state.unit told feasible (due_at t.stage state rest (stage_units t.stage states) place due is) in
+    (given_to t choice place state.unit, given.left))
+
+-- ---- what is told of
+
+pub told_of : (t : Tried) (d : Declaration) (states : List UnitState) → t.declaration.now ≡ d → IsDeclaration d → t.windows.now ≡ capacity_of d → IsStageProblem d t.stage states t.problem.now →
+    length t.earlier.now ≡ declared_resources (capacity_of d) → AreEarlier d states t.earlier.now → IsToldStage t states
+told_of t d states is keeps windows problem long earlier =
+    let back : d ≡ t.declaration.now = sym is in
+    record {
+      settled = record {
+        keeps = subst IsDeclaration back keeps;
+        windows = windows ∙ ap capacity_of back;
+        resources = problem.resources ∙ ap (λ (k : Declaration). declared_resources (capacity_of k)) back;
+        earlier = long ∙ ap (λ (k : Declaration). declared_resources (capacity_of k)) back;
+        limits = λ r lt.
+            let there : r < declared_resources (capacity_of d) = omega (arith, lt, problem.resources) in
+            omega (arith, problem.limits r there, limit_small d t.stage states r keeps.share, declared_small (capacity_of d) r keeps.capacity);
+      };
+      problem = subst (λ (k : Declaration). IsStageProblem k t.stage states t.problem.now) back problem;
+      earlier = subst (λ (k : Declaration). AreEarlier k states t.earlier.now) back earlier;
+    }
+
+-- the law of problems
+abbrev pub LoadsOfChoices : Type 0
+LoadsOfChoices = (d : Declaration) (units : List SlotUnit) (limit : ℕ → ℕ) (p : ProblemView) (x : List ℕ) (r : ℕ) → IsAllotmentProblem d units limit p → IsChoice p x → load_of p x r ≡ allotted_load d units (times_named d units x) r
+
+pub all_loads : LoadsOfChoices → (d : Declaration) (stage : ℕ) (states : List UnitState) (p : ProblemView) (x counts : List ℕ) → IsStageProblem d stage states p → IsChoice p x → AreLoads p x counts →
+    (r : ℕ) → r < declared_resources (capacity_of d) → slice_index counts r ≡ allotted_load d (stage_units stage states) (stage_times d stage states x) r
+all_loads law d stage states p x counts problem choice loads r lt =
+    loads r (omega (arith, lt, problem.resources)) ∙ law d (stage_units stage states) (stage_limit d stage states) p x r problem choice
+
+pub all_counts : (t : Tried) (d : Declaration) (states : List UnitState) (choice counts : List ℕ) → t.declaration.now ≡ d → length counts ≡ declared_resources (capacity_of d) →
+    ((r : ℕ) → r < declared_resources (capacity_of d) → slice_index counts r ≡ allotted_load d (stage_units t.stage states) (stage_times d t.stage states choice) r) → AreAll (told_stage t states choice) counts
+all_counts t d states choice counts is long each =
+    subst (λ (k : Declaration). AreAll (allotted_stage k t.stage states choice) counts) (sym is) (record { length = long; each = each })
+
 -- ---- texts
 
 -- one text more is whole
@@ -199,6 +275,27 @@ texts_more texts i next rest whole lt so_far =
     ∙ ap (λ (ts : List (List ℕ)). (take i texts ++ text ∷ []) ++ with_texts ts rest) before
     ∙ append_assoc (take i texts) (text ∷ []) later
     ∙ ap (λ (ts : List (List ℕ)). take i texts ++ ts) (sym now)
+    ∙ so_far
+
+-- one text of the units more
+pub state_texts : {A : Type 0} (reasons : List (Vec ℕ A)) (i : ℕ) (was text : Vec ℕ A) (next : List ℕ) (rest whole : List (List ℕ)) → i < length reasons → was ≡ get_or reasons i was → text.items ≡ was.items ++ next →
+    take i (texts_of reasons) ++ with_texts (drop i (texts_of reasons)) (next ∷ rest) ≡ whole →
+    take (i + 1) (texts_of (set reasons i text)) ++ with_texts (drop (i + 1) (texts_of (set reasons i text))) rest ≡ whole
+state_texts {A} reasons i was text next rest whole lt is wrote so_far =
+    let items : Vec ℕ A → List ℕ = λ (v : Vec ℕ A). v.items in
+    let texts : List (List ℕ) = texts_of reasons in
+    let own : get_or texts i [] ≡ was.items = get_or-map items reasons i was [] lt ∙ ap items (sym is) in
+    let now : texts_of (set reasons i text) ≡ set texts i (get_or texts i [] ++ next) =
+    map-set items reasons i text ∙ ap (λ (t : List ℕ). set texts i t) (wrote ∙ ap (λ (t : List ℕ). t ++ next) (sym own)) in
+    let there : i < length texts = omega (arith, lt, length-map reasons items) in
+    ap (λ (ts : List (List ℕ)). take (i + 1) ts ++ with_texts (drop (i + 1) ts) rest) now
+    ∙ texts_more texts i next rest whole there so_far
+
+pub texts_end : (texts : List (List ℕ)) (i : ℕ) (rest whole : List (List ℕ)) → length texts ≤ i → take i texts ++ with_texts (drop i texts) rest ≡ whole → texts ≡ whole
+texts_end texts i rest whole past so_far =
+    sym (append-nil texts)
+    ∙ ap (λ (ts : List (List ℕ)). ts ++ []) (sym (take_all i texts past))
+    ∙ ap (λ (ts : List (List ℕ)). take i texts ++ with_texts ts rest) (sym (drop_all i texts past))
     ∙ so_far
 
 -- with no reasons

@@ -133,7 +133,8 @@ fn put_stage(
         states,
         &block.choice,
         given,
-    )
+    )?;
+    Ok(())
 }
 
 /// Appends what is told of each stage, and to the text of each unit its reasons, stage by stage. The

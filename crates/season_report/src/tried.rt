@@ -1,14 +1,15 @@
 //! A stage that was tried: the reasons of its units, or, where it has no allotment, the windows that
 //! rule out all.
 
-ghost use Rattle.std.specs.Prelude.{◌≡◌, ◌++◌, ◌∷◌, All, List, length, drop, OnOk, IfOk, IfSome, Some};
+ghost use Rattle.std.specs.Prelude.{◌≡◌, ◌++◌, ◌∷◌, ◌<◌, ◌≤◌, ◌^◌, All, List, length, drop, OnOk, IfOk, IfSome, Some};
+ghost use Rattle.choice_problem.specs.declared.problems.TheConstants.{MOST_UNITS};
 ghost use Rattle.capacity_windows.specs.Windows.{capacity_of, declared_resources};
 ghost use Rattle.series_model.specs.Units.{UnitFits};
 ghost use Rattle.series_model.specs.Stages.{AreStates, AreFitting, IsFeasibleChoice, GivenFits, after_stage, stage_units, stage_times};
 ghost use Rattle.series_model.specs.declared.state.UnitState.{UnitState as UnitStateValue};
 ghost use Rattle.wasg_stages.specs.StageProblems.{IsStageProblem};
 ghost use Rattle.report_lines.specs.Peaks.{AreEarlier};
-ghost use Rattle.season_report.specs.Rows.{allotted_reasons};
+ghost use Rattle.season_report.specs.Rows.{allotted_stage, allotted_reasons};
 ghost use Rattle.season_report.specs.Reports.{with_texts, stage_reasons, none_lines};
 ghost use Rattle.season_report.specs.Private.{IsToldStage, told_stage, IsOpen, AreAll, texts_of, first_reasons, place_after};
 
@@ -17,6 +18,7 @@ use crate::rows::put_unit_reasons;
 use crate::told::Tried;
 use choice_problem::{Choice, Problem};
 use report_lines::put_over;
+use season_days::Declaration;
 use series_model::{Submission, UnitState, is_due};
 use slot_text::Memory;
 use std::alloc::Global;
@@ -40,6 +42,7 @@ fn put_state_reasons(
     requires choice { IsFeasibleChoice tried.declaration.now tried.stage states.now choice.now }
     requires all { AreAll
         (told_stage tried states.now choice.now) counts.old }
+    requires few { place < 2 ^ 31 }
     requires at { (rest : List UnitStateValue) × (drop place (stage_units tried.stage states.now)
         ≡ stage_units tried.stage (state.now ∷ rest)) }
     ensures text { OnOk result (text.new.items ≡ text.old.items ++ first_reasons
@@ -79,6 +82,7 @@ fn put_reasons(
     requires all { AreAll
         (told_stage tried states.now choice.now) counts.old }
     requires count { length reasons.old ≡ length states.now }
+    requires few { length states.now ≤ MOST_UNITS }
     ensures texts { OnOk result (texts_of reasons.new ≡ with_texts (texts_of reasons.old)
         (allotted_reasons
         (told_stage tried states.now choice.now))) }
@@ -101,7 +105,28 @@ fn put_reasons(
     Ok(())
 }
 
-// The same, and then the loads have what the stage gave.
+// The counts of what a choice of a stage uses.
+fn count_taken(
+    alloc: Global,
+    declaration: &Declaration,
+    stage: u32,
+    problem: &Problem,
+    states: &[UnitState],
+    taken: &[u32],
+) -> Result<Counts, Memory>
+    requires problem { IsStageProblem declaration.now stage states.now problem.now }
+    requires choice { IsFeasibleChoice declaration.now stage states.now taken.now }
+    ensures { IfOk result
+        (λ counts. AreAll (allotted_stage declaration.now stage states.now taken.now) counts) }
+{
+    problem_choices();
+    let mut counts = no_counts(alloc, problem.resources())?;
+    add_choice(problem, taken, &mut counts);
+    Ok(counts)
+}
+
+// Appends the reasons of each unit of a stage to its text, and then the loads have what the stage
+// gave too.
 fn put_allotted(
     alloc: Global,
     reasons: &mut [Vec<u8>],
@@ -127,17 +152,18 @@ fn put_allotted(
     ensures given { OnOk result (AreEarlier submission.now.declaration
         (after_stage submission.now.declaration stage states.now (Some choice.now)) given.new) }
 {
-    problem_choices();
-    let mut counts = no_counts(alloc, problem.resources())?;
-    add_choice(problem, choice.items(), &mut counts);
+    let declaration = submission.declaration();
+    let windows = submission.windows();
+    let taken = choice.items();
+    let mut counts = count_taken(alloc, declaration, stage, problem, states, taken)?;
     let tried = Tried {
-        declaration: submission.declaration(),
-        windows: submission.windows(),
+        declaration,
+        windows,
         stage,
         problem,
         earlier: given,
     };
-    put_reasons(alloc, reasons, tried, states, choice.items(), &mut counts)?;
+    put_reasons(alloc, reasons, tried, states, taken, &mut counts)?;
     add_counts(given, &counts);
     Ok(())
 }
@@ -174,9 +200,15 @@ pub(crate) fn put_tried(
 {
     let problem = problem_after(alloc, submission, stage, states)?;
     match choice {
-        Some(choice) => put_allotted(
-            alloc, reasons, submission, stage, &problem, states, choice, given,
-        ),
-        None => put_over(alloc, out, submission, stage, states, &problem, given),
+        Some(choice) => {
+            put_allotted(
+                alloc, reasons, submission, stage, &problem, states, choice, given,
+            )?;
+            Ok(())
+        }
+        None => {
+            put_over(alloc, out, submission, stage, states, &problem, given)?;
+            Ok(())
+        }
     }
 }
