@@ -1,7 +1,8 @@
 -- The order of airlines, and one put into its place.
-use Rattle.std.proofs.Common.{◌≡◌, ℕ, zero, suc, ◌+◌, ◌<◌, ◌≤◌, inl, inr, Bool, true, false, ◌&&◌, refl, sym, ◌∙◌, ap, arith, List, [], ◌∷◌, ◌++◌, length, get_or, take, drop}
+use Rattle.std.proofs.Common.{◌≡◌, ℕ, zero, suc, ◌+◌, ◌<◌, ◌≤◌, inl, inr, Bool, true, false, ◌&&◌, refl, sym, ◌∙◌, ap, subst, arith, List, [], ◌∷◌, ◌++◌, length, get_or, take, drop}
 use Rattle.std.specs.Prelude.{All, IfSome, slice_get, nat_lt, ◌==◌, if◌then◌else◌}
 use Rattle.std.proofs.lemmas.Bool.{cases_eq, eq-eqb, ne_eqb, and_left, and_right, ltb-true, ltb-false, lt-ltb, le-ltb}
+use Rattle.std.proofs.lemmas.Option.{slice_get-get_or, slice_get_past}
 use Rattle.std.proofs.lemmas.List.Elements.{All-head, All-tail}
 use Rattle.series_model.specs.Submissions.{are_letters}
 use Rattle.season_report.specs.Tallies.{comes_before, with_airline}
@@ -86,3 +87,9 @@ airline_placed (other ∷ others) airline (suc at) d before next le apart =
     let P : List ℕ → Type 0 = λ (one : List ℕ). comes_before one airline ≡ true in
     later airline other others (All-head P other (take at others) before)
     ∙ ap (λ (rest : List (List ℕ)). other ∷ rest) (airline_placed others airline at d (All-tail P other (take at others) before) next (omega arith) (λ lt. apart (omega arith)))
+
+pub next_some : (airlines : List (List ℕ)) (airline : List ℕ) (at : ℕ) (d : List ℕ) → at < length airlines → comes_before (get_or airlines at d) airline ≡ false → IfSome (slice_get airlines at) (λ other. comes_before other airline ≡ false)
+next_some airlines airline at d lt later = subst (λ o. IfSome o (λ other. comes_before other airline ≡ false)) (sym (slice_get-get_or airlines at d lt)) later
+
+pub next_none : (airlines : List (List ℕ)) (airline : List ℕ) → IfSome (slice_get airlines (length airlines)) (λ other. comes_before other airline ≡ false)
+next_none airlines airline = subst (λ o. IfSome o (λ other. comes_before other airline ≡ false)) (sym (slice_get_past airlines (length airlines) (omega arith))) tt

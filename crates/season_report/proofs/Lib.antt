@@ -13,3 +13,4 @@ mod AirlineLemmas
 mod TallyLemmas
 mod FilterLemmas
 mod LoadLemmas
+mod ReportLemmas

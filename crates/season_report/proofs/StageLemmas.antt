@@ -3,12 +3,14 @@
 use Rattle.std.proofs.Common.{◌≡◌, ℕ, zero, suc, ◌+◌, ◌-◌, ◌<◌, ◌≤◌, Bool, true, false, refl, sym, ◌∙◌, ap, subst, arith, List, [], ◌∷◌, ◌++◌, length, get_or, take, drop, map}
 use Rattle.std.specs.Prelude.{Option, Some, None, All, IfSome, slice_get, slice_index, ◌^◌}
 use Rattle.std.specs.List.{AllByRecursion}
-use Rattle.std.proofs.lemmas.List.{append_assoc, drop_more}
+use Rattle.std.proofs.lemmas.List.{append-nil, append_assoc, drop_more, drop_all}
 use Rattle.std.proofs.lemmas.Option.{slice_get-get_or}
+use Rattle.season_days.specs.Term.{Term}
 use Rattle.season_days.specs.declared.declaration.Declaration.{Declaration}
 use Rattle.season_days.specs.declared.declaration.TheConstants.{HIGHEST_SHARE}
 use Rattle.season_days.specs.Capacity.{capacity_of, declared_resources, IsCapacity}
-use Rattle.capacity_windows.specs.Windows.{window_limit}
+use Rattle.capacity_windows.specs.Windows.{window_limit, window_load}
+use Rattle.capacity_windows.specs.declared.movement.Movement.{Movement}
 use Rattle.cert_format.specs.Spelling.{is_tried}
 use Rattle.cert_format.specs.Printable.{IsPrintableStage, IsPrintableAs}
 use Rattle.cert_format.specs.declared.cert.StageCert.{StageCert}
@@ -17,18 +19,20 @@ use Rattle.cert_format.specs.Choices.{choices_of}
 use Rattle.choice_problem.specs.Problems.{ProblemView, limit_of, resource_count}
 use Rattle.choice_problem.specs.Choices.{load_of}
 use Rattle.choice_problem.specs.Counts.{GrowsBy, HasRoom}
-use Rattle.window_counts.specs.Placed.{AreLoads}
+use Rattle.window_counts.specs.Placed.{AreLoads, AreZero}
+use Rattle.series_model.specs.declared.unit.Unit.{Unit as SlotUnit}
 use Rattle.series_model.specs.declared.state.UnitState.{UnitState}
 use Rattle.series_model.specs.declared.times.Times.{Times}
 use Rattle.series_model.specs.Allotments.{IsFeasibleAllotment, allotted_load}
 use Rattle.series_model.specs.Submissions.{SubmissionView}
-use Rattle.series_model.specs.Stages.{first_states, stage_units, stage_limit, stage_times, after_allotment, after_stage, GivenFits, IsFeasibleChoice, AreFeasibleFrom}
+use Rattle.series_model.specs.Stages.{movements_given, first_states, stage_units, stage_limit, stage_times, after_allotment, after_stage, GivenFits, IsFeasibleChoice, AreFeasibleFrom}
 use Rattle.report_lines.specs.Peaks.{AreEarlier, earlier_load}
 use Rattle.season_report.specs.declared.decided.Decided.{Decided}
 use Rattle.season_report.specs.Decisions.{states_before, season_decided}
 use Rattle.season_report.specs.Reports.{stage_line, tried_lines, stages_text, with_texts, stage_reasons, reasons_after}
 use Rattle.season_report.specs.Rows.{allotted_stage}
 use Rattle.season_report.specs.Private.{IsOpen, AreAll}
+use Rattle.season_report.proofs.StateLemmas.{OneMoreStage, choice_of_block, before_next}
 use Rattle.season_report.proofs.LawLemmas.{for_some, feasible_at}
 use Rattle.season_report.proofs.GivenLemmas.{load_after, limit_small, declared_small}
 
@@ -142,3 +146,39 @@ moved_all d e stage states x y counts after same list back all =
 pub moved_choice : (d e : Declaration) (stage : ℕ) (states : List UnitState) (x y : List ℕ) → d ≡ e → x ≡ y → IsFeasibleChoice e stage states y → IsFeasibleChoice d stage states x
 moved_choice d e stage states x y same list feasible =
     subst (λ (z : List ℕ). IsFeasibleChoice d stage states z) (sym list) (subst (λ (k : Declaration). IsFeasibleChoice k stage states y) (sym same) feasible)
+
+-- ---- before the first stage
+
+-- the law of the model
+abbrev pub NothingFirst : Type 0
+NothingFirst = (season : Term) (units : List SlotUnit) → movements_given season (first_states units) ≡ []
+
+pub first_earlier : NothingFirst → (d : Declaration) (units : List SlotUnit) (states : List UnitState) (loads : List ℕ) → states ≡ first_states units → length loads ≡ declared_resources (capacity_of d) → AreZero loads → AreEarlier d states loads
+first_earlier law d units states loads is long zeros r lt =
+    let nothing : earlier_load d states r ≡ 0 =
+    ap (λ (st : List UnitState). earlier_load d st r) is ∙ ap (λ (m : List Movement). window_load (capacity_of d) m r) (law d.season units) in
+    omega (arith, nothing, zeros r (omega (arith, lt, long)))
+
+pub first_fits : NothingFirst → (d : Declaration) (units : List SlotUnit) (states : List UnitState) → states ≡ first_states units → GivenFits d states
+first_fits law d units states is r lt =
+    let nothing : earlier_load d states r ≡ 0 =
+    ap (λ (st : List UnitState). earlier_load d st r) is ∙ ap (λ (m : List Movement). window_load (capacity_of d) m r) (law d.season units) in
+    omega (arith, nothing)
+
+-- one stage more
+pub states_next : OneMoreStage → (s : SubmissionView) (c : Certificate) (states after : List UnitState) (i stage : ℕ) (block : StageCert) → i < length c.stages → block ≡ get_or c.stages i block → stage ≡ i + 1 →
+    states ≡ states_before s c stage → after ≡ after_stage s.declaration stage states block.choice → after ≡ states_before s c (stage + 1)
+states_next more s c states after i stage block lt is number before made =
+    let same : i ≡ stage - 1 = omega (arith, number) in
+    let choice : get_or (choices_of c) (stage - 1) None ≡ block.choice = subst (λ (k : ℕ). get_or (choices_of c) k None ≡ block.choice) same (choice_of_block c i block lt is) in
+    made
+    ∙ ap (λ (st : List UnitState). after_stage s.declaration stage st block.choice) before
+    ∙ sym (before_next more s c stage block.choice (omega (arith, number)) (omega (arith, number, lt)) choice)
+
+-- no block is left
+pub text_end : (s : SubmissionView) (c : Certificate) (certs : List StageCert) (i stage : ℕ) (written whole : List ℕ) → length certs ≤ i → written ++ stages_text s c stage (drop i certs) ≡ whole → written ≡ whole
+text_end s c certs i stage written whole past so_far =
+    sym (append-nil written) ∙ ap (λ (t : List ℕ). written ++ t) (sym (ap (stages_text s c stage) (drop_all i certs past))) ∙ so_far
+
+pub reasons_end : (s : SubmissionView) (c : Certificate) (certs : List StageCert) (i stage : ℕ) (texts whole : List (List ℕ)) → length certs ≤ i → reasons_after s c stage texts (drop i certs) ≡ whole → texts ≡ whole
+reasons_end s c certs i stage texts whole past so_far = sym (ap (reasons_after s c stage texts) (drop_all i certs past)) ∙ so_far

@@ -1,6 +1,6 @@
 //! The airlines of units, each with its tally.
 
-ghost use Rattle.std.specs.Prelude.{◌≡◌, ◌++◌, ◌≤◌, length, filter, All, IfOk, OnOk, IfSome, slice_get, take, true, false};
+ghost use Rattle.std.specs.Prelude.{◌≡◌, ◌++◌, ◌<◌, ◌≤◌, [], length, slice_index_or, filter, All, IfOk, OnOk, IfSome, slice_get, take, true, false};
 ghost use Rattle.choice_problem.specs.declared.problems.TheConstants.{MOST_UNITS};
 ghost use Rattle.scr_reader.specs.Parts.{airline_text};
 ghost use Rattle.series_model.specs.Submissions.{are_letters};
@@ -69,12 +69,25 @@ fn place_of(airlines: &[Airline], airline: Airline) -> usize
     airlines.len()
 }
 
+// Whether an airline is the one at a place.
+fn is_there(airlines: &[Airline], at: usize, airline: Airline) -> bool
+    ensures within { result ≡ true → at < length airlines.now }
+    ensures same { result ≡ true → are_letters airline (slice_index_or airlines.now at []) ≡ true }
+    ensures apart { result ≡ false → at < length airlines.now →
+        are_letters airline (slice_index_or airlines.now at []) ≡ false }
+{
+    if at >= airlines.len() {
+        return false;
+    }
+    are_same(airline, airlines[at])
+}
+
 // Puts an airline into its place among others, unless it is there.
 fn add_airline(airlines: &mut Vec<Airline>, airline: Airline) -> Result<(), Memory>
     ensures { OnOk result (airlines.new.items ≡ with_airline airlines.old.items airline) }
 {
     let at = place_of(airlines, airline);
-    if at < airlines.len() && are_same(airline, airlines[at]) {
+    if is_there(airlines, at, airline) {
         return Ok(());
     }
     airlines.insert(at, airline)?;

@@ -70,11 +70,22 @@ pub(crate) fn take_alt(problem: &Problem, unit: u32, alt: u32, counts: &mut Coun
     take_named(problem, unit, chosen.two, counts);
 }
 
+/// Loads of 0, one for each resource.
+pub(crate) fn no_loads(alloc: Global, resources: u32) -> Result<Vec<u32>, Memory>
+    ensures count { IfOk result (λ loads. length loads.items ≡ resources) }
+    ensures zeros { IfOk result (λ loads. AreZero loads.items) }
+{
+    let loads = vec![in alloc; 0; resources as usize]?;
+    Ok(loads)
+}
+
 /// Counts of 0, one for each resource.
 pub(crate) fn no_counts(alloc: Global, resources: u32) -> Result<Counts, Memory>
-    ensures { IfOk result (λ counts. (length counts ≡ resources) × AreZero counts) }
+    ensures count { IfOk result (λ counts. length counts ≡ resources) }
+    ensures zeros { IfOk result (λ counts. AreZero counts) }
 {
-    Ok(Counts::with(vec![in alloc; 0; resources as usize]?))
+    let loads = no_loads(alloc, resources)?;
+    Ok(Counts::with(loads))
 }
 
 /// Adds counts to loads, resource by resource.

@@ -1,13 +1,18 @@
 //! The report.
 
-ghost use Rattle.std.specs.Prelude.{◌≡◌, [], map, IfOk};
+ghost use Rattle.std.specs.Prelude.{◌≡◌, ◌++◌, ◌≤◌, [], map, length, All, IfOk, OnOk};
+ghost use Rattle.choice_problem.specs.declared.problems.TheConstants.{MOST_UNITS};
+ghost use Rattle.capacity_windows.specs.Windows.{capacity_of, declared_resources};
+ghost use Rattle.window_counts.specs.Placed.{AreZero};
 ghost use Rattle.series_model.specs.declared.unit.Unit.{Unit as SlotUnit};
 ghost use Rattle.wasg_stages.specs.Valid.{IsValid};
+ghost use Rattle.season_report.specs.Decisions.{season_decided};
 ghost use Rattle.season_report.specs.Reports.{report_text, season_tally};
-ghost use Rattle.season_report.specs.Private.{texts_of};
+ghost use Rattle.season_report.specs.Private.{IsTold, texts_of};
 
 use crate::airlines::put_airlines;
-use crate::decided::season_decided;
+use crate::decided::{Decided, season_decided};
+use crate::loads::no_loads;
 use crate::stages::put_stages;
 use crate::tallies::{put_tally, tally_of};
 use crate::units::put_units;
@@ -26,6 +31,38 @@ fn no_texts(alloc: Global, units: &[Unit]) -> Result<Vec<Vec<u8>>, Memory>
         texts.push(Vec::new(alloc))?;
     }
     Ok(texts)
+}
+
+// Appends the report. The texts of units are empty before, and the loads are 0.
+fn put_report(
+    alloc: Global,
+    out: &mut Vec<u8>,
+    reasons: &mut [Vec<u8>],
+    given: &mut [u32],
+    submission: &Submission,
+    certificate: &Certificate,
+    units: &[Decided],
+) -> Result<(), Memory>
+    requires valid { IsValid submission.now certificate.now }
+    requires units { units.now ≡ season_decided submission.now certificate.now }
+    requires told { All (IsTold submission.now.declaration) units.now }
+    requires few { length units.now ≤ MOST_UNITS }
+    requires all { length units.now ≡ length submission.now.units }
+    requires texts { texts_of reasons.old ≡ map (λ (unit : SlotUnit). []) submission.now.units }
+    requires loads { length given.old ≡ declared_resources (capacity_of submission.now.declaration) }
+    requires zeros { AreZero given.old }
+    ensures { OnOk result
+        (out.new.items ≡ out.old.items ++ report_text submission.now certificate.now) }
+{
+    let declaration = submission.declaration();
+    let windows = submission.windows();
+    put_head(alloc, out, declaration)?;
+    put_stages(alloc, out, reasons, submission, certificate, units, given)?;
+    put_airlines(alloc, out, declaration, units)?;
+    put_units(alloc, out, declaration, units, reasons)?;
+    put_profile(alloc, out, declaration, windows, given)?;
+    put(out, b"END\n")?;
+    Ok(())
 }
 
 /// The report on a valid certificate, as text: what was declared; each stage with its mark and a
@@ -47,23 +84,19 @@ pub fn report_text(
     requires { IsValid submission.now certificate.now }
     ensures { IfOk result (λ text. text.items ≡ report_text submission.now certificate.now) }
 {
-    let declaration = submission.declaration();
     let units = season_decided(alloc, submission, certificate)?;
     let mut reasons = no_texts(alloc, submission.units())?;
+    let mut given = no_loads(alloc, submission.windows().resources())?;
     let mut out = Vec::new(alloc);
-    put_head(alloc, &mut out, declaration)?;
-    let given = put_stages(
+    put_report(
         alloc,
         &mut out,
         &mut reasons,
+        &mut given,
         submission,
         certificate,
         &units,
     )?;
-    put_airlines(alloc, &mut out, declaration, &units)?;
-    put_units(alloc, &mut out, declaration, &units, &reasons)?;
-    put_profile(alloc, &mut out, declaration, submission.windows(), &given)?;
-    put(&mut out, b"END\n")?;
     Ok(out)
 }
 

@@ -1,9 +1,10 @@
 //! The lines of stages.
 
-ghost use Rattle.std.specs.Prelude.{◌≡◌, ◌++◌, ◌≤◌, false, length, All, OnOk, IfOk, IfSome, None};
+ghost use Rattle.std.specs.Prelude.{◌≡◌, ◌++◌, ◌≤◌, false, length, All, OnOk, IfSome, None};
 ghost use Rattle.choice_problem.specs.declared.problems.TheConstants.{MOST_UNITS};
 ghost use Rattle.capacity_windows.specs.Windows.{capacity_of, declared_resources};
 ghost use Rattle.cert_format.specs.Spelling.{is_tried};
+ghost use Rattle.window_counts.specs.Placed.{AreZero};
 ghost use Rattle.series_model.specs.Stages.{AreStates, GivenFits, IsFeasibleChoice, after_stage};
 ghost use Rattle.wasg_stages.specs.Valid.{IsValid};
 ghost use Rattle.report_lines.specs.Peaks.{AreEarlier};
@@ -137,8 +138,8 @@ fn put_stage(
     Ok(())
 }
 
-/// Appends what is told of each stage, and to the text of each unit its reasons, stage by stage. The
-/// result is the load of each resource by all that the stages gave.
+/// Appends what is told of each stage, and to the text of each unit its reasons, stage by stage; the
+/// loads, all 0 before, then have all that the stages gave.
 ///
 /// Beside the texts one stage's problem is kept at a time. The time is that of
 /// `wasg_stages::problem_after` for each stage, and that of the lines.
@@ -149,35 +150,36 @@ pub(crate) fn put_stages(
     submission: &Submission,
     cert: &Certificate,
     units: &[Decided],
-) -> Result<Vec<u32>, Memory>
+    given: &mut [u32],
+) -> Result<(), Memory>
     requires valid { IsValid submission.now cert.now }
     requires units { units.now ≡ season_decided submission.now cert.now }
     requires told { All (IsTold submission.now.declaration) units.now }
     requires few { length units.now ≤ MOST_UNITS }
     requires count { length reasons.old ≡ length submission.now.units }
+    requires loads { length given.old ≡ declared_resources (capacity_of submission.now.declaration) }
+    requires zeros { AreZero given.old }
     ensures text { OnOk result (out.new.items
         ≡ out.old.items ++ stages_text submission.now cert.now 1 cert.now.stages) }
     ensures reasons { OnOk result (texts_of reasons.new
         ≡ reasons_after submission.now cert.now 1 (texts_of reasons.old) cert.now.stages) }
-    ensures count { length reasons.new ≡ length reasons.old }
-    ensures loads { IfOk result (λ given.
-        length given.items ≡ declared_resources (capacity_of submission.now.declaration)) }
-    ensures given { IfOk result (λ given. AreEarlier submission.now.declaration
-        (states_before submission.now cert.now 5) given.items) }
+    ensures count { OnOk result (length reasons.new ≡ length reasons.old) }
+    ensures loads { OnOk result (length given.new ≡ length given.old) }
+    ensures given { OnOk result (AreEarlier submission.now.declaration
+        (states_before submission.now cert.now 5) given.new) }
 {
     valid_choices();
     feasible_fits();
     one_more_stage();
-    let resources = submission.windows().resources() as usize;
-    let mut given = vec![in alloc; 0; resources]?;
+    let _keeps = submission.declaration();
     let mut states = states_of(alloc, submission)?;
     let mut stage = 1;
     for block in cert.stages.items() {
         put_stage(
-            alloc, out, reasons, submission, units, stage, &states, block, &mut given,
+            alloc, out, reasons, submission, units, stage, &states, block, given,
         )?;
         states = after_stage(alloc, submission, stage, states, &block.choice)?;
         stage += 1;
     }
-    Ok(given)
+    Ok(())
 }

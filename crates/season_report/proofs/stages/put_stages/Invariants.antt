@@ -15,10 +15,10 @@ invariant-loop-block l = record {
   fit : AreStates l.submission l.states.items;
   fresh : All (IsOpen l.stage) l.states.items;
   fits : GivenFits l.submission.declaration l.states.items;
-  text : l.out.items ++ stages_text l.submission l.cert l.stage (drop l.block-index l.cert.stages) ≡ l.initial.out.items ++ stages_text l.submission l.cert 1 l.cert.stages;
-  reasons : reasons_after l.submission l.cert l.stage (texts_of l.reasons) (drop l.block-index l.cert.stages) ≡ reasons_after l.submission l.cert 1 (texts_of l.initial.reasons) l.cert.stages;
-  count : length l.reasons ≡ length l.initial.reasons;
+  text : l.out.items ++ stages_text l.submission l.cert l.stage (drop l.block-index l.cert.stages) ≡ l.fn.out.items ++ stages_text l.submission l.cert 1 l.cert.stages;
+  reasons : reasons_after l.submission l.cert l.stage (texts_of l.reasons) (drop l.block-index l.cert.stages) ≡ reasons_after l.submission l.cert 1 (texts_of l.fn.reasons) l.cert.stages;
+  count : length l.reasons ≡ length l.fn.reasons;
   units : length l.states.items ≡ length l.submission.units;
-  loads : length l.given.items ≡ declared_resources (capacity_of l.submission.declaration);
-  earlier : AreEarlier l.submission.declaration l.states.items l.given.items;
+  loads : length l.given ≡ length l.fn.given;
+  earlier : AreEarlier l.submission.declaration l.states.items l.given;
 }
