@@ -1,5 +1,5 @@
 -- Why a text is no list of messages, and why messages make no submission.
-use Rattle.std.specs.Prelude.{◌≡◌, ◌≢◌, ◌⊎◌, ℕ, zero, suc, ◌+◌, ◌-◌, ◌≤◌, ◌==◌, ◌&&◌, ◌||◌, not, Bool, true, false, if◌then◌else◌, List, [], ◌∷◌, ◌++◌, length, Option, Some, None, slice_get, IsSomeAnd, option_map, is_some}
+use Rattle.std.specs.Prelude.{◌≡◌, ◌≢◌, ◌⊎◌, ℕ, zero, suc, ◌+◌, ◌-◌, ◌≤◌, ◌==◌, ◌&&◌, ◌||◌, not, Bool, true, false, if◌then◌else◌, List, [], ◌∷◌, ◌++◌, length, Option, Some, None, slice_get, IsSomeAnd, option_map, is_some, Result, Ok, Err}
 use Rattle.slot_text.specs.Lines.{lines_of}
 use Rattle.slot_text.specs.Fields.{is_blank_line, begins_in_field, field_at}
 use Rattle.slot_text.specs.declared.station.Station.{Station}
@@ -11,12 +11,17 @@ use Rattle.schedule_text.specs.Times.{two_digits}
 use Rattle.scr_reader.specs.Messages.{begins_with_slash, ReadsAll}
 use Rattle.scr_reader.specs.Parts.{code_of, date_text, IsDepartureGroup, IsNights}
 use Rattle.scr_reader.specs.Rows.{trimmed, line_fields, is_question}
-use Rattle.scr_reader.specs.Shapes.{Shape, turnaround, Part, code_and_flight, code_alone, departing_flight, dates, weekdays, seats_and_craft, arrival_group, departure_group, departure_group_with_nights, arrival_service, departure_service, both_services, shape_of, parts_of}
+use Rattle.scr_reader.specs.Shapes.{Shape, arrival, departure, turnaround, Part, code_and_flight, code_alone, departing_flight, dates, weekdays, seats_and_craft, arrival_group, departure_group, departure_group_with_nights, arrival_service, departure_service, both_services, shape_of, parts_of}
 use Rattle.scr_reader.specs.declared.fault.ScrFault.{ScrFault}
 use Rattle.scr_reader.specs.declared.fault.ScrFault.TheVariants as message_faults
 use Rattle.series_model.specs.declared.fault.ModelFault.{ModelFault}
 use Rattle.series_model.specs.declared.fault.ModelFault.TheVariants as model_faults
 use Rattle.fault_causes.specs.Capacities.{LineIs}
+use Rattle.season_days.specs.declared.day.Day.{Day}
+use Rattle.season_days.specs.declared.day.DayFault.{DayFault}
+use Rattle.season_days.specs.declared.day.DayFault.TheVariants as day_faults
+use Rattle.fault_causes.specs.declared.shape.Movements.{Movements}
+use Rattle.fault_causes.specs.declared.shape.Movements.TheVariants as movements
 use Rattle.fault_causes.specs.declared.cause.HeaderName.{HeaderName}
 use Rattle.fault_causes.specs.declared.cause.HeaderName.TheVariants as headers
 use Rattle.fault_causes.specs.declared.cause.FieldName.{FieldName}
@@ -76,6 +81,12 @@ header_name above address = line_of_header (if address then above - 1 else above
 
 -- ---- fields
 
+-- the movements of a shape, as the code has them
+abbrev pub shape_named : Movements → Shape
+shape_named movements.Arrival = arrival
+shape_named movements.Departure = departure
+shape_named movements.Both = turnaround
+
 -- a first field with a code and a flight: the code is bad where its first byte is none
 abbrev pub first_name_of : List ℕ → FieldName
 first_name_of [] = fields.Code
@@ -102,6 +113,18 @@ first_of (first ∷ rest) = first
 -- two digits and the name of a month, whatever date they name
 abbrev pub HasDateForm : List ℕ → ℕ → ℕ → Type 0
 HasDateForm text month day = (1 ≤ month) × (month ≤ 12) × (day ≤ 99) × (text ≡ date_text month day)
+
+-- the day of the season that a date names, or why it names none; None where the text has not the form
+-- of a date
+abbrev pub IsDateReading : Term → List ℕ → Option (Result Day DayFault) → Type 0
+IsDateReading season text None = (month day : ℕ) → HasDateForm text month day → ⊥
+IsDateReading season text (Some (Ok found)) =
+    (month day : ℕ) × HasDateForm text month day × IsDayNamed season month day found.0
+IsDateReading season text (Some (Err day_faults.NoSuchDate)) =
+    (month day : ℕ) × HasDateForm text month day × ¬ (NamesDate season month day)
+IsDateReading season text (Some (Err fault)) =
+    (month day : ℕ) × HasDateForm text month day × NamesDate season month day
+    × ((found : ℕ) → IsDayNamed season month day found → ⊥)
 
 -- one date or two
 pub record HasDatesForm (text : List ℕ) (months days : ℕ × ℕ) : Type 0 where

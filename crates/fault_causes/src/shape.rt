@@ -1,12 +1,12 @@
 //! The fields of a line of a message: what each is for, and what is wrong with one.
 
-ghost use Rattle.std.specs.Prelude.{◌≡◌, ◌↔◌, IsTrue, Option, Some, slice_get};
-ghost use Rattle.slot_text.specs.Fields.{fields_of};
-ghost use Rattle.season_days.specs.Seasons.{IsDayNamed};
+ghost use Rattle.std.specs.Prelude.{◌≡◌, ◌≢◌, ◌↔◌, ◌≤◌, ℕ, [], IsTrue, IfSome, Option, Some, not};
+ghost use Rattle.slot_text.specs.Fields.{begins_in_field, fields_of};
+ghost use Rattle.slot_text.specs.declared.station.Station.{Station as StationValue};
 ghost use Rattle.scr_reader.specs.Bytes.{is_letter, is_letter_or_digit};
-ghost use Rattle.scr_reader.specs.Parts.{begins_with_flight};
-ghost use Rattle.scr_reader.specs.Shapes.{Part, Shape, arrival, departure, turnaround, shape_of};
-ghost use Rattle.fault_causes.specs.Requests.{first_name_of, first_of, named_part, IsPeriodFlaw, IsNamedFlaw, IsGroup};
+ghost use Rattle.scr_reader.specs.Parts.{begins_with_flight, month_text, StationsFit, stations_text};
+ghost use Rattle.scr_reader.specs.Shapes.{shape_of};
+ghost use Rattle.fault_causes.specs.Requests.{shape_named, first_name_of, first_of, named_part, IsDateReading, IsPeriodFlaw, IsNamedFlaw, IsGroup};
 
 use crate::cause::{FieldName, Flaw};
 use schedule_text::{read_time, read_two_digits, read_weekdays};
@@ -52,7 +52,9 @@ fn begins_with_flight(text: &[u8]) -> bool
 }
 
 /// The movements of a line.
-pub(crate) fn movements_in(line: &[u8]) -> Movements {
+pub(crate) fn movements_in(line: &[u8]) -> Movements
+    ensures { shape_named result ≡ shape_of (fields_of line.now) }
+{
     match field(line, 1) {
         Some(first) if first.len() == 1 => Movements::Departure,
         _ => match field(line, 2) {
@@ -102,7 +104,12 @@ pub(crate) fn name_at(line: &[u8], number: u32) -> Option<FieldName>
 }
 
 // The month of a name.
-fn read_month(text: &[u8]) -> Option<u8> {
+fn read_month(text: &[u8]) -> Option<u8>
+    ensures found { IfSome result (λ month. (1 ≤ month) × (month ≤ 12)
+        × (text.now ≡ month_text month)) }
+    ensures only { (month : ℕ) → 1 ≤ month → month ≤ 12 → text.now ≡ month_text month →
+        result ≡ Some month }
+{
     let names: [&[u8]; 12] = [
         b"JAN", b"FEB", b"MAR", b"APR", b"MAY", b"JUN", b"JUL", b"AUG", b"SEP", b"OCT", b"NOV",
         b"DEC",
@@ -112,7 +119,9 @@ fn read_month(text: &[u8]) -> Option<u8> {
 }
 
 // The day of the season that five bytes name, where they have the form of a date.
-fn read_date(season: &Season, text: &[u8]) -> Option<Result<Day, DayFault>> {
+fn read_date(season: &Season, text: &[u8]) -> Option<Result<Day, DayFault>>
+    ensures { IsDateReading season.now text.now result }
+{
     if text.len() != 5 {
         return None;
     }
@@ -140,7 +149,10 @@ fn period_flaw(season: &Season, text: &[u8]) -> Flaw
 }
 
 // Whether a text is one station or two.
-fn are_stations(text: &[u8]) -> bool {
+fn are_stations(text: &[u8]) -> bool
+    ensures { IsTrue result ↔ ((near : StationValue) × (far : Option StationValue)
+        × StationsFit near far × (text.now ≡ stations_text near far)) }
+{
     match text.len() {
         3 => Station::read(text).is_some(),
         6 => {
@@ -181,7 +193,10 @@ pub(crate) fn part_flaw(season: &Season, line: &[u8], name: FieldName, text: &[u
 }
 
 /// Whether a line begins with a blank.
-pub(crate) fn begins_with_blank(line: &[u8]) -> bool {
+pub(crate) fn begins_with_blank(line: &[u8]) -> bool
+    requires { line.now ≢ [] }
+    ensures { result ≡ not (begins_in_field line.now) }
+{
     match line {
         [first, ..] => is_blank_byte(*first),
         [] => false,

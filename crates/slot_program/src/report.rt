@@ -1,7 +1,6 @@
 //! The report on a certificate: why each series was given what it was given.
 
 ghost use Rattle.std.specs.Prelude.{◌≡◌, ◌∷◌, [], IfOk, IfErr};
-ghost use Rattle.std.specs.String.{string_bytes};
 ghost use Rattle.desk_outside.specs.Files.{ChangesOnly};
 ghost use Rattle.wasg_stages.specs.Valid.{IsValid};
 ghost use Rattle.command_words.specs.declared.job.Job.TheVariants.{Report as ReportJob};
@@ -28,7 +27,7 @@ use std::alloc::Global;
 struct ReportOutput {
     report: Vec<u8>,
     page: Vec<u8>,
-    text: String,
+    text: Vec<u8>,
 }
 
 /// Reads a season and a certificate of it, which is valid, and writes the report on it and then the
@@ -54,7 +53,7 @@ pub(crate) fn report<C: Cabinet>(
     write_two(names, 3, &output.report, &output.page, cabinet)?;
     Ok(Answer {
         status: 0,
-        text: output.text.into_bytes(),
+        text: output.text,
     })
 }
 
@@ -66,7 +65,7 @@ fn report_output(
 ) -> Result<ReportOutput, Memory>
     requires { IsValid submission.now certificate.now }
     ensures { IfOk result (λ output. IsReported submission.now certificate.now
-        output.report.items output.page.items (string_bytes output.text)) }
+        output.report.items output.page.items output.text.items) }
 {
     let text = season_tally(alloc, submission, certificate)?;
     let report = report_text(alloc, submission, certificate)?;

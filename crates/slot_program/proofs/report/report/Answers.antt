@@ -1,6 +1,5 @@
 use Rattle.std.proofs.Common.{[], ◌∷◌, ℕ, List, refl}
 use Rattle.std.proofs.lemmas.Result.{err_from_is_err_and}
-use Rattle.std.specs.String.{string_bytes}
 use Rattle.command_words.specs.declared.job.Job.TheVariants.{Report}
 use Rattle.command_words.specs.Words.{Word}
 use Rattle.slot_program.specs.Jobs.{name_at, certificate_steps, check_steps, two_files, IsReport}
@@ -67,7 +66,7 @@ returns-in_err-write_two-clause-stop g c =
     let s = c.in_ok-submission.ensures.found in
     let f = c.in_ok-certificate.ensures.found w (check_steps names) [] s.0 s.1 s.2 (s.3 (certificate_steps names [])) in
     let out = c.in_ok-output.output in
-    let work : IsReport names s.0.bytes s.1.bytes f.0.bytes (two_files names 3 out.report.items out.page.items) 0 (string_bytes out.text) =
+    let work : IsReport names s.0.bytes s.1.bytes f.0.bytes (two_files names 3 out.report.items out.page.items) 0 out.text.items =
     record {
       season = c.in_ok-submission.submission;
       proved = c.in_ok-certificate.certificate;
@@ -83,7 +82,7 @@ returns-in_err-write_two-clause-stop g c =
     let one = c.deref.ensures.value in
     let two = c.deref-2.ensures.value in
     let p = err_from_is_err_and c.from_residual-in_err-write_two.result c.from_residual-in_err-write_two.ensures.1 in
-    rw (p.1, p.2) (λ o. c.in_err-write_two.ensures.stop (Report names) w (still o) (s.0 ∷ s.1 ∷ f.0 ∷ []) 0 (string_bytes out.text) refl f.2
+    rw (p.1, p.2) (λ o. c.in_err-write_two.ensures.stop (Report names) w (still o) (s.0 ∷ s.1 ∷ f.0 ∷ []) 0 out.text.items refl f.2
     (refl, rw (one, two) work))
 
 pub returns-in_err-write_two-clause-others : goal.returns-in_err-write_two-clause-others
@@ -103,7 +102,7 @@ returns-clause-done g c =
     let s = c.in_ok-submission.ensures.found in
     let f = c.in_ok-certificate.ensures.found w (check_steps names) [] s.0 s.1 s.2 (s.3 (certificate_steps names [])) in
     let out = c.in_ok-output.output in
-    let work : IsReport names s.0.bytes s.1.bytes f.0.bytes (two_files names 3 out.report.items out.page.items) 0 (string_bytes out.text) =
+    let work : IsReport names s.0.bytes s.1.bytes f.0.bytes (two_files names 3 out.report.items out.page.items) 0 out.text.items =
     record {
       season = c.in_ok-submission.submission;
       proved = c.in_ok-certificate.certificate;
@@ -118,8 +117,8 @@ returns-clause-done g c =
     } in
     let one = c.deref.ensures.value in
     let two = c.deref-2.ensures.value in
-    λ o. rw c.into_bytes.ensures.value (c.in_ok-write_two.ensures.done (Report names) w (still o) (s.0 ∷ s.1 ∷ f.0 ∷ []) 0 (string_bytes out.text) refl f.2
-    (refl, rw (one, two) work))
+    λ o. c.in_ok-write_two.ensures.done (Report names) w (still o) (s.0 ∷ s.1 ∷ f.0 ∷ []) 0 out.text.items refl f.2
+    (refl, rw (one, two) work)
 
 pub returns-clause-others : goal.returns-clause-others
 returns-clause-others g c =
