@@ -5,6 +5,7 @@
 mod capacity;
 mod cause;
 mod form;
+pub mod laws;
 mod requests;
 mod seasons;
 mod shape;

@@ -25,16 +25,17 @@ use crate::files::{LONGEST_FILE, read_file};
 use crate::season::{capacity_stop, message_stop, submission_stop};
 use crate::stop::{Answer, Stop};
 use capacity_file::laws::one_answer;
-use capacity_file::read_capacity;
+use capacity_file::{CapFault, read_capacity};
 use command_words::NameList;
 use desk_outside::Cabinet;
+use fault_causes::laws::one_cause;
 use fault_causes::{Cause, capacity_cause, message_cause, submission_cause};
 use report_lines::{demand_lines, over_lines, put, put_tagged};
 use scr_reader::laws::{one_reading, read_lines_fit};
-use scr_reader::{MessageList, read_all};
+use scr_reader::{MessageList, ScrFault, read_all};
 use season_days::Declaration;
 use series_model::laws::read_messages;
-use series_model::{Group, Submission, Unit, line_times, movements_of};
+use series_model::{Group, ModelFault, Submission, Unit, line_times, movements_of};
 use slot_text::Memory;
 use std::alloc::Global;
 
@@ -83,8 +84,10 @@ fn judge_capacity(alloc: Global, place: usize, bytes: &[u8]) -> Result<Declarati
         (record { name = name_at names place; bytes = bytes.now } ∷ rest) stop) }
 {
     one_answer();
+    one_cause();
     match read_capacity(alloc, bytes) {
         Ok(declaration) => Ok(declaration),
+        Err(CapFault::Memory) => Err(Stop::Memory),
         Err(fault) => Err(with_cause(
             capacity_stop(place, bytes, fault),
             capacity_cause(bytes, fault),
@@ -112,11 +115,13 @@ fn judge_requests(
         (capacity ∷ record { name = name_at names place; bytes = bytes.now } ∷ rest) stop) }
 {
     one_answer();
+    one_cause();
     one_reading();
     read_messages();
     read_lines_fit();
     match read_all(alloc, bytes) {
         Ok(messages) => make_submission(alloc, place, declaration, messages, bytes),
+        Err(ScrFault::Memory) => Err(Stop::Memory),
         Err(fault) => Err(with_cause(message_stop(place, fault), message_cause(bytes, fault))),
     }
 }
@@ -145,6 +150,7 @@ fn make_submission(
 {
     match Submission::make(alloc, declaration, messages) {
         Ok(submission) => Ok(submission),
+        Err(ModelFault::Memory) => Err(Stop::Memory),
         Err(fault) => Err(with_cause(
             submission_stop(place, fault),
             submission_cause(bytes, fault),
