@@ -1,9 +1,9 @@
 -- What is shown of a text, and digits: printed ASCII without the bytes of markup.
 use Rattle.std.specs.Prelude.{nat_le}
-use Rattle.std.proofs.Common.{◌≢◌, ℕ, ◌+◌, ◌%◌, ◌^◌, ◌<◌, ◌≤◌, eqb, ◌&&◌, List, [], ◌∷◌, ◌++◌, arith, rules, inl, inr}
+use Rattle.std.proofs.Common.{◌≡◌, ◌≢◌, ℕ, ◌+◌, ◌%◌, ◌^◌, ◌<◌, ◌≤◌, Bool, true, not, eqb, ◌&&◌, List, [], ◌∷◌, ◌++◌, refl, codes, arith, inl, inr}
 use Rattle.std.specs.Fmt.{decimal}
 use Rattle.std.proofs.lemmas.Fmt.{decimal_by_steps}
-use Rattle.std.proofs.lemmas.Bool.{cases_Bool, ne_eqb, eqb-false, leb-true, and_parts}
+use Rattle.std.proofs.lemmas.Bool.{cases_Bool, ne_eqb, eqb-false, leb-true, not-true, and_parts}
 use Rattle.report_page.specs.Filled.{shown_byte, escaped, next_number, number_from, minute_of}
 use Rattle.report_page.specs.Laws.{IsPlain}
 
@@ -15,26 +15,49 @@ IsPlain-append (c ∷ a) b x y = (x.0, x.1, x.2, x.3, x.4, x.5, IsPlain-append a
 plain_byte : (b : ℕ) → 32 ≤ b → b ≤ 126 → b ≢ 60 → b ≢ 62 → b ≢ 34 → b ≢ 39 → IsPlain (b ∷ [])
 plain_byte b low high lt gt quote tick = (low, high, lt, gt, quote, tick, tt)
 
+-- a text by a test
+abbrev plain_test : ℕ → Bool
+plain_test b =
+    (nat_le 32 b && nat_le b 126) && ((not (eqb b 60) && not (eqb b 62)) && (not (eqb b 34) && not (eqb b 39)))
+
+abbrev is_plain : List ℕ → Bool
+is_plain [] = true
+is_plain (b ∷ text) = plain_test b && is_plain text
+
+not_equal : (b n : ℕ) → not (eqb b n) ≡ true → b ≢ n
+not_equal b n h = eqb-false b n (not-true (eqb b n) h)
+
+plain_by_test : (text : List ℕ) → is_plain text ≡ true → IsPlain text
+plain_by_test [] h = tt
+plain_by_test (b ∷ text) h =
+    let parts = and_parts (plain_test b) (is_plain text) h in
+    let all = and_parts (nat_le 32 b && nat_le b 126) ((not (eqb b 60) && not (eqb b 62)) && (not (eqb b 34) && not (eqb b 39))) parts.0 in
+    let printed = and_parts (nat_le 32 b) (nat_le b 126) all.0 in
+    let four = and_parts (not (eqb b 60) && not (eqb b 62)) (not (eqb b 34) && not (eqb b 39)) all.1 in
+    let tags = and_parts (not (eqb b 60)) (not (eqb b 62)) four.0 in
+    let quotes = and_parts (not (eqb b 34)) (not (eqb b 39)) four.1 in
+    (leb-true 32 b printed.0, leb-true b 126 printed.1, not_equal b 60 tags.0, not_equal b 62 tags.1, not_equal b 34 quotes.0, not_equal b 39 quotes.1, plain_by_test text parts.1)
+
 shown_last : (b : ℕ) → b ≢ 38 → b ≢ 60 → b ≢ 62 → b ≢ 34 → b ≢ 39 → IsPlain (shown_byte b)
 shown_last b amp lt gt quote tick =
     rw (ne_eqb b 38 amp, ne_eqb b 60 lt, ne_eqb b 62 gt, ne_eqb b 34 quote, ne_eqb b 39 tick)
     (elim (cases_Bool (nat_le 32 b && nat_le b 126)) [
       | inl printed ↦ rw printed (plain_byte b (leb-true 32 b (and_parts _ _ printed).0) (leb-true b 126 (and_parts _ _ printed).1) lt gt quote tick)
-      | inr not_printed ↦ rw not_printed (plain_byte 63 (omega arith) (omega arith) (omega arith) (omega arith) (omega arith) (omega arith))
+      | inr not_printed ↦ rw not_printed (plain_by_test (codes "?") refl)
     ])
 
 pub shown_plain : (b : ℕ) → IsPlain (shown_byte b)
 shown_plain b =
     elim (cases_Bool (eqb b 38)) [
-      | inl amp ↦ rw amp (search rules)
+      | inl amp ↦ rw amp (plain_by_test (codes "&amp;") refl)
       | inr no_amp ↦ elim (cases_Bool (eqb b 60)) [
-        | inl lt ↦ rw (no_amp, lt) (search rules)
+        | inl lt ↦ rw (no_amp, lt) (plain_by_test (codes "&lt;") refl)
         | inr no_lt ↦ elim (cases_Bool (eqb b 62)) [
-          | inl gt ↦ rw (no_amp, no_lt, gt) (search rules)
+          | inl gt ↦ rw (no_amp, no_lt, gt) (plain_by_test (codes "&gt;") refl)
           | inr no_gt ↦ elim (cases_Bool (eqb b 34)) [
-            | inl quote ↦ rw (no_amp, no_lt, no_gt, quote) (search rules)
+            | inl quote ↦ rw (no_amp, no_lt, no_gt, quote) (plain_by_test (codes "&quot;") refl)
             | inr no_quote ↦ elim (cases_Bool (eqb b 39)) [
-              | inl tick ↦ rw (no_amp, no_lt, no_gt, no_quote, tick) (search rules)
+              | inl tick ↦ rw (no_amp, no_lt, no_gt, no_quote, tick) (plain_by_test (codes "&#39;") refl)
               | inr no_tick ↦ shown_last b (eqb-false b 38 no_amp) (eqb-false b 60 no_lt) (eqb-false b 62 no_gt) (eqb-false b 34 no_quote) (eqb-false b 39 no_tick)
             ]
           ]
