@@ -146,8 +146,11 @@ fn two_workers_keep_one_journal(rt: HostRuntime) -> Result<(), Fail> {
 /// The header, and an open slot of caller 0 with this text and a closed gate behind it.
 fn one_slot(alloc: Global, text: &str) -> Result<Vec<u8>, Fail> {
     let text = spelled_out(alloc, text)?;
+    let Ok(size) = u8::try_from(text.len()) else {
+        return Err("too long".into());
+    };
     let mut file = spelled_out(alloc, "SLOT JOURNAL 01;")?;
-    for byte in [1, 0, text.len() as u8] {
+    for byte in [1, 0, size] {
         file.push(byte)?;
     }
     for byte in &text {
