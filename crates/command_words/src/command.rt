@@ -6,9 +6,10 @@ ghost use Rattle.clap.specs.declared.builder.command.Command.TheViews.{out-Comma
 ghost use Rattle.command_words.specs.Words.{words_of};
 ghost use Rattle.command_words.specs.Jobs.{allocate_command, check_command};
 ghost use Rattle.command_words.specs.Jobs.{amend_command, serve_command, resume_command};
-ghost use Rattle.command_words.specs.Jobs.{usage_command, make_command, trial_command};
+ghost use Rattle.command_words.specs.Jobs.{usage_command, report_command, inspect_command};
+ghost use Rattle.command_words.specs.Jobs.{make_command, trial_command};
 ghost use Rattle.command_words.specs.App.{option_arg, names_arg, command_shape, bare_app, reading_app};
-ghost use Rattle.command_words.specs.App.{season_app, desk_app};
+ghost use Rattle.command_words.specs.App.{season_app, telling_app, desk_app};
 
 use clap::{Arg, ArgAction, ArgMatches, Command, Error};
 use std::alloc::{AllocError, Global};
@@ -82,6 +83,20 @@ fn usage<'a>(alloc: Global) -> Result<Command<'a>, AllocError>
     Command::new(alloc, "usage").arg(names(alloc))
 }
 
+fn report<'a>(alloc: Global) -> Result<Command<'a>, AllocError>
+    ensures shape { IfOk result (λ c. shape_of c ≡ command_shape report_command) }
+    ensures local { IfOk result (λ c. (out-Command c).has_globals ≡ false) }
+{
+    Command::new(alloc, "report").arg(names(alloc))
+}
+
+fn inspect<'a>(alloc: Global) -> Result<Command<'a>, AllocError>
+    ensures shape { IfOk result (λ c. shape_of c ≡ command_shape inspect_command) }
+    ensures local { IfOk result (λ c. (out-Command c).has_globals ≡ false) }
+{
+    Command::new(alloc, "inspect").arg(names(alloc))
+}
+
 fn make<'a>(alloc: Global) -> Result<Command<'a>, AllocError>
     ensures shape { IfOk result (λ c. shape_of c ≡ command_shape make_command) }
     ensures local { IfOk result (λ c. (out-Command c).has_globals ≡ false) }
@@ -119,7 +134,7 @@ fn reading_desk<'a>(alloc: Global) -> Result<Command<'a>, AllocError>
         .subcommand(amend)
 }
 
-/// The desk with all commands that read a season's files.
+/// The desk with those that go on from a certificate, too.
 fn season_desk<'a>(alloc: Global) -> Result<Command<'a>, AllocError>
     ensures { IfOk result (λ c. app_of c ≡ season_app) }
 {
@@ -132,12 +147,21 @@ fn season_desk<'a>(alloc: Global) -> Result<Command<'a>, AllocError>
         .subcommand(usage)
 }
 
+/// The desk with all commands that read a season's files.
+fn telling_desk<'a>(alloc: Global) -> Result<Command<'a>, AllocError>
+    ensures { IfOk result (λ c. app_of c ≡ telling_app) }
+{
+    let report = report(alloc)?;
+    let inspect = inspect(alloc)?;
+    season_desk(alloc)?.subcommand(report)?.subcommand(inspect)
+}
+
 fn desk<'a>(alloc: Global) -> Result<Command<'a>, AllocError>
     ensures { IfOk result (λ c. app_of c ≡ desk_app) }
 {
     let make = make(alloc)?;
     let trial = trial(alloc)?;
-    season_desk(alloc)?.subcommand(make)?.subcommand(trial)
+    telling_desk(alloc)?.subcommand(make)?.subcommand(trial)
 }
 
 /// What `clap` finds in the words.

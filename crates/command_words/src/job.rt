@@ -120,6 +120,16 @@ pub enum Job {
     Usage {
         names: NameList,
     },
+    /// Say why each series was given what it was given, by a certificate. The names are those of
+    /// the capacity file, the requests, the certificate, the report and its page.
+    Report {
+        names: NameList,
+    },
+    /// Say what a capacity file and requests hold, or what is wrong in them. The names are those of
+    /// the two.
+    Inspect {
+        names: NameList,
+    },
     /// Make a generated season, and write it. The names are those of the capacity file and the
     /// requests.
     Make {

@@ -10,7 +10,8 @@ ghost use Rattle.command_words.specs.Words.{Word, words_of};
 ghost use Rattle.command_words.specs.Values.{names_exactly, number_within, number_or};
 ghost use Rattle.command_words.specs.Jobs.{job_of, IsJob, allocate_command, check_command};
 ghost use Rattle.command_words.specs.Jobs.{amend_command, serve_command, resume_command};
-ghost use Rattle.command_words.specs.Jobs.{usage_command, make_command, trial_command};
+ghost use Rattle.command_words.specs.Jobs.{usage_command, report_command, inspect_command};
+ghost use Rattle.command_words.specs.Jobs.{make_command, trial_command};
 ghost use Rattle.command_words.specs.Jobs.{make_job, trial_job};
 ghost use Rattle.command_words.specs.App.{names_held, job_by_rows, job_named, AsksFor};
 ghost use Rattle.command_words.specs.Answers.{Answers};
@@ -87,6 +88,8 @@ fn read_job(alloc: Global, name: &str, found: &ArgMatches<'_>) -> Result<Job, Wo
         "serve" => read_serve(alloc, found),
         "resume" => read_resume(alloc, found),
         "usage" => read_usage(alloc, found),
+        "report" => read_report(alloc, found),
+        "inspect" => read_inspect(alloc, found),
         "make" => read_make(alloc, found),
         "trial" => read_trial(found),
         _ => Err(WordFault::Words),
@@ -155,6 +158,20 @@ fn read_usage(alloc: Global, found: &ArgMatches<'_>) -> Result<Job, WordFault>
 {
     let names = read_names(alloc, found, 5)?;
     Ok(Job::Usage { names })
+}
+
+fn read_report(alloc: Global, found: &ArgMatches<'_>) -> Result<Job, WordFault>
+    ensures { Answers (job_by_rows report_command (rows_of (found_of found.now))) result }
+{
+    let names = read_names(alloc, found, 5)?;
+    Ok(Job::Report { names })
+}
+
+fn read_inspect(alloc: Global, found: &ArgMatches<'_>) -> Result<Job, WordFault>
+    ensures { Answers (job_by_rows inspect_command (rows_of (found_of found.now))) result }
+{
+    let names = read_names(alloc, found, 2)?;
+    Ok(Job::Inspect { names })
 }
 
 fn read_make(alloc: Global, found: &ArgMatches<'_>) -> Result<Job, WordFault>

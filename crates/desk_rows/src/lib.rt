@@ -12,6 +12,8 @@ mod desk_calls;
 #[cfg(test)]
 mod play;
 #[cfg(test)]
+mod report_rows;
+#[cfg(test)]
 mod resume_rows;
 #[cfg(test)]
 mod serve_rows;

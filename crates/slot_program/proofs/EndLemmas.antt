@@ -23,7 +23,7 @@ use Rattle.slot_program.specs.Reports.{JournalRefusal}
 use Rattle.slot_program.specs.Stops.{StopLeads}
 use Rattle.slot_program.proofs.StageLemmas.{marks_among}
 use Rattle.command_words.specs.declared.job.Job.{Job}
-use Rattle.command_words.specs.declared.job.Job.TheVariants.{Allocate, Check, Amend, Serve, Resume, Usage, Make, Trial}
+use Rattle.command_words.specs.declared.job.Job.TheVariants.{Allocate, Check, Amend, Serve, Resume, Usage, Report, Inspect, Make, Trial}
 use Rattle.slot_program.specs.declared.stop.Stop.{Stop}
 use Rattle.slot_program.specs.declared.stop.Stop.TheVariants as stops
 
@@ -55,6 +55,15 @@ file_finishing (Usage names) (capacity ∷ requests ∷ []) writes status text w
 file_finishing (Usage names) (capacity ∷ requests ∷ certificate ∷ []) writes status text work = absurd work
 file_finishing (Usage names) (capacity ∷ requests ∷ certificate ∷ operated ∷ []) writes status text work = only_zero status work.status_is
 file_finishing (Usage names) (capacity ∷ requests ∷ certificate ∷ operated ∷ more ∷ rest) writes status text work = absurd work
+file_finishing (Report names) [] writes status text work = absurd work
+file_finishing (Report names) (capacity ∷ []) writes status text work = absurd work
+file_finishing (Report names) (capacity ∷ requests ∷ []) writes status text work = absurd work
+file_finishing (Report names) (capacity ∷ requests ∷ certificate ∷ []) writes status text work = only_zero status work.status_is
+file_finishing (Report names) (capacity ∷ requests ∷ certificate ∷ more ∷ rest) writes status text work = absurd work
+file_finishing (Inspect names) [] writes status text work = absurd work
+file_finishing (Inspect names) (capacity ∷ []) writes status text work = absurd work
+file_finishing (Inspect names) (capacity ∷ requests ∷ []) writes status text work = only_zero status work.status_is
+file_finishing (Inspect names) (capacity ∷ requests ∷ more ∷ rest) writes status text work = absurd work
 file_finishing (Serve names links port workers) inputs writes status text work = absurd work
 file_finishing (Resume names links port workers) inputs writes status text work = absurd work
 file_finishing (Make number units names) [] writes status text work = only_zero status work.status_is
@@ -105,6 +114,8 @@ works_finishing (Allocate names nodes workers) inputs writes change status text 
 works_finishing (Check names) inputs writes change status text work = file_finishing (Check names) inputs writes status text work.1
 works_finishing (Amend names) inputs writes change status text work = file_finishing (Amend names) inputs writes status text work.1
 works_finishing (Usage names) inputs writes change status text work = file_finishing (Usage names) inputs writes status text work.1
+works_finishing (Report names) inputs writes change status text work = file_finishing (Report names) inputs writes status text work.1
+works_finishing (Inspect names) inputs writes change status text work = file_finishing (Inspect names) inputs writes status text work.1
 works_finishing (Serve names links port workers) inputs writes change status text work = service_finishing names links inputs writes change status text work
 works_finishing (Resume names links port workers) inputs writes change status text work = resume_finishing names links inputs writes change status text work
 works_finishing (Make number units names) inputs writes change status text work = file_finishing (Make number units names) inputs writes status text work.1
@@ -122,6 +133,8 @@ stop_job_by names job w change v (stops.OverLimit limit number) same lead = (sam
 stop_job_by names job w change v (stops.NotValid line reason) same lead = (same, lead)
 stop_job_by names job w change v (stops.Unopened why) same lead = absurd lead
 stop_job_by names job w change v stops.NoNext same lead = (same, lead)
+stop_job_by names job w change v (stops.BadForm place line cause) same lead = (same, lead)
+stop_job_by names job w change v (stops.PastLimit limit number cause) same lead = (same, lead)
 stop_job_by names job w change v stops.Memory same lead = lead
 
 pub stop_job : (names : List Word) (job : Job) (w v : World) (stop : Stop) → StopLeads names w (steps_of job) stop v → JobStops names job w stop v

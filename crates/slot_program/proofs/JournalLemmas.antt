@@ -16,7 +16,7 @@ use Rattle.holding_book.specs.Starts.{start_book}
 use Rattle.session_desk.specs.declared.worker.DoorWork.{DoorWork}
 use Rattle.command_words.specs.Words.{Word}
 use Rattle.command_words.specs.declared.job.Job.{Job}
-use Rattle.command_words.specs.declared.job.Job.TheVariants.{Allocate, Check, Amend, Serve, Resume, Usage, Make, Trial}
+use Rattle.command_words.specs.declared.job.Job.TheVariants.{Allocate, Check, Amend, Serve, Resume, Usage, Report, Inspect, Make, Trial}
 use Rattle.slot_program.specs.Reports.{JournalRefusal, no_journal, other_journal, bad_slot, journal_fault, journal_status}
 use Rattle.slot_program.specs.Judgements.{NamedBytes}
 use Rattle.slot_program.specs.Steps.{Step, reads, judges, PassFrom}
@@ -101,6 +101,8 @@ works_disk_calm (Amend names) inputs writes change status text not work = ap dis
 works_disk_calm (Serve names links port workers) inputs writes change status text not work = service_disk names links inputs writes change status text work
 works_disk_calm (Resume names links port workers) inputs writes change status text not work = resume_disk names links inputs writes change status text not work
 works_disk_calm (Usage names) inputs writes change status text not work = ap disk_faults work.0
+works_disk_calm (Report names) inputs writes change status text not work = ap disk_faults work.0
+works_disk_calm (Inspect names) inputs writes change status text not work = ap disk_faults work.0
 works_disk_calm (Make number units names) inputs writes change status text not work = ap disk_faults work.0
 works_disk_calm (Trial number units) inputs writes change status text not work = ap disk_faults work.0
 
@@ -128,6 +130,8 @@ works_disk_risen (Amend names) inputs writes change text work one = absurd (zero
 works_disk_risen (Serve names links port workers) inputs writes change text work one = absurd (served_not one)
 works_disk_risen (Resume names links port workers) inputs writes change text work one = resume_rose names links inputs writes change 14 text refl work
 works_disk_risen (Usage names) inputs writes change text work one = absurd (zero_not one)
+works_disk_risen (Report names) inputs writes change text work one = absurd (zero_not one)
+works_disk_risen (Inspect names) inputs writes change text work one = absurd (zero_not one)
 works_disk_risen (Make number units names) inputs writes change text work one = absurd (zero_not one)
 works_disk_risen (Trial number units) inputs writes change text work one = absurd (searched_not one)
 
@@ -165,6 +169,8 @@ with_three (Resume names links port workers) (capacity ∷ requests ∷ []) chan
 with_three (Resume names links port workers) (capacity ∷ requests ∷ certificate ∷ []) change why h next = next capacity.bytes requests.bytes h
 with_three (Resume names links port workers) (capacity ∷ requests ∷ certificate ∷ more ∷ rest) change why h next = absurd h
 with_three (Usage names) inputs change why h next = absurd h
+with_three (Report names) inputs change why h next = absurd h
+with_three (Inspect names) inputs change why h next = absurd h
 with_three (Make number units names) inputs change why h next = absurd h
 with_three (Trial number units) inputs change why h next = absurd h
 
@@ -271,6 +277,8 @@ work_due law (Resume names links port workers) (capacity ∷ requests ∷ certif
     (record { submission = work.season; made = work.made; term = refl }) out.handed_in out.kept.later out.kept.found due
 work_due law (Resume names links port workers) (capacity ∷ requests ∷ certificate ∷ more ∷ rest) writes change status text why work due = due
 work_due law (Usage names) inputs writes change status text why work due = due
+work_due law (Report names) inputs writes change status text why work due = due
+work_due law (Inspect names) inputs writes change status text why work due = due
 work_due law (Make number units names) inputs writes change status text why work due = due
 work_due law (Trial number units) inputs writes change status text why work due = due
 
@@ -286,6 +294,8 @@ without_due law (Resume names links port workers) (capacity ∷ requests ∷ cer
     refused_due law h.season h.year (IsSeasonTerm capacity.bytes requests.bytes) change.before.disk change.after.disk why due h.is h.refused d
 without_due law (Resume names links port workers) (capacity ∷ requests ∷ certificate ∷ more ∷ rest) change why due h d = absurd h
 without_due law (Usage names) inputs change why due h d = absurd h
+without_due law (Report names) inputs change why due h d = absurd h
+without_due law (Inspect names) inputs change why due h d = absurd h
 without_due law (Make number units names) inputs change why due h d = absurd h
 without_due law (Trial number units) inputs change why due h d = absurd h
 
@@ -302,6 +312,8 @@ without_stands law (Resume names links port workers) (capacity ∷ requests ∷ 
     refused_stands law h.season h.year (IsSeasonTerm capacity.bytes requests.bytes) change.before.disk change.after.disk why h.is h.refused d
 without_stands law (Resume names links port workers) (capacity ∷ requests ∷ certificate ∷ more ∷ rest) change why h d = absurd h
 without_stands law (Usage names) inputs change why h d = absurd h
+without_stands law (Report names) inputs change why h d = absurd h
+without_stands law (Inspect names) inputs change why h d = absurd h
 without_stands law (Make number units names) inputs change why h d = absurd h
 without_stands law (Trial number units) inputs change why h d = absurd h
 
@@ -317,5 +329,7 @@ stands_finishing (Resume names links port workers) inputs disk n h (suc (suc zer
 stands_finishing (Resume names links port workers) inputs disk n h (suc (suc (suc zero)), lt, is) not = absurd (not (sym is))
 stands_finishing (Resume names links port workers) inputs disk n h (suc (suc (suc (suc k))), lt, is) not = absurd (omega (arith, lt))
 stands_finishing (Usage names) inputs disk n h one not = absurd h
+stands_finishing (Report names) inputs disk n h one not = absurd h
+stands_finishing (Inspect names) inputs disk n h one not = absurd h
 stands_finishing (Make number units names) inputs disk n h one not = absurd h
 stands_finishing (Trial number units) inputs disk n h one not = absurd h

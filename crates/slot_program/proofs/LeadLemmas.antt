@@ -260,6 +260,8 @@ judged_stops names j name before (stops.OverLimit limit number) w v all steps wh
 judged_stops names j name before (stops.NotValid line reason) w v all steps why lead = refused_judge name before _ j why w v all steps lead
 judged_stops names j name before (stops.Unopened why_not) w v all steps why lead = absurd why
 judged_stops names j name before stops.NoNext w v all steps why lead = refused_judge name before _ j why w v all steps lead
+judged_stops names j name before (stops.BadForm place line cause) w v all steps why lead = refused_judge name before _ j why w v all steps lead
+judged_stops names j name before (stops.PastLimit limit number cause) w v all steps why lead = refused_judge name before _ j why w v all steps lead
 judged_stops names j name before stops.Memory w v all steps why lead = memory_read w v v all before (judges j name ∷ steps) lead refl
 
 -- files that are accepted stop a judgement for want of memory alone
@@ -273,6 +275,8 @@ only_memory names j name files (stops.OverLimit limit number) accepts why = absu
 only_memory names j name files (stops.NotValid line reason) accepts why = absurd (why.rejects accepts)
 only_memory names j name files (stops.Unopened why_not) accepts why = absurd why
 only_memory names j name files stops.NoNext accepts why = absurd (why.rejects accepts)
+only_memory names j name files (stops.BadForm place line cause) accepts why = absurd (why.rejects accepts)
+only_memory names j name files (stops.PastLimit limit number cause) accepts why = absurd (why.rejects accepts)
 only_memory names j name files stops.Memory accepts why = refl
 
 -- ---- refusals by a property
@@ -287,4 +291,6 @@ by_property names One Other (stops.OverLimit limit number) on why = on _ why
 by_property names One Other (stops.NotValid line reason) on why = on _ why
 by_property names One Other (stops.Unopened why_not) on why = why
 by_property names One Other stops.NoNext on why = on _ why
+by_property names One Other (stops.BadForm place line cause) on why = on _ why
+by_property names One Other (stops.PastLimit limit number cause) on why = on _ why
 by_property names One Other stops.Memory on why = tt

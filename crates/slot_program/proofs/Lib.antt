@@ -8,6 +8,7 @@ mod LeadLemmas
 mod JudgementLemmas
 mod EndLemmas
 mod AnswerLemmas
+mod CauseLemmas
 mod DeskLemmas
 mod CheckLemmas
 mod AmendLemmas

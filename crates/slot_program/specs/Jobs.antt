@@ -17,6 +17,7 @@ use Rattle.slot_program.specs.StageLines.{mark_lines, marks_status, node_total}
 use Rattle.slot_program.specs.Judgements.{NamedBytes, IsSeasonOf, SpellsCert, capacity_form}
 use Rattle.slot_program.specs.Judgements.{requests_form, certificate_form, valid_certificate}
 use Rattle.slot_program.specs.Judgements.{reports_form, next_season}
+use Rattle.slot_program.specs.Judgements.{capacity_cause, requests_cause}
 use Rattle.slot_program.specs.Amendments.{AmendsLegally}
 use Rattle.slot_program.specs.Services.{ServesLegally}
 use Rattle.slot_program.specs.Resumed.{ResumesLegally}
@@ -24,6 +25,8 @@ use Rattle.slot_program.specs.Journals.{IsUnopened, IsDueJournal, TellsPairs}
 use Rattle.slot_program.specs.Outside.{OutsideChange, IsStill}
 use Rattle.slot_program.specs.Reports.{JournalRefusal}
 use Rattle.slot_program.specs.Usages.{IsWatched}
+use Rattle.slot_program.specs.Reasons.{IsReported}
+use Rattle.slot_program.specs.Inspections.{inspection_text}
 use Rattle.usage_watch.specs.Reports.{SaysOperated}
 use Rattle.usage_watch.specs.declared.operated.Operated.{Operated}
 use Rattle.slot_program.specs.Steps.{Step, reads, judges, names_read, Holds}
@@ -31,7 +34,8 @@ use Rattle.slot_program.specs.declared.files.TheConstants.{LONGEST_FILE, LONGEST
 use Rattle.slot_program.specs.declared.trial.TheConstants.{TRIAL_NODES}
 use Rattle.command_words.specs.declared.job.Job.{Job}
 use Rattle.command_words.specs.declared.job.Job.TheVariants.{Allocate, Check, Amend, Serve}
-use Rattle.command_words.specs.declared.job.Job.TheVariants.{Resume, Usage, Make, Trial}
+use Rattle.command_words.specs.declared.job.Job.TheVariants.{Resume, Usage, Report, Inspect}
+use Rattle.command_words.specs.declared.job.Job.TheVariants.{Make, Trial}
 
 -- the name of this number, counted from 0, in the order in which the command takes names
 abbrev pub name_at : List Word → ℕ → Word
@@ -72,6 +76,12 @@ usage_steps names =
     season_steps names (certificate_steps names (reads (name_at names 3) LONGEST_FILE
     ∷ judges reports_form (name_at names 3) ∷ judges next_season (name_at names 3) ∷ []))
 
+-- a season is read as for the other commands, and a refusal says why
+abbrev pub inspect_steps : List Word → List Step
+inspect_steps names =
+    reads (name_at names 0) LONGEST_FILE ∷ judges capacity_cause (name_at names 0)
+    ∷ reads (name_at names 1) LONGEST_FILE ∷ judges requests_cause (name_at names 1) ∷ []
+
 -- a generated season is not read
 abbrev pub steps_of : Job → List Step
 steps_of (Allocate names nodes workers) = allocate_steps names
@@ -80,6 +90,8 @@ steps_of (Amend names) = amend_steps names
 steps_of (Serve names links port workers) = serve_steps names
 steps_of (Resume names links port workers) = serve_steps names
 steps_of (Usage names) = usage_steps names
+steps_of (Report names) = check_steps names
+steps_of (Inspect names) = inspect_steps names
 steps_of (Make number units names) = []
 steps_of (Trial number units) = []
 
@@ -92,6 +104,8 @@ names_written (Amend names) = name_at names 4 ∷ []
 names_written (Serve names links port workers) = name_at names 3 ∷ []
 names_written (Resume names links port workers) = name_at names 4 ∷ []
 names_written (Usage names) = name_at names 4 ∷ []
+names_written (Report names) = name_at names 3 ∷ name_at names 4 ∷ []
+names_written (Inspect names) = []
 names_written (Make number units names) = name_at names 0 ∷ name_at names 1 ∷ []
 names_written (Trial number units) = []
 
@@ -130,6 +144,8 @@ finishing_of (Amend names) = 0 ∷ []
 finishing_of (Serve names links port workers) = served_statuses
 finishing_of (Resume names links port workers) = resumed_statuses
 finishing_of (Usage names) = 0 ∷ []
+finishing_of (Report names) = 0 ∷ []
+finishing_of (Inspect names) = 0 ∷ []
 finishing_of (Make number units names) = 0 ∷ []
 finishing_of (Trial number units) = searched_statuses
 
@@ -233,6 +249,30 @@ pub record IsUsage (names : List Word) (capacity requests certificate operated :
   pub written : writes ≡ one_file names 4 next
   pub status_is : status ≡ 0
 
+-- The certificate that was read is valid for the season. The report on it is written before the page
+-- of that report.
+pub record IsReport (names : List Word) (capacity requests certificate : List ℕ)
+    (writes : List NamedBytes) (status : ℕ) (text : List ℕ) : Type 0 where
+  pub season : SubmissionView
+  pub proved : Certificate
+  pub report : List ℕ
+  pub page : List ℕ
+  pub made : IsSeasonOf capacity requests season
+  pub spelled : SpellsCert certificate proved
+  pub valid : IsValid season proved
+  pub output : IsReported season proved report page text
+  pub written : writes ≡ two_files names 3 report page
+  pub status_is : status ≡ 0
+
+-- What the two files hold is printed, and nothing is written.
+pub record IsInspection (names : List Word) (capacity requests : List ℕ)
+    (writes : List NamedBytes) (status : ℕ) (text : List ℕ) : Type 0 where
+  pub season : SubmissionView
+  pub made : IsSeasonOf capacity requests season
+  pub written : writes ≡ []
+  pub printed : text ≡ inspection_text season
+  pub status_is : status ≡ 0
+
 -- the capacity file of a generated season is written before its requests, and nothing is printed
 pub record IsMade (number units : ℕ) (names : List Word) (writes : List NamedBytes) (status : ℕ)
     (text : List ℕ) : Type 0 where
@@ -272,6 +312,10 @@ FileWorks (Amend names) (capacity ∷ requests ∷ certificate ∷ asks ∷ []) 
     IsAmendment names capacity.bytes requests.bytes certificate.bytes asks.bytes writes status text
 FileWorks (Usage names) (capacity ∷ requests ∷ certificate ∷ operated ∷ []) writes status text =
     IsUsage names capacity.bytes requests.bytes certificate.bytes operated.bytes writes status text
+FileWorks (Report names) (capacity ∷ requests ∷ certificate ∷ []) writes status text =
+    IsReport names capacity.bytes requests.bytes certificate.bytes writes status text
+FileWorks (Inspect names) (capacity ∷ requests ∷ []) writes status text =
+    IsInspection names capacity.bytes requests.bytes writes status text
 FileWorks (Make number units names) [] writes status text =
     IsMade number units names writes status text
 FileWorks (Trial number units) [] writes status text = IsTrial number units writes status text
@@ -305,6 +349,10 @@ Works (Resume names links port workers) inputs writes change status text =
     ResumeWorks names links inputs writes change status text
 Works (Usage names) inputs writes change status text =
     IsStill change × FileWorks (Usage names) inputs writes status text
+Works (Report names) inputs writes change status text =
+    IsStill change × FileWorks (Report names) inputs writes status text
+Works (Inspect names) inputs writes change status text =
+    IsStill change × FileWorks (Inspect names) inputs writes status text
 Works (Make number units names) inputs writes change status text =
     IsStill change × FileWorks (Make number units names) inputs writes status text
 Works (Trial number units) inputs writes change status text =
@@ -374,14 +422,17 @@ pub record MarksAreProved (capacity requests : List ℕ) (s : SubmissionView) (c
   pub marks : MarksHold s c
 
 -- The marks are true. Of `allocate`: of the certificate that is written, whose stage lines are
--- printed, for the season that was read. Of `check`, `amend`, `serve`, `resume` and `usage`: of the
--- certificate that was read. Of `trial`: of the one whose lines are printed, for the generated
+-- printed, for the season that was read. Of `check`, `amend`, `serve`, `resume`, `usage` and `report`:
+-- of the certificate that was read. Of `trial`: of the one whose lines are printed, for the generated
 -- season. `make` proves nothing. And of `amend`: what is written are the answers of one legal history
 -- from the certificate's book. Of `serve`: what is written is the text of such a history, by which
 -- each worker answered the clients of its door. Of `resume`: the same, of the history that follows
 -- the pairs of the journal; these, answered anew, and it are one legal history from the
 -- certificate's book, and the journal keeps all of it. Of `usage`: what is written and printed is
--- what the certificate's book keeps, by the reports that were read.
+-- what the certificate's book keeps, by the reports that were read. Of `report`: what is written is
+-- the report on the certificate and the page of that report, and the tally of all units is printed.
+-- `inspect` proves nothing of a certificate: what is printed are the counts of the season that the
+-- two files make.
 abbrev pub HeadlineHolds : Job → List NamedBytes → List NamedBytes → OutsideChange → ℕ → List ℕ
     → Type 0
 HeadlineHolds (Allocate names nodes workers) (capacity ∷ requests ∷ [])
@@ -413,6 +464,13 @@ HeadlineHolds (Usage names) (capacity ∷ requests ∷ certificate ∷ operated 
     × MarksAreProved capacity.bytes requests.bytes s c
     × (reports : List Operated) × SaysOperated s.declaration.season operated.bytes reports
     × IsWatched s (start_book s c) reports next.bytes text
+HeadlineHolds (Report names) (capacity ∷ requests ∷ certificate ∷ []) (report ∷ page ∷ []) change
+    status text =
+    (s : SubmissionView) × (c : Certificate) × SpellsCert certificate.bytes c
+    × MarksAreProved capacity.bytes requests.bytes s c
+    × IsReported s c report.bytes page.bytes text
+HeadlineHolds (Inspect names) (capacity ∷ requests ∷ []) [] change status text =
+    (s : SubmissionView) × IsSeasonOf capacity.bytes requests.bytes s × (text ≡ inspection_text s)
 HeadlineHolds (Make number units names) inputs writes change status text = Unit {0}
 HeadlineHolds (Trial number units) [] [] change status text =
     (s : SubmissionView) × (c : Certificate) × (text ≡ trial_text c)

@@ -26,7 +26,11 @@ use Rattle.usage_watch.specs.Reports.{SaysOperated, HasOperatedFault}
 use Rattle.usage_watch.specs.declared.operated.Operated.{Operated}
 use Rattle.usage_watch.specs.declared.fault.OperatedFault.TheVariants as operated_fault
 use Rattle.command_words.specs.Words.{Word}
+use Rattle.fault_causes.specs.Capacities.{IsCapacityCause}
+use Rattle.fault_causes.specs.Requests.{IsMessageCause, IsSubmissionCause}
+use Rattle.fault_causes.specs.declared.cause.Cause.{Cause}
 use Rattle.slot_program.specs.Reports.{Refusal, out_of_form, over_limit, not_valid, no_next}
+use Rattle.slot_program.specs.Reports.{with_cause}
 
 -- the name of a file, and bytes that were read from it or are written to it
 pub record NamedBytes : Type 0 where
@@ -53,7 +57,8 @@ pub record SpellsCert (bytes : List ℕ) (c : Certificate) : Type 0 where
 -- capacity_form: a capacity file. requests_form: messages that make a submission under it.
 -- certificate_form: a certificate. valid_certificate: it is valid for the submission.
 -- reports_form: reports of what was operated in the season. next_season: there is a season of the
--- same half one year later.
+-- same half one year later. capacity_cause, requests_cause: as capacity_form and requests_form, and a
+-- refusal says why.
 pub data Judgement : Type 0 where
   capacity_form : Judgement
   requests_form : Judgement
@@ -61,6 +66,8 @@ pub data Judgement : Type 0 where
   valid_certificate : Judgement
   reports_form : Judgement
   next_season : Judgement
+  capacity_cause : Judgement
+  requests_cause : Judgement
 
 -- the files that were read are so: the capacity file is the first, the requests are the second, the
 -- certificate is the third, and reports are the fourth
@@ -78,6 +85,9 @@ Accepts reports_form (capacity ∷ requests ∷ certificate ∷ operated ∷ res
     × SaysOperated d.season operated.bytes reports
 Accepts next_season (capacity ∷ rest) =
     (d : Declaration) × IsCapacityFile capacity.bytes d × (d.season.year ≢ 99)
+Accepts capacity_cause (capacity ∷ rest) = (d : Declaration) × IsCapacityFile capacity.bytes d
+Accepts requests_cause (capacity ∷ requests ∷ rest) =
+    (s : SubmissionView) × IsSeasonOf capacity.bytes requests.bytes s
 Accepts judgement read = ⊥
 
 -- ---- refusals, each with the name of the file, as the words give it
@@ -128,6 +138,26 @@ RefusesCertificate capacity requests certificate refusal =
     × IsSeasonOf capacity requests s × SpellsCert certificate c × FailsAt s c line reason
     × (refusal ≡ not_valid line reason)
 
+-- the same two, each with its cause
+abbrev pub CausesCapacity : Word → List ℕ → Refusal → Type 0
+CausesCapacity name bytes refusal =
+    (fault : CapFault) × (plain : Refusal) × (cause : Cause) × HasCapacityFault bytes fault
+    × IsCapacityRefusal name (length (lines_of bytes)) fault plain
+    × IsCapacityCause bytes fault cause × (refusal ≡ with_cause plain cause)
+
+abbrev pub CausesMessage : Word → List ℕ → Refusal → Type 0
+CausesMessage name requests refusal =
+    (fault : ScrFault) × (plain : Refusal) × (cause : Cause) × HasScrFault requests fault
+    × IsMessageRefusal name fault plain × IsMessageCause requests fault cause
+    × (refusal ≡ with_cause plain cause)
+
+abbrev pub CausesSubmission : Word → List ℕ → List ℕ → Refusal → Type 0
+CausesSubmission name capacity requests refusal =
+    (d : Declaration) × (messages : List Message) × (fault : ModelFault) × (plain : Refusal)
+    × (cause : Cause) × IsCapacityFile capacity d × ReadsAll requests messages
+    × (submission_answer d messages ≡ Err fault) × IsSubmissionRefusal name fault plain
+    × IsSubmissionCause requests fault cause × (refusal ≡ with_cause plain cause)
+
 -- the files that were read are refused with this
 abbrev pub Refuses : Judgement → Word → List NamedBytes → Refusal → Type 0
 Refuses capacity_form name (capacity ∷ rest) refusal = RefusesCapacity name capacity.bytes refusal
@@ -145,4 +175,8 @@ Refuses reports_form name (capacity ∷ requests ∷ certificate ∷ operated �
 Refuses next_season name (capacity ∷ rest) refusal =
     (d : Declaration) × IsCapacityFile capacity.bytes d × (d.season.year ≡ 99)
     × (refusal ≡ no_next)
+Refuses capacity_cause name (capacity ∷ rest) refusal = CausesCapacity name capacity.bytes refusal
+Refuses requests_cause name (capacity ∷ requests ∷ rest) refusal =
+    CausesMessage name requests.bytes refusal
+    ⊎ CausesSubmission name capacity.bytes requests.bytes refusal
 Refuses judgement name read refusal = ⊥

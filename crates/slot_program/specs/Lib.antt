@@ -5,6 +5,8 @@ pub mod Writing
 pub mod StageLines
 pub mod Amendments
 pub mod Usages
+pub mod Reasons
+pub mod Inspections
 pub mod Outside
 pub mod Services
 pub mod Journals

@@ -10,6 +10,7 @@ use Rattle.slot_program.specs.Reports.{Refusal, missing, large}
 use Rattle.slot_program.specs.Judgements.{NamedBytes, Judgement, Accepts, Refuses}
 use Rattle.slot_program.specs.Judgements.{capacity_form, requests_form, certificate_form}
 use Rattle.slot_program.specs.Judgements.{valid_certificate, reports_form, next_season}
+use Rattle.slot_program.specs.Judgements.{capacity_cause, requests_cause}
 
 -- a file is read that has at most so many bytes; or what was read so far is judged, and a refusal
 -- names this file
@@ -94,6 +95,8 @@ is_of_form certificate_form = true
 is_of_form valid_certificate = false
 is_of_form reports_form = true
 is_of_form next_season = true
+is_of_form capacity_cause = true
+is_of_form requests_cause = true
 
 abbrev pub form_steps : List Step → List Step
 form_steps [] = []

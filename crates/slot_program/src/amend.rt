@@ -41,7 +41,7 @@ pub(crate) fn amend<C: Cabinet>(
     cabinet: &mut C,
 ) -> Result<Answer, Stop>
     ensures done { IfOk result (λ a. IsDone (AmendJob names.now)
-        (world_of C.files C.fault_count C.log cabinet.old) a.status (string_bytes a.text)
+        (world_of C.files C.fault_count C.log cabinet.old) a.status a.text.items
         (world_of C.files C.fault_count C.log cabinet.new)) }
     ensures stop { IfErr result (λ stop. JobStops names.now (AmendJob names.now)
         (world_of C.files C.fault_count C.log cabinet.old) stop
@@ -57,7 +57,7 @@ pub(crate) fn amend<C: Cabinet>(
     write_one(names, 4, &output.answers, cabinet)?;
     Ok(Answer {
         status: 0,
-        text: output.text,
+        text: output.text.into_bytes(),
     })
 }
 

@@ -113,7 +113,7 @@ fn count_lines(text: &[u8]) -> u32
 }
 
 /// Why a text is no capacity file.
-fn capacity_stop(place: usize, bytes: &[u8], fault: CapFault) -> Stop
+pub(crate) fn capacity_stop(place: usize, bytes: &[u8], fault: CapFault) -> Stop
     requires { length bytes.now ≤ LONGEST_FILE }
     ensures { (names : List Word) → IsRefusalBy names
         (IsCapacityRefusal (name_at names place) (length (lines_of bytes.now)) fault) result }
@@ -128,7 +128,7 @@ fn capacity_stop(place: usize, bytes: &[u8], fault: CapFault) -> Stop
 }
 
 /// Why a text is no list of messages.
-fn message_stop(place: usize, fault: ScrFault) -> Stop
+pub(crate) fn message_stop(place: usize, fault: ScrFault) -> Stop
     ensures { (names : List Word) → IsRefusalBy names
         (IsMessageRefusal (name_at names place) fault) result }
 {
@@ -142,7 +142,7 @@ fn message_stop(place: usize, fault: ScrFault) -> Stop
 }
 
 /// Why messages make no submission.
-fn submission_stop(place: usize, fault: ModelFault) -> Stop
+pub(crate) fn submission_stop(place: usize, fault: ModelFault) -> Stop
     ensures { (names : List Word) → IsRefusalBy names
         (IsSubmissionRefusal (name_at names place) fault) result }
 {

@@ -2,7 +2,6 @@
 
 ghost use Rattle.std.specs.Prelude.{◌≡◌, ◌≢◌, ◌⊎◌, ◌++◌, ◌∷◌, [], ◌≤◌, ℕ, List, Option, Some, None};
 ghost use Rattle.std.specs.Prelude.{IfOk, Contains, map, length, option_map};
-ghost use Rattle.std.specs.String.{string_bytes};
 ghost use Rattle.choice_problem.specs.declared.problems.TheConstants.{MOST_UNITS};
 ghost use Rattle.desk_outside.specs.Cause.{Rose};
 ghost use Rattle.desk_outside.specs.Files.{Files, ChangesOnly};
@@ -32,6 +31,8 @@ ghost use Rattle.command_words.specs.declared.job.Job.TheVariants.{Amend as Amen
 ghost use Rattle.command_words.specs.declared.job.Job.TheVariants.{Serve as ServeJob};
 ghost use Rattle.command_words.specs.declared.job.Job.TheVariants.{Resume as ResumeJob};
 ghost use Rattle.command_words.specs.declared.job.Job.TheVariants.{Usage as UsageJob};
+ghost use Rattle.command_words.specs.declared.job.Job.TheVariants.{Report as ReportJob};
+ghost use Rattle.command_words.specs.declared.job.Job.TheVariants.{Inspect as InspectJob};
 ghost use Rattle.command_words.specs.declared.job.Job.TheVariants.{Make as MakeJob};
 ghost use Rattle.command_words.specs.declared.job.Job.TheVariants.{Trial as TrialJob};
 
@@ -39,7 +40,9 @@ use crate::allocate::allocate;
 use crate::amend::amend;
 use crate::check::check;
 use crate::finish::finish;
+use crate::inspect::inspect;
 use crate::make::make;
+use crate::report::report;
 use crate::resume::resume;
 use crate::serve::serve;
 use crate::stop::Answer;
@@ -249,7 +252,7 @@ pub fn desk<R: Threads + Wait + Sync, C: Cabinet, S: Sink, D: Door + Drop, G: Ga
     valid_marks();
     one_standing();
     match carry_out(rt, alloc, words, cabinet, doors, gate, disk) {
-        Ok(answer) => match out.put(answer.text.as_bytes()) {
+        Ok(answer) => match out.put(&answer.text) {
             Ok(()) => answer.status,
             Err(_) => 6,
         },
@@ -271,7 +274,7 @@ fn carry_out<R: Threads + Wait + Sync, C: Cabinet, D: Door + Drop, G: Gate, K: D
     ensures answer { IfOk result (λ a. IsAnswer (job_of (words_of words.now))
         (world_of C.files C.fault_count C.log cabinet.old)
         (outside_change D.view K.view doors.old.items disk.old doors.new.items disk.new) a.status
-        (string_bytes a.text) (world_of C.files C.fault_count C.log cabinet.new)) }
+        a.text.items (world_of C.files C.fault_count C.log cabinet.new)) }
     ensures others { ChangesOnly (C.files cabinet.old) (names_changed (job_of (words_of words.now)))
         (C.files cabinet.new) }
     ensures asked { LogGrew (C.log cabinet.old) (OnlyOfJob (job_of (words_of words.now)))
@@ -301,6 +304,8 @@ fn carry_out<R: Threads + Wait + Sync, C: Cabinet, D: Door + Drop, G: Gate, K: D
             },
         ) => carry_out_serve(rt, alloc, &names, links, cabinet, doors, gate),
         Ok(Job::Usage { names }) => carry_out_usage(alloc, &names, cabinet),
+        Ok(Job::Report { names }) => carry_out_report(alloc, &names, cabinet),
+        Ok(Job::Inspect { names }) => carry_out_inspect(alloc, &names, cabinet),
         Ok(
             Job::Resume {
                 names,
@@ -319,7 +324,7 @@ fn carry_out<R: Threads + Wait + Sync, C: Cabinet, D: Door + Drop, G: Gate, K: D
         Ok(Job::Trial { number, units }) => carry_out_trial(rt, alloc, number, units, gate),
         Err(WordFault::Words) => Ok(Answer {
             status: 2,
-            text: String::from_str(alloc, "WORDS\n")?,
+            text: String::from_str(alloc, "WORDS\n")?.into_bytes(),
         }),
         Err(WordFault::Memory) => Err(Memory),
     }
@@ -339,7 +344,7 @@ fn carry_out_allocate<R: Threads + Sync, C: Cabinet, G: Gate>(
     requires workers { (1 ≤ workers) × (workers ≤ 16) }
     ensures answer { (o : Outside) → IfOk result (λ a.
         IsAnswer (Some (AllocateJob names.now nodes workers))
-        (world_of C.files C.fault_count C.log cabinet.old) (still o) a.status (string_bytes a.text)
+        (world_of C.files C.fault_count C.log cabinet.old) (still o) a.status a.text.items
         (world_of C.files C.fault_count C.log cabinet.new)) }
     ensures others { ChangesOnly (C.files cabinet.old)
         (name_at names.now 2 ∷ name_at names.now 3 ∷ []) (C.files cabinet.new) }
@@ -358,13 +363,31 @@ fn carry_out_check<C: Cabinet>(
 ) -> Result<Answer, Memory>
     ensures answer { (o : Outside) → IfOk result (λ a.
         IsAnswer (Some (CheckJob names.now))
-        (world_of C.files C.fault_count C.log cabinet.old) (still o) a.status (string_bytes a.text)
+        (world_of C.files C.fault_count C.log cabinet.old) (still o) a.status a.text.items
         (world_of C.files C.fault_count C.log cabinet.new)) }
     ensures unchanged { C.files cabinet.new ≡ C.files cabinet.old }
     ensures asked { LogGrew (C.log cabinet.old) (OnlyOfJob (Some (CheckJob names.now)))
         (C.log cabinet.new) }
 {
     let ended = check(alloc, names, cabinet);
+    finish(alloc, names, ended)
+}
+
+/// Says what a season is, or what is wrong in it, and gives what is to be said.
+fn carry_out_inspect<C: Cabinet>(
+    alloc: Global,
+    names: &NameList,
+    cabinet: &mut C,
+) -> Result<Answer, Memory>
+    ensures answer { (o : Outside) → IfOk result (λ a.
+        IsAnswer (Some (InspectJob names.now))
+        (world_of C.files C.fault_count C.log cabinet.old) (still o) a.status a.text.items
+        (world_of C.files C.fault_count C.log cabinet.new)) }
+    ensures unchanged { C.files cabinet.new ≡ C.files cabinet.old }
+    ensures asked { LogGrew (C.log cabinet.old) (OnlyOfJob (Some (InspectJob names.now)))
+        (C.log cabinet.new) }
+{
+    let ended = inspect(alloc, names, cabinet);
     finish(alloc, names, ended)
 }
 
@@ -376,7 +399,7 @@ fn carry_out_amend<C: Cabinet>(
 ) -> Result<Answer, Memory>
     ensures answer { (o : Outside) → IfOk result (λ a.
         IsAnswer (Some (AmendJob names.now))
-        (world_of C.files C.fault_count C.log cabinet.old) (still o) a.status (string_bytes a.text)
+        (world_of C.files C.fault_count C.log cabinet.old) (still o) a.status a.text.items
         (world_of C.files C.fault_count C.log cabinet.new)) }
     ensures others { ChangesOnly (C.files cabinet.old) (name_at names.now 4 ∷ [])
         (C.files cabinet.new) }
@@ -401,7 +424,7 @@ fn carry_out_serve<R: Threads + Wait + Sync, C: Cabinet, D: Door + Drop, G: Gate
     ensures answer { (port workers : ℕ) (disk : Option DiskView) → IfOk result (λ a.
         IsAnswer (Some (ServeJob names.now links port workers))
         (world_of C.files C.fault_count C.log cabinet.old)
-        (doors_change D.view doors.old.items doors.new.items disk) a.status (string_bytes a.text)
+        (doors_change D.view doors.old.items doors.new.items disk) a.status a.text.items
         (world_of C.files C.fault_count C.log cabinet.new)) }
     ensures others { ChangesOnly (C.files cabinet.old) (name_at names.now 3 ∷ [])
         (C.files cabinet.new) }
@@ -429,7 +452,7 @@ fn carry_out_resume<R: Threads + Wait + Sync, C: Cabinet, D: Door + Drop, G: Gat
         IsAnswer (Some (ResumeJob names.now links port workers))
         (world_of C.files C.fault_count C.log cabinet.old)
         (outside_change D.view K.view doors.old.items disk.old doors.new.items disk.new) a.status
-        (string_bytes a.text) (world_of C.files C.fault_count C.log cabinet.new)) }
+        a.text.items (world_of C.files C.fault_count C.log cabinet.new)) }
     ensures others { ChangesOnly (C.files cabinet.old) (name_at names.now 4 ∷ [])
         (C.files cabinet.new) }
     ensures asked { (port workers : ℕ) → LogGrew (C.log cabinet.old)
@@ -448,7 +471,7 @@ fn carry_out_usage<C: Cabinet>(
 ) -> Result<Answer, Memory>
     ensures answer { (o : Outside) → IfOk result (λ a.
         IsAnswer (Some (UsageJob names.now))
-        (world_of C.files C.fault_count C.log cabinet.old) (still o) a.status (string_bytes a.text)
+        (world_of C.files C.fault_count C.log cabinet.old) (still o) a.status a.text.items
         (world_of C.files C.fault_count C.log cabinet.new)) }
     ensures others { ChangesOnly (C.files cabinet.old) (name_at names.now 4 ∷ [])
         (C.files cabinet.new) }
@@ -456,6 +479,25 @@ fn carry_out_usage<C: Cabinet>(
         (C.log cabinet.new) }
 {
     let ended = usage(alloc, names, cabinet);
+    finish(alloc, names, ended)
+}
+
+/// Tells why each series was given what it was given, and gives what is to be said.
+fn carry_out_report<C: Cabinet>(
+    alloc: Global,
+    names: &NameList,
+    cabinet: &mut C,
+) -> Result<Answer, Memory>
+    ensures answer { (o : Outside) → IfOk result (λ a.
+        IsAnswer (Some (ReportJob names.now))
+        (world_of C.files C.fault_count C.log cabinet.old) (still o) a.status a.text.items
+        (world_of C.files C.fault_count C.log cabinet.new)) }
+    ensures others { ChangesOnly (C.files cabinet.old)
+        (name_at names.now 3 ∷ name_at names.now 4 ∷ []) (C.files cabinet.new) }
+    ensures asked { LogGrew (C.log cabinet.old) (OnlyOfJob (Some (ReportJob names.now)))
+        (C.log cabinet.new) }
+{
+    let ended = report(alloc, names, cabinet);
     finish(alloc, names, ended)
 }
 
@@ -470,7 +512,7 @@ fn carry_out_make<C: Cabinet>(
     requires { units ≤ MOST_UNITS }
     ensures answer { (o : Outside) → IfOk result (λ a.
         IsAnswer (Some (MakeJob number units names.now))
-        (world_of C.files C.fault_count C.log cabinet.old) (still o) a.status (string_bytes a.text)
+        (world_of C.files C.fault_count C.log cabinet.old) (still o) a.status a.text.items
         (world_of C.files C.fault_count C.log cabinet.new)) }
     ensures others { ChangesOnly (C.files cabinet.old)
         (name_at names.now 0 ∷ name_at names.now 1 ∷ []) (C.files cabinet.new) }
@@ -491,7 +533,7 @@ fn carry_out_trial<R: Threads + Sync, G: Gate>(
 ) -> Result<Answer, Memory>
     requires { units ≤ MOST_UNITS }
     ensures { IfOk result (λ a. (w : World) (o : Outside) →
-        IsAnswer (Some (TrialJob number units)) w (still o) a.status (string_bytes a.text) w) }
+        IsAnswer (Some (TrialJob number units)) w (still o) a.status a.text.items w) }
 {
     let answer = trial(rt, alloc, number, units, gate)?;
     Ok(answer)

@@ -64,6 +64,8 @@ fn say_job(alloc: Global, out: &mut Vec<u8>, job: &Job) -> Result<(), Fail> {
             say(alloc, out, format!(in alloc; " {workers}")?)
         }
         Job::Usage { names } => say_names(alloc, out, "usage", names),
+        Job::Report { names } => say_names(alloc, out, "report", names),
+        Job::Inspect { names } => say_names(alloc, out, "inspect", names),
         Job::Make {
             number,
             units,
@@ -214,6 +216,13 @@ usage A B C D E|usage A,B,C,D,E
 usage A B C D|no
 usage A B C D E F|no
 usage A B C D E --workers 1|no
+report A B C D E|report A,B,C,D,E
+report A B C D|no
+report A B C D E --nodes 1|no
+inspect A B|inspect A,B
+inspect A|no
+inspect A B C|no
+inspect -- -A B|inspect -A,B
 serve A B C D|serve A,B,C,D 1 7710 4
 serve A B C|no
 serve A B C D E|no
