@@ -176,3 +176,9 @@ pub signed-limits : (c : Capacity) (numbers : List ℕ) (count : ℕ) → length
 signed-limits c numbers count long each few r lt =
     let there : r < count = omega (arith, lt, long, length-map numbers pos) in
     (get_or-signed numbers r ∙ ap pos (get_or_from_slice_get numbers r (window_limit c r) 0 (each r there)), few r)
+
+-- limits that were given
+pub given-limits : (numbers : List ℕ) → All (λ (n : ℕ). n ≤ HIGHEST_NIGHT_LIMIT) numbers → AreLimitsOf (map pos numbers) (λ r. get_or numbers r 0)
+given-limits numbers low r lt =
+    let there : r < length numbers = omega (arith, lt, length-map numbers pos) in
+    (get_or-signed numbers r, low r 0 there)
