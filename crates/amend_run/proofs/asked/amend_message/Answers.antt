@@ -13,8 +13,9 @@ answer_message-requires-clause-can c =
     subst (λ (r : Received). CanAskAll d r) c.in-Good.is
     (c.in_ok-received.ensures.asks d (ap (λ (e : Declaration). e.season) (sym c.declaration-declaration.ensures.value)))
 
-pub returns-in_ok-count-in-Good-clause-step : goal.returns-in_ok-count-in-Good-clause-step
-returns-in_ok-count-in-Good-clause-step c =
+-- the three facts of a good message, and of any other
+pub returns-answer_message-clause-step : goal.returns-answer_message-clause-step
+returns-answer_message-clause-step c = λ ok.
     let b = c.args.book.now.book in
     let lines = lines_of c.args.bytes.now in
     let message = c.in-Good.message in
@@ -25,21 +26,5 @@ returns-in_ok-count-in-Good-clause-step c =
     let can =
     subst (λ (r : Received). CanAskAll b.declaration r) c.in-Good.is
     (c.in_ok-received.ensures.asks b.declaration (ap (λ (e : Declaration). e.season) (sym c.declaration-declaration.ensures.value))) in
-    good_step b lines message c.args.out.now.items c.answer_message.new.out.items c.answer_message.new.book.book c.in_ok-count-in-Good.count good can
-    c.in_ok-count-in-Good.ensures.text c.in_ok-count-in-Good.ensures.book c.in_ok-count-in-Good.ensures.count
-
-pub returns-in_ok-count-in-Good-clause-grown : goal.returns-in_ok-count-in-Good-clause-grown
-returns-in_ok-count-in-Good-clause-grown c =
-    let b = c.args.book.now.book in
-    let items = c.in-Good.message.items in
-    omega (arith, ap (λ (s : SlotBook). length s.holdings) c.in_ok-count-in-Good.ensures.book, due_growth b items c.next_books.ensures.few, c.in_ok-count-in-Good.ensures.count)
-
-pub returns-in_ok-put_bad-in-Bad-clause-step : goal.returns-in_ok-put_bad-in-Bad-clause-step
-returns-in_ok-put_bad-in-Bad-clause-step c =
-    let b = c.args.book.now.book in
-    let lines = lines_of c.args.bytes.now in
-    let received : IsReceived b.declaration.season b.declaration.airport lines c.in_ok-received.received =
-    subst (λ (d : Declaration). IsReceived d.season d.airport lines c.in_ok-received.received) c.declaration-declaration.ensures.value c.in_ok-received.ensures.received in
-    bad_step b lines c.in-Bad.line c.args.out.now.items c.put_bad.new.out.items
-    (subst (λ (r : Received). IsReceived b.declaration.season b.declaration.airport lines r) c.in-Bad.is received)
-    c.in_ok-put_bad-in-Bad.ensures
+    good_step b lines message c.args.out.now.items c.answer_message.new.out.items c.args.history.now.items c.answer_message.new.history.items c.answer_message.new.book.book good can
+    (c.answer_message.ensures.text ok) (c.answer_message.ensures.entries ok) (c.answer_message.ensures.book ok)
