@@ -1,1 +1,3 @@
--- Lemmas of this crate.
+mod WaitLemmas
+mod ProblemLemmas
+mod ClaimLemmas

@@ -14,7 +14,8 @@ use Rattle.cert_checker.specs.declared.verdict.Verdict.{Verdict}
 use Rattle.cert_checker.specs.declared.verdict.Verdict.TheVariants.{Yes, No}
 use Rattle.cert_checker.specs.Tests.{Passes, proof_tests}
 use Rattle.cert_checker.specs.Verdicts.{IsFirstFailing}
-use Rattle.holding_book.specs.Books.{SlotBook, season_of, book_movements, left_of}
+use Rattle.holding_book.specs.Books.{SlotBook, season_of, book_movements}
+use Rattle.holding_book.specs.Left.{left_of}
 use Rattle.wait_list.specs.Waiting.{waiting_units, waiting_terms, IsWaitingProblem}
 
 -- ---- allotments

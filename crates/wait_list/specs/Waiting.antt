@@ -15,7 +15,8 @@ use Rattle.holding_book.specs.declared.answer.Answer.{Answer}
 use Rattle.holding_book.specs.declared.answer.Answer.TheVariants.{U as refused}
 use Rattle.holding_book.specs.declared.answer.Entry.{Entry}
 use Rattle.holding_book.specs.Lines.{clashes}
-use Rattle.holding_book.specs.Books.{SlotBook, season_of, clashes_with, left_of}
+use Rattle.holding_book.specs.Books.{SlotBook, season_of, clashes_with}
+use Rattle.holding_book.specs.Left.{left_of}
 use Rattle.holding_book.specs.Hints.{new_line}
 use Rattle.wait_list.specs.declared.fault.WaitFault.{WaitFault}
 use Rattle.wait_list.specs.declared.fault.WaitFault.TheVariants.{TooMany}

@@ -4,7 +4,7 @@ ghost use Rattle.std.specs.Prelude.{◌≡◌, ◌<◌, ◌≤◌, ℕ, All, IfO
 ghost use Rattle.season_days.specs.Capacity.{capacity_of, declared_resources};
 ghost use Rattle.season_days.specs.declared.declaration.TheConstants.{HIGHEST_NIGHT_LIMIT};
 ghost use Rattle.scr_reader.specs.Printed.{LineFits};
-ghost use Rattle.holding_book.specs.Books.{left_of};
+ghost use Rattle.holding_book.specs.Left.{left_of};
 ghost use Rattle.wait_list.specs.Waiting.{waiting_unit, waiting_units, waiting_price, waiting_terms, IsWaitingProblem};
 
 use crate::waiting::Waiting;

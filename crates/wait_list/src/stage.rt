@@ -12,7 +12,7 @@ ghost use Rattle.wait_list.specs.Claims.{IsWaitingProof, IsWaitingCheck, Waiting
 use crate::laws::waiting_marks;
 use crate::problem::waiting_problem;
 use crate::waiting::Waiting;
-use cert_checker::{Verdict, alike_proofs, check_stage, passing_lines};
+use cert_checker::{Verdict, alike_proofs, check_stage, passing_lines, same_problems};
 use cert_format::{StageCert, line_counts};
 use choice_problem::Problem;
 use holding_book::Book;
@@ -20,7 +20,6 @@ use season_run::run_stage;
 use slot_text::Memory;
 use std::alloc::Global;
 use std::thread::Threads;
-use wasg_stages::laws::same_problems;
 use worker_gate::Gate;
 
 /// Searches the problem of the waiting stage as a stage of a season is searched: of at most
