@@ -1,3 +1,4 @@
 mod WaitLemmas
 mod ProblemLemmas
 mod ClaimLemmas
+mod GivenLemmas

@@ -1,6 +1,7 @@
 -- The waiting list of a book: the asks for new slots that were answered that there are none, and the
 -- problem of what they can still be given beside the book.
-use Rattle.std.specs.Prelude.{◌≡◌, ℕ, ◌||◌, not, nat_lt, Bool, if◌then◌else◌, List, [], ◌∷◌, ◌++◌, length, map, Option, Some, None, Result, Ok, Err}
+use Rattle.std.specs.Prelude.{◌≡◌, ℕ, ◌||◌, not, nat_lt, Bool, if◌then◌else◌, List, [], ◌∷◌, ◌++◌, length, map, drop, slice_get, slice_index_or, option_map, Option, Some, None, Result, Ok, Err}
+use Rattle.std.specs.Option.{unwrap_or}
 use Rattle.std.specs.List.{list_any}
 use Rattle.season_days.specs.declared.declaration.Declaration.{Declaration}
 use Rattle.season_days.specs.declared.declaration.TheConstants.{HIGHEST_REFUSAL_PRICE}
@@ -9,7 +10,10 @@ use Rattle.choice_problem.specs.declared.problems.TheConstants.{MOST_UNITS}
 use Rattle.choice_problem.specs.Problems.{ProblemView}
 use Rattle.series_model.specs.declared.group.Group.TheVariants.{N as group_n}
 use Rattle.series_model.specs.declared.unit.Unit.{Unit as SlotUnit}
+use Rattle.series_model.specs.declared.times.Times.TheVariants.{Refused}
+use Rattle.series_model.specs.declared.state.UnitState.{UnitState}
 use Rattle.series_model.specs.Units.{single_unit}
+use Rattle.series_model.specs.Options.{options_of}
 use Rattle.wasg_stages.specs.StageProblems.{IsAllotmentProblem}
 use Rattle.holding_book.specs.declared.answer.Answer.{Answer}
 use Rattle.holding_book.specs.declared.answer.Answer.TheVariants.{U as refused}
@@ -82,3 +86,23 @@ waiting_terms d = record d { refuse = Some (waiting_price d.refuse) }
 abbrev pub IsWaitingProblem : SlotBook → List Line → ProblemView → Type 0
 IsWaitingProblem b lines p =
     IsAllotmentProblem (waiting_terms b.declaration) (waiting_units lines) (left_of b) p
+
+-- ---- what they are given by a choice
+
+-- the alternative of this number; a number that names none counts as a refusal
+abbrev pub given_state : Declaration → Line → Option ℕ → UnitState
+given_state terms line number = record {
+  unit = waiting_unit line;
+  given = option_map
+      (λ n. slice_index_or (options_of terms (waiting_unit line)) n Refused) number;
+}
+
+-- each line by its own number; one without a number is given nothing
+abbrev pub given_states : Declaration → List Line → List ℕ → List UnitState
+given_states terms [] numbers = []
+given_states terms (line ∷ lines) numbers =
+    given_state terms line (slice_get numbers 0) ∷ given_states terms lines (drop 1 numbers)
+
+-- by the choice of a stage, if it has one
+abbrev pub allotted_states : Declaration → List Line → Option (List ℕ) → List UnitState
+allotted_states d lines choice = given_states (waiting_terms d) lines (unwrap_or choice [])

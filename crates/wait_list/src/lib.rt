@@ -7,12 +7,14 @@
 #![tactic(auto)]
 
 mod fault;
+mod given;
 pub mod laws;
 mod problem;
 mod stage;
 mod waiting;
 
 pub use fault::WaitFault;
+pub use given::allotted_states;
 pub use problem::waiting_problem;
 pub use stage::{recheck, reclear};
 pub use waiting::Waiting;

@@ -36,7 +36,7 @@ pub fn waiting_problem(alloc: Global, book: &Book, waiting: &Waiting) -> Result<
 }
 
 // The declaration, with the price at which a line that waits may be refused.
-fn waiting_terms(alloc: Global, declaration: &Declaration) -> Result<Declaration, Memory>
+pub(crate) fn waiting_terms(alloc: Global, declaration: &Declaration) -> Result<Declaration, Memory>
     ensures { IfOk result (λ terms. terms ≡ waiting_terms declaration.now) }
 {
     let mut terms = declaration.copy(alloc)?;
@@ -63,7 +63,7 @@ fn waiting_units(alloc: Global, lines: &[Line]) -> Result<Vec<Unit>, Memory>
 }
 
 // A line as a unit.
-fn waiting_unit(line: &Line) -> Unit
+pub(crate) fn waiting_unit(line: &Line) -> Unit
     ensures { result ≡ waiting_unit line.now }
 {
     Unit {
