@@ -19,9 +19,6 @@ use Rattle.cert_format.specs.declared.cert.StageCert.{StageCert}
 use Rattle.cert_format.specs.declared.cert.Mark.{Mark}
 use Rattle.cert_format.specs.declared.cert.Mark.TheVariants.{Infeasible}
 use Rattle.wasg_stages.specs.Valid.{MarkClaims}
-use Rattle.cert_checker.specs.declared.verdict.Reason.{Reason}
-use Rattle.cert_checker.specs.Tests.{Test}
-use Rattle.cert_checker.specs.Verdicts.{FailsFirst, NoneFails, IsFirstFailing}
 use Rattle.holding_book.specs.Books.{SlotBook, BookFits, season_of, book_movements}
 use Rattle.holding_book.specs.Left.{left_of}
 use Rattle.wait_list.specs.Waiting.{waiting_unit, waiting_units, waiting_price, waiting_terms}
@@ -69,15 +66,3 @@ never-infeasible b lines c holds is =
     let none : MarkClaims (waiting_terms b.declaration) (waiting_units lines) (left_of b) c Infeasible =
     subst (λ (mark : Mark). MarkClaims (waiting_terms b.declaration) (waiting_units lines) (left_of b) c mark) is holds in
     none (map (λ (line : Line). Refused) lines) (refused-all b lines)
-
--- ---- a line that fails
-
-fails-first : (Holds : Test → Type 0) (tests : List Test) (reason : Reason) → AllByRecursion Holds tests → FailsFirst Holds tests reason → ⊥
-fails-first Holds [] reason all fails = fails
-fails-first Holds (test ∷ tests) reason all (inl here) = here.0 all.0
-fails-first Holds (test ∷ tests) reason all (inr later) = fails-first Holds tests reason all.1 later.1
-
-pub not-both : (Holds : Test → Type 0) (number : ℕ) (lines : List (List Test)) (line : ℕ) (reason : Reason) → NoneFails Holds lines → IsFirstFailing Holds number lines line reason → ⊥
-not-both Holds number [] line reason none fails = fails
-not-both Holds number (tests ∷ lines) line reason none (inl here) = fails-first Holds tests reason none.0 here.1
-not-both Holds number (tests ∷ lines) line reason none (inr later) = not-both Holds (suc number) lines line reason none.1 later.1

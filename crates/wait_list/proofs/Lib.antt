@@ -1,4 +1,6 @@
 mod WaitLemmas
+mod GivenLemmas
 mod ProblemLemmas
 mod ClaimLemmas
-mod GivenLemmas
+mod CheckLemmas
+mod ExtraLemmas

@@ -2,17 +2,17 @@
 
 ghost use Rattle.std.specs.Prelude.{◌≡◌, ◌↔◌, ◌+◌, ◌*◌, ◌≤◌, ◌×◌, All, IfOk, length};
 ghost use Rattle.scr_reader.specs.Printed.{LineFits};
-ghost use Rattle.cert_format.specs.Printable.{IsPrintableExtra};
+ghost use Rattle.cert_format.specs.Printable.{IsPrintableExtra, IsWithinLimits};
 ghost use Rattle.cert_format.specs.declared.cert.Mark.TheVariants.{Unsettled};
 ghost use Rattle.search_workers.specs.Outcomes.{choice_count};
 ghost use Rattle.season_run.specs.Runs.{IsStageRun};
 ghost use Rattle.cert_checker.specs.declared.verdict.Verdict.TheVariants.{Yes};
 ghost use Rattle.wait_list.specs.Claims.{IsWaitingProof, IsWaitingCheck, WaitingMarkHolds};
 
-use crate::laws::waiting_marks;
+use crate::laws::{one_waiting_line, waiting_marks};
 use crate::problem::waiting_problem;
 use crate::waiting::Waiting;
-use cert_checker::{Verdict, alike_proofs, check_stage, passing_lines, same_problems};
+use cert_checker::{Verdict, check_stage};
 use cert_format::{StageCert, line_counts};
 use choice_problem::Problem;
 use holding_book::Book;
@@ -37,6 +37,7 @@ pub fn reclear<R: Threads + Sync, G: Gate>(
     requires workers { (1 ≤ workers) × (workers ≤ 16) }
     ensures run { IfOk result (λ c. IsStageRun problem.now budget c) }
     ensures printable { IfOk result (λ c. IsPrintableExtra c) }
+    ensures limits { IfOk result (λ c. IsWithinLimits c) }
     // With a budget of at least twice the number of choices, less one, it is not OPEN.
     ensures settled { 2 * choice_count problem.now ≤ budget + 1 →
         IfOk result (λ c. c.mark ≡ Unsettled → ⊥) }
@@ -67,9 +68,7 @@ pub fn recheck(
         (λ verdict. verdict ≡ Yes → WaitingMarkHolds book.now.book waiting.now cert.now) }
 {
     waiting_marks();
-    passing_lines();
-    alike_proofs();
-    same_problems();
+    one_waiting_line();
     let problem = waiting_problem(alloc, book, waiting)?;
     let verdict = check_stage(alloc, &problem, cert, 2)?;
     Ok(verdict)
