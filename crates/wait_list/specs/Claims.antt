@@ -6,6 +6,7 @@ use Rattle.capacity_windows.specs.Windows.{WindowsFit}
 use Rattle.choice_problem.specs.Problems.{ProblemView}
 use Rattle.series_model.specs.declared.times.Times.{Times}
 use Rattle.series_model.specs.Allotments.{IsFeasibleAllotment, allotted_movements}
+use Rattle.series_model.specs.Stages.{times_named}
 use Rattle.cert_format.specs.declared.cert.StageCert.{StageCert}
 use Rattle.cert_format.specs.Proofs.{IsProof}
 use Rattle.wasg_stages.specs.Valid.{MarkClaims}
@@ -25,6 +26,11 @@ use Rattle.wait_list.specs.Waiting.{waiting_units, waiting_terms, IsWaitingProbl
 abbrev pub IsWaitingAllotment : SlotBook → List Line → List Times → Type 0
 IsWaitingAllotment b lines times =
     IsFeasibleAllotment (waiting_terms b.declaration) (waiting_units lines) (left_of b) times
+
+-- the times that the numbers of a choice name
+abbrev pub named_times : SlotBook → List Line → List ℕ → List Times
+named_times b lines numbers =
+    times_named (waiting_terms b.declaration) (waiting_units lines) numbers
 
 -- the movements of all holdings and of the waiting lines at these times fit the declared limits
 abbrev pub FitsBesideBook : SlotBook → List Line → List Times → Type 0

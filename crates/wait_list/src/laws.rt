@@ -1,6 +1,6 @@
 //! Laws of waiting lists. Each function does nothing; its contract is the law.
 
-ghost use Rattle.std.specs.Prelude.{◌≡◌, ◌≤◌, ℕ, List, length, map};
+ghost use Rattle.std.specs.Prelude.{◌≡◌, ◌≤◌, ℕ, List, length, map, IfSome};
 ghost use Rattle.scr_reader.specs.declared.line.Line.{Line as LineValue};
 ghost use Rattle.choice_problem.specs.Problems.{ProblemView};
 ghost use Rattle.series_model.specs.declared.times.Times.{Times as TimesValue};
@@ -12,11 +12,11 @@ ghost use Rattle.cert_format.specs.Spelling.{IsExtra, extra_spelling};
 ghost use Rattle.cert_format.specs.Printable.{IsPrintableExtra, IsWithinLimits};
 ghost use Rattle.cert_checker.specs.declared.verdict.Reason.{Reason as ReasonValue};
 ghost use Rattle.holding_book.specs.Books.{SlotBook, BookFits};
-ghost use Rattle.wait_list.specs.Claims.{IsWaitingAllotment, FitsBesideBook, IsWaitingProof, WaitingMarkHolds, WaitingFailsAt};
+ghost use Rattle.wait_list.specs.Claims.{named_times, IsWaitingAllotment, FitsBesideBook, IsWaitingProof, WaitingMarkHolds, WaitingFailsAt};
 
 use cert_checker::same_tests;
 use cert_format::season_bytes;
-use wasg_stages::laws::proven_claims;
+use wasg_stages::laws::{problem_choices, proven_claims};
 
 /// A proof of the waiting stage shows what its mark claims: the allotment of an OPTIMAL one
 /// displaces least of all that fit what the book leaves, and none of an OPEN one displaces less than
@@ -52,11 +52,16 @@ pub fn extra_bytes()
 }
 
 /// What the waiting stage allots fits beside the book: all holdings, those that are offered too, and
-/// the allotted lines together pass no limit.
+/// the allotted lines together pass no limit. So does the choice of a stage that has a proof.
 pub fn allotted_fit()
-    ensures { (b : SlotBook) (lines : List LineValue) (times : List TimesValue) →
+    ensures allotment { (b : SlotBook) (lines : List LineValue) (times : List TimesValue) →
         BookFits b → IsWaitingAllotment b lines times → FitsBesideBook b lines times }
-{}
+    ensures proved { (b : SlotBook) (lines : List LineValue) (c : StageCertValue) →
+        BookFits b → IsWaitingProof b lines c →
+        IfSome c.choice (λ numbers. FitsBesideBook b lines (named_times b lines numbers)) }
+{
+    problem_choices();
+}
 
 /// To refuse all lines is feasible, so the waiting stage is never INFEASIBLE.
 pub fn all_may_be_refused()
