@@ -1,7 +1,8 @@
 -- The problem of the waiting stage.
-use Rattle.std.proofs.Common.{◌≡◌, ℕ, ◌<◌, ◌≤◌, refl, sym, ◌∙◌, ap, arith, List, [], ◌∷◌, length, map}
+use Rattle.std.proofs.Common.{◌≡◌, ℕ, ◌<◌, ◌≤◌, refl, sym, ◌∙◌, ap, subst, arith, List, [], ◌∷◌, length, map}
 use Rattle.std.specs.Prelude.{All, Option, Some, None}
 use Rattle.std.specs.Option.{ForSome}
+use Rattle.std.proofs.lemmas.List.{length-map}
 use Rattle.std.proofs.lemmas.List.Elements.{All-nil, All-cons, All-head, All-tail}
 use Rattle.season_days.specs.Term.{Term}
 use Rattle.season_days.specs.Capacity.{capacity_of, declared_resources, IsDeclaration}
@@ -45,3 +46,20 @@ with-limits d units limit other p is same = record {
   resources = is.resources;
   limits = λ r lt. is.limits r lt ∙ same r lt;
 }
+
+-- ---- what the calls gave
+
+module _ (d terms : Declaration) (lines : List Line) (units : List SlotUnit) (t : terms ≡ waiting_terms d) (u : units ≡ waiting_units lines) where
+  pub units-fit-at : All (LineFits d.season) lines → All (UnitFits terms.season) units
+  units-fit-at all =
+      subst (λ (us : List SlotUnit). All (UnitFits terms.season) us) (sym u)
+      (subst (λ (season : Term). All (UnitFits season) (waiting_units lines)) (sym (ap (λ (x : Declaration). x.season) t)) (units-fit d.season lines all))
+
+  pub as-waiting : (limit other : ℕ → ℕ) (p : ProblemView) → IsAllotmentProblem terms units limit p → ((r : ℕ) → r < declared_resources (capacity_of d) → limit r ≡ other r) →
+      IsAllotmentProblem (waiting_terms d) (waiting_units lines) other p
+  as-waiting limit other p is same =
+      with-limits (waiting_terms d) (waiting_units lines) limit other p
+      (subst (λ (x : Declaration). IsAllotmentProblem x (waiting_units lines) limit p) t (subst (λ (us : List SlotUnit). IsAllotmentProblem terms us limit p) u is)) same
+
+pub units-count : (lines : List Line) (units : List SlotUnit) → units ≡ waiting_units lines → length units ≡ length lines
+units-count lines units u = ap (λ (us : List SlotUnit). length us) u ∙ length-map lines waiting_unit

@@ -16,7 +16,7 @@ use Rattle.holding_book.specs.declared.answer.Entry.{Entry}
 use Rattle.holding_book.specs.Books.{SlotBook}
 use Rattle.holding_book.specs.Asks.{CanAsk}
 use Rattle.holding_book.specs.Hints.{asked_line_by, new_line}
-use Rattle.wait_list.specs.Waiting.{unmet_by, unmet_line, may_wait, with_line, waiting_after}
+use Rattle.wait_list.specs.Waiting.{unmet_by, unmet_line, may_wait, with_line, waiting_after, waiting_lines}
 
 -- ---- the line of an unmet ask has a spelling
 
@@ -86,3 +86,18 @@ after-next b waiting history i entry lt =
 
 pub after-end : (b : SlotBook) (waiting : List Line) (history : List Entry) (i : ℕ) → length history ≤ i → waiting_after b waiting (drop i history) ≡ waiting
 after-end b waiting history i past = ap (waiting_after b waiting) (drop_of_length-le history past)
+
+pub waiting-begin : (b : SlotBook) (history : List Entry) → waiting_after b [] history ≡ waiting_lines b history
+unfolding waiting_lines
+waiting-begin b history = refl
+
+module _ (b : SlotBook) (history : List Entry) (i : ℕ) (entry : Entry) (old new : List Line)
+    (is : new ≡ with_line b old (unmet_line (get_or history i entry))) where
+  pub after-on : i < length history → waiting_after b old (drop i history) ≡ waiting_lines b history → waiting_after b new (drop (i + 1) history) ≡ waiting_lines b history
+  after-on lt so_far = ap (λ (lines : List Line). waiting_after b lines (drop (i + 1) history)) is ∙ sym (after-next b old history i entry lt) ∙ so_far
+
+  pub few-on : length old ≤ i → length new ≤ i + 1
+  few-on few = omega (arith, ap (λ (lines : List Line). length lines) is, with-few b old (unmet_line (get_or history i entry)), few)
+
+  pub spelled-on : i < length history → All (λ (e : Entry). CanAsk b.declaration e.ask) history → All (LineFits b.declaration.season) old → All (LineFits b.declaration.season) new
+  spelled-on lt can all = subst (λ (lines : List Line). All (LineFits b.declaration.season) lines) (sym is) (with-spelled b.declaration b old (get_or history i entry) (can i entry lt) all)

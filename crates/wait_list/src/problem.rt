@@ -1,7 +1,7 @@
 //! The problem of the waiting stage.
 
 ghost use Rattle.std.specs.Prelude.{◌≡◌, ◌<◌, ◌≤◌, ℕ, All, IfOk, length, slice_index};
-ghost use Rattle.season_days.specs.Capacity.{capacity_of, declared_resources};
+ghost use Rattle.season_days.specs.Capacity.{capacity_of, declared_resources, IsDeclaration};
 ghost use Rattle.season_days.specs.declared.declaration.TheConstants.{HIGHEST_NIGHT_LIMIT};
 ghost use Rattle.scr_reader.specs.Printed.{LineFits};
 ghost use Rattle.holding_book.specs.Left.{left_of};
@@ -32,12 +32,15 @@ pub fn waiting_problem(alloc: Global, book: &Book, waiting: &Waiting) -> Result<
     let windows = Windows::new(alloc, &terms)?;
     let units = waiting_units(alloc, waiting.lines())?;
     let limits = limits_left(alloc, book, windows.resources())?;
-    allotment_problem(alloc, &windows, &terms, &units, &limits)
+    let problem = allotment_problem(alloc, &windows, &terms, &units, &limits)?;
+    Ok(problem)
 }
 
 // The declaration, with the price at which a line that waits may be refused.
 pub(crate) fn waiting_terms(alloc: Global, declaration: &Declaration) -> Result<Declaration, Memory>
-    ensures { IfOk result (λ terms. terms ≡ waiting_terms declaration.now) }
+    requires { IsDeclaration declaration.now }
+    ensures terms { IfOk result (λ terms. terms ≡ waiting_terms declaration.now) }
+    ensures keeps { IfOk result (λ terms. IsDeclaration terms) }
 {
     let mut terms = declaration.copy(alloc)?;
     terms.refuse = Some(waiting_price(declaration.refuse));
