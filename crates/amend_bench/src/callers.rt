@@ -6,7 +6,7 @@ ghost use Rattle.series_model.specs.Submissions.{ItemPairs};
 
 use crate::asks::{can_ask, flight_of};
 use crate::draws::{Draws, new_line};
-use crate::report::{NO_CALLS, Size, Tally, call_since, print_tally};
+use crate::report::{NO_CALLS, Size, Tally, calls_since, print_tally};
 use holding_book::{Answer, Book};
 use scr_reader::{Code, Item, Line};
 use season_days::Declaration;
@@ -96,12 +96,11 @@ fn entries_by<R: Threads + Wait + Sync + Clock>(
         lines,
         entries / callers,
     );
-    let call = call_since(rt, start)?;
+    let tally = calls_since(rt, start, 0)?;
     let (_, history) = ledger.close(passes);
     Ok(Tally {
         calls: history.len() as u64,
-        nanos: call.nanos,
-        longest: 0,
+        ..tally
     })
 }
 

@@ -6,6 +6,7 @@ mod asks;
 mod books;
 mod callers;
 mod draws;
+mod journal;
 mod report;
 mod sessions;
 mod usage;
@@ -52,14 +53,18 @@ fn run<R: Threads + Wait + Sync + Print + Clock>(
         "ledger" => callers::run(rt, alloc, size, book),
         "sessions" => sessions::run(rt, alloc, size, book),
         "usage" => usage::run(rt, alloc, size, book),
+        "journal" => journal::run(rt, alloc, size, book),
         "short" => {
             asks::run(rt, alloc, size, book)?;
             callers::run(rt, alloc, size, book)?;
             sessions::run(rt, alloc, size, book)?;
-            usage::run(rt, alloc, size, book)
+            usage::run(rt, alloc, size, book)?;
+            journal::run(rt, alloc, size, book)
         }
         _ => {
-            println!(rt; "amend_bench WORD [CAP SCR]: asks, ledger, sessions, usage, short")?;
+            println!(rt;
+                "amend_bench WORD [CAP SCR]: asks, ledger, sessions, usage, journal, short"
+            )?;
             Ok(())
         }
     }

@@ -47,6 +47,16 @@ pub fn call_since<R: Clock>(rt: &R, start: Instant) -> anyhow::Result<Tally> {
     })
 }
 
+/// So many calls that began together at a time, the last of which ends now.
+pub fn calls_since<R: Clock>(rt: &R, start: Instant, calls: u64) -> anyhow::Result<Tally> {
+    let nanos = call_since(rt, start)?.nanos;
+    Ok(Tally {
+        calls,
+        nanos,
+        longest: 0,
+    })
+}
+
 /// Prints how many calls there were, and at full size how many they are in a second, and how many
 /// microseconds one takes and the longest took.
 pub fn print_tally<R: Print>(rt: &R, size: Size, about: &str, tally: Tally) -> anyhow::Result<()> {

@@ -3,7 +3,7 @@
 ghost use Rattle.std.specs.Prelude.{◌<◌};
 
 use crate::asks::{Airline, NEW_AIRLINE};
-use crate::report::{NO_CALLS, Size, Tally, call_since, print_tally};
+use crate::report::{NO_CALLS, Size, Tally, calls_since, print_tally};
 use desk_links::{MemoryDoor, MemoryLink};
 use holding_book::Book;
 use scr_reader::{Header, print_header, print_item};
@@ -17,8 +17,8 @@ use std::thread::Threads;
 use std::time::{Clock, Instant};
 use worker_gate::RealGate;
 
-// The numbers of links that are tried, each served by a worker of its own.
-const LINKS: [u32; 2] = [1, 8];
+/// The numbers of links that are tried, each served by a worker of its own.
+pub const LINKS: [u32; 2] = [1, 8];
 
 // How many asks a message has.
 const MESSAGE_ASKS: u32 = 10;
@@ -64,16 +64,16 @@ fn asks_over<R: Threads + Wait + Sync + Clock>(
     }
     let start = Instant::now(rt)?;
     let (history, _, _) = serve_doors(rt, alloc, &RealGate, copy, Nothing, &mut doors, 1, 100_000)?;
-    let call = call_since(rt, start)?;
-    Ok(Tally {
-        calls: history.len() as u64,
-        nanos: call.nanos,
-        longest: 0,
-    })
+    calls_since(rt, start, history.len() as u64)
 }
 
-// So many doors, each with one link that has so many asks. One airline draws all of them.
-fn doors_of(alloc: Global, book: &Book, links: u32, each: u32) -> Result<Vec<MemoryDoor>, Memory> {
+/// So many doors, each with one link that has so many asks. One airline draws all of them.
+pub fn doors_of(
+    alloc: Global,
+    book: &Book,
+    links: u32,
+    each: u32,
+) -> Result<Vec<MemoryDoor>, Memory> {
     let mut airline = NEW_AIRLINE;
     let mut doors = Vec::new(alloc);
     for _ in 0..links {

@@ -1,6 +1,6 @@
 //! How long it takes to watch what was operated of a book.
 
-use crate::report::{Size, Tally, call_since, print_tally};
+use crate::report::{Size, calls_since, print_tally};
 use holding_book::Book;
 use slot_text::{Memory, put_padded};
 use std::alloc::Global;
@@ -25,17 +25,12 @@ pub fn run<R: Print + Clock>(rt: &R, alloc: Global, size: Size, book: &Book) -> 
         println!(rt; "no usage")?;
         return Ok(());
     };
-    let call = call_since(rt, start)?;
+    let tally = calls_since(rt, start, u64::from(reports))?;
     let lines = usage.next.items().len();
     print!(rt;
         "series {}, kept {}, lines {lines}, ",
         usage.series, usage.kept
     )?;
-    let tally = Tally {
-        calls: u64::from(reports),
-        nanos: call.nanos,
-        longest: 0,
-    };
     print_tally(rt, size, "reports", tally)
 }
 

@@ -3,11 +3,11 @@ use Rattle.std.proofs.Common.{◌≡◌, ◌⊎◌, ℕ, ◌+◌, ◌≤◌, Lis
 use Rattle.std.proofs.lemmas.List.{length-take, drop_all, nil_from_length}
 use Rattle.std.proofs.lemmas.List.Elements.{All-nil}
 use Rattle.season_days.specs.Term.{Term}
-use Rattle.desk_disk.specs.Stops.{DiskPassage, measured, synced, sync_failed, over, Torn, IsCutAt, ReadAfter, LeftAfter, DiskStart, MayRead, MayLeave, Agrees, AtEachMoment}
-use Rattle.desk_disk.specs.Disks.{ToldDisk, Stores, Shortens}
+use Rattle.desk_disk.specs.Stops.{DiskPassage, measured, read_at, wrote_at, write_failed_at, cut_to, cut_failed, synced, sync_failed, read_after, over, Torn, IsCutAt, ReadAfter, LeftAfter, DiskStart, MayRead, MayLeave, Agrees, AtEachMoment}
+use Rattle.desk_disk.specs.Disks.{DiskView, ToldDisk, TellsTruly, Stores, Shortens}
 use Rattle.amend_journal.specs.Format.{header, open_slots, slot_bytes, IsFit, IsJournalOf}
 use Rattle.amend_journal.specs.Standing.{StandsFor, HasFault}
-use Rattle.amend_journal.specs.Durable.{told_start, ReadsAs, AreDurable, StandsAlike, LeavesNoWorse}
+use Rattle.amend_journal.specs.Durable.{told_start, ReadsAs, AreDurable, StandsAlike, LeavesNoWorse, IsLaterDisk}
 use Rattle.amend_journal.specs.Private.{OnlyLooked, IsShort, AlwaysFaulty, AlwaysJournalOf}
 use Rattle.amend_journal.specs.declared.asked.Asked.{Asked}
 use Rattle.amend_journal.specs.declared.fault.OpenFault.{OpenFault}
@@ -33,6 +33,26 @@ ReadLaw = (s : DiskStart) (log more : List DiskPassage) (c : List ℕ) → MayRe
 
 abbrev pub LeftLaw : Type 0
 LeftLaw = (s : DiskStart) (log more : List DiskPassage) (c : List ℕ) → MayLeave s (log ++ more) c → LeftAfter (MayRead s log) (MayLeave s log) more c
+
+-- ---- the same disk after one call
+
+-- a content that may be read after a call comes from one that might be read before
+read_before : (p : DiskPassage) (R : List ℕ → Type 0) (c : List ℕ) → read_after p R c → (old : List ℕ) × R old
+read_before (measured n) R c h = (c, h.0)
+read_before (read_at at bytes) R c h = (c, h.0)
+read_before (wrote_at at bytes) R c h = (h.0, h.1)
+read_before (write_failed_at at bytes) R c h = (h.0, h.1)
+read_before (cut_to n) R c h = (h.0, h.1)
+read_before (cut_failed n) R c h = (h.0, h.1)
+read_before synced R c h = (c, h)
+read_before sync_failed R c h = (c, h)
+
+pub later_call : (a b : DiskView) (p : DiskPassage) → ReadLaw → b.log ≡ a.log ++ p ∷ [] → told_start b.told ≡ told_start a.told → TellsTruly b → IsLaterDisk a b
+later_call a b p law log start truly = record {
+  start = start;
+  truly = λ _. truly;
+  agrees = λ s h. read_before p (MayRead s a.log) h.0 (law s a.log (p ∷ []) h.0 (subst (λ (l : List DiskPassage). MayRead s l h.0) log h.1));
+}
 
 pub looked_read : (s : DiskStart) (a b : List DiskPassage) → ReadLaw → OnlyLooked a b → (c : List ℕ) → MayRead s b c → MayRead s a c
 looked_read s a b law looked c h =

@@ -9,3 +9,4 @@ mod RangeLemmas
 mod FewLemmas
 mod LimitLemmas
 mod OnceLemmas
+mod HeldLemmas

@@ -59,7 +59,7 @@ start_tests : (k n a b minute begin over : ℕ) → k < n → ltb k a ≡ leb ov
 start_tests k n a b minute begin over lt past begun = grind (arith, nat_tests)
 
 -- the starts whose windows hold a minute
-held_start : (first step length minute n k : ℕ) → 0 < step → k < n
+pub held_start : (first step length minute n k : ℕ) → 0 < step → k < n
     → leb (min n (starts_until (first + length) step minute)) k && ltb k (min n (starts_until first step minute)) ≡ leb (first + k * step) minute && ltb minute (first + k * step + length)
 held_start first step length minute n k some lt =
     let begun = until_is first step minute k some in
@@ -67,7 +67,7 @@ held_start first step length minute n k some lt =
     start_tests k n (starts_until (first + length) step minute) (starts_until first step minute) minute (first + k * step) (first + k * step + length) lt (over ∙ ap (λ (e : ℕ). leb e minute) (omega arith)) begun
 
 -- a window of a day, seen from a movement some days after
-seen_after : (day d ago begin length minute : ℕ) → day ≡ d + ago → leb (1440 * d + begin) (1440 * day + minute) && ltb (1440 * day + minute) (1440 * d + begin + length) ≡ leb begin (minute + 1440 * ago) && ltb (minute + 1440 * ago) (begin + length)
+pub seen_after : (day d ago begin length minute : ℕ) → day ≡ d + ago → leb (1440 * d + begin) (1440 * day + minute) && ltb (1440 * day + minute) (1440 * d + begin + length) ≡ leb begin (minute + 1440 * ago) && ltb (minute + 1440 * ago) (begin + length)
 seen_after day d ago begin length minute is = grind (arith, nat_tests)
 
 -- and from any other day

@@ -124,6 +124,16 @@ IsHeldRun c rule ago m first end =
     × (first_of c rule + day * starts_of c.step of + start < end))
     ↔ (holds c (Window of day start) m ≡ true))
 
+-- the number is that of a window of a capacity line that begins so many days before a movement's
+pub record IsWindowAgo (c : Capacity) (m : Movement) (r rule ago day start : ℕ)
+    (of : Rule) : Type 0 where
+  pub line : slice_get c.rules rule ≡ Some of
+  pub near : ago < 2
+  pub begins : day + ago ≡ m.day
+  pub column : start < starts_of c.step of
+  pub number : r ≡ first_of c rule + day * starts_of c.step of + start
+  pub window : resource_at c r ≡ Window of day start
+
 -- ---- how many strips the windows of a stop take
 
 -- every weekday is in the two sets

@@ -9,6 +9,7 @@
 
 mod band;
 mod counting;
+pub mod laws;
 mod limits;
 mod movement;
 mod resource;

@@ -3,15 +3,14 @@
 //! day and those of the day before. A band takes one strip where the line and the dates of the stop
 //! are daily, and else at most one for each weekday.
 
-ghost use Rattle.std.specs.Prelude.{◌≡◌, ◌+◌, ◌*◌, ◌<◌, ◌≤◌, ℕ, IfOk, OnOk, All, [], length, sum_by};
+ghost use Rattle.std.specs.Prelude.{◌≡◌, ◌+◌, ◌*◌, ◌<◌, ◌≤◌, ℕ, true, IfOk, OnOk, All, [], length, sum_by};
 ghost use Rattle.choice_problem.specs.Strips.{part_uses, IsPartInRange};
 ghost use Rattle.season_days.specs.Seasons.{date_count};
 ghost use Rattle.season_days.specs.declared.declaration.Kind.{Kind};
 ghost use Rattle.season_days.specs.declared.season.TheConstants.{MOST_DATES};
 ghost use Rattle.season_days.specs.declared.declaration.TheConstants.{MINUTES_OF_DAY, MOST_WINDOWS};
-ghost use Rattle.capacity_windows.specs.Windows.{IsRule, windows_of, window_load, stop_movements, declared_resources, band_strips, rule_strips, most_strips};
+ghost use Rattle.capacity_windows.specs.Windows.{IsRule, IsHeldRun, windows_of, resource_at, holds, window_load, stop_movements, declared_resources, band_strips, rule_strips, most_strips};
 ghost use Rattle.capacity_windows.specs.Bands.{Adds, IsBand, AreStopDates, dated_movements, starts_until, band_of, band_uses, weekday_uses, rule_load, rest_load, listed_dates, option_uses, first_date, end_date, IsWide, IsOptionWide};
-ghost use Rattle.capacity_windows.specs.Windows.{IsHeldRun};
 
 use crate::band::Band;
 use crate::counting::{is_at_night, is_of_kind};
@@ -141,6 +140,8 @@ impl Windows {
         ensures ordered { result.0 ≤ result.1 }
         ensures there { result.1 ≤ declared_resources self.now }
         ensures run { IsHeldRun self.now rule ago movement result.0 result.1 }
+        ensures held { (r : ℕ) → result.0 ≤ r → r < result.1 →
+            holds self.now (resource_at self.now r) movement ≡ true }
     {
         let of = self.rules()[rule as usize];
         if !self.is_listed(movement.day)

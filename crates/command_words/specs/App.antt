@@ -8,6 +8,7 @@ use Rattle.clap.specs.declared.builder.ArgAction.TheVariants.{Set, Append}
 use Rattle.clap.specs.declared.parser.matches.ArgMatches.{ArgMatches}
 use Rattle.command_words.specs.Words.{Word}
 use Rattle.command_words.specs.Jobs.{Command, allocate_command, check_command, amend_command}
+use Rattle.command_words.specs.Jobs.{serve_command, resume_command, usage_command}
 use Rattle.command_words.specs.Jobs.{commands, command_named, job_of}
 use Rattle.command_words.specs.declared.job.Job.{Job}
 
@@ -47,6 +48,14 @@ abbrev pub reading_app : App
 reading_app = record {
   top = desk_top;
   subs = map command_shape (allocate_command ∷ check_command ∷ amend_command ∷ []);
+}
+
+-- with all of them
+abbrev pub season_app : App
+season_app = record {
+  top = desk_top;
+  subs = map command_shape (allocate_command ∷ check_command ∷ amend_command
+      ∷ serve_command ∷ resume_command ∷ usage_command ∷ []);
 }
 
 abbrev pub desk_app : App

@@ -8,7 +8,7 @@ ghost use Rattle.command_words.specs.Jobs.{allocate_command, check_command};
 ghost use Rattle.command_words.specs.Jobs.{amend_command, serve_command, resume_command};
 ghost use Rattle.command_words.specs.Jobs.{usage_command, make_command, trial_command};
 ghost use Rattle.command_words.specs.App.{option_arg, names_arg, command_shape, bare_app, reading_app};
-ghost use Rattle.command_words.specs.App.{desk_app};
+ghost use Rattle.command_words.specs.App.{season_app, desk_app};
 
 use clap::{Arg, ArgAction, ArgMatches, Command, Error};
 use std::alloc::{AllocError, Global};
@@ -119,20 +119,25 @@ fn reading_desk<'a>(alloc: Global) -> Result<Command<'a>, AllocError>
         .subcommand(amend)
 }
 
-fn desk<'a>(alloc: Global) -> Result<Command<'a>, AllocError>
-    ensures { IfOk result (λ c. app_of c ≡ desk_app) }
+/// The desk with all commands that read a season's files.
+fn season_desk<'a>(alloc: Global) -> Result<Command<'a>, AllocError>
+    ensures { IfOk result (λ c. app_of c ≡ season_app) }
 {
     let serve = serve(alloc)?;
     let resume = resume(alloc)?;
     let usage = usage(alloc)?;
-    let make = make(alloc)?;
-    let trial = trial(alloc)?;
     reading_desk(alloc)?
         .subcommand(serve)?
         .subcommand(resume)?
-        .subcommand(usage)?
-        .subcommand(make)?
-        .subcommand(trial)
+        .subcommand(usage)
+}
+
+fn desk<'a>(alloc: Global) -> Result<Command<'a>, AllocError>
+    ensures { IfOk result (λ c. app_of c ≡ desk_app) }
+{
+    let make = make(alloc)?;
+    let trial = trial(alloc)?;
+    season_desk(alloc)?.subcommand(make)?.subcommand(trial)
 }
 
 /// What `clap` finds in the words.

@@ -7,3 +7,4 @@ mod SessionLemmas
 mod ServedLemmas
 mod JoinLemmas
 mod AmendLemmas
+mod SeenLemmas

@@ -4,4 +4,5 @@ pub mod Sessions
 pub mod Served
 pub mod Begun
 pub mod Stopped
+pub mod Seen
 pub mod Private

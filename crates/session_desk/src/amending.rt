@@ -8,6 +8,7 @@ ghost use Rattle.scr_replies.specs.Received.{AreFor};
 ghost use Rattle.session_desk.specs.Begun.{HasBroken, TakesFit};
 ghost use Rattle.holding_book.specs.declared.answer.Entry.{Entry as EntryValue};
 ghost use Rattle.session_desk.specs.Stopped.{StopsAt};
+ghost use Rattle.session_desk.specs.Seen.{SeenGoesOn, IsLedgerHistory};
 ghost use Rattle.session_desk.specs.Private.Amended.{HasAnswers, HasOneAnswer, HasLeft};
 ghost use Rattle.session_desk.specs.Private.Amended.{StopsAnswer};
 
@@ -68,6 +69,7 @@ impl<'a, R: Wait, G: LineGate, B: Beside> Responder for Amending<'a, R, G, B> {
     ghost use Rattle.session_desk.specs.Begun.{IsAnsweredBy, IsBegunBy, HasBroken, TakesFit};
     ghost use Rattle.session_desk.specs.Begun.{ledger_caller};
     ghost use Rattle.session_desk.specs.Stopped.{StopsAt};
+    ghost use Rattle.session_desk.specs.Seen.{IsLedgerHistory};
 
     type Entry = Entry;
 
@@ -76,6 +78,10 @@ impl<'a, R: Wait, G: LineGate, B: Beside> Responder for Amending<'a, R, G, B> {
     type About = DeskCaller;
 
     ghost own = { λ pass. B.read pass.own };
+
+    ghost seen = { λ pass. B.read pass.seen };
+
+    ghost legal = { λ a history. IsLedgerHistory a.ledger.now.origin.start history };
 
     ghost ready = { λ a pass. IsAtRest a.ledger.now pass × (pass.number ≡ a.caller)
         × (a.season ≡ a.ledger.now.origin.start.declaration.season)
@@ -138,6 +144,8 @@ impl<'a, R: Wait, G: LineGate, B: Beside> Amending<'a, R, G, B> {
             message.now.items }
         ensures rest { IsAtRest self.now.ledger.now pass.new }
         ensures caller { pass.new.number ≡ self.now.caller }
+        ensures seen { SeenGoesOn (IsLedgerHistory self.now.ledger.now.origin.start)
+            (B.read pass.old.seen) (B.read pass.new.seen) }
         ensures stopped { IfErr result (StopsAt B.read B.broken
             self.now.ledger.now.origin.start.most pass.new.seen) }
         ensures ok { IfOk result (λ text. (entries : List EntryValue)
@@ -172,6 +180,8 @@ impl<'a, R: Wait, G: LineGate, B: Beside> Amending<'a, R, G, B> {
             IsFitItem self.now.ledger.now.origin.start.declaration.season placed.item) items.now }
         ensures rest { IsAtRest self.now.ledger.now pass.new }
         ensures caller { pass.new.number ≡ self.now.caller }
+        ensures seen { SeenGoesOn (IsLedgerHistory self.now.ledger.now.origin.start)
+            (B.read pass.old.seen) (B.read pass.new.seen) }
         ensures stopped { IfErr result (StopsAt B.read B.broken
             self.now.ledger.now.origin.start.most pass.new.seen) }
         ensures ok { IfOk result (λ answers.
@@ -210,6 +220,8 @@ impl<'a, R: Wait, G: LineGate, B: Beside> Amending<'a, R, G, B> {
         requires room { length answers.old.items < vec_capacity answers.old }
         ensures rest { IsAtRest self.now.ledger.now pass.new }
         ensures caller { pass.new.number ≡ self.now.caller }
+        ensures seen { SeenGoesOn (IsLedgerHistory self.now.ledger.now.origin.start)
+            (B.read pass.old.seen) (B.read pass.new.seen) }
         ensures stopped { IfErr result (StopsAt B.read B.broken
             self.now.ledger.now.origin.start.most pass.new.seen) }
         ensures kept { vec_capacity answers.new ≡ vec_capacity answers.old }

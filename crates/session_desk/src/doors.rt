@@ -18,6 +18,7 @@ ghost use Rattle.session_desk.specs.declared.doors.TheConstants.{MOST_DOORS};
 ghost use Rattle.session_desk.specs.declared.worker.DoorWork.{DoorWork as DoorWorkValue};
 ghost use Rattle.session_desk.specs.declared.worker.DoorEnd.TheVariants.{Full as full_end, Broken as broken_end};
 ghost use Rattle.session_desk.specs.Stopped.{StoppedBy, StopsAt};
+ghost use Rattle.session_desk.specs.Seen.{SeenGoesOn, IsLedgerHistory};
 ghost use Rattle.session_desk.specs.Private.Serving.{EndStopped};
 ghost use Rattle.session_desk.specs.Begun.{IsAnsweredBy, IsBegunBy, HasBroken, TakesFit};
 ghost use Rattle.session_desk.specs.Begun.{desk_caller, ledger_caller};
@@ -65,6 +66,8 @@ pub fn serve_link<R: Wait, G: Gate, B: Beside, L: Link>(
     requires fresh { IsFresh (L.view link.old) }
     ensures rest { IsAtRest ledger.now pass.new }
     ensures number { pass.new.number ≡ pass.old.number }
+    ensures seen { SeenGoesOn (IsLedgerHistory ledger.now.origin.start) (B.read pass.old.seen)
+        (B.read pass.new.seen) }
     ensures cause { HasSessionCause (L.view link.old).faults (L.view link.new).faults result }
     ensures told { HasPassed (L.view link.old).told (L.view link.new) }
     ensures stopped { IfErr result (StoppedBy (StopsAt B.read B.broken
@@ -107,6 +110,8 @@ pub fn serve_journaled<R: Wait, G: Gate, K: Disk, L: Link>(
     requires fresh { IsFresh (L.view link.old) }
     ensures rest { IsAtRest ledger.now pass.new }
     ensures number { pass.new.number ≡ pass.old.number }
+    ensures seen { SeenGoesOn (IsLedgerHistory ledger.now.origin.start)
+        (read_told pass.old.seen) (read_told pass.new.seen) }
     ensures cause { HasSessionCause (L.view link.old).faults (L.view link.new).faults result }
     ensures told { HasPassed (L.view link.old).told (L.view link.new) }
     ensures stopped { IfErr result (StoppedBy (StopsAt read_told EndsBroken

@@ -2,6 +2,7 @@
 ghost use Rattle.std.specs.Prelude.{◌≡◌, ◌≤◌, ◌++◌, List, ℕ, length, IfOk, IfErr};
 ghost use Rattle.slot_text.specs.Lines.{lines_of};
 ghost use Rattle.scr_reader.specs.Streams.{AreOfMessage};
+ghost use Rattle.session_desk.specs.Seen.{SeenGoesOn};
 
 use std::alloc::Global;
 
@@ -36,6 +37,12 @@ pub(crate) trait Responder {
     /// The entries that a pass made so far.
     ghost own: { Self.Pass → List Self.Entry };
 
+    /// The entries that a pass has seen so far.
+    ghost seen: { Self.Pass → List Self.Entry };
+
+    /// A history that may be seen here.
+    ghost legal: { Self → List Self.Entry → Type 0 };
+
     /// The pass may be used here, and is of the caller that the answers are for.
     ghost ready: { Self → Self.Pass → Type 0 };
 
@@ -61,6 +68,7 @@ pub(crate) trait Responder {
         requires message { AreOfMessage (lines_of lines.now) }
         requires few { length lines.now ≤ LONGEST_MESSAGE }
         ensures ready { ready self.now pass.new }
+        ensures seen { SeenGoesOn (legal self.now) (seen pass.old) (seen pass.new) }
         ensures ok { IfOk result (λ text. (entries : List Self.Entry)
             × (own pass.new ≡ own pass.old ++ entries)
             × answers (about self.now) (lines_of lines.now) entries text.items) }

@@ -11,6 +11,7 @@ ghost use Rattle.session_desk.specs.Private.Held.{IsSized, IsHeld, IsEnded};
 ghost use Rattle.session_desk.specs.Private.Reading.{IsAt, HasStopped, HasStoppedWithin};
 ghost use Rattle.session_desk.specs.Private.Reading.{IsPut, AnswerStops, EndsSo};
 ghost use Rattle.session_desk.specs.Stopped.{StoppedBy};
+ghost use Rattle.session_desk.specs.Seen.{SeenGoesOn};
 
 use crate::pending::{InputEnd, Pending, Progress};
 use crate::responder::{AnswerFault, Responder};
@@ -63,6 +64,7 @@ pub(crate) fn serve<R: Wait, A: Responder, L: Link>(
     ensures ready { A.ready responder.now pass.new }
     ensures cause { HasSessionCause (L.view link.old).faults (L.view link.new).faults result }
     ensures stopped { IfErr result (StoppedBy (A.stopped responder.now pass.new)) }
+    ensures seen { SeenGoesOn (A.legal responder.now) (A.seen pass.old) (A.seen pass.new) }
     ensures session { IsSession (A.answers (A.about responder.now))
         (A.begins (A.about responder.now)) (A.own pass.old) result (L.view link.new)
         (A.own pass.new) }
@@ -105,6 +107,7 @@ fn read_piece<A: Responder, L: Link>(
     ensures held { OnOk result ((seen : List ℕ) × IsHeld pending.new seen) }
     ensures cause { HasSessionCause (L.view link.old).faults (L.view link.new).faults result }
     ensures stopped { IfErr result (StoppedBy (A.stopped responder.now pass.new)) }
+    ensures seen { SeenGoesOn (A.legal responder.now) (A.seen pass.old) (A.seen pass.new) }
     ensures taken { taken_of (L.view link.new).log ≡ taken_of (L.view link.old).log }
     ensures told { (t : Maybe Transcript) → HasPassed t (L.view link.old)
         → HasPassed t (L.view link.new) }
@@ -145,6 +148,7 @@ fn read_byte<A: Responder, L: Link>(
     ensures held { OnOk result ((seen : List ℕ) × IsHeld pending.new seen) }
     ensures cause { HasSessionCause (L.view link.old).faults (L.view link.new).faults result }
     ensures stopped { IfErr result (StoppedBy (A.stopped responder.now pass.new)) }
+    ensures seen { SeenGoesOn (A.legal responder.now) (A.seen pass.old) (A.seen pass.new) }
     ensures taken { taken_of (L.view link.new).log ≡ taken_of (L.view link.old).log }
     ensures told { (t : Maybe Transcript) → HasPassed t (L.view link.old)
         → HasPassed t (L.view link.new) }
@@ -187,6 +191,7 @@ fn answer<A: Responder, L: Link>(
         → IsHeld pending.new seen) }
     ensures cause { HasSessionCause (L.view link.old).faults (L.view link.new).faults result }
     ensures stopped { IfErr result (StoppedBy (A.stopped responder.now pass.new)) }
+    ensures seen { SeenGoesOn (A.legal responder.now) (A.seen pass.old) (A.seen pass.new) }
     ensures taken { taken_of (L.view link.new).log ≡ taken_of (L.view link.old).log }
     ensures told { (t : Maybe Transcript) → HasPassed t (L.view link.old)
         → HasPassed t (L.view link.new) }

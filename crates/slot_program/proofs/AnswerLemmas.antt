@@ -1,25 +1,28 @@
 -- How a command ends, from how its job went on or stopped.
-use Rattle.std.proofs.Common.{◌≡◌, ℕ, List, [], map, Option, Some, None, refl, sym, ap, subst, inl, inr}
+use Rattle.std.proofs.Common.{◌≡◌, ℕ, List, [], map, Option, Some, None, Result, Ok, Err, codes, refl, sym, ap, subst, inl, inr}
 use Rattle.std.specs.Prelude.{All, Contains, IfSome}
 use Rattle.std.proofs.lemmas.Option.{none-some, same_Some}
 use Rattle.std.proofs.lemmas.List.{append-nil}
 use Rattle.std.proofs.lemmas.List.Elements.{All-nil, All-map}
+use Rattle.slot_text.specs.Reads.{GivesOr}
 use Rattle.desk_outside.specs.Cause.{Rose}
 use Rattle.desk_outside.specs.Files.{Files}
 use Rattle.desk_outside.specs.Passages.{Passage}
 use Rattle.command_words.specs.Words.{Word}
-use Rattle.slot_program.specs.Reports.{Report, Refusal, JournalRefusal, refused, unopened, unread, unwritten, finished, status_of}
+use Rattle.slot_program.specs.Reports.{Report, Refusal, JournalRefusal, no_command, refused, unopened, unread, unwritten, finished, status_of}
 use Rattle.slot_program.specs.Judgements.{NamedBytes}
 use Rattle.slot_program.specs.Steps.{Step, names_read}
 use Rattle.slot_program.specs.Writing.{read_of}
 use Rattle.slot_program.specs.Jobs.{steps_of, names_written, finishing_of}
-use Rattle.slot_program.specs.Outside.{OutsideChange, IsStill}
+use Rattle.slot_program.specs.Outside.{Outside, OutsideChange, still, IsStill}
 use Rattle.slot_program.specs.Desk.{World, JobEnds, LogGrew, IsOfFiles, OnlyOfJob}
 use Rattle.slot_program.specs.Leads.{ToldLead, ToldRefused, RefusedLead, UnreadLead}
 use Rattle.slot_program.specs.Stops.{report_of, journal_refusal, StopLeads}
 use Rattle.slot_program.specs.Ends.{IsDoneBy, IsCutShort, StopsUnopened, JobStopsBy}
 use Rattle.slot_program.specs.Answers.{ToldExact, IsAnswer}
 use Rattle.command_words.specs.declared.job.Job.{Job}
+use Rattle.command_words.specs.declared.job.WordFault.{WordFault}
+use Rattle.command_words.specs.declared.job.WordFault.TheVariants.{Words, Memory as NoMemory}
 use Rattle.slot_program.specs.declared.stop.Stop.{Stop}
 use Rattle.slot_program.specs.declared.stop.Stop.TheVariants as stops
 
@@ -156,3 +159,13 @@ module _ (job : Job) (w : World) (change : OutsideChange) (v : World) where
 pub nothing_asked : (o : Option Job) (log : List Passage) → LogGrew log (OnlyOfJob o) log
 nothing_asked None log = ([], sym (append-nil log), refl)
 nothing_asked (Some job) log = ([], sym (append-nil log), All-nil (IsOfFiles (names_read (steps_of job)) (names_written job)))
+
+-- ---- words that are no command's
+
+pub no_words : (e : WordFault) (job : Job) → e ≡ Words → let r : Result Job WordFault = Err e in GivesOr NoMemory r (Ok job) → ⊥
+no_words e job is (inl same) = cc
+no_words e job is (inr same) = cc
+
+pub words_answer : (o : Option Job) (w : World) (at : Outside) (text : List ℕ) → ((job : Job) → o ≡ Some job → ⊥) → text ≡ codes "WORDS\n" → IsAnswer o w (still at) 2 text w
+words_answer None w at text none is = record { report = no_command; status_is = refl; text_is = is; ends = (refl, refl, refl); exact = tt }
+words_answer (Some job) w at text none is = absurd (none job refl)

@@ -273,7 +273,7 @@ pub disk_has_risen : (o : Option Job) (w : World) (change : OutsideChange) (repo
     → (job : Job) × (o ≡ Some job) × DiskRose change.before.disk change.after.disk
     × (((why : JournalRefusal) × (report ≡ unopened why) × EndsUnopened job w change why v) ⊎ IsFinished job w change 14 (text_of report) v)
 disk_has_risen None w change report v is ends = absurd (omega (arith, is, ap status_of ends.0))
-disk_has_risen (Some job) w change report v is ends = (job, refl, job_disk_risen job w change v report is ends)
+disk_has_risen (Some job) w change report v is ends = let r = job_disk_risen job w change v report is ends in (job, refl, r.0, r.1)
 
 -- what is reported of a journal that was not opened
 pub ends_unopened : (o : Option Job) (job : Job) (w : World) (change : OutsideChange) (report : Report) (v : World) (why : JournalRefusal) → o ≡ Some job → report ≡ unopened why → Ends o w change report v → EndsUnopened job w change why v

@@ -10,7 +10,9 @@ use Rattle.desk_disk.specs.Stops.{DiskPassage, DiskStart, MayRead, Agrees}
 use Rattle.desk_disk.specs.Disks.{DiskView, ToldDisk}
 use Rattle.amend_journal.specs.Standing.{StandsFor, IsOther, IsBadSlot}
 use Rattle.amend_journal.specs.Durable.{IsLaterDisk, told_start}
+use Rattle.amend_journal.specs.Kept.{asks_of}
 use Rattle.amend_journal.specs.declared.asked.Asked.{Asked}
+use Rattle.holding_book.specs.Starts.{start_book}
 use Rattle.session_desk.specs.declared.worker.DoorWork.{DoorWork}
 use Rattle.command_words.specs.Words.{Word}
 use Rattle.command_words.specs.declared.job.Job.{Job}
@@ -26,10 +28,10 @@ use Rattle.slot_program.specs.Jobs.{searched_statuses, served_statuses, finishin
 
 -- ---- the count of the disk, by how a job ended
 
-some_count : ℕ → Option ℕ
+abbrev some_count : ℕ → Option ℕ
 some_count n = Some n
 
-no_view : Option DiskView
+abbrev no_view : Option DiskView
 no_view = None
 
 abbrev count_of : Option DiskView → Option ℕ
@@ -78,7 +80,7 @@ resume_disk names links (capacity ∷ requests ∷ []) writes change status text
 resume_disk names links (capacity ∷ requests ∷ certificate ∷ []) writes change status text not work =
     let out = work.output in
     let none = none_failed (is_some out.failed) out.works (λ is. not (out.status_is ∙ is)) in
-    let same : out.after.faults ≡ out.before.faults = left_calm _ _ _ out.failed out.before out.after none out.kept.left in
+    let same : out.after.faults ≡ out.before.faults = left_calm _ out.pairs (asks_of out.history) out.failed out.before out.after none out.kept.left in
     ap count_of out.given_back ∙ (ap some_count same ∙ sym (ap count_of out.handed_in))
 resume_disk names links (capacity ∷ requests ∷ certificate ∷ more ∷ rest) writes change status text not work = absurd work
 
@@ -89,7 +91,7 @@ resume_rose names links (capacity ∷ requests ∷ []) writes change status text
 resume_rose names links (capacity ∷ requests ∷ certificate ∷ []) writes change status text is work =
     let out = work.output in
     let one = one_failed (is_some out.failed) out.works (sym out.status_is ∙ is) in
-    rose_at change.before.disk change.after.disk out.before out.after out.handed_in out.given_back (left_risen _ _ _ out.failed out.before out.after one out.kept.left)
+    rose_at change.before.disk change.after.disk out.before out.after out.handed_in out.given_back (left_risen _ out.pairs (asks_of out.history) out.failed out.before out.after one out.kept.left)
 resume_rose names links (capacity ∷ requests ∷ certificate ∷ more ∷ rest) writes change status text is work = absurd work
 
 pub works_disk_calm : (job : Job) (inputs writes : List NamedBytes) (change : OutsideChange) (status : ℕ) (text : List ℕ) → (status ≡ 14 → ⊥) → Works job inputs writes change status text → disk_faults change.after ≡ disk_faults change.before
@@ -255,6 +257,7 @@ module _ (law : Standings) (season : Term) (year : season.year < 100) where
 
 -- a journal was due to be refused: so it was, or the disk failed
 pub work_due : Standings → (job : Job) (inputs writes : List NamedBytes) (change : OutsideChange) (status : ℕ) (text : List ℕ) (why : JournalRefusal) → Works job inputs writes change status text → JournalDue job inputs change.before.disk why → ⊥
+unfolding start_book
 work_due law (Allocate names nodes workers) inputs writes change status text why work due = due
 work_due law (Check names) inputs writes change status text why work due = due
 work_due law (Amend names) inputs writes change status text why work due = due

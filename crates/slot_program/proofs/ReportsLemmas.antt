@@ -20,17 +20,19 @@ pub no_fault : (reports : List Operated) (e : OperatedFault) → let r : Result 
 no_fault reports e (inl same) = cc
 no_fault reports e (inr same) = cc
 
-pub no_reading : (line : ℕ) (reports : List Operated) → let r : Result (List Operated) OperatedFault = Err (BadLine line) in GivesOr Memory r (Ok reports) → ⊥
-no_reading line reports (inl same) = cc
-no_reading line reports (inr same) = cc
+-- with a fault that is a bad line
+module _ (e : OperatedFault) (line : ℕ) (is : e ≡ BadLine line) where
+  pub no_reading : (reports : List Operated) → let r : Result (List Operated) OperatedFault = Err e in GivesOr Memory r (Ok reports) → ⊥
+  no_reading reports (inl same) = cc
+  no_reading reports (inr same) = cc
 
-pub one_line : (line other : ℕ) → let r : Result (List Operated) OperatedFault = Err (BadLine line) in GivesOr Memory r (Err (BadLine other)) → other ≡ line
-one_line line other (inl same) = cc
-one_line line other (inr same) = absurd cc
+  pub one_line : (other : ℕ) → let r : Result (List Operated) OperatedFault = Err e in GivesOr Memory r (Err (BadLine other)) → other ≡ line
+  one_line other (inl same) = cc
+  one_line other (inr same) = absurd cc
 
-pub bad_is : (P : Type 0) (line : ℕ) → P ⊎ (BadLine line ≡ Memory) → P
-bad_is P line (inl has) = has
-bad_is P line (inr memory) = absurd cc
+  pub bad_is : (Has : OperatedFault → Type 0) → Has e ⊎ (e ≡ Memory) → Has (BadLine line)
+  bad_is Has (inl has) = subst Has is has
+  bad_is Has (inr memory) = absurd cc
 
 -- ---- the judgements
 

@@ -94,6 +94,7 @@ failed_ask k asks None h = None
 failed_ask k asks (Some failure) h = Some h.0.asked
 
 pub is_failed : (k : KeptView) (asks : List Asked) (failure : Option Failure) (h : IsDiskKept k asks failure) → is_some (failed_ask k asks failure h) ≡ is_some failure
+unfolding failed_ask
 is_failed k asks None h = refl
 is_failed k asks (Some failure) h = refl
 
@@ -104,6 +105,7 @@ module _ (season : Term) (pairs : List Asked) (d : DiskView) (k : KeptView) (ope
   durable s file reads agrees = subst (λ (t : Term). AreDurable s k.began.disk.log t pairs) (sym opened.season_is) (opened.durable s file reads (later.agrees s agrees))
 
   left : (asks : List Asked) (failure : Option Failure) (h : IsDiskKept k asks failure) → IsLeftWith season pairs asks (failed_ask k asks failure h) d k.journal.disk
+  unfolding failed_ask
   left asks None h = (
     h.faults ∙ opened.faults,
     λ s file reads agrees. subst (λ (t : Term). AreDurable s k.journal.disk.log t (pairs ++ asks)) opened.season_is (h.durable s pairs (durable s file reads agrees) (sym opened.count)),
@@ -115,6 +117,7 @@ module _ (season : Term) (pairs : List Asked) (d : DiskView) (k : KeptView) (ope
 
   moments : (asks : List Asked) (failure : Option Failure) (h : IsDiskKept k asks failure)
       → ForFile d k.journal.disk (λ s file. (mid : List DiskPassage) × LeavesNoWorse s d.log mid season file × KeepsInTurn season s (failed_ask k asks failure h) mid pairs asks k.journal.disk.log)
+  unfolding failed_ask
   moments asks None h = λ s file reads agrees. (
     k.began.disk.log,
     opened.images s file reads (later.agrees s agrees),

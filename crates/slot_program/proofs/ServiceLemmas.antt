@@ -108,7 +108,7 @@ risen_end ends.Broken links sessions d e is ended = absurd cc
 risen_end ends.Memory links sessions d e is ended = absurd cc
 
 module _ {X : Type 0} (broken : List X → ℕ → Type 0) (start : SlotBook) (links : ℕ) (history : List Entry) where
-  quiet_doors : (n : ℕ) (ds : List DoorView) (works : List DoorWork) (es : List DoorView) → AreWorkers (IsWorker start links history) n ds works es → some_ended is_door_end works ≡ false
+  quiet_doors : (n : ℕ) (ds : List DoorView) (works : List DoorWork) (es : List DoorView) → AreWorkers (IsWorker broken start links history) n ds works es → some_ended is_door_end works ≡ false
       → map (λ (d : DoorView). d.faults) es ≡ map (λ (d : DoorView). d.faults) ds
   quiet_doors n [] [] [] all none = refl
   quiet_doors n [] [] (e ∷ es) all none = absurd all
@@ -122,7 +122,7 @@ module _ {X : Type 0} (broken : List X → ℕ → Type 0) (start : SlotBook) (l
             rw (one, quiet_doors (suc n) ds works es all.1 (rw calm at none)) refl
       ]
 
-  rose_somewhere : (n : ℕ) (ds : List DoorView) (works : List DoorWork) (es : List DoorView) → AreWorkers (IsWorker start links history) n ds works es → some_ended is_door_end works ≡ true → SomeRose ds es
+  rose_somewhere : (n : ℕ) (ds : List DoorView) (works : List DoorWork) (es : List DoorView) → AreWorkers (IsWorker broken start links history) n ds works es → some_ended is_door_end works ≡ true → SomeRose ds es
   rose_somewhere n [] [] [] all some = absurd cc
   rose_somewhere n [] [] (e ∷ es) all some = absurd all
   rose_somewhere n [] (work ∷ works) es all some = absurd all

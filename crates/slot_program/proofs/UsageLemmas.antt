@@ -66,6 +66,9 @@ next_header_season s = header_season (same_season_next_year s.declaration.season
 
 -- ---- what was found of a book, of which a declaration and holdings were handed out
 
+abbrev pub FitsNext : Type 0
+FitsNext = (season next : Term) (reports : List Operated) (held : List Holding) → All (λ (h : Holding). LineFits season h.line) held → All (IsHistoric next) (next_lines season next reports (confirmed_lines held))
+
 module _ (b : SlotBook) (d : Declaration) (hs : List Holding) (declared : d ≡ b.declaration) (held : hs ≡ b.holdings) where
   -- its lines have a spelling
   pub held_fit : IsBook b → All (λ (h : Holding). LineFits d.season h.line) hs
@@ -73,6 +76,12 @@ module _ (b : SlotBook) (d : Declaration) (hs : List Holding) (declared : d ≡ 
       let season : d.season ≡ b.declaration.season = ap (λ (x : Declaration). x.season) declared in
       subst (λ (l : List Holding). All (λ (h : Holding). LineFits d.season h.line) l) (sym held)
       (subst (λ (t : Term). All (λ (h : Holding). LineFits t h.line) b.holdings) (sym season) book.lines)
+
+  -- and those of the next season are historic ones
+  pub all_historic : IsBook b → FitsNext → (next : Term) (reports : List Operated) (header : Header) (lines : List Line) → header.season ≡ next → lines ≡ next_lines d.season next reports (confirmed_lines hs) → All (IsHistoric header.season) lines
+  all_historic book law next reports header lines season is =
+      subst (λ (l : List Line). All (IsHistoric header.season) l) (sym is)
+      (subst (λ (t : Term). All (IsHistoric t) (next_lines d.season next reports (confirmed_lines hs))) (sym season) (law d.season next reports hs (held_fit book)))
 
   module _ (start : SlotBook) (same : b ≡ start) where
     term_is : d.season ≡ start.declaration.season

@@ -1,6 +1,8 @@
 //! The amendment journal: which pairs a file stands for, and what a stop at each moment leaves. The
 //! files are laid out by hand.
 
+ghost use Rattle.std.specs.Prelude.{◌≡◌, ◌≤◌, IfOk};
+
 use crate::rows::{Case, say, walk};
 use amend_journal::{Asked, Journal, MOST_PAIRS, OpenFault};
 use desk_disk::{Disk, MemoryDisk};
@@ -97,54 +99,79 @@ fn a_file_stands_for_pairs_or_for_none(rt: HostRuntime) -> Result<(), Fail> {
 }
 
 /// What is put into the journal of the tests below, by the callers 0, 1 and 2.
-const TEXTS: [&[u8]; 3] = [b"QBA001\n", b"QXY1234\n", b"QBA002\n"];
+fn text_of(number: u32) -> &'static [u8] {
+    match number {
+        0 => b"QBA001\n",
+        1 => b"QXY1234\n",
+        _ => b"QBA002\n",
+    }
+}
 
-/// The journal of the first so many of these, with room for `calls` calls, of which one may fail.
-/// How many puts were answered, whether a call failed, and the bytes then.
+/// The journal of the first so many of these, over a disk of which some calls may fail: how many
+/// puts were answered, whether one call failed, and the bytes then.
 fn journal_of(
     alloc: Global,
     season: &Season,
     count: u32,
     failing: Vec<Failure>,
-) -> Result<(u32, bool, Vec<u8>), Fail> {
+) -> Result<(u32, bool, Vec<u8>), Fail>
+    ensures { IfOk result (λ made. made.0 ≤ 3) }
+{
     let disk = MemoryDisk::new(alloc, b"", ROOM, 99, failing)?;
-    let mut journal = match Journal::open(alloc, disk, season) {
-        Ok((journal, _)) => journal,
+    match Journal::open(alloc, disk, season) {
+        Ok((journal, _)) => {
+            let mut journal = journal;
+            let done = put_texts(alloc, &mut journal, season, count)?;
+            let disk = journal.into_disk();
+            let bytes = Vec::from_slice(alloc, disk.bytes())?;
+            Ok((done, disk.faults() == 1, bytes))
+        }
         Err((fault, disk)) => {
             let failed = fault == OpenFault::DiskFault && disk.faults() == 1;
-            return Ok((0, failed, Vec::from_slice(alloc, disk.bytes())?));
+            let bytes = Vec::from_slice(alloc, disk.bytes())?;
+            Ok((0, failed, bytes))
         }
-    };
-    let mut done = 0;
-    for text in TEXTS {
-        if done == count || !put_text(alloc, &mut journal, season, done as u8, text)? {
-            break;
-        }
-        done += 1;
     }
-    let disk = journal.into_disk();
-    Ok((
-        done,
-        disk.faults() == 1,
-        Vec::from_slice(alloc, disk.bytes())?,
-    ))
 }
 
-/// Whether a put of this text was answered.
+/// Puts the first so many of the texts, up to a put that fails: how many were answered.
+fn put_texts(
+    alloc: Global,
+    journal: &mut Journal<MemoryDisk>,
+    season: &Season,
+    count: u32,
+) -> Result<u32, Fail>
+    requires { journal.old.season ≡ season.now }
+    ensures { IfOk result (λ done. done ≤ 3) }
+{
+    for done in 0..3 {
+        if done == count {
+            return Ok(done);
+        }
+        if !put_text(alloc, journal, season, done)? {
+            return Ok(done);
+        }
+    }
+    Ok(3)
+}
+
+/// Whether a put of the text of this number was answered.
 fn put_text(
     alloc: Global,
     journal: &mut Journal<MemoryDisk>,
     season: &Season,
-    caller: u8,
-    text: &[u8],
-) -> Result<bool, Fail> {
-    let Some(ask) = read_item(alloc, season, text)? else {
+    number: u32,
+) -> Result<bool, Fail>
+    requires { journal.old.season ≡ season.now }
+    ensures { journal.new.season ≡ journal.old.season }
+{
+    let Some(ask) = read_item(alloc, season, text_of(number))? else {
         return Err("no item".into());
     };
     if journal.count() >= MOST_PAIRS {
         return Err("full".into());
     }
-    let slot = journal.ready(alloc, caller, &ask)?;
+    let slot = journal.ready(alloc, u8::try_from(number)?, &ask)?;
     Ok(journal.put(slot).is_ok())
 }
 
@@ -155,57 +182,57 @@ fn reopened(alloc: Global, season: &Season, bytes: &[u8]) -> Result<u32, Fail> {
         return Err("too long".into());
     }
     let disk = MemoryDisk::new(alloc, bytes, ROOM, 99, Vec::new(alloc))?;
-    let Ok((_, asks)) = Journal::open(alloc, disk, season) else {
-        return Ok(9);
-    };
-    let mut count = 0;
-    for (asked, text) in asks.as_slice().iter().zip(TEXTS.as_slice()) {
-        if !is_pair(alloc, season, asked, count, text)? {
+    match Journal::open(alloc, disk, season) {
+        Ok((_, asks)) => pairs_of(alloc, season, &asks),
+        Err(_) => Ok(9),
+    }
+}
+
+fn pairs_of(alloc: Global, season: &Season, asks: &[Asked]) -> Result<u32, Fail> {
+    for number in 0..3 {
+        let Some(asked) = asks.get(number as usize) else {
+            return Ok(number);
+        };
+        if !is_pair(alloc, season, asked, number)? {
             return Ok(9);
         }
-        count += 1;
     }
-    Ok(if count as usize == asks.len() {
-        count
-    } else {
-        9
-    })
+    Ok(if asks.len() == 3 { 3 } else { 9 })
 }
 
-fn is_pair(
-    alloc: Global,
-    season: &Season,
-    asked: &Asked,
-    caller: u32,
-    text: &[u8],
-) -> Result<bool, Fail> {
+fn is_pair(alloc: Global, season: &Season, asked: &Asked, number: u32) -> Result<bool, Fail> {
     let mut printed = Vec::new(alloc);
     put_item(alloc, &mut printed, season, &asked.ask)?;
-    Ok(u32::from(asked.caller) == caller && printed.as_slice() == text)
+    Ok(u32::from(asked.caller) == number && printed.as_slice() == text_of(number))
 }
 
-/// Each call of the disk fails once: five to open an empty file, and four for each of three puts;
-/// a write that fails leaves a front of its bytes. What is left stands for the pairs whose put was
-/// answered, or, from the opening of the gate on, for one more.
+/// Each call of the disk fails once: five to open an empty file, and four for each of three puts.
 #[test]
 fn each_call_of_the_disk_fails_once(rt: HostRuntime) -> Result<(), Fail> {
     let alloc = rt.alloc();
     let season = Season::read(b"S25").ok_or("season")?;
     for call in 0..17 {
-        for part in [0, 1, 2, 100, 255, 256, 999] {
-            let failing = [Failure::after(call, part)].to_vec(alloc)?;
-            let (done, failed, bytes) = journal_of(alloc, &season, 3, failing)?;
-            let count = reopened(alloc, &season, &bytes)?;
-            let more = call >= 5 && (call - 5) % 4 >= 2 && count == done + 1;
-            assert!(rt;
-                failed && (count == done || more),
-                "call {call}, {part} bytes"
-            );
-        }
+        let kept = fails_once(alloc, &season, call)?;
+        assert!(rt; kept, "call {call}");
     }
     let (done, failed, bytes) = journal_of(alloc, &season, 3, Vec::new(alloc))?;
     assert!(rt; done == 3 && !failed && bytes.len() == 785);
     Ok(())
+}
+
+/// Where this call fails, a write after so many of its bytes, what is left stands for the pairs
+/// whose put was answered, or, from the opening of the gate on, for one more.
+fn fails_once(alloc: Global, season: &Season, call: u64) -> Result<bool, Fail> {
+    for part in [0, 1, 2, 100, 255, 256, 999] {
+        let failing = vec![in alloc; Failure::after(call, part)]?;
+        let (done, failed, bytes) = journal_of(alloc, season, 3, failing)?;
+        let count = reopened(alloc, season, &bytes)?;
+        let opening = call >= 5 && (call - 5) % 4 >= 2;
+        if !failed || !(count == done || (opening && count == done + 1)) {
+            return Ok(false);
+        }
+    }
+    Ok(true)
 }
 
 /// A stop at each moment of three puts: while the slot is written it may hold any bytes, and the
@@ -217,15 +244,15 @@ fn a_stop_leaves_the_pairs(rt: HostRuntime) -> Result<(), Fail> {
     for done in 0..3 {
         let (_, _, old) = journal_of(alloc, &season, done, Vec::new(alloc))?;
         let (_, _, new) = journal_of(alloc, &season, done + 1, Vec::new(alloc))?;
-        let kept = stop_in_slot(alloc, &season, &old, &new, done)?;
+        let kept = stop_in_slot(alloc, &season, &new, old.len(), done)?;
         assert!(rt; kept, "slot {done}");
-        let kept = stop_in_gate(alloc, &season, &old, &new, done)?;
+        let kept = stop_in_gate(alloc, &season, &new, old.len(), done)?;
         assert!(rt; kept, "gate {done}");
     }
     Ok(())
 }
 
-/// The new file with this byte at a place.
+/// A file with this byte at a place.
 fn with_byte(alloc: Global, file: &[u8], place: usize, byte: u8) -> Result<Vec<u8>, Fail> {
     let mut image = Vec::from_slice(alloc, file)?;
     if let Some(old) = image.get_mut(place) {
@@ -234,29 +261,44 @@ fn with_byte(alloc: Global, file: &[u8], place: usize, byte: u8) -> Result<Vec<u
     Ok(image)
 }
 
-/// Whether each image of a stop while the slot is written stands for the old pairs: the gate is
-/// closed, each byte behind it has some other value once, and the file each length.
+/// Whether each image of a stop while a slot is written, past a file of so many bytes, stands for
+/// the old pairs: the gate is closed, each byte behind it has some other value once, and the file
+/// each length.
 fn stop_in_slot(
     alloc: Global,
     season: &Season,
-    old: &[u8],
     new: &[u8],
+    from: usize,
     done: u32,
 ) -> Result<bool, Fail> {
-    let gate = old.len().saturating_sub(1);
-    let laid = with_byte(alloc, new, gate, 0)?;
-    for place in old.len()..laid.len() {
-        for byte in [0, 1, 2, 255] {
-            let image = with_byte(alloc, &laid, place, byte)?;
-            if reopened(alloc, season, &image)? != done {
-                return Ok(false);
-            }
-        }
-        if place <= laid.len() && reopened(alloc, season, &laid[..place])? != done {
+    let laid = with_byte(alloc, new, from.saturating_sub(1), 0)?;
+    for place in from..laid.len() {
+        if !is_torn(alloc, season, &laid, place, done)? {
             return Ok(false);
         }
     }
     Ok(true)
+}
+
+/// Whether the file stands for so many pairs with some other bytes at a place, and where it ends
+/// there.
+fn is_torn(
+    alloc: Global,
+    season: &Season,
+    laid: &[u8],
+    place: usize,
+    done: u32,
+) -> Result<bool, Fail> {
+    for byte in [0, 1, 2, 255] {
+        let image = with_byte(alloc, laid, place, byte)?;
+        if reopened(alloc, season, &image)? != done {
+            return Ok(false);
+        }
+    }
+    if place > laid.len() {
+        return Ok(false);
+    }
+    Ok(reopened(alloc, season, &laid[..place])? == done)
 }
 
 /// Whether each image of a stop while the gate is opened stands for the old pairs, or with gate 1
@@ -264,14 +306,13 @@ fn stop_in_slot(
 fn stop_in_gate(
     alloc: Global,
     season: &Season,
-    old: &[u8],
     new: &[u8],
+    from: usize,
     done: u32,
 ) -> Result<bool, Fail> {
-    let gate = old.len().saturating_sub(1);
-    for value in 0..=255 {
-        let image = with_byte(alloc, new, gate, value)?;
-        let wanted = if value == 1 { done + 1 } else { done };
+    for value in 0..256_u32 {
+        let image = with_byte(alloc, new, from.saturating_sub(1), value as u8)?;
+        let wanted = done.saturating_add(u32::from(value == 1));
         if reopened(alloc, season, &image)? != wanted {
             return Ok(false);
         }
@@ -300,13 +341,19 @@ fn each_byte_of_a_slot_counts(rt: HostRuntime) -> Result<(), Fail> {
 fn a_stop_in_an_opening_leaves_no_pair(rt: HostRuntime) -> Result<(), Fail> {
     let alloc = rt.alloc();
     let season = Season::read(b"S25").ok_or("season")?;
-    let files: [&[u8]; 4] = [&[0; 17], &[1; 17], &[255; 17], b"SLOT JOURNAL 01\n\x01"];
-    for file in files {
-        for size in 0..=17 {
-            if size <= file.len() {
-                assert_eq!(rt; reopened(alloc, &season, &file[..size])?, 0);
-            }
+    assert!(rt; are_empty(alloc, &season, &[0; 17])?);
+    assert!(rt; are_empty(alloc, &season, &[1; 17])?);
+    assert!(rt; are_empty(alloc, &season, &[255; 17])?);
+    assert!(rt; are_empty(alloc, &season, b"SLOT JOURNAL 01\n\x01")?);
+    Ok(())
+}
+
+/// Whether each front of a file of 17 bytes stands for no pair.
+fn are_empty(alloc: Global, season: &Season, file: &[u8; 17]) -> Result<bool, Fail> {
+    for size in 0..18_usize {
+        if reopened(alloc, season, &file[..size])? != 0 {
+            return Ok(false);
         }
     }
-    Ok(())
+    Ok(true)
 }

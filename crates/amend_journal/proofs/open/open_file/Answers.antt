@@ -1,7 +1,9 @@
-use Rattle.std.proofs.Common.{List, subst, inl, inr}
-use Rattle.desk_disk.specs.Stops.{DiskPassage, AtEachMoment}
+use Rattle.std.proofs.Common.{List, ap, subst, inl, inr}
+use Rattle.desk_disk.specs.Stops.{DiskPassage, synced, AtEachMoment}
 use Rattle.amend_journal.specs.Standing.{StandsFor}
-use Rattle.amend_journal.proofs.OpenLemmas.{synced_leaves, synced_found, synced_fault, synced_durable, failed_no_worse, synced_no_worse}
+use Rattle.amend_journal.specs.Durable.{told_start}
+use Rattle.amend_journal.proofs.MomentLemmas.{later_join}
+use Rattle.amend_journal.proofs.OpenLemmas.{synced_leaves, synced_found, synced_fault, synced_durable, failed_no_worse, synced_no_worse, later_call}
 use Rattle.amend_journal.proofs.open.open_file.Goals as goal
 
 pub returns-in_err-sync-clause-moments : goal.returns-in_err-sync-clause-moments
@@ -44,3 +46,8 @@ returns-clause-unharmed g c s file reads agrees =
     synced_no_worse c.args.season.now s file old mid (g.K.Disk.view c.open_synced.new.disk).log c.joined_calls.ensures.left c.joined_calls.ensures.read_back c.joined_calls.ensures.left_back
     (c.joined_calls.ensures.among s old) c.in_ok-sync.ensures.log
     (c.open_synced.ensures.unharmed s file (synced_leaves s file old mid c.joined_calls.ensures.left c.in_ok-sync.ensures.log reads) agrees)
+
+pub returns-clause-later : goal.returns-clause-later
+returns-clause-later g c =
+    let first = later_call (g.K.Disk.view c.args.disk.now) (g.K.Disk.view c.sync.new.self) synced c.joined_calls.ensures.read c.in_ok-sync.ensures.log (ap told_start c.in_ok-sync.ensures.told) c.in_ok-sync.ensures.truly in
+    later_join _ _ _ first c.open_synced.ensures.later

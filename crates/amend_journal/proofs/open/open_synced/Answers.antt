@@ -1,12 +1,12 @@
-use Rattle.std.proofs.Common.{◌≤◌, ℕ, List, length, refl, sym, subst, inl, arith}
+use Rattle.std.proofs.Common.{◌≤◌, ℕ, List, length, refl, sym, ap, subst, inl, arith}
 use Rattle.std.proofs.lemmas.List.Elements.{All-nil}
-use Rattle.desk_disk.specs.Stops.{DiskPassage, AtEachMoment}
+use Rattle.desk_disk.specs.Stops.{DiskPassage, measured, AtEachMoment}
 use Rattle.amend_journal.specs.Format.{IsFit}
 use Rattle.amend_journal.specs.Standing.{StandsFor}
-use Rattle.amend_journal.specs.Durable.{AreDurable}
+use Rattle.amend_journal.specs.Durable.{AreDurable, told_start}
 use Rattle.amend_journal.specs.declared.asked.Asked.{Asked as AskedValue}
-use Rattle.amend_journal.proofs.MomentLemmas.{looks_join, no_moment}
-use Rattle.amend_journal.proofs.OpenLemmas.{measured_look, measured_length, new_stands, looked_stands, same_no_worse, new_no_worse, looked_no_worse, found_of, fault_of, durable_of}
+use Rattle.amend_journal.proofs.MomentLemmas.{looks_join, no_moment, later_join}
+use Rattle.amend_journal.proofs.OpenLemmas.{measured_look, measured_length, new_stands, looked_stands, same_no_worse, new_no_worse, looked_no_worse, found_of, fault_of, durable_of, later_call}
 use Rattle.amend_journal.proofs.ReadLemmas.{measured_sized}
 use Rattle.amend_journal.proofs.open.open_synced.Goals as goal
 
@@ -112,3 +112,18 @@ returns-else-size-le-SHORTEST-clause-unharmed g c s file only agrees =
     let mid = (g.K.Disk.view c.length.new.self).log in
     let now = (g.K.Disk.view c.read_journal.new.disk).log in
     looked_no_worse c.args.season.now s file old now (looks_join old mid now (measured_look old mid c.in_ok-size.size c.in_ok-size.ensures.log) c.read_journal.ensures.looks)
+
+pub returns-in_err-make_new-clause-later : goal.returns-in_err-make_new-clause-later
+returns-in_err-make_new-clause-later g c =
+    let first = later_call (g.K.Disk.view c.args.disk.now) (g.K.Disk.view c.length.new.self) (measured c.in_ok-size.size) c.joined_calls.ensures.read c.in_ok-size.ensures.log (ap told_start c.in_ok-size.ensures.told) c.in_ok-size.ensures.truly in
+    later_join _ _ _ first c.make_new.ensures.later
+
+pub returns-in_ok-make_new-clause-later : goal.returns-in_ok-make_new-clause-later
+returns-in_ok-make_new-clause-later g c =
+    let first = later_call (g.K.Disk.view c.args.disk.now) (g.K.Disk.view c.length.new.self) (measured c.in_ok-size.size) c.joined_calls.ensures.read c.in_ok-size.ensures.log (ap told_start c.in_ok-size.ensures.told) c.in_ok-size.ensures.truly in
+    later_join _ _ _ first c.make_new.ensures.later
+
+pub returns-else-size-le-SHORTEST-clause-later : goal.returns-else-size-le-SHORTEST-clause-later
+returns-else-size-le-SHORTEST-clause-later g c =
+    let first = later_call (g.K.Disk.view c.args.disk.now) (g.K.Disk.view c.length.new.self) (measured c.in_ok-size.size) c.joined_calls.ensures.read c.in_ok-size.ensures.log (ap told_start c.in_ok-size.ensures.told) c.in_ok-size.ensures.truly in
+    later_join _ _ _ first c.read_journal.ensures.later

@@ -5,6 +5,9 @@ use Rattle.amend_journal.proofs.read.read_slots.Goals as goal
 pub returns-in_err-gate-clause-looks : goal.returns-in_err-gate-clause-looks
 returns-in_err-gate-clause-looks g c = looks_join _ _ _ c.loop-number.invariant.looks c.push_slot.ensures.looks
 
+pub returns-in_err-gate-clause-later : goal.returns-in_err-gate-clause-later
+returns-in_err-gate-clause-later g c = later_join _ _ _ c.loop-number.invariant.later c.push_slot.ensures.later
+
 pub loop-number-preserved : goal.loop-number-preserved
 loop-number-preserved g c = record {
   looks = looks_join _ _ _ c.loop-number.invariant.looks c.push_slot.ensures.looks;

@@ -3,6 +3,7 @@ use Rattle.slot_text.specs.Lines.{lines_of}
 use Rattle.session_desk.specs.Private.Held.{IsHeld, MakesProgress}
 use Rattle.session_desk.specs.declared.pending.Progress.TheVariants.{More, Complete}
 use Rattle.session_desk.proofs.AnsweredLemmas.{on_ok, both_ok, on_err, message_put, message_first, message_stopped, nothing_begun, byte_read}
+use Rattle.session_desk.proofs.SeenLemmas.{seen_same}
 use Rattle.session_desk.proofs.session.read_byte.Goals as goal
 
 pub returns-in-Ok-Complete-clause-ok : goal.returns-in-Ok-Complete-clause-ok
@@ -37,3 +38,12 @@ returns-in-Ok-Complete-clause-held g c =
     let steps : (text : List ℕ) → IsHeld c.args.pending.now text → MakesProgress c.args.pending.now text c.args.byte Complete c.push.new.self = rw c.in-Ok-Complete.field-0-is at c.in-Ok-Complete.ensures.progress in
     let seen = c.requires.held.0 in
     on_ok c.answer.result (λ held. (seen ++ c.args.byte ∷ [], held (seen ++ c.args.byte ∷ []) (steps seen c.requires.held.1).0)) c.answer.ensures.held
+
+pub returns-in-Ok-More-clause-seen : goal.returns-in-Ok-More-clause-seen
+returns-in-Ok-More-clause-seen g c = seen_same (g.A.Responder.legal c.args.responder.now) (g.A.Responder.seen c.args.pass.now)
+
+pub returns-in-Ok-TooLong-clause-seen : goal.returns-in-Ok-TooLong-clause-seen
+returns-in-Ok-TooLong-clause-seen g c = seen_same (g.A.Responder.legal c.args.responder.now) (g.A.Responder.seen c.args.pass.now)
+
+pub returns-in-Err-clause-seen : goal.returns-in-Err-clause-seen
+returns-in-Err-clause-seen g c = seen_same (g.A.Responder.legal c.args.responder.now) (g.A.Responder.seen c.args.pass.now)

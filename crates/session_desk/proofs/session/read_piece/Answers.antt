@@ -1,6 +1,7 @@
-use Rattle.std.proofs.Common.{◌≡◌, ℕ, ◌+◌, ◌<◌, List, [], ◌∷◌, ◌++◌, length, get_or, take, drop, sym, ap, subst, ◌∙◌, append_assoc}
+use Rattle.std.proofs.Common.{◌≡◌, ℕ, ◌+◌, ◌<◌, List, [], ◌∷◌, ◌++◌, length, get_or, take, drop, refl, sym, ap, subst, ◌∙◌, append_assoc, append-nil}
 use Rattle.std.proofs.lemmas.List.{take_all, take_more, take-append-drop}
 use Rattle.session_desk.specs.Private.Reading.{IsAt, HasStopped}
+use Rattle.session_desk.proofs.SeenLemmas.{seen_same, seen_on}
 use Rattle.session_desk.proofs.session.read_piece.Goals as goal
 
 one_more : (seen piece : List ℕ) (i : ℕ) → i < length piece → (seen ++ take i piece) ++ get_or piece i 0 ∷ [] ≡ seen ++ take (i + 1) piece
@@ -33,6 +34,7 @@ loop-byte-preserved g c =
           subst (λ (t : List ℕ). IsAt (g.A.Responder.answers (g.A.Responder.about c.args.responder.now)) (g.A.Responder.begins (g.A.Responder.about c.args.responder.now)) before c.read_byte.new.pending t (g.L.Link.view c.read_byte.new.link).log (g.A.Responder.own c.read_byte.new.pass))
           (one_more seen piece i c.loop-byte-test.true)
           (c.in-Ok.ensures.ok before (seen ++ take i piece) (c.loop-byte.invariant.6 before seen at)),
+      seen_on (g.A.Responder.legal c.args.responder.now) (g.A.Responder.seen c.args.pass.now) (g.A.Responder.seen c.loop-byte.pass) (g.A.Responder.seen c.read_byte.new.pass) c.loop-byte.invariant.7 c.read_byte.ensures.seen,
     )
 
 pub returns-clause-ok : goal.returns-clause-ok
@@ -55,3 +57,25 @@ returns-clause-held g c = c.loop-byte.invariant.3
 
 pub returns-clause-told : goal.returns-clause-told
 returns-clause-told g c = c.loop-byte.invariant.5
+
+pub loop-byte-init : goal.loop-byte-init
+loop-byte-init g c = (
+  c.requires.size,
+  c.requires.ready,
+  refl,
+  c.requires.held,
+  refl,
+  λ t h. h,
+  λ before seen at.
+      subst (λ (t : List ℕ). IsAt (g.A.Responder.answers (g.A.Responder.about c.args.responder.now)) (g.A.Responder.begins (g.A.Responder.about c.args.responder.now)) before c.args.pending.now t (g.L.Link.view c.args.link.now).log (g.A.Responder.own c.args.pass.now))
+      (sym (append-nil seen))
+      at,
+  seen_same (g.A.Responder.legal c.args.responder.now) (g.A.Responder.seen c.args.pass.now),
+)
+
+pub returns-in-Err-clause-seen : goal.returns-in-Err-clause-seen
+returns-in-Err-clause-seen g c =
+    seen_on (g.A.Responder.legal c.args.responder.now) (g.A.Responder.seen c.args.pass.now) (g.A.Responder.seen c.loop-byte.pass) (g.A.Responder.seen c.read_byte.new.pass) c.loop-byte.invariant.7 c.read_byte.ensures.seen
+
+pub returns-clause-seen : goal.returns-clause-seen
+returns-clause-seen g c = c.loop-byte.invariant.7

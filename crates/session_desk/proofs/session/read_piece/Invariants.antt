@@ -1,6 +1,7 @@
 use Rattle.std.proofs.Common.{◌≡◌, ◌++◌, List, ℕ, take, Option}
 use Rattle.desk_links.specs.Links.{Transcript, taken_of}
 use Rattle.session_desk.specs.Passed.{HasPassed}
+use Rattle.session_desk.specs.Seen.{SeenGoesOn}
 use Rattle.session_desk.specs.Private.Held.{IsSized, IsHeld}
 use Rattle.session_desk.specs.Private.Reading.{IsAt}
 use Rattle.session_desk.proofs.session.read_piece.Given as goal
@@ -15,3 +16,4 @@ invariant-loop-byte g l =
     × ((before : List g.row.A-Entry.Denot) (seen : List ℕ)
     → IsAt (g.A.Responder.answers (g.A.Responder.about l.responder)) (g.A.Responder.begins (g.A.Responder.about l.responder)) before l.initial.pending seen (g.L.Link.view l.initial.link).log (g.A.Responder.own l.initial.pass)
     → IsAt (g.A.Responder.answers (g.A.Responder.about l.responder)) (g.A.Responder.begins (g.A.Responder.about l.responder)) before l.pending (seen ++ take l.byte-index l.piece) (g.L.Link.view l.link).log (g.A.Responder.own l.pass))
+    × SeenGoesOn (g.A.Responder.legal l.responder) (g.A.Responder.seen l.initial.pass) (g.A.Responder.seen l.pass)

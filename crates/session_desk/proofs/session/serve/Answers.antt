@@ -3,6 +3,7 @@ use Rattle.desk_links.specs.Links.{taken_of}
 use Rattle.session_desk.proofs.PassedLemmas.{took_taken, nothing_passed, passed_took, passed_same, ended_now}
 use Rattle.session_desk.proofs.AnsweredLemmas.{piece_taken}
 use Rattle.session_desk.proofs.SessionLemmas.{session_start, session_end, session_failed, session_stopped, cause_since}
+use Rattle.session_desk.proofs.SeenLemmas.{seen_same, seen_on}
 use Rattle.session_desk.proofs.session.serve.Goals as goal
 
 pub loop-init : goal.loop-init
@@ -13,6 +14,7 @@ loop-init g c = (
   refl,
   nothing_passed (g.L.Link.view c.args.link.now) c.requires.fresh.0 c.requires.fresh.2,
   session_start (g.A.Responder.answers (g.A.Responder.about c.args.responder.now)) (g.A.Responder.begins (g.A.Responder.about c.args.responder.now)) (g.A.Responder.own c.args.pass.now) c.new-pending.result (g.L.Link.view c.args.link.now).log c.new-pending.ensures.held c.requires.fresh.2,
+  seen_same (g.A.Responder.legal c.args.responder.now) (g.A.Responder.seen c.args.pass.now),
 )
 
 pub returns-in-Err-clause-cause : goal.returns-in-Err-clause-cause
@@ -81,4 +83,15 @@ loop-preserved g c =
       c.in-Ok-read_piece.ensures.cause ∙ c.in-Ok.ensures.cause.kept ∙ c.loop.invariant.3,
       c.read_piece.ensures.told (g.L.Link.view c.args.link.now).told (passed_took (g.L.Link.view c.args.link.now).told (g.L.Link.view c.loop.link) (g.L.Link.view c.take.new.self) _ _ c.loop.invariant.4 t),
       rw whole (c.in-Ok-read_piece.ensures.ok (g.A.Responder.own c.args.pass.now) (taken_of old) at),
+      seen_on (g.A.Responder.legal c.args.responder.now) (g.A.Responder.seen c.args.pass.now) (g.A.Responder.seen c.loop.pass) (g.A.Responder.seen c.read_piece.new.pass) c.loop.invariant.6 c.read_piece.ensures.seen,
     )
+
+pub returns-in-Err-clause-seen : goal.returns-in-Err-clause-seen
+returns-in-Err-clause-seen g c = c.loop.invariant.6
+
+pub returns-in-Ok-eq0-clause-seen : goal.returns-in-Ok-eq0-clause-seen
+returns-in-Ok-eq0-clause-seen g c = c.loop.invariant.6
+
+pub returns-in-Err-read_piece-clause-seen : goal.returns-in-Err-read_piece-clause-seen
+returns-in-Err-read_piece-clause-seen g c =
+    seen_on (g.A.Responder.legal c.args.responder.now) (g.A.Responder.seen c.args.pass.now) (g.A.Responder.seen c.loop.pass) (g.A.Responder.seen c.read_piece.new.pass) c.loop.invariant.6 c.read_piece.ensures.seen

@@ -1,14 +1,14 @@
 use Rattle.std.proofs.Common.{◌≡◌, Option, Some, sym, ap, ◌∙◌, subst, arith}
 use Rattle.std.specs.Prelude.{option_map}
 use Rattle.desk_disk.specs.Disks.{DiskView}
-use Rattle.slot_program.specs.Opened.{DiskStops}
+use Rattle.slot_program.specs.Opened.{DiskStops, open_stop}
 use Rattle.slot_program.proofs.ResumeLemmas.{open_stops}
 use Rattle.slot_program.proofs.resume.opened.Goals as goal
 
 pub returns-in-Ok-clause-opened : goal.returns-in-Ok-clause-opened
 returns-in-Ok-clause-opened g c = (
-  g.K.Disk.view c.in_some.held,
-  ap (option_map g.K.Disk.view) (sym c.take.ensures.value ∙ c.in_some.is),
+  g.K.Disk.view c.in-Some.held,
+  ap (option_map g.K.Disk.view) (sym c.take.ensures.value ∙ c.in-Some.is),
   record {
     later = c.in-Ok.ensures.later;
     faults = c.in-Ok.ensures.kept;
@@ -18,18 +18,18 @@ returns-in-Ok-clause-opened g c = (
     few = omega (arith, c.count-count.ensures.few, c.count-count.ensures.count, c.in-Ok.ensures.journal.1);
     found = c.in-Ok.ensures.found;
     durable = c.in-Ok.ensures.durable;
-    images = c.open.ensures.unharmed;
+    images = λ s file reads. rw c.in-Ok.is at (c.open.ensures.unharmed s file reads);
   },
 )
 
 pub returns-in-Err-clause-stop : goal.returns-in-Err-clause-stop
 returns-in-Err-clause-stop g c =
-    let before : option_map g.K.Disk.view c.args.disk.now ≡ Some (g.K.Disk.view c.in_some.held) = ap (option_map g.K.Disk.view) (sym c.take.ensures.value ∙ c.in_some.is) in
+    let before : option_map g.K.Disk.view c.args.disk.now ≡ Some (g.K.Disk.view c.in-Some.held) = ap (option_map g.K.Disk.view) (sym c.take.ensures.value ∙ c.in-Some.is) in
     rw c.stop_of.ensures
-    (subst (λ (o : Option DiskView). DiskStops c.args.season.now o (Some (g.K.Disk.view c.in-Err.held)) _) (sym before)
-    (open_stops c.args.season.now c.in-Err.fault (g.K.Disk.view c.in_some.held) (g.K.Disk.view c.in-Err.held) (record {
+    (subst (λ (o : Option DiskView). DiskStops c.args.season.now o (Some (g.K.Disk.view c.in-Err.held)) (open_stop c.in-Err.fault)) (sym before)
+    (open_stops c.args.season.now c.in-Err.fault (g.K.Disk.view c.in-Some.held) (g.K.Disk.view c.in-Err.held) (record {
       later = c.in-Err.ensures.later;
       why = c.in-Err.ensures.refused;
-      images = c.open.ensures.unharmed;
+      images = λ s file reads. rw c.in-Err.is at (c.open.ensures.unharmed s file reads);
       cause = c.in-Err.ensures.cause;
     })))

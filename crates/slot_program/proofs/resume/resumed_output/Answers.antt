@@ -1,5 +1,5 @@
-use Rattle.std.proofs.Common.{rules, ◌≡◌, ◌≤◌, ◌<◌, ◌+◌, ℕ, Bool, true, false, List, [], length, map, refl, sym, ap, subst, ◌∙◌, arith}
-use Rattle.std.specs.Prelude.{All, is_some}
+use Rattle.std.proofs.Common.{rules, ◌≡◌, ◌≤◌, ◌<◌, ◌+◌, ℕ, Bool, true, false, List, [], Some, length, map, refl, sym, ap, subst, ◌∙◌, arith}
+use Rattle.std.specs.Prelude.{All, is_some, option_map}
 use Rattle.std.proofs.lemmas.List.{length-map}
 use Rattle.std.proofs.lemmas.Result.{err_from_is_err_and}
 use Rattle.choice_problem.specs.declared.problems.TheConstants.{MOST_UNITS}
@@ -71,14 +71,14 @@ served-requires-clause-holdings g c =
 pub served-requires-clause-most : goal.served-requires-clause-most
 served-requires-clause-most g c =
     let all : MOST_ENTRIES ≡ MOST_PAIRS = refl in
-    omega (arith, all, c.found_pairs.ensures.value, c.found_pairs.ensures.few)
+    omega (arith, all, c.found_pairs-most.ensures.value, c.found_pairs-most.ensures.few)
 
 pub served-requires-clause-empty : goal.served-requires-clause-empty
-served-requires-clause-empty g c = rw c.of-beside.ensures.whole refl
+served-requires-clause-empty g c = λ κs lives. rw c.of-beside.ensures.whole refl
 
 pub served-requires-clause-takes : goal.served-requires-clause-takes
 unfolding start_book
-served-requires-clause-takes g c = λ n ask lt fit.
+served-requires-clause-takes g c = λ κs lives n ask lt fit.
     let s = c.args.submission.now in
     let term : c.declaration.result.now.season ≡ s.declaration.season = ap (λ (d : Declaration). d.season) c.declaration.ensures.value in
     let began : c.of-beside.result.began.season ≡ c.declaration.result.now.season = ap (λ (j : JournalView). j.season) c.of-beside.ensures.began ∙ c.in_ok-journal.ensures.opened.2.season_is in
@@ -103,7 +103,7 @@ returns-in_err-journal-clause-stop g c =
     let term : c.declaration.result.now.season ≡ c.args.submission.now.declaration.season = ap (λ (d : Declaration). d.season) c.declaration.ensures.value in
     let p = err_from_is_err_and c.from_residual-in_err-journal.result c.from_residual-in_err-journal.ensures.1 in
     rw (p.1, p.2) (no_client c.args.submission.now.declaration.season (outside_change g.D.Door.view g.K.Disk.view c.args.doors.now.items c.args.disk.now c.args.doors.now.items c.opened.new.disk) c.in_err-journal.field-0.0 refl
-    (subst (λ (t : Term). DiskStops t _ _ c.in_err-journal.field-0.0) term c.in_err-journal.ensures.stop))
+    (subst (λ (t : Term). DiskStops t (option_map g.K.Disk.view c.args.disk.now) (option_map g.K.Disk.view c.opened.new.disk) c.in_err-journal.field-0.0) term c.in_err-journal.ensures.stop))
 
 -- ---- what is served
 
@@ -125,8 +125,8 @@ returns-clause-served g c =
     let es = map g.D.Door.view c.served.new.doors.items in
     let kept : IsKept k h = c.in_ok-history.ensures.agrees in
     let began : k.began ≡ c.in_ok-journal.journal = c.in_ok-history.ensures.start ∙ c.of-beside.ensures.began in
-    let count : k.began.count ≡ length pairs = ap (λ (j : JournalView). j.count) began ∙ o.2.count in
-    let failure : c.is_some.result ≡ is_some k.failure = c.is_some.ensures ∙ ap is_some c.failure-failure.ensures in
+    let count : c.of-beside.result.began.count ≡ length pairs = ap (λ (j : JournalView). j.count) c.of-beside.ensures.began ∙ o.2.count in
+    let failure : c.is_some-failed.result ≡ is_some k.failure = c.is_some-failed.ensures ∙ ap is_some c.failure-failure.ensures in
     let failed : is_some (failed_ask k (asks_of h) k.failure kept.disk) ≡ is_some k.failure = is_failed k (asks_of h) k.failure kept.disk in
     let can : All (CanAskEntry start.declaration) h = subst (λ (d : Declaration). All (CanAskEntry d) h) (c.in_ok-book.ensures.declaration ∙ ap (λ (b : SlotBook). b.declaration) same) c.in_ok-history.ensures.asked in
     let found : c.len.result ≡ length pairs = search rules in
@@ -140,7 +140,7 @@ returns-clause-served g c =
       works = works;
       failed = failed_ask k (asks_of h) k.failure kept.disk;
       handed_in = o.1;
-      given_back = refl;
+      given_back = refl {a = Some (g.K.Disk.view c.into_disk.result)};
       kept = subst (λ (e : DiskView). KeepsAsks s.declaration.season pairs (asks_of h) (failed_ask k (asks_of h) k.failure kept.disk) o.0 e) (sym c.into_disk.ensures)
           (keeps_asks s.declaration.season pairs o.0 k (subst (λ (j : JournalView). IsOpened s.declaration.season pairs o.0 j) (sym began) opened) kept.later (asks_of h) k.failure kept.disk);
       whole = one_whole start pairs h c.replays_fit.ensures.declaration c.replays_fit.ensures.book (subst (λ (b : SlotBook). IsBook b) same c.declaration-declaration.ensures.book) opened.fit
@@ -155,9 +155,9 @@ returns-clause-served g c =
         callers = subst (λ (n : ℕ). All (λ (e : Entry). e.caller < n) h) (sym (length-map c.args.doors.now.items g.D.Door.view)) c.in_ok-history.ensures.callers;
         workers = subst (λ (b : SlotBook). AreWorkers (IsWorker EndsBroken b c.args.links h) 0 ds works es) after c.in_ok-history.ensures.workers;
         remembered = subst (λ (l : List DoorWork). some_ended is_memory_end l ≡ false) c.deref-2.ensures.value c.in_ok-status.ensures.memory;
-        full = subst (λ (n : ℕ). some_ended is_full_end works ≡ true → n + length h ≡ MOST_ENTRIES) count c.in_ok-history.ensures.full;
+        full = λ some. subst (λ (n : ℕ). n + length h ≡ MOST_ENTRIES) count (c.in_ok-history.ensures.full some);
       };
-      broken = λ some. let b = c.in_ok-history.ensures.broken some in failed ∙ broken_failed h k.failure b.0 b.2 b.1 b.3;
+      broken = λ some. let b = c.in_ok-history.ensures.broken some in failed ∙ broken_failed h k.failure b.0 b.2.0 b.1 b.2.1;
       recorded_is = c.in_ok-recorded.ensures ∙ (ap (λ (d : Declaration). history_text d.season c.deref-3.result.now) c.declaration.ensures.value ∙ ap (λ (l : List Entry). history_text s.declaration.season l) c.deref-3.ensures.value);
       status_is = c.in_ok-status.ensures.status ∙ (ap (λ (b : Bool). resumed_status b c.deref-2.result.now) (failure ∙ sym failed) ∙ ap (λ (l : List DoorWork). resumed_status (is_some (failed_ask k (asks_of h) k.failure kept.disk)) l) c.deref-2.ensures.value);
       printed = c.in_ok-text.ensures

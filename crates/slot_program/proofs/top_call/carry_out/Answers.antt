@@ -1,4 +1,4 @@
-use Rattle.std.proofs.Common.{sym, ap, ◌∙◌, subst, Option, Some}
+use Rattle.std.proofs.Common.{sym, ap, ◌∙◌, subst, Option, Some, rules}
 use Rattle.std.specs.Prelude.{IfOk}
 use Rattle.std.specs.String.{string_bytes}
 use Rattle.slot_program.specs.Outside.{Outside, still, outside_of, outside_change}
@@ -8,7 +8,7 @@ use Rattle.command_words.specs.declared.job.Job.{Job}
 use Rattle.command_words.specs.Words.{words_of}
 use Rattle.command_words.specs.Jobs.{job_of}
 use Rattle.slot_program.proofs.OutsideLemmas.{ok_tried}
-use Rattle.slot_program.proofs.AnswerLemmas.{nothing_asked}
+use Rattle.slot_program.proofs.AnswerLemmas.{nothing_asked, no_words, words_answer}
 use Rattle.slot_program.proofs.top_call.carry_out.Goals as goal
 
 pub returns-in-Ok-Allocate-clause-asked : goal.returns-in-Ok-Allocate-clause-asked
@@ -41,6 +41,12 @@ returns-in_err-from_str-in-Err-Words-clause-asked g c = nothing_asked (job_of (w
 
 pub returns-in_ok-from_str-in-Err-Words-clause-asked : goal.returns-in_ok-from_str-in-Err-Words-clause-asked
 returns-in_ok-from_str-in-Err-Words-clause-asked g c = nothing_asked (job_of (words_of c.args.words.now)) (g.C.Cabinet.log c.args.cabinet.now)
+
+pub returns-in_ok-from_str-in-Err-Words-clause-answer : goal.returns-in_ok-from_str-in-Err-Words-clause-answer
+returns-in_ok-from_str-in-Err-Words-clause-answer g c =
+    let w : World = world_of g.C.Cabinet.files g.C.Cabinet.fault_count g.C.Cabinet.log c.args.cabinet.now in
+    let o : Outside = outside_of g.D.Door.view g.K.Disk.view c.args.doors.now.items c.args.disk.now in
+    words_answer (job_of (words_of c.args.words.now)) w o _ (λ job found. no_words c.in-Err-Words.field-0 job c.in-Err-Words.field-0-is (c.in-Err-Words.ensures.only job found)) (search rules)
 
 pub returns-in-Err-Memory-clause-asked : goal.returns-in-Err-Memory-clause-asked
 returns-in-Err-Memory-clause-asked g c = nothing_asked (job_of (words_of c.args.words.now)) (g.C.Cabinet.log c.args.cabinet.now)

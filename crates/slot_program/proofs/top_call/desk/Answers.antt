@@ -183,12 +183,14 @@ returns-in-Ok-put-clause-disk_risen g c = λ fourteen.
     let r = disk_has_risen (job_of (words_of c.args.words.now)) w change a.report v (sym a.status_is ∙ fourteen) a.ends in
     let logs : g.S.Sink.log c.put.new.self ≡ g.S.Sink.log c.args.out.now ++ put (text_of a.report) ∷ [] = search rules in (
       r.2,
-      r.0,
-      r.1,
-      elim r.3 [
-        | inl un ↦ inl (un.0, un.2)
-        | inr done ↦ inr (text_of a.report, subst (λ (n : ℕ). IsFinished r.0 w change n (text_of a.report) v) (sym fourteen) done, logs)
-      ],
+      (
+        r.0,
+        r.1,
+        elim r.3 [
+          | inl un ↦ inl (un.0, un.2)
+          | inr done ↦ inr (text_of a.report, subst (λ (n : ℕ). IsFinished r.0 w change n (text_of a.report) v) (sym fourteen) done, logs)
+        ],
+      ),
     )
 
 pub returns-in-Ok-clause-disk_risen : goal.returns-in-Ok-clause-disk_risen

@@ -1,7 +1,9 @@
 use Rattle.slot_text.specs.Lines.{lines_of}
 use Rattle.scr_replies.specs.Received.{IsGoodMessage, IsBadAt}
 use Rattle.session_desk.specs.Begun.{ledger_caller}
+use Rattle.session_desk.specs.Seen.{IsLedgerHistory}
 use Rattle.session_desk.proofs.AmendLemmas.{fit_all, if_ok, bad_answered}
+use Rattle.session_desk.proofs.SeenLemmas.{seen_same}
 use Rattle.session_desk.proofs.amending.AmendingResponder.answer.Goals as goal
 
 pub reply-requires-clause-items : goal.reply-requires-clause-items
@@ -20,3 +22,9 @@ returns-in-Ok-Bad-clause-ok g c =
     if_ok c.bad_reply.result
     (λ text is. bad_answered (ledger_caller (g.B.Beside.found origin.beside) origin.start c.args.self.now.caller) (lines_of c.args.lines.now) c.in-Ok-Bad.line text.items (g.B.Beside.read c.args.pass.now.own) bad is)
     c.bad_reply.ensures.text
+
+pub returns-in-Ok-Bad-clause-seen : goal.returns-in-Ok-Bad-clause-seen
+returns-in-Ok-Bad-clause-seen g c = seen_same (IsLedgerHistory c.args.self.now.ledger.now.origin.start) (g.B.Beside.read c.args.pass.now.seen)
+
+pub returns-in-Err-clause-seen : goal.returns-in-Err-clause-seen
+returns-in-Err-clause-seen g c = seen_same (IsLedgerHistory c.args.self.now.ledger.now.origin.start) (g.B.Beside.read c.args.pass.now.seen)
