@@ -1,0 +1,37 @@
+-- What lines are given, one line after the other.
+use Rattle.std.proofs.Common.{◌≡◌, ℕ, zero, suc, ◌+◌, ◌<◌, ◌≤◌, refl, sym, ◌∙◌, ap, subst, arith, List, [], ◌∷◌, ◌++◌, length, get_or, drop, drop-cons, append_assoc}
+use Rattle.std.specs.Prelude.{Option, slice_get}
+use Rattle.std.proofs.Math.ListN.{drop_of_length-le}
+use Rattle.std.proofs.lemmas.List.{append-nil}
+use Rattle.season_days.specs.declared.declaration.Declaration.{Declaration}
+use Rattle.scr_reader.specs.declared.line.Line.{Line}
+use Rattle.series_model.specs.declared.state.UnitState.{UnitState}
+use Rattle.wait_list.specs.Waiting.{given_state, given_states}
+
+get-drop : (numbers : List ℕ) (n : ℕ) → slice_get (drop n numbers) 0 ≡ slice_get numbers n
+get-drop numbers zero = refl
+get-drop [] (suc n) = refl
+get-drop (x ∷ numbers) (suc n) = get-drop numbers n
+
+drop-one : (numbers : List ℕ) (n : ℕ) → drop 1 (drop n numbers) ≡ drop (n + 1) numbers
+drop-one numbers zero = refl
+drop-one [] (suc n) = refl
+drop-one (x ∷ numbers) (suc n) = drop-one numbers n
+
+pub given-next : (d : Declaration) (lines : List Line) (numbers : List ℕ) (n : ℕ) (line : Line) (before : List UnitState) (state : UnitState) → n < length lines →
+    state ≡ given_state d (get_or lines n line) (slice_get numbers n) →
+    (before ++ state ∷ []) ++ given_states d (drop (n + 1) lines) (drop (n + 1) numbers) ≡ before ++ given_states d (drop n lines) (drop n numbers)
+given-next d lines numbers n line before state lt is =
+    let next : suc n ≡ n + 1 = omega arith in
+    let first : drop n lines ≡ get_or lines n line ∷ drop (n + 1) lines = drop-cons lines n line lt ∙ ap (λ (k : ℕ). get_or lines n line ∷ drop k lines) next in
+    let here : state ≡ given_state d (get_or lines n line) (slice_get (drop n numbers) 0) = is ∙ ap (given_state d (get_or lines n line)) (sym (get-drop numbers n)) in
+    let rest : given_states d (drop (n + 1) lines) (drop (n + 1) numbers) ≡ given_states d (drop (n + 1) lines) (drop 1 (drop n numbers)) = ap (given_states d (drop (n + 1) lines)) (sym (drop-one numbers n)) in
+    let whole : state ∷ given_states d (drop (n + 1) lines) (drop (n + 1) numbers) ≡ given_states d (drop n lines) (drop n numbers) =
+    ap (λ (s : UnitState). s ∷ given_states d (drop (n + 1) lines) (drop (n + 1) numbers)) here
+    ∙ ap (λ (ss : List UnitState). given_state d (get_or lines n line) (slice_get (drop n numbers) 0) ∷ ss) rest
+    ∙ ap (λ (ls : List Line). given_states d ls (drop n numbers)) (sym first) in
+    append_assoc before (state ∷ []) (given_states d (drop (n + 1) lines) (drop (n + 1) numbers)) ∙ ap (λ (ss : List UnitState). before ++ ss) whole
+
+pub given-end : (d : Declaration) (lines : List Line) (numbers : List ℕ) (n : ℕ) (states : List UnitState) → length lines ≤ n → states ++ given_states d (drop n lines) (drop n numbers) ≡ states
+given-end d lines numbers n states past =
+    ap (λ (ls : List Line). states ++ given_states d ls (drop n numbers)) (drop_of_length-le lines past) ∙ append-nil states

@@ -1,0 +1,65 @@
+-- The problem of the waiting stage.
+use Rattle.std.proofs.Common.{◌≡◌, ℕ, ◌<◌, ◌≤◌, refl, sym, ◌∙◌, ap, subst, arith, List, [], ◌∷◌, length, map}
+use Rattle.std.specs.Prelude.{All, Option, Some, None}
+use Rattle.std.specs.Option.{ForSome}
+use Rattle.std.proofs.lemmas.List.{length-map}
+use Rattle.std.proofs.lemmas.List.Elements.{All-nil, All-cons, All-head, All-tail}
+use Rattle.season_days.specs.Term.{Term}
+use Rattle.season_days.specs.Capacity.{capacity_of, declared_resources, IsDeclaration}
+use Rattle.season_days.specs.declared.declaration.Declaration.{Declaration}
+use Rattle.season_days.specs.declared.declaration.TheConstants.{HIGHEST_REFUSAL_PRICE}
+use Rattle.scr_reader.specs.Printed.{LineFits}
+use Rattle.scr_reader.specs.declared.line.Line.{Line}
+use Rattle.choice_problem.specs.Problems.{ProblemView}
+use Rattle.series_model.specs.declared.unit.Unit.{Unit as SlotUnit}
+use Rattle.series_model.specs.Units.{UnitFits}
+use Rattle.wasg_stages.specs.StageProblems.{IsAllotmentProblem}
+use Rattle.wait_list.specs.Waiting.{waiting_unit, waiting_units, waiting_price, waiting_terms}
+
+price-few : (price : Option ℕ) → ForSome price (λ n. n ≤ HIGHEST_REFUSAL_PRICE) → waiting_price price ≤ HIGHEST_REFUSAL_PRICE
+price-few None h = omega arith
+price-few (Some n) h = h
+
+-- the terms keep the limits of a declaration
+pub terms-keep : (d : Declaration) → IsDeclaration d → IsDeclaration (waiting_terms d)
+terms-keep d keeps = record {
+  capacity = keeps.capacity;
+  price = price-few d.refuse keeps.price;
+  share = keeps.share;
+}
+
+unit-fits : (season : Term) (line : Line) → LineFits season line → UnitFits season (waiting_unit line)
+unit-fits season line fits = record { request = fits; historic = refl }
+
+pub units-fit : (season : Term) (lines : List Line) → All (LineFits season) lines → All (UnitFits season) (waiting_units lines)
+units-fit season [] fits = All-nil (UnitFits season)
+units-fit season (line ∷ lines) fits =
+    All-cons (UnitFits season) (waiting_unit line) (waiting_units lines)
+    (unit-fits season line (All-head (LineFits season) line lines fits))
+    (units-fit season lines (All-tail (LineFits season) line lines fits))
+
+-- the same problem by limits that are the same
+pub with-limits : (d : Declaration) (units : List SlotUnit) (limit other : ℕ → ℕ) (p : ProblemView) → IsAllotmentProblem d units limit p →
+    ((r : ℕ) → r < declared_resources (capacity_of d) → limit r ≡ other r) → IsAllotmentProblem d units other p
+with-limits d units limit other p is same = record {
+  units_are = is.units_are;
+  resources = is.resources;
+  limits = λ r lt. is.limits r lt ∙ same r lt;
+}
+
+-- ---- what the calls gave
+
+module _ (d terms : Declaration) (lines : List Line) (units : List SlotUnit) (t : terms ≡ waiting_terms d) (u : units ≡ waiting_units lines) where
+  pub units-fit-at : All (LineFits d.season) lines → All (UnitFits terms.season) units
+  units-fit-at all =
+      subst (λ (us : List SlotUnit). All (UnitFits terms.season) us) (sym u)
+      (subst (λ (season : Term). All (UnitFits season) (waiting_units lines)) (sym (ap (λ (x : Declaration). x.season) t)) (units-fit d.season lines all))
+
+  pub as-waiting : (limit other : ℕ → ℕ) (p : ProblemView) → IsAllotmentProblem terms units limit p → ((r : ℕ) → r < declared_resources (capacity_of d) → limit r ≡ other r) →
+      IsAllotmentProblem (waiting_terms d) (waiting_units lines) other p
+  as-waiting limit other p is same =
+      with-limits (waiting_terms d) (waiting_units lines) limit other p
+      (subst (λ (x : Declaration). IsAllotmentProblem x (waiting_units lines) limit p) t (subst (λ (us : List SlotUnit). IsAllotmentProblem terms us limit p) u is)) same
+
+pub units-count : (lines : List Line) (units : List SlotUnit) → units ≡ waiting_units lines → length units ≡ length lines
+units-count lines units u = ap (λ (us : List SlotUnit). length us) u ∙ length-map lines waiting_unit
