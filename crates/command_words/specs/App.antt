@@ -50,7 +50,7 @@ reading_app = record {
   subs = map command_shape (allocate_command ∷ check_command ∷ amend_command ∷ []);
 }
 
--- with all of them
+-- with all of them but those of the waiting list
 abbrev pub season_app : App
 season_app = record {
   top = desk_top;

@@ -6,7 +6,8 @@ ghost use Rattle.clap.specs.declared.builder.command.Command.TheViews.{out-Comma
 ghost use Rattle.command_words.specs.Words.{words_of};
 ghost use Rattle.command_words.specs.Jobs.{allocate_command, check_command};
 ghost use Rattle.command_words.specs.Jobs.{amend_command, serve_command, resume_command};
-ghost use Rattle.command_words.specs.Jobs.{usage_command, make_command, trial_command};
+ghost use Rattle.command_words.specs.Jobs.{usage_command, reclear_command, recheck_command};
+ghost use Rattle.command_words.specs.Jobs.{make_command, trial_command};
 ghost use Rattle.command_words.specs.App.{option_arg, names_arg, command_shape, bare_app, reading_app};
 ghost use Rattle.command_words.specs.App.{season_app, desk_app};
 
@@ -82,6 +83,23 @@ fn usage<'a>(alloc: Global) -> Result<Command<'a>, AllocError>
     Command::new(alloc, "usage").arg(names(alloc))
 }
 
+fn reclear<'a>(alloc: Global) -> Result<Command<'a>, AllocError>
+    ensures shape { IfOk result (λ c. shape_of c ≡ command_shape reclear_command) }
+    ensures local { IfOk result (λ c. (out-Command c).has_globals ≡ false) }
+{
+    Command::new(alloc, "reclear")
+        .arg(option(alloc, "nodes"))?
+        .arg(option(alloc, "workers"))?
+        .arg(names(alloc))
+}
+
+fn recheck<'a>(alloc: Global) -> Result<Command<'a>, AllocError>
+    ensures shape { IfOk result (λ c. shape_of c ≡ command_shape recheck_command) }
+    ensures local { IfOk result (λ c. (out-Command c).has_globals ≡ false) }
+{
+    Command::new(alloc, "recheck").arg(names(alloc))
+}
+
 fn make<'a>(alloc: Global) -> Result<Command<'a>, AllocError>
     ensures shape { IfOk result (λ c. shape_of c ≡ command_shape make_command) }
     ensures local { IfOk result (λ c. (out-Command c).has_globals ≡ false) }
@@ -119,7 +137,7 @@ fn reading_desk<'a>(alloc: Global) -> Result<Command<'a>, AllocError>
         .subcommand(amend)
 }
 
-/// The desk with all commands that read a season's files.
+/// The desk with the commands that read a season's files, but those of the waiting list.
 fn season_desk<'a>(alloc: Global) -> Result<Command<'a>, AllocError>
     ensures { IfOk result (λ c. app_of c ≡ season_app) }
 {
@@ -135,9 +153,15 @@ fn season_desk<'a>(alloc: Global) -> Result<Command<'a>, AllocError>
 fn desk<'a>(alloc: Global) -> Result<Command<'a>, AllocError>
     ensures { IfOk result (λ c. app_of c ≡ desk_app) }
 {
+    let reclear = reclear(alloc)?;
+    let recheck = recheck(alloc)?;
     let make = make(alloc)?;
     let trial = trial(alloc)?;
-    season_desk(alloc)?.subcommand(make)?.subcommand(trial)
+    season_desk(alloc)?
+        .subcommand(reclear)?
+        .subcommand(recheck)?
+        .subcommand(make)?
+        .subcommand(trial)
 }
 
 /// What `clap` finds in the words.
