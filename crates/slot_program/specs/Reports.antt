@@ -7,8 +7,8 @@ use Rattle.command_words.specs.Words.{Word}
 
 -- What is refused before any work is done: a file that is not there, or is larger than what is
 -- read; the first line of a file that is not in its form; a limit that is passed, by which number;
--- the first failing line of a certificate, and why it fails; and that no season follows for which
--- lines could be written.
+-- the first failing line of a certificate, or of one more stage, and why it fails; and that no
+-- season follows for which lines could be written.
 pub data Refusal : Type 0 where
   missing : Word → Refusal
   large : Word → Refusal
@@ -16,6 +16,7 @@ pub data Refusal : Type 0 where
   over_limit : Word → ℕ → Refusal
   not_valid : ℕ → Reason → Refusal
   no_next : Refusal
+  extra_fails : ℕ → Reason → Refusal
 
 -- Why a journal was not opened, behind all files that are read: there is no disk; its file begins
 -- as no journal does; the slot of this number is not whole, or spells nothing in the season; or a
@@ -45,6 +46,7 @@ refusal_status (out_of_form name line) = 3
 refusal_status (over_limit name number) = 4
 refusal_status (not_valid line reason) = 1
 refusal_status no_next = 15
+refusal_status (extra_fails line reason) = 1
 
 abbrev pub journal_status : JournalRefusal → ℕ
 journal_status no_journal = 13
@@ -92,6 +94,8 @@ refusal_text (over_limit name number) = numbered_line (codes "LIMIT") name numbe
 refusal_text (not_valid line reason) =
     codes "NO " ++ (decimal line ++ (32 ∷ (reason_text reason ++ (10 ∷ []))))
 refusal_text no_next = codes "NEXT NONE\n"
+refusal_text (extra_fails line reason) =
+    codes "NO EXTRA " ++ (decimal line ++ (32 ∷ (reason_text reason ++ (10 ∷ []))))
 
 abbrev pub journal_text : JournalRefusal → List ℕ
 journal_text no_journal = codes "JOURNAL NONE\n"

@@ -77,7 +77,7 @@ fn amend_output(
     let _units = submission.units();
     let book = Book::of(alloc, submission, certificate)?;
     let amended = amend_messages(alloc, book, asks)?;
-    let text = entries_line(alloc, amended.entries)?;
+    let text = entries_line(alloc, amended.history.len() as u32)?;
     Ok(AmendOutput {
         answers: amended.text,
         text,

@@ -9,6 +9,8 @@ mod files;
 mod finish;
 pub mod laws;
 mod make;
+mod recheck;
+mod reclear;
 mod resume;
 mod season;
 mod serve;
@@ -18,6 +20,7 @@ mod stop;
 mod top_call;
 mod trial;
 mod usage;
+mod waits;
 mod writes;
 
 pub use top_call::desk;

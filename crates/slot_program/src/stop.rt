@@ -22,6 +22,8 @@ pub(crate) enum Limit {
     Capacity(CapLimit),
     /// The number of units.
     Units,
+    /// The number of lines that wait.
+    Waiting,
 }
 
 /// Why a journal was not opened.
@@ -58,6 +60,8 @@ pub(crate) enum Stop {
     Unopened(NoJournal),
     /// No season follows for which lines could be written.
     NoNext,
+    /// The first line of one more stage that fails, and why.
+    ExtraFails(u32, Reason),
     /// Memory ran out.
     Memory,
 }
@@ -111,6 +115,7 @@ impl Stop {
             Stop::OutOfForm(_, _) => 3,
             Stop::OverLimit(_, _) => 4,
             Stop::NotValid(_, _) => 1,
+            Stop::ExtraFails(_, _) => 1,
             Stop::Unopened(why) => unopened_status(*why),
             Stop::NoNext => 15,
             Stop::Memory => 7,
@@ -139,6 +144,7 @@ impl Stop {
             Stop::NotValid(line, reason) => Ok(verdict_line(alloc, line, reason_name(reason))?),
             Stop::Unopened(why) => Ok(journal_line(alloc, why)?),
             Stop::NoNext => Ok(String::from_str(alloc, "NEXT NONE\n")?),
+            Stop::ExtraFails(line, reason) => Ok(extra_line(alloc, line, reason_name(reason))?),
             Stop::Memory => Err(Memory),
         }
     }
@@ -161,6 +167,7 @@ fn limit_name(limit: Limit) -> &'static str
         Limit::Capacity(CapLimit::Caps) => "CAPS",
         Limit::Capacity(CapLimit::Windows) => "WINDOWS",
         Limit::Units => "UNITS",
+        Limit::Waiting => "WAITING",
     }
 }
 
@@ -204,6 +211,14 @@ fn verdict_line(alloc: Global, line: u32, reason: &str) -> Result<String, Memory
         ≡ codes "NO " ++ (decimal line ++ (32 ∷ (reason.now ++ (10 ∷ []))))) }
 {
     let text = format!(in alloc; "NO {line} {reason}\n")?;
+    Ok(text)
+}
+
+fn extra_line(alloc: Global, line: u32, reason: &str) -> Result<String, Memory>
+    ensures { IfOk result (λ text. string_bytes text
+        ≡ codes "NO EXTRA " ++ (decimal line ++ (32 ∷ (reason.now ++ (10 ∷ []))))) }
+{
+    let text = format!(in alloc; "NO EXTRA {line} {reason}\n")?;
     Ok(text)
 }
 
