@@ -12,4 +12,5 @@ mod DeskLemmas
 mod CheckLemmas
 mod AmendLemmas
 mod UsageLemmas
+mod WaitingLemmas
 mod ReportsLemmas

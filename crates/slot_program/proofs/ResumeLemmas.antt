@@ -165,6 +165,7 @@ stop_resumed names links port workers w v capacity requests certificate lead cha
 stop_resumed names links port workers w v capacity requests certificate lead change season made year (stops.OverLimit limit number) h = absurd h
 stop_resumed names links port workers w v capacity requests certificate lead change season made year (stops.NotValid line reason) h = absurd h
 stop_resumed names links port workers w v capacity requests certificate lead change season made year stops.NoNext h = absurd h
+stop_resumed names links port workers w v capacity requests certificate lead change season made year (stops.ExtraFails line reason) h = absurd h
 
 -- no client was served yet
 pub no_client : (season : Term) (change : OutsideChange) (stop : Stop) → change.after.doors ≡ change.before.doors → DiskStops season change.before.disk change.after.disk stop → JournalStops season change stop
@@ -178,6 +179,7 @@ no_client season change (stops.OutOfForm place line) same h = absurd h
 no_client season change (stops.OverLimit limit number) same h = absurd h
 no_client season change (stops.NotValid line reason) same h = absurd h
 no_client season change stops.NoNext same h = absurd h
+no_client season change (stops.ExtraFails line reason) same h = absurd h
 
 -- ---- an opening that was refused
 

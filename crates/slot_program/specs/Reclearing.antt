@@ -1,6 +1,6 @@
 -- The waiting list of a desk: what asks leave unmet beside the book that they left, and one more stage
 -- for it.
-use Rattle.std.specs.Prelude.{◌≡◌, ℕ, ◌+◌, ◌*◌, ◌≤◌, List, [], ◌∷◌, ◌++◌, length, codes, Option, Some, None, IfSome}
+use Rattle.std.specs.Prelude.{◌≡◌, ◌≢◌, ℕ, ◌+◌, ◌*◌, ◌≤◌, List, [], ◌∷◌, ◌++◌, length, codes, Option, Some, None, IfSome}
 use Rattle.std.specs.List.{flat_map}
 use Rattle.std.specs.Fmt.{decimal}
 use Rattle.scr_reader.specs.Streams.{messages_at_end}
@@ -10,10 +10,10 @@ use Rattle.choice_problem.specs.Problems.{ProblemView}
 use Rattle.choice_problem.specs.declared.problems.TheConstants.{MOST_UNITS}
 use Rattle.search_workers.specs.Outcomes.{choice_count}
 use Rattle.series_model.specs.declared.state.UnitState.{UnitState}
-use Rattle.series_model.specs.Stages.{times_named}
 use Rattle.series_model.specs.Submissions.{SubmissionView}
 use Rattle.cert_format.specs.declared.cert.StageCert.{StageCert}
 use Rattle.cert_format.specs.declared.cert.Certificate.{Certificate}
+use Rattle.cert_format.specs.declared.cert.Mark.TheVariants.{Infeasible}
 use Rattle.season_run.specs.Runs.{IsStageRun}
 use Rattle.holding_book.specs.declared.answer.Entry.{Entry}
 use Rattle.holding_book.specs.Books.{SlotBook}
@@ -22,8 +22,8 @@ use Rattle.holding_book.specs.Starts.{start_book}
 use Rattle.scr_replies.specs.Answers.{message_reply}
 use Rattle.scr_replies.specs.SeasonReplies.{unit_answer}
 use Rattle.amend_run.specs.Amended.{IsAskedBy, IsFirstHeader}
-use Rattle.wait_list.specs.Waiting.{waiting_lines, waiting_units, waiting_terms, allotted_states, IsWaitingProblem}
-use Rattle.wait_list.specs.Claims.{WaitingMarkHolds, FitsBesideBook}
+use Rattle.wait_list.specs.Waiting.{waiting_lines, allotted_states, IsWaitingProblem}
+use Rattle.wait_list.specs.Claims.{named_times, WaitingMarkHolds, FitsBesideBook}
 use Rattle.slot_program.specs.Amendments.{IsOneHistory}
 use Rattle.slot_program.specs.Spelled.{SpellsExtra}
 use Rattle.slot_program.specs.StageLines.{mark_line, marks_status}
@@ -68,6 +68,7 @@ pub record IsWaitingOutput (b : SlotBook) (lines : List Line) (header : Option H
   pub problem_is : IsWaitingProblem b lines problem
   pub stage : StageCert
   pub run : IsStageRun problem nodes stage
+  pub feasible : stage.mark ≢ Infeasible
   pub spelled : SpellsExtra extra stage
   pub short : length extra ≤ LONGEST_CERT_FILE
   pub replied : replies
@@ -102,4 +103,4 @@ pub record StageIsProved (s : SubmissionView) (c : Certificate) (asks : List ℕ
   pub mark : WaitingMarkHolds (last_book s c history) (left_waiting s c history) stage
   pub fits : IfSome stage.choice (λ numbers.
       FitsBesideBook (last_book s c history) (left_waiting s c history)
-      (times_named (waiting_terms s.declaration) (waiting_units (left_waiting s c history)) numbers))
+      (named_times (last_book s c history) (left_waiting s c history) numbers))

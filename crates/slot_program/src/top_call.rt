@@ -58,6 +58,7 @@ use slot_text::Memory;
 use std::alloc::Global;
 use std::sync::Wait;
 use std::thread::Threads;
+use wait_list::laws::{allotted_fit, waiting_marks};
 use wasg_stages::laws::valid_marks;
 use worker_gate::Gate;
 
@@ -251,6 +252,8 @@ pub fn desk<R: Threads + Wait + Sync, C: Cabinet, S: Sink, D: Door + Drop, G: Ga
         (world_of C.files C.fault_count C.log cabinet.new)) }
 {
     valid_marks();
+    waiting_marks();
+    allotted_fit();
     one_standing();
     match carry_out(rt, alloc, words, cabinet, doors, gate, disk) {
         Ok(answer) => match out.put(answer.text.as_bytes()) {
