@@ -526,9 +526,17 @@ module _ (marks : (s : SubmissionView) (c : Certificate) → IsValid s c → Mar
       let out = cleared.output in
       let proof : IsWaitingProof (last_book work.season work.proved cleared.history) (left_waiting work.season work.proved cleared.history) out.stage =
       record { problem = out.problem; problem_is = out.problem_is; proof = out.run.proof } in
-      subst (λ (l : List NamedBytes). HeadlineHolds (Reclear names nodes workers) (capacity ∷ requests ∷ certificate ∷ asks ∷ []) l change status text) (sym work.written)
-      (work.season, work.proved, work.spelled, record { made = work.made; valid = work.valid; marks = marks work.season work.proved work.valid }, cleared.history, out.stage, out.spelled,
-      stage_proved waits fit work.season work.proved asks.bytes cleared.history out.stage cleared.asked cleared.one proof, out.printed)
+      subst (λ (l : List NamedBytes). HeadlineHolds (Reclear names nodes workers) (capacity ∷ requests ∷ certificate ∷ asks ∷ []) l change status text) (sym work.written) (
+        work.season,
+        work.proved,
+        work.spelled,
+        record { made = work.made; valid = work.valid; marks = marks work.season work.proved work.valid },
+        cleared.history,
+        out.stage,
+        out.spelled,
+        stage_proved waits fit work.season work.proved asks.bytes cleared.history out.stage cleared.asked cleared.one proof,
+        out.printed,
+      )
   file_marks (Reclear names nodes workers) files (capacity ∷ requests ∷ certificate ∷ asks ∷ more ∷ rest) writes change status text pass work = absurd work
   file_marks (Recheck names) files [] writes change status text pass work = absurd work
   file_marks (Recheck names) files (capacity ∷ []) writes change status text pass work = absurd work
@@ -536,9 +544,16 @@ module _ (marks : (s : SubmissionView) (c : Certificate) → IsValid s c → Mar
   file_marks (Recheck names) files (capacity ∷ requests ∷ certificate ∷ []) writes change status text pass work = absurd work
   file_marks (Recheck names) files (capacity ∷ requests ∷ certificate ∷ asks ∷ []) writes change status text pass work = absurd work
   file_marks (Recheck names) files (capacity ∷ requests ∷ certificate ∷ asks ∷ extra ∷ []) writes change status text pass work =
-      subst (λ (l : List NamedBytes). HeadlineHolds (Recheck names) (capacity ∷ requests ∷ certificate ∷ asks ∷ extra ∷ []) l change status text) (sym work.written)
-      (work.season, work.proved, work.spelled, record { made = work.made; valid = work.valid; marks = marks work.season work.proved work.valid }, work.history, work.stage, work.said,
-      stage_proved waits fit work.season work.proved asks.bytes work.history work.stage work.asked work.one work.proof)
+      subst (λ (l : List NamedBytes). HeadlineHolds (Recheck names) (capacity ∷ requests ∷ certificate ∷ asks ∷ extra ∷ []) l change status text) (sym work.written) (
+        work.season,
+        work.proved,
+        work.spelled,
+        record { made = work.made; valid = work.valid; marks = marks work.season work.proved work.valid },
+        work.history,
+        work.stage,
+        work.said,
+        stage_proved waits fit work.season work.proved asks.bytes work.history work.stage work.asked work.one work.proof,
+      )
   file_marks (Recheck names) files (capacity ∷ requests ∷ certificate ∷ asks ∷ extra ∷ more ∷ rest) writes change status text pass work = absurd work
   file_marks (Serve names links port workers) files done writes change status text pass work = absurd work
   file_marks (Resume names links port workers) files done writes change status text pass work = absurd work

@@ -1,10 +1,11 @@
 -- The judgements of what waits end in one way alone, and what a stage of a waiting list proves.
-use Rattle.std.proofs.Common.{◌≡◌, ℕ, ◌<◌, ◌≤◌, List, [], ◌∷◌, length, Option, Some, None, refl, sym, ap, ◌∙◌, subst, arith, inl, inr}
+use Rattle.std.proofs.Common.{◌≡◌, ℕ, ◌<◌, ◌≤◌, List, [], ◌∷◌, length, Option, Some, None, Result, Ok, Err, refl, sym, ap, ◌∙◌, subst, arith, inl, inr}
 use Rattle.std.specs.Prelude.{All, IfSome, codes}
 use Rattle.season_days.specs.Term.{Term}
+use Rattle.std.proofs.lemmas.Bool.{cases_lt, lt-ltb, le-ltb}
 use Rattle.slot_text.specs.Forms.{IsFirstBadLine}
+use Rattle.slot_text.specs.Reads.{GivesOr}
 use Rattle.slot_text.specs.declared.station.Station.{Station}
-use Rattle.capacity_file.specs.Declares.{IsCapacityFile}
 use Rattle.season_days.specs.declared.declaration.Declaration.{Declaration}
 use Rattle.scr_reader.specs.declared.header.Header.{Header}
 use Rattle.scr_reader.specs.declared.line.Line.{Line}
@@ -17,10 +18,14 @@ use Rattle.cert_format.specs.declared.cert.Certificate.{Certificate}
 use Rattle.cert_checker.specs.declared.verdict.Reason.{Reason}
 use Rattle.holding_book.specs.declared.answer.Entry.{Entry}
 use Rattle.holding_book.specs.Books.{SlotBook, BookFits}
-use Rattle.holding_book.specs.Asks.{next}
+use Rattle.holding_book.specs.Asks.{CanAsk, next}
 use Rattle.holding_book.specs.Histories.{replay}
 use Rattle.holding_book.specs.Starts.{start_book}
-use Rattle.amend_run.specs.Amended.{FitsThroughout, IsFirstHeader}
+use Rattle.amend_run.specs.Amended.{FitsThroughout, IsAskedBy, IsAmended, IsFirstHeader}
+use Rattle.amend_run.specs.declared.run.Amended.{Amended as AmendedValue}
+use Rattle.wait_list.specs.Waiting.{waiting_answer}
+use Rattle.wait_list.specs.declared.fault.WaitFault.{WaitFault}
+use Rattle.wait_list.specs.declared.fault.WaitFault.TheVariants.{TooMany, Memory as NoWaiting}
 use Rattle.wait_list.specs.Claims.{named_times, FitsBesideBook, IsWaitingProof, WaitingMarkHolds, WaitingFailsAt}
 use Rattle.command_words.specs.Words.{Word}
 use Rattle.slot_program.specs.Amendments.{IsOneHistory}
@@ -29,7 +34,7 @@ use Rattle.slot_program.specs.Reclearing.{IsAskedOf, last_book, left_waiting, St
 use Rattle.slot_program.specs.Judgements.{NamedBytes, IsSeasonOf, SpellsCert, SpellsExtra, waiting_limit, extra_form, valid_extra}
 use Rattle.slot_program.specs.Leads.{AcceptsAlone, RefusesAlone}
 use Rattle.slot_program.specs.Waits.{SpellsAlone, ExtraAlone, IsLeftBy}
-use Rattle.slot_program.proofs.TextLemmas.{in_form_good, same_bad_line}
+use Rattle.slot_program.proofs.JudgementLemmas.{in_form_good, same_bad_line, same_ok, same_err, ok_err}
 
 -- ---- laws of waiting lists
 
@@ -60,6 +65,69 @@ stage_proved waits fit s c asks history stage asked one proof = record {
   fits = fit (last_book s c history) (left_waiting s c history) stage (last_fits (start_book s c) history one.fits) proof;
 }
 
+-- ---- what the calls gave
+
+start_declared : (s : SubmissionView) (c : Certificate) → (start_book s c).declaration ≡ s.declaration
+unfolding start_book
+start_declared s c = refl
+
+module _ (s : SubmissionView) (c : Certificate) (asks : List ℕ) (b : SlotBook) (same : b ≡ start_book s c) (amended : AmendedValue) (is : IsAmended b asks amended) where
+  abbrev entries : List Entry
+  entries = amended.history.items
+
+  pub asked_of : IsAskedOf s c asks entries
+  asked_of = record { texts = is.texts; asked = subst (λ (x : SlotBook). IsAskedBy x asks entries is.texts) same is.asked }
+
+  pub only_of : ((history : List Entry) (texts : List (List ℕ)) → IsAskedBy b asks history texts → entries ≡ history) → (other : List Entry) → IsAskedOf s c asks other → other ≡ entries
+  only_of law other from = sym (law other from.texts (subst (λ (x : SlotBook). IsAskedBy x asks other from.texts) (sym same) from.asked))
+
+  pub one_of : IsOneHistory (start_book s c) entries
+  one_of = subst (λ (x : SlotBook). IsOneHistory x entries) same (record { legal = is.asked.legal; fits = is.fits })
+
+  pub book_of : amended.book.book ≡ last_book s c entries
+  book_of = is.book ∙ ap (λ (x : SlotBook). replay x entries) same
+
+  module _ (kept : (x : SlotBook) (history : List Entry) → (replay x history).declaration ≡ x.declaration) where
+    own_declared : amended.book.book.declaration ≡ b.declaration
+    own_declared = ap (λ (x : SlotBook). x.declaration) is.book ∙ kept b entries
+
+    pub declared_of : amended.book.book.declaration ≡ s.declaration
+    declared_of = own_declared ∙ (ap (λ (x : SlotBook). x.declaration) same ∙ start_declared s c)
+
+    pub can_of : All (λ (entry : Entry). CanAsk amended.book.book.declaration entry.ask) entries
+    can_of = subst (λ (d : Declaration). All (λ (entry : Entry). CanAsk d entry.ask) entries) (sym own_declared) is.can
+
+-- ---- how many wait
+
+not_memory : (n : ℕ) → TooMany n ≡ NoWaiting → ⊥
+not_memory n e = cc
+
+same_many : (n m : ℕ) → TooMany n ≡ TooMany m → n ≡ m
+same_many n m e = cc
+
+module _ (lines : List Line) where
+  all_kept : length lines ≤ MOST_UNITS → waiting_answer lines ≡ Ok lines
+  all_kept few = rw (le-ltb MOST_UNITS (length lines) few) refl
+
+  too_many : MOST_UNITS < length lines → waiting_answer lines ≡ Err (TooMany (length lines))
+  too_many many = rw (lt-ltb MOST_UNITS (length lines) many) refl
+
+  pub waits_ok : (waiting : List Line) → GivesOr NoWaiting (Ok waiting) (waiting_answer lines) → (waiting ≡ lines) × (length lines ≤ MOST_UNITS)
+  waits_ok waiting (inr e) = absurd (ok_err (Ok waiting) waiting NoWaiting refl e)
+  waits_ok waiting (inl e) =
+      elim (cases_lt MOST_UNITS (length lines)) [
+        | inl many ↦ absurd (ok_err (waiting_answer lines) waiting (TooMany (length lines)) (sym e) (too_many many))
+        | inr few ↦ (same_ok (waiting_answer lines) lines waiting (all_kept few) (sym e), few)
+      ]
+
+  pub waits_many : (n : ℕ) → GivesOr NoWaiting (Err (TooMany n)) (waiting_answer lines) → (n ≡ length lines) × (MOST_UNITS < length lines)
+  waits_many n (inr e) = absurd (not_memory n (same_err (Err (TooMany n)) NoWaiting (TooMany n) e refl))
+  waits_many n (inl e) =
+      elim (cases_lt MOST_UNITS (length lines)) [
+        | inl many ↦ (same_many n (length lines) (same_err (waiting_answer lines) (TooMany (length lines)) (TooMany n) (too_many many) (sym e)), many)
+        | inr few ↦ absurd (ok_err (waiting_answer lines) lines (TooMany n) (all_kept few) (sym e))
+      ]
+
 -- ---- the header of replies is of the season
 
 pub header_of_season : (season : Term) (airport : Station) (messages : List (List (List ℕ))) (header : Option Header) → IsFirstHeader season airport messages header → IfSome header (λ h. h.season ≡ season)
@@ -69,7 +137,7 @@ header_of_season season airport (lines ∷ messages) header (inr (line, bad, res
 
 -- ---- the judgements
 
-module _ (one : (text : List ℕ) (a b : Declaration) → IsCapacityFile text a → IsCapacityFile text b → a ≡ b) (one_season : (capacity requests : List ℕ) (s t : SubmissionView) → IsSeasonOf capacity requests s → IsSeasonOf capacity requests t → t ≡ s)
+module _ (one_season : (capacity requests : List ℕ) (s t : SubmissionView) → IsSeasonOf capacity requests s → IsSeasonOf capacity requests t → t ≡ s)
     (name : Word) (capacity requests proved asks : NamedBytes) (rest : List NamedBytes) (s : SubmissionView) (c : Certificate) (season : IsSeasonOf capacity.bytes requests.bytes s) (spelled : SpellsCert proved.bytes c) (alone : SpellsAlone proved.bytes c)
     (history : List Entry) (asked : IsAskedOf s c asks.bytes history) (only : (other : List Entry) → IsAskedOf s c asks.bytes other → other ≡ history) where
   abbrev files : List NamedBytes

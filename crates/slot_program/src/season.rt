@@ -85,9 +85,15 @@ pub(crate) fn read_certificate<C: Cabinet>(
         × Leads w all (capacity ∷ requests ∷ certificate ∷ []) steps
         (world_of C.files C.fault_count C.log cabinet.new)) }
     ensures valid { IfOk result (IsValid submission.now) }
-    // What spells the certificate spells no other.
-    ensures alone { IfOk result (λ c. (bytes : List ℕ) → SpellsCert bytes c →
-        SpellsAlone bytes c) }
+    // One text was read, which spells no other certificate.
+    ensures leads { IfOk result (λ c. (certificate : NamedBytes)
+        × SpellsCert certificate.bytes c × SpellsAlone certificate.bytes c
+        × ((w : World) (all : List Step) (steps : List Step) (capacity requests : NamedBytes) →
+        IsSeasonOf capacity.bytes requests.bytes submission.now →
+        Leads w all (capacity ∷ requests ∷ []) (certificate_steps names.now steps)
+        (world_of C.files C.fault_count C.log cabinet.old) →
+        Leads w all (capacity ∷ requests ∷ certificate ∷ []) steps
+        (world_of C.files C.fault_count C.log cabinet.new))) }
     ensures stop { IfErr result (λ stop. (w : World) (all : List Step) (steps : List Step)
         (capacity requests : NamedBytes) →
         IsSeasonOf capacity.bytes requests.bytes submission.now →

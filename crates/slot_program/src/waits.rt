@@ -1,8 +1,13 @@
 //! What waits after the asks of a file, from the book of a certificate.
 
-ghost use Rattle.std.specs.Prelude.{◌≡◌, ◌≤◌, ◌∷◌, [], List, IfOk, IfErr, OnOk, length};
+ghost use Rattle.std.specs.Prelude.{◌≡◌, ◌≤◌, ◌∷◌, [], List, All, IfOk, IfErr, OnOk, length};
 ghost use Rattle.wasg_stages.specs.Valid.{IsValid};
+ghost use Rattle.holding_book.specs.declared.answer.Entry.{Entry as EntryValue};
+ghost use Rattle.holding_book.specs.Asks.{CanAsk};
+ghost use Rattle.holding_book.specs.Starts.{start_book};
 ghost use Rattle.command_words.specs.Words.{Word};
+ghost use Rattle.slot_program.specs.Amendments.{IsOneHistory};
+ghost use Rattle.slot_program.specs.Reclearing.{IsAskedOf, last_book};
 ghost use Rattle.slot_program.specs.Judgements.{NamedBytes, IsSeasonOf, SpellsCert};
 ghost use Rattle.slot_program.specs.Judgements.{waiting_limit};
 ghost use Rattle.slot_program.specs.Steps.{Step};
@@ -16,7 +21,7 @@ ghost use Rattle.slot_program.specs.declared.files.TheConstants.{LONGEST_FILE as
 use crate::files::{LONGEST_FILE, read_file};
 use crate::season::{read_certificate, read_season};
 use crate::stop::{Limit, Stop};
-use amend_run::{amend_messages, first_header};
+use amend_run::{Amended, amend_messages, first_header};
 use capacity_file::laws::one_answer;
 use cert_format::Certificate;
 use command_words::NameList;
@@ -24,7 +29,9 @@ use desk_outside::Cabinet;
 use holding_book::Book;
 use holding_book::laws::replays_fit;
 use scr_reader::Header;
+use scr_reader::laws::one_reading;
 use series_model::Submission;
+use slot_text::Memory;
 use std::alloc::Global;
 use wait_list::{WaitFault, Waiting};
 use wasg_stages::laws::valid_choices;
@@ -62,6 +69,39 @@ pub(crate) fn read_waiting<C: Cabinet>(
     Ok(left)
 }
 
+/// Answers the asks of a text from the book of a certificate.
+fn answer_asks(
+    alloc: Global,
+    submission: &Submission,
+    certificate: &Certificate,
+    asks: &[u8],
+) -> Result<Amended, Memory>
+    requires valid { IsValid submission.now certificate.now }
+    requires short { length asks.now ≤ MOST_BYTES }
+    ensures asked { IfOk result (λ amended.
+        IsAskedOf submission.now certificate.now asks.now amended.history.items) }
+    ensures only { IfOk result (λ amended. (other : List EntryValue) →
+        IsAskedOf submission.now certificate.now asks.now other →
+        other ≡ amended.history.items) }
+    ensures one { IfOk result (λ amended.
+        IsOneHistory (start_book submission.now certificate.now) amended.history.items) }
+    ensures book { IfOk result (λ amended. amended.book.book
+        ≡ last_book submission.now certificate.now amended.history.items) }
+    ensures declared { IfOk result (λ amended.
+        amended.book.book.declaration ≡ submission.now.declaration) }
+    ensures can { IfOk result (λ amended.
+        All (λ (entry : EntryValue). CanAsk amended.book.book.declaration entry.ask)
+        amended.history.items) }
+    ensures few { IfOk result (λ amended. length amended.history.items ≤ MOST_BYTES) }
+{
+    valid_choices();
+    replays_fit();
+    let _units = submission.units();
+    let book = Book::of(alloc, submission, certificate)?;
+    let amended = amend_messages(alloc, book, asks)?;
+    Ok(amended)
+}
+
 /// What the asks of a text leave of the book of a certificate.
 fn judge_asks(
     alloc: Global,
@@ -87,13 +127,10 @@ fn judge_asks(
         (capacity ∷ requests ∷ proved ∷ record { name = name; bytes = asks.now } ∷ rest) stop) }
 {
     one_answer();
-    valid_choices();
-    replays_fit();
-    let _units = submission.units();
+    one_reading();
     let declaration = submission.declaration();
     let header = first_header(alloc, declaration.season, declaration.airport, asks)?;
-    let book = Book::of(alloc, &submission, certificate)?;
-    let amended = amend_messages(alloc, book, asks)?;
+    let amended = answer_asks(alloc, &submission, certificate, asks)?;
     match Waiting::of(alloc, &amended.book, &amended.history) {
         Ok(waiting) => Ok(Left {
             submission,
