@@ -13,4 +13,5 @@ mod CheckLemmas
 mod AmendLemmas
 mod UsageLemmas
 mod WaitingLemmas
+mod AllottedLemmas
 mod ReportsLemmas

@@ -30,7 +30,7 @@ use Rattle.wait_list.specs.Claims.{named_times, FitsBesideBook, IsWaitingProof, 
 use Rattle.command_words.specs.Words.{Word}
 use Rattle.slot_program.specs.Amendments.{IsOneHistory}
 use Rattle.slot_program.specs.Reports.{Refusal, out_of_form, over_limit, extra_fails}
-use Rattle.slot_program.specs.Reclearing.{IsAskedOf, last_book, left_waiting, StageIsProved}
+use Rattle.slot_program.specs.Reclearing.{IsAskedOf, last_book, left_waiting, IsWaitingOutput, IsRecleared, StageIsProved}
 use Rattle.slot_program.specs.Judgements.{NamedBytes, IsSeasonOf, SpellsCert, SpellsExtra, waiting_limit, extra_form, valid_extra}
 use Rattle.slot_program.specs.Leads.{AcceptsAlone, RefusesAlone}
 use Rattle.slot_program.specs.Waits.{SpellsAlone, ExtraAlone, IsLeftBy}
@@ -229,3 +229,24 @@ refuses_stage name capacity requests proved asks bytes rest line bad =
       alone = λ other (n, there, e). e ∙ ap (out_of_form name) (same_bad_line IsExtraText bytes n line there bad);
       rejects = λ (stage, said). in_form_good IsExtraText bytes line (stage, said.has_spelling, said.spelled) bad;
     }
+
+-- ---- what is written
+
+pub recleared_of : (s : SubmissionView) (c : Certificate) (asks : List ℕ) (b : SlotBook) (lines : List Line) (header : Option Header) (nodes : ℕ) (extra replies : List ℕ) (status : ℕ) (text : List ℕ) → IsLeftBy s c asks b lines header
+    → IsWaitingOutput b lines header nodes extra replies status text → IsRecleared s c asks nodes extra replies status text
+recleared_of s c asks b lines header nodes extra replies status text left output = record {
+  history = left.history;
+  header = header;
+  asked = left.asked;
+  one = left.one;
+  first = left.first;
+  few = subst (λ (l : List Line). length l ≤ MOST_UNITS) left.waiting left.few;
+  output = subst (λ (x : SlotBook). IsWaitingOutput x (left_waiting s c left.history) header nodes extra replies status text) left.book
+      (subst (λ (l : List Line). IsWaitingOutput b l header nodes extra replies status text) left.waiting output);
+}
+
+-- a property of the book and the lines that are left is one of what the history leaves
+pub of_left : (P : SlotBook → List Line → Type 0) (s : SubmissionView) (c : Certificate) (asks : List ℕ) (b : SlotBook) (lines : List Line) (header : Option Header) (left : IsLeftBy s c asks b lines header) → P b lines
+    → P (last_book s c left.history) (left_waiting s c left.history)
+of_left P s c asks b lines header left h =
+    subst (λ (x : SlotBook). P x (left_waiting s c left.history)) left.book (subst (λ (l : List Line). P b l) left.waiting h)

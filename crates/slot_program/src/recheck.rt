@@ -29,6 +29,7 @@ use cert_checker::Verdict;
 use cert_format::{CertFault, StageCert, read_extra};
 use command_words::NameList;
 use desk_outside::Cabinet;
+use scr_reader::laws::one_reading;
 use std::alloc::Global;
 use wait_list::laws::one_waiting_line;
 use wait_list::recheck as check_waiting;
@@ -104,8 +105,10 @@ fn judge_stage(alloc: Global, left: &Left, stage: &StageCert) -> Result<(), Stop
         stop) }
 {
     one_answer();
+    one_reading();
     one_waiting_line();
-    match check_waiting(alloc, &left.book, &left.waiting, stage)? {
+    let verdict = check_waiting(alloc, &left.book, &left.waiting, stage)?;
+    match verdict {
         Verdict::Yes => Ok(()),
         Verdict::No { line, reason } => Err(Stop::ExtraFails(line, reason)),
     }

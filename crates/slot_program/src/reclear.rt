@@ -1,10 +1,11 @@
 //! Clearing the waiting list: what asks leave unmet, as one more stage.
 
-ghost use Rattle.std.specs.Prelude.{◌≡◌, ◌≤◌, ◌∷◌, [], ℕ, List, All, Option, Some, IfOk, IfErr, IfSome};
+ghost use Rattle.std.specs.Prelude.{◌≡◌, ◌≤◌, ◌∷◌, [], All, Some, IfOk, IfErr, IfSome};
 ghost use Rattle.std.specs.String.{string_bytes};
 ghost use Rattle.desk_outside.specs.Files.{ChangesOnly};
 ghost use Rattle.scr_reader.specs.Printed.{LineFits};
-ghost use Rattle.cert_format.specs.declared.cert.Mark.TheVariants.{Infeasible};
+ghost use Rattle.cert_format.specs.declared.cert.Mark.TheVariants.{Infeasible, Unsettled};
+ghost use Rattle.scr_replies.specs.SeasonReplies.{IsAnswerable};
 ghost use Rattle.wait_list.specs.Waiting.{allotted_states};
 ghost use Rattle.command_words.specs.declared.job.Job.TheVariants.{Reclear as ReclearJob};
 ghost use Rattle.slot_program.specs.Jobs.{name_at};
@@ -21,7 +22,6 @@ use cert_format::{Mark, StageCert, print_extra};
 use command_words::NameList;
 use desk_outside::Cabinet;
 use desk_outside::laws::file_changes;
-use holding_book::Book;
 use scr_reader::Header;
 use scr_replies::units_reply;
 use series_model::UnitState;
@@ -30,7 +30,7 @@ use slot_text::Memory;
 use std::alloc::Global;
 use std::thread::Threads;
 use wait_list::laws::{all_may_be_refused, extra_bytes};
-use wait_list::{Waiting, allotted_states, reclear as reclear_stage, waiting_problem};
+use wait_list::{allotted_states, reclear as reclear_stage, waiting_problem};
 use worker_gate::Gate;
 
 /// What the search of a waiting list gives.
@@ -112,30 +112,21 @@ fn write_replies(alloc: Global, left: &Left, stage: &StageCert) -> Result<Vec<u8
     ensures { IfOk result (λ replies. replies.items ≡ waiting_replies left.now.header
         (allotted_states left.now.book.book.declaration left.now.waiting stage.now.choice)) }
 {
+    spelled_alternatives();
+    option_bounds();
     let states = allotted_states(alloc, &left.book, &left.waiting, &stage.choice)?;
     match &left.header {
-        Some(header) => reply_to(alloc, header, &left.book, &left.waiting, &states),
+        Some(header) => reply_to(alloc, header, &states),
         None => Ok(Vec::new(alloc)),
     }
 }
 
 /// The reply to lines by what each is given; nothing where there are none.
-fn reply_to(
-    alloc: Global,
-    header: &Header,
-    _book: &Book,
-    _waiting: &Waiting,
-    states: &[UnitState],
-) -> Result<Vec<u8>, Memory>
-    requires spelled { All (LineFits _book.now.book.declaration.season) _waiting.now }
-    requires header { header.now.season ≡ _book.now.book.declaration.season }
-    requires given { (choice : Option (List ℕ))
-        × (states.now ≡ allotted_states _book.now.book.declaration _waiting.now choice) }
+fn reply_to(alloc: Global, header: &Header, states: &[UnitState]) -> Result<Vec<u8>, Memory>
+    requires { All (IsAnswerable header.now.season) states.now }
     ensures { IfOk result (λ replies. replies.items
         ≡ waiting_replies (Some header.now) states.now) }
 {
-    spelled_alternatives();
-    option_bounds();
     if states.is_empty() {
         return Ok(Vec::new(alloc));
     }
@@ -154,7 +145,8 @@ fn waiting_text(alloc: Global, count: usize, stage: &StageCert) -> Result<String
 /// The status that the stage gives, which is not INFEASIBLE: 9 where it is OPEN, and else 0.
 fn waiting_status(stage: &StageCert) -> u8
     requires { stage.now.mark ≡ Infeasible → ⊥ }
-    ensures { result ≡ marks_status (stage.now ∷ []) }
+    ensures status { result ≡ marks_status (stage.now ∷ []) }
+    ensures settled { (stage.now.mark ≡ Unsettled → ⊥) → result ≡ 0 }
 {
     match stage.mark {
         Mark::Unsettled => 9,
