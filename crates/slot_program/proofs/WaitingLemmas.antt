@@ -99,11 +99,11 @@ module _ (s : SubmissionView) (c : Certificate) (asks : List ℕ) (b : SlotBook)
 
 -- ---- how many wait
 
-not_memory : (n : ℕ) → TooMany n ≡ NoWaiting → ⊥
-not_memory n e = cc
+not_memory : (e : WaitFault) (n : ℕ) → e ≡ TooMany n → e ≡ NoWaiting → ⊥
+not_memory e n is memory = cc
 
-same_many : (n m : ℕ) → TooMany n ≡ TooMany m → n ≡ m
-same_many n m e = cc
+same_many : (e : WaitFault) (n m : ℕ) → e ≡ TooMany n → e ≡ TooMany m → n ≡ m
+same_many e n m is other = cc
 
 module _ (lines : List Line) where
   all_kept : length lines ≤ MOST_UNITS → waiting_answer lines ≡ Ok lines
@@ -120,12 +120,12 @@ module _ (lines : List Line) where
         | inr few ↦ (same_ok (waiting_answer lines) lines waiting (all_kept few) (sym e), few)
       ]
 
-  pub waits_many : (n : ℕ) → GivesOr NoWaiting (Err (TooMany n)) (waiting_answer lines) → (n ≡ length lines) × (MOST_UNITS < length lines)
-  waits_many n (inr e) = absurd (not_memory n (same_err (Err (TooMany n)) NoWaiting (TooMany n) e refl))
-  waits_many n (inl e) =
+  pub waits_many : (e : WaitFault) (n : ℕ) → e ≡ TooMany n → GivesOr NoWaiting (Err e) (waiting_answer lines) → (n ≡ length lines) × (MOST_UNITS < length lines)
+  waits_many e n is (inr same) = absurd (not_memory e n is (same_err (Err e) NoWaiting e same refl))
+  waits_many e n is (inl same) =
       elim (cases_lt MOST_UNITS (length lines)) [
-        | inl many ↦ (same_many n (length lines) (same_err (waiting_answer lines) (TooMany (length lines)) (TooMany n) (too_many many) (sym e)), many)
-        | inr few ↦ absurd (ok_err (waiting_answer lines) lines (TooMany n) (all_kept few) (sym e))
+        | inl many ↦ (same_many e n (length lines) is (same_err (waiting_answer lines) (TooMany (length lines)) e (too_many many) (sym same)), many)
+        | inr few ↦ absurd (ok_err (waiting_answer lines) lines e (all_kept few) (sym same))
       ]
 
 -- ---- the header of replies is of the season

@@ -49,7 +49,7 @@ returns-in-Err-TooMany-clause-stop c = λ names name capacity requests proved re
     let am = c.in_ok-amended.ensures in
     let history = c.in_ok-amended.amended.history.items in
     let asks : NamedBytes = record { name = name; bytes = c.args.asks.now } in
-    let w = waits_many (waiting_lines c.in_ok-amended.amended.book.book history) c.in-Err-TooMany.waiting c.in-Err-TooMany.ensures.answer in
+    let w = waits_many (waiting_lines c.in_ok-amended.amended.book.book history) c.in-Err-TooMany.field-0 c.in-Err-TooMany.waiting c.in-Err-TooMany.field-0-is c.in-Err-TooMany.ensures.answer in
     let same = c.from.ensures ∙ (w.0 ∙ ap (λ (b : SlotBook). length (waiting_lines b history)) am.book) in
     let many = subst (λ (b : SlotBook). MOST_UNITS < length (waiting_lines b history)) am.book w.1 in
     subst (λ (n : ℕ). RefusesAlone waiting_limit name (capacity ∷ requests ∷ proved ∷ asks ∷ rest) (over_limit (codes "WAITING") n)) (sym same)
