@@ -115,10 +115,11 @@ fn write_replies(alloc: Global, left: &Left, stage: &StageCert) -> Result<Vec<u8
     spelled_alternatives();
     option_bounds();
     let states = allotted_states(alloc, &left.book, &left.waiting, &stage.choice)?;
-    match &left.header {
-        Some(header) => reply_to(alloc, header, &states),
-        None => Ok(Vec::new(alloc)),
-    }
+    let Some(header) = left.header else {
+        return Ok(Vec::new(alloc));
+    };
+    let replies = reply_to(alloc, &header, &states)?;
+    Ok(replies)
 }
 
 /// The reply to lines by what each is given; nothing where there are none.

@@ -4,8 +4,8 @@ use Rattle.wait_list.specs.Claims.{IsWaitingProof}
 use Rattle.slot_program.specs.declared.files.TheConstants.{LONGEST_CERT_FILE}
 use Rattle.slot_program.proofs.reclear.reclear_output.Goals as goal
 
-pub waiting_status-requires : goal.waiting_status-requires
-waiting_status-requires g c =
+pub waiting_status-status-requires : goal.waiting_status-status-requires
+waiting_status-status-requires g c =
     let proof : IsWaitingProof c.args.left.now.book.book c.args.left.now.waiting c.in_ok-stage.stage =
     record { problem = c.in_ok-problem.problem; problem_is = c.in_ok-problem.ensures; proof = c.in_ok-stage.ensures.run.proof } in
     c.all_may_be_refused.ensures.never c.args.left.now.book.book c.args.left.now.waiting c.in_ok-stage.stage proof
@@ -21,7 +21,7 @@ returns g c =
       problem_is = c.in_ok-problem.ensures;
       stage = stage;
       run = c.in_ok-stage.ensures.run;
-      feasible = waiting_status-requires g c;
+      feasible = waiting_status-status-requires g c;
       spelled = record { has_spelling = again; spelled = c.in_ok-extra.ensures.text };
       short = omega (arith, most, longest, ap (λ (l : List ℕ). length l) c.in_ok-extra.ensures.text, c.extra_bytes.ensures stage again c.in_ok-stage.ensures.limits);
       replied = c.in_ok-replies.ensures;

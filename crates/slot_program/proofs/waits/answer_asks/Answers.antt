@@ -14,10 +14,10 @@ amend_messages-requires c =
     let start : SlotBook = start_book s c.args.certificate.now in
     let held : length c.in_ok-book.book.book.holdings ≡ length start.holdings = ap (λ (b : SlotBook). length b.holdings) c.in_ok-book.ensures in
     let few : length start.holdings ≤ length s.units = start_few s c.args.certificate.now in
-    let units : length c.units-_units.result.now ≡ length s.units = ap (λ (l : List SlotUnit). length l) c.units-_units.ensures.value in
+    let units : length c.units-units.result.now ≡ length s.units = ap (λ (l : List SlotUnit). length l) c.units-units.ensures.value in
     let most : MOST_UNITS ≡ 4096 = refl in
     let longest : LONGEST_FILE ≡ 4194304 = refl in
-    record { few = omega (arith, held, few, units, most, longest, c.units-_units.ensures.few, c.requires.short) }
+    record { few = omega (arith, held, few, units, most, longest, c.units-units.ensures.few, c.requires.short) }
 
 pub returns-clause-asked : goal.returns-clause-asked
 returns-clause-asked c = asked_of c.args.submission.now c.args.certificate.now c.args.asks.now c.in_ok-book.book.book c.in_ok-book.ensures c.in_ok-amended.amended c.in_ok-amended.ensures.amended

@@ -21,7 +21,7 @@ returns-in-Ok-clause-left c =
     let am = c.in_ok-amended.ensures in
     let history = c.in_ok-amended.amended.history.items in
     let w = waits_ok (waiting_lines c.in_ok-amended.amended.book.book history) c.in-Ok.waiting c.in-Ok.ensures.answer in
-    let first = subst (λ (d : Declaration). IsFirstHeader d.season d.airport (messages_at_end c.args.asks.now) c.in_ok-header.header) c.declaration.ensures.value c.in_ok-header.ensures in
+    let first = subst (λ (d : Declaration). IsFirstHeader d.season d.airport (messages_at_end c.args.asks.now) c.in_ok-header.header) c.declaration-declaration.ensures.value c.in_ok-header.ensures in
     record {
       history = history;
       asked = am.asked;
