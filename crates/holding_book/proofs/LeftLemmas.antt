@@ -13,7 +13,7 @@ use Rattle.holding_book.specs.Private.Kept.{IsKeptBook}
 module _ (loads : LoadsView) (holdings : List Holding) (places : PlacesView) (v : BookView) (spare r : ℕ)
     (is : record { book = record { declaration = loads.declaration; holdings = holdings }; spare = spare } ≡ v) (kept : IsKeptBook loads holdings places)
     (lt : r < declared_resources (capacity_of v.book.declaration)) where
-  own : SlotBook
+  abbrev own : SlotBook
   own = record { declaration = loads.declaration; holdings = holdings }
 
   inside : r < declared_resources (capacity_of loads.declaration)
