@@ -1,6 +1,6 @@
 -- The problem of the waiting stage.
 use Rattle.std.proofs.Common.{◌≡◌, ℕ, ◌<◌, ◌≤◌, refl, sym, ◌∙◌, ap, subst, arith, List, [], ◌∷◌, length, map}
-use Rattle.std.specs.Prelude.{All, Option, Some, None}
+use Rattle.std.specs.Prelude.{All, Option, Some, None, slice_index}
 use Rattle.std.specs.Option.{ForSome}
 use Rattle.std.proofs.lemmas.List.{length-map}
 use Rattle.std.proofs.lemmas.List.Elements.{All-nil, All-cons, All-head, All-tail}
@@ -14,7 +14,9 @@ use Rattle.choice_problem.specs.Problems.{ProblemView}
 use Rattle.series_model.specs.declared.unit.Unit.{Unit as SlotUnit}
 use Rattle.series_model.specs.Units.{UnitFits}
 use Rattle.wasg_stages.specs.StageProblems.{IsAllotmentProblem}
-use Rattle.wait_list.specs.Waiting.{waiting_unit, waiting_units, waiting_price, waiting_terms}
+use Rattle.holding_book.specs.Books.{SlotBook}
+use Rattle.holding_book.specs.Left.{left_of}
+use Rattle.wait_list.specs.Waiting.{waiting_unit, waiting_units, waiting_price, waiting_terms, IsWaitingProblem}
 
 price-few : (price : Option ℕ) → ForSome price (λ n. n ≤ HIGHEST_REFUSAL_PRICE) → waiting_price price ≤ HIGHEST_REFUSAL_PRICE
 price-few None h = omega arith
@@ -55,11 +57,12 @@ module _ (d terms : Declaration) (lines : List Line) (units : List SlotUnit) (t 
       subst (λ (us : List SlotUnit). All (UnitFits terms.season) us) (sym u)
       (subst (λ (season : Term). All (UnitFits season) (waiting_units lines)) (sym (ap (λ (x : Declaration). x.season) t)) (units-fit d.season lines all))
 
-  pub as-waiting : (limit other : ℕ → ℕ) (p : ProblemView) → IsAllotmentProblem terms units limit p → ((r : ℕ) → r < declared_resources (capacity_of d) → limit r ≡ other r) →
-      IsAllotmentProblem (waiting_terms d) (waiting_units lines) other p
-  as-waiting limit other p is same =
-      with-limits (waiting_terms d) (waiting_units lines) limit other p
-      (subst (λ (x : Declaration). IsAllotmentProblem x (waiting_units lines) limit p) t (subst (λ (us : List SlotUnit). IsAllotmentProblem terms us limit p) u is)) same
+  pub as-waiting : (b : SlotBook) (limits given : List ℕ) (p : ProblemView) → b.declaration ≡ d → given ≡ limits → IsAllotmentProblem terms units (λ r. slice_index given r) p
+      → ((r : ℕ) → r < declared_resources (capacity_of d) → slice_index limits r ≡ left_of b r) → IsWaitingProblem b lines p
+  as-waiting b limits given p declared same is each =
+      let own = subst (λ (x : Declaration). IsAllotmentProblem x (waiting_units lines) (λ r. slice_index given r) p) t (subst (λ (us : List SlotUnit). IsAllotmentProblem terms us (λ r. slice_index given r) p) u is) in
+      subst (λ (x : Declaration). IsAllotmentProblem (waiting_terms x) (waiting_units lines) (left_of b) p) (sym declared)
+      (with-limits (waiting_terms d) (waiting_units lines) (λ r. slice_index given r) (left_of b) p own (λ r lt. ap (λ (ns : List ℕ). slice_index ns r) same ∙ each r lt))
 
 pub units-count : (lines : List Line) (units : List SlotUnit) → units ≡ waiting_units lines → length units ≡ length lines
 units-count lines units u = ap (λ (us : List SlotUnit). length us) u ∙ length-map lines waiting_unit
