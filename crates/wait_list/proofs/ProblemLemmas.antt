@@ -1,8 +1,9 @@
 -- The problem of the waiting stage.
-use Rattle.std.proofs.Common.{◌≡◌, ℕ, ◌<◌, ◌≤◌, refl, sym, ◌∙◌, ap, subst, arith, List, [], ◌∷◌, length, map}
+use Rattle.std.proofs.Common.{inl, inr, ◌≡◌, ℕ, ◌+◌, ◌<◌, ◌≤◌, refl, sym, ◌∙◌, ap, subst, arith, List, [], ◌∷◌, ◌++◌, length, map}
 use Rattle.std.specs.Prelude.{All, Option, Some, None, slice_index}
 use Rattle.std.specs.Option.{ForSome}
-use Rattle.std.proofs.lemmas.List.{length-map}
+use Rattle.std.proofs.lemmas.Bool.{cases_lt}
+use Rattle.std.proofs.lemmas.List.{length-map, get_or_append_left, get_or_push}
 use Rattle.std.proofs.lemmas.List.Elements.{All-nil, All-cons, All-head, All-tail}
 use Rattle.season_days.specs.Term.{Term}
 use Rattle.season_days.specs.Capacity.{capacity_of, declared_resources, IsDeclaration}
@@ -66,3 +67,14 @@ module _ (d terms : Declaration) (lines : List Line) (units : List SlotUnit) (t 
 
 pub units-count : (lines : List Line) (units : List SlotUnit) → units ≡ waiting_units lines → length units ≡ length lines
 units-count lines units u = ap (λ (us : List SlotUnit). length us) u ∙ length-map lines waiting_unit
+
+-- ---- what is left, one resource more
+
+pub limits-on : (f : ℕ → ℕ) (old : List ℕ) (x n : ℕ) → length old ≡ n → x ≡ f n → ((r : ℕ) → r < n → slice_index old r ≡ f r) → (r : ℕ) → r < n + 1 → slice_index (old ++ x ∷ []) r ≡ f r
+limits-on f old x n long is each r lt =
+    elim (cases_lt r n) [
+      | inl before ↦ get_or_append_left old (x ∷ []) 0 r (omega (arith, before, long)) ∙ each r before
+      | inr after ↦
+          let same : n ≡ r = omega (arith, lt, after) in
+          get_or_push old x 0 r (long ∙ same) ∙ is ∙ ap f same
+    ]
