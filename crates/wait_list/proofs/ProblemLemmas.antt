@@ -31,7 +31,7 @@ terms-keep d keeps = record {
   share = keeps.share;
 }
 
-unit-fits : (season : Term) (line : Line) → LineFits season line → UnitFits season (waiting_unit line)
+pub unit-fits : (season : Term) (line : Line) → LineFits season line → UnitFits season (waiting_unit line)
 unit-fits season line fits = record { request = fits; historic = refl }
 
 pub units-fit : (season : Term) (lines : List Line) → All (LineFits season) lines → All (UnitFits season) (waiting_units lines)

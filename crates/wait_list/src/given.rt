@@ -77,10 +77,14 @@ fn given_state(terms: &Declaration, line: &Line, number: Option<u32>) -> UnitSta
 {
     let unit = waiting_unit(line);
     match number {
-        Some(number) => UnitState {
-            unit,
-            given: Some(times_at(&unit, number, terms).unwrap_or(Times::Refused)),
-        },
+        Some(number) => {
+            let found = times_at(&unit, number, terms);
+            let times = found.unwrap_or(Times::Refused);
+            UnitState {
+                unit,
+                given: Some(times),
+            }
+        }
         None => UnitState { unit, given: None },
     }
 }
