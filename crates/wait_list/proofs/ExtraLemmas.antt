@@ -53,7 +53,7 @@ tried-bytes stage s e = tried-by stage s (is_tried s.mark) e
 
 -- ---- the stage four times
 
-four-times : StageCert → Certificate
+abbrev four-times : StageCert → Certificate
 four-times s = record { version = 2; stages = s ∷ s ∷ s ∷ s ∷ [] }
 
 stage-fits : (s : StageCert) → IsExtra s → StageFits 2 s

@@ -1,12 +1,17 @@
 -- What lines are given, one line after the other.
 use Rattle.std.proofs.Common.{◌≡◌, ℕ, zero, suc, ◌+◌, ◌<◌, ◌≤◌, refl, sym, ◌∙◌, ap, subst, arith, List, [], ◌∷◌, ◌++◌, length, get_or, drop, drop-cons, append_assoc}
-use Rattle.std.specs.Prelude.{Option, slice_get}
+use Rattle.std.specs.Prelude.{Option, Some, None, slice_get}
+use Rattle.std.specs.Option.{unwrap_or}
 use Rattle.std.proofs.Math.ListN.{drop_of_length-le}
 use Rattle.std.proofs.lemmas.List.{append-nil}
 use Rattle.season_days.specs.declared.declaration.Declaration.{Declaration}
 use Rattle.scr_reader.specs.declared.line.Line.{Line}
+use Rattle.series_model.specs.declared.unit.Unit.{Unit as SlotUnit}
+use Rattle.series_model.specs.declared.times.Times.{Times}
+use Rattle.series_model.specs.declared.times.Times.TheVariants.{Refused}
 use Rattle.series_model.specs.declared.state.UnitState.{UnitState}
-use Rattle.wait_list.specs.Waiting.{given_state, given_states}
+use Rattle.series_model.specs.Options.{options_of}
+use Rattle.wait_list.specs.Waiting.{waiting_unit, given_state, given_states}
 
 get-drop : (numbers : List ℕ) (n : ℕ) → slice_get (drop n numbers) 0 ≡ slice_get numbers n
 get-drop numbers zero = refl
@@ -35,3 +40,18 @@ given-next d lines numbers n line before state lt is =
 pub given-end : (d : Declaration) (lines : List Line) (numbers : List ℕ) (n : ℕ) (states : List UnitState) → length lines ≤ n → states ++ given_states d (drop n lines) (drop n numbers) ≡ states
 given-end d lines numbers n states past =
     ap (λ (ls : List Line). states ++ given_states d ls (drop n numbers)) (drop_of_length-le lines past) ∙ append-nil states
+
+-- ---- what one line is given
+
+or-is : (xs : List Times) (n : ℕ) → unwrap_or (slice_get xs n) Refused ≡ get_or xs n Refused
+or-is [] n = refl
+or-is (x ∷ xs) zero = refl
+or-is (x ∷ xs) (suc n) = or-is xs n
+
+pub state-is : (d : Declaration) (line : Line) (number : Option ℕ) (n : ℕ) (unit : SlotUnit) (found : Option Times) (times : Times) → number ≡ Some n → unit ≡ waiting_unit line → found ≡ slice_get (options_of d unit) n →
+    times ≡ unwrap_or found Refused → record { unit = unit; given = Some times } ≡ given_state d line number
+state-is d line number n unit found times number-is unit-is found-is times-is =
+    let there : times ≡ get_or (options_of d (waiting_unit line)) n Refused =
+    times-is ∙ (ap (λ (o : Option Times). unwrap_or o Refused) found-is ∙ (or-is (options_of d unit) n ∙ ap (λ (u : SlotUnit). get_or (options_of d u) n Refused) unit-is)) in
+    ap (λ (u : SlotUnit). record { unit = u; given = Some times }) unit-is
+    ∙ (ap (λ (t : Times). record { unit = waiting_unit line; given = Some t }) there ∙ ap (given_state d line) (sym number-is))

@@ -1,8 +1,10 @@
 -- The lines that wait, one entry after the other.
-use Rattle.std.proofs.Common.{◌≡◌, ℕ, suc, ◌+◌, ◌<◌, ◌≤◌, refl, sym, ◌∙◌, ap, subst, arith, Bool, true, false, List, [], ◌∷◌, ◌++◌, length, length-append, get_or, drop, drop-cons}
+use Rattle.std.proofs.Common.{inl, ◌≡◌, ℕ, suc, ◌+◌, ◌<◌, ◌≤◌, Result, Ok, Err, refl, sym, ◌∙◌, ap, subst, arith, Bool, true, false, List, [], ◌∷◌, ◌++◌, length, length-append, get_or, drop, drop-cons}
 use Rattle.std.specs.Prelude.{All, Option, Some, None, IfSome, if◌then◌else◌}
+use Rattle.std.proofs.lemmas.Bool.{lt-ltb, le-ltb}
 use Rattle.std.proofs.lemmas.List.Elements.{All-push}
 use Rattle.std.proofs.Math.ListN.{drop_of_length-le}
+use Rattle.slot_text.specs.Reads.{GivesOr}
 use Rattle.season_days.specs.declared.declaration.Declaration.{Declaration}
 use Rattle.scr_reader.specs.Printed.{LineFits, ItemFits}
 use Rattle.scr_reader.specs.declared.line.Line.{Line}
@@ -10,13 +12,16 @@ use Rattle.scr_reader.specs.declared.line.Code.{Code}
 use Rattle.scr_reader.specs.declared.line.Code.TheVariants.{N, B, F, C, R, L, D, A, Z, K, H, O, U, W, X}
 use Rattle.scr_reader.specs.declared.line.Item.{Item}
 use Rattle.scr_reader.specs.declared.line.Item.TheVariants.{One, Pair, Query}
+use Rattle.choice_problem.specs.declared.problems.TheConstants.{MOST_UNITS}
 use Rattle.holding_book.specs.declared.answer.Answer.{Answer}
 use Rattle.holding_book.specs.declared.answer.Answer.TheVariants as answers
 use Rattle.holding_book.specs.declared.answer.Entry.{Entry}
 use Rattle.holding_book.specs.Books.{SlotBook}
 use Rattle.holding_book.specs.Asks.{CanAsk}
 use Rattle.holding_book.specs.Hints.{asked_line_by, new_line}
-use Rattle.wait_list.specs.Waiting.{unmet_by, unmet_line, may_wait, with_line, waiting_after, waiting_lines}
+use Rattle.wait_list.specs.Waiting.{unmet_by, unmet_line, may_wait, with_line, waiting_after, waiting_lines, waiting_answer}
+use Rattle.wait_list.specs.declared.fault.WaitFault.{WaitFault}
+use Rattle.wait_list.specs.declared.fault.WaitFault.TheVariants.{TooMany, Memory as NoMemory}
 
 -- ---- the line of an unmet ask has a spelling
 
@@ -101,3 +106,18 @@ module _ (b : SlotBook) (history : List Entry) (i : ℕ) (entry : Entry) (old ne
 
   pub spelled-on : i < length history → All (λ (e : Entry). CanAsk b.declaration e.ask) history → All (LineFits b.declaration.season) old → All (LineFits b.declaration.season) new
   spelled-on lt can all = subst (λ (lines : List Line). All (LineFits b.declaration.season) lines) (sym is) (with-spelled b.declaration b old (get_or history i entry) (can i entry lt) all)
+
+-- ---- how many there are
+
+pub waits-ok : (lines waiting : List Line) → waiting ≡ lines → length waiting ≤ MOST_UNITS → let r : Result (List Line) WaitFault = Ok waiting in GivesOr NoMemory r (waiting_answer lines)
+waits-ok lines waiting is few =
+    let short : length lines ≤ MOST_UNITS = omega (arith, few, ap (λ (l : List Line). length l) is) in
+    let all : waiting_answer lines ≡ Ok lines = rw (le-ltb MOST_UNITS (length lines) short) refl in
+    inl (ap (λ (l : List Line). Ok l) is ∙ sym all)
+
+pub waits-many : (lines waiting : List Line) (n : ℕ) → waiting ≡ lines → n ≡ length waiting → MOST_UNITS < n → let r : Result (List Line) WaitFault = Err (TooMany n) in GivesOr NoMemory r (waiting_answer lines)
+waits-many lines waiting n is count many =
+    let same : n ≡ length lines = count ∙ ap (λ (l : List Line). length l) is in
+    let long : MOST_UNITS < length lines = omega (arith, same, many) in
+    let all : waiting_answer lines ≡ Err (TooMany (length lines)) = rw (lt-ltb MOST_UNITS (length lines) long) refl in
+    inl (ap (λ (k : ℕ). Err (TooMany k)) same ∙ sym all)

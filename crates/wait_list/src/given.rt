@@ -2,7 +2,7 @@
 
 ghost use Rattle.std.specs.Prelude.{◌≡◌, ◌<◌, All, IfOk};
 ghost use Rattle.scr_reader.specs.Printed.{LineFits};
-ghost use Rattle.wait_list.specs.Waiting.{given_state, given_states, allotted_states};
+ghost use Rattle.wait_list.specs.Waiting.{waiting_terms, given_state, given_states, allotted_states};
 
 use crate::problem::{waiting_terms, waiting_unit};
 use crate::waiting::Waiting;
@@ -28,11 +28,26 @@ pub fn allotted_states(
     ensures { IfOk result (λ states. states.items
         ≡ allotted_states book.now.book.declaration waiting.now choice.now) }
 {
-    let terms = waiting_terms(alloc, book.declaration())?;
     match choice {
-        Some(choice) => given_states(alloc, &terms, waiting.lines(), choice.items()),
-        None => given_states(alloc, &terms, waiting.lines(), &[]),
+        Some(choice) => states_by(alloc, book, waiting, choice.items()),
+        None => states_by(alloc, book, waiting, &[]),
     }
+}
+
+// What each line that waits is given by its own number.
+fn states_by(
+    alloc: Global,
+    book: &Book,
+    waiting: &Waiting,
+    numbers: &[u32],
+) -> Result<Vec<UnitState>, Memory>
+    requires { All (LineFits book.now.book.declaration.season) waiting.now }
+    ensures { IfOk result (λ states. states.items
+        ≡ given_states (waiting_terms book.now.book.declaration) waiting.now numbers.now) }
+{
+    let terms = waiting_terms(alloc, book.declaration())?;
+    let states = given_states(alloc, &terms, waiting.lines(), numbers)?;
+    Ok(states)
 }
 
 // What each line is given by its own number.
@@ -62,10 +77,14 @@ fn given_state(terms: &Declaration, line: &Line, number: Option<u32>) -> UnitSta
 {
     let unit = waiting_unit(line);
     match number {
-        Some(number) => UnitState {
-            unit,
-            given: Some(times_at(&unit, number, terms).unwrap_or(Times::Refused)),
-        },
+        Some(number) => {
+            let found = times_at(&unit, number, terms);
+            let times = found.unwrap_or(Times::Refused);
+            UnitState {
+                unit,
+                given: Some(times),
+            }
+        }
         None => UnitState { unit, given: None },
     }
 }

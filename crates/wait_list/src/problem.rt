@@ -80,8 +80,10 @@ pub(crate) fn waiting_unit(line: &Line) -> Unit
 // What the book leaves of each resource.
 fn limits_left(alloc: Global, book: &Book, resources: u32) -> Result<Vec<u32>, Memory>
     requires { resources ≡ declared_resources (capacity_of book.now.book.declaration) }
-    ensures count { IfOk result (λ limits. length limits.items ≡ resources) }
-    ensures each { IfOk result (λ limits. (r : ℕ) → r < resources →
+    ensures count { IfOk result (λ limits. length limits.items
+        ≡ declared_resources (capacity_of book.now.book.declaration)) }
+    ensures each { IfOk result (λ limits. (r : ℕ) →
+        r < declared_resources (capacity_of book.now.book.declaration) →
         slice_index limits.items r ≡ left_of book.now.book r) }
     ensures few { IfOk result (λ limits. All (λ n. n ≤ HIGHEST_NIGHT_LIMIT) limits.items) }
 {

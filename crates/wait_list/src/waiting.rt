@@ -7,6 +7,7 @@ ghost use Rattle.scr_reader.specs.Printed.{LineFits};
 ghost use Rattle.choice_problem.specs.declared.problems.TheConstants.{MOST_UNITS};
 ghost use Rattle.holding_book.specs.declared.answer.Entry.{Entry as EntryValue};
 ghost use Rattle.holding_book.specs.Asks.{CanAsk};
+ghost use Rattle.holding_book.specs.Hints.{new_line};
 ghost use Rattle.holding_book.specs.Lines.{clashes};
 ghost use Rattle.wait_list.specs.Waiting.{unmet_line, may_wait, with_line, waiting_lines, waiting_answer};
 ghost use Rattle.wait_list.specs.declared.fault.WaitFault.TheVariants.{Memory as NoMemory};
@@ -114,8 +115,18 @@ fn add_line(book: &Book, line: &Line, lines: &mut Vec<Line>) -> Result<(), Memor
 fn unmet_line(entry: &Entry) -> Option<Line>
     ensures { result ≡ unmet_line entry.now }
 {
-    match (&entry.ask, &entry.answer) {
-        (Item::One(line), Answer::U) if matches!(line.code, Code::N | Code::B) => Some(*line),
+    match entry.answer {
+        Answer::U => new_line(&entry.ask),
+        _ => None,
+    }
+}
+
+// The line of an N or B ask.
+fn new_line(ask: &Item) -> Option<Line>
+    ensures { result ≡ new_line ask.now }
+{
+    match ask {
+        Item::One(line) if matches!(line.code, Code::N | Code::B) => Some(*line),
         _ => None,
     }
 }
