@@ -120,6 +120,21 @@ pub enum Job {
     Usage {
         names: NameList,
     },
+    /// Answer amendments as `Amend` does, and give the asks that were refused what the book then
+    /// leaves, as one more stage with its proof. The names are those of the capacity file, the
+    /// requests, the certificate, the asks, the stage and the replies.
+    Reclear {
+        names: NameList,
+        /// How many nodes the search of the stage may have, from 1 to 1,000,000.
+        nodes: u32,
+        /// How many workers search, from 1 to 16.
+        workers: u32,
+    },
+    /// Check a stage that `Reclear` wrote, or anyone. The names are those of the capacity file, the
+    /// requests, the certificate, the asks and the stage.
+    Recheck {
+        names: NameList,
+    },
     /// Say why each series was given what it was given, by a certificate. The names are those of
     /// the capacity file, the requests, the certificate, the report and its page.
     Report {

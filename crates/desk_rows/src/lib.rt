@@ -21,3 +21,5 @@ mod serve_rows;
 mod texts;
 #[cfg(test)]
 mod usage_rows;
+#[cfg(test)]
+mod waiting_rows;

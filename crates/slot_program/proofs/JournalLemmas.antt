@@ -16,7 +16,7 @@ use Rattle.holding_book.specs.Starts.{start_book}
 use Rattle.session_desk.specs.declared.worker.DoorWork.{DoorWork}
 use Rattle.command_words.specs.Words.{Word}
 use Rattle.command_words.specs.declared.job.Job.{Job}
-use Rattle.command_words.specs.declared.job.Job.TheVariants.{Allocate, Check, Amend, Serve, Resume, Usage, Report, Inspect, Make, Trial}
+use Rattle.command_words.specs.declared.job.Job.TheVariants.{Allocate, Check, Amend, Serve, Resume, Usage, Reclear, Recheck, Report, Inspect, Make, Trial}
 use Rattle.slot_program.specs.Reports.{JournalRefusal, no_journal, other_journal, bad_slot, journal_fault, journal_status}
 use Rattle.slot_program.specs.Judgements.{NamedBytes}
 use Rattle.slot_program.specs.Steps.{Step, reads, judges, PassFrom}
@@ -24,7 +24,7 @@ use Rattle.slot_program.specs.Outside.{OutsideChange, disk_faults, DiskRose}
 use Rattle.slot_program.specs.Services.{some_ended, is_door_end, is_full_end, served_status}
 use Rattle.slot_program.specs.Journals.{IsUnopened, IsLeftWith, TellsFile, IsDueJournal, TellsPairs}
 use Rattle.slot_program.specs.Resumed.{resumed_status}
-use Rattle.slot_program.specs.Jobs.{searched_statuses, served_statuses, finishing_of, ServiceWorks, ResumeWorks, Works, IsSeasonTerm, IsJournalless, IsWithoutJournal, JournalDue, JournalStands}
+use Rattle.slot_program.specs.Jobs.{searched_statuses, recleared_statuses, served_statuses, finishing_of, ServiceWorks, ResumeWorks, Works, IsSeasonTerm, IsJournalless, IsWithoutJournal, JournalDue, JournalStands}
 
 -- ---- the count of the disk, by how a job ended
 
@@ -101,6 +101,8 @@ works_disk_calm (Amend names) inputs writes change status text not work = ap dis
 works_disk_calm (Serve names links port workers) inputs writes change status text not work = service_disk names links inputs writes change status text work
 works_disk_calm (Resume names links port workers) inputs writes change status text not work = resume_disk names links inputs writes change status text not work
 works_disk_calm (Usage names) inputs writes change status text not work = ap disk_faults work.0
+works_disk_calm (Reclear names nodes workers) inputs writes change status text not work = ap disk_faults work.0
+works_disk_calm (Recheck names) inputs writes change status text not work = ap disk_faults work.0
 works_disk_calm (Report names) inputs writes change status text not work = ap disk_faults work.0
 works_disk_calm (Inspect names) inputs writes change status text not work = ap disk_faults work.0
 works_disk_calm (Make number units names) inputs writes change status text not work = ap disk_faults work.0
@@ -111,6 +113,11 @@ searched_not (zero, lt, is) = omega (arith, is)
 searched_not (suc zero, lt, is) = omega (arith, is)
 searched_not (suc (suc zero), lt, is) = omega (arith, is)
 searched_not (suc (suc (suc k)), lt, is) = omega (arith, lt)
+
+recleared_not : Contains recleared_statuses 14 → ⊥
+recleared_not (zero, lt, is) = omega (arith, is)
+recleared_not (suc zero, lt, is) = omega (arith, is)
+recleared_not (suc (suc k), lt, is) = omega (arith, lt)
 
 served_not : Contains served_statuses 14 → ⊥
 served_not (zero, lt, is) = omega (arith, is)
@@ -130,6 +137,8 @@ works_disk_risen (Amend names) inputs writes change text work one = absurd (zero
 works_disk_risen (Serve names links port workers) inputs writes change text work one = absurd (served_not one)
 works_disk_risen (Resume names links port workers) inputs writes change text work one = resume_rose names links inputs writes change 14 text refl work
 works_disk_risen (Usage names) inputs writes change text work one = absurd (zero_not one)
+works_disk_risen (Reclear names nodes workers) inputs writes change text work one = absurd (recleared_not one)
+works_disk_risen (Recheck names) inputs writes change text work one = absurd (zero_not one)
 works_disk_risen (Report names) inputs writes change text work one = absurd (zero_not one)
 works_disk_risen (Inspect names) inputs writes change text work one = absurd (zero_not one)
 works_disk_risen (Make number units names) inputs writes change text work one = absurd (zero_not one)
@@ -169,6 +178,8 @@ with_three (Resume names links port workers) (capacity ∷ requests ∷ []) chan
 with_three (Resume names links port workers) (capacity ∷ requests ∷ certificate ∷ []) change why h next = next capacity.bytes requests.bytes h
 with_three (Resume names links port workers) (capacity ∷ requests ∷ certificate ∷ more ∷ rest) change why h next = absurd h
 with_three (Usage names) inputs change why h next = absurd h
+with_three (Reclear names nodes workers) inputs change why h next = absurd h
+with_three (Recheck names) inputs change why h next = absurd h
 with_three (Report names) inputs change why h next = absurd h
 with_three (Inspect names) inputs change why h next = absurd h
 with_three (Make number units names) inputs change why h next = absurd h
@@ -277,6 +288,8 @@ work_due law (Resume names links port workers) (capacity ∷ requests ∷ certif
     (record { submission = work.season; made = work.made; term = refl }) out.handed_in out.kept.later out.kept.found due
 work_due law (Resume names links port workers) (capacity ∷ requests ∷ certificate ∷ more ∷ rest) writes change status text why work due = due
 work_due law (Usage names) inputs writes change status text why work due = due
+work_due law (Reclear names nodes workers) inputs writes change status text why work due = due
+work_due law (Recheck names) inputs writes change status text why work due = due
 work_due law (Report names) inputs writes change status text why work due = due
 work_due law (Inspect names) inputs writes change status text why work due = due
 work_due law (Make number units names) inputs writes change status text why work due = due
@@ -294,6 +307,8 @@ without_due law (Resume names links port workers) (capacity ∷ requests ∷ cer
     refused_due law h.season h.year (IsSeasonTerm capacity.bytes requests.bytes) change.before.disk change.after.disk why due h.is h.refused d
 without_due law (Resume names links port workers) (capacity ∷ requests ∷ certificate ∷ more ∷ rest) change why due h d = absurd h
 without_due law (Usage names) inputs change why due h d = absurd h
+without_due law (Reclear names nodes workers) inputs change why due h d = absurd h
+without_due law (Recheck names) inputs change why due h d = absurd h
 without_due law (Report names) inputs change why due h d = absurd h
 without_due law (Inspect names) inputs change why due h d = absurd h
 without_due law (Make number units names) inputs change why due h d = absurd h
@@ -312,6 +327,8 @@ without_stands law (Resume names links port workers) (capacity ∷ requests ∷ 
     refused_stands law h.season h.year (IsSeasonTerm capacity.bytes requests.bytes) change.before.disk change.after.disk why h.is h.refused d
 without_stands law (Resume names links port workers) (capacity ∷ requests ∷ certificate ∷ more ∷ rest) change why h d = absurd h
 without_stands law (Usage names) inputs change why h d = absurd h
+without_stands law (Reclear names nodes workers) inputs change why h d = absurd h
+without_stands law (Recheck names) inputs change why h d = absurd h
 without_stands law (Report names) inputs change why h d = absurd h
 without_stands law (Inspect names) inputs change why h d = absurd h
 without_stands law (Make number units names) inputs change why h d = absurd h
@@ -329,6 +346,8 @@ stands_finishing (Resume names links port workers) inputs disk n h (suc (suc zer
 stands_finishing (Resume names links port workers) inputs disk n h (suc (suc (suc zero)), lt, is) not = absurd (not (sym is))
 stands_finishing (Resume names links port workers) inputs disk n h (suc (suc (suc (suc k))), lt, is) not = absurd (omega (arith, lt))
 stands_finishing (Usage names) inputs disk n h one not = absurd h
+stands_finishing (Reclear names nodes workers) inputs disk n h one not = absurd h
+stands_finishing (Recheck names) inputs disk n h one not = absurd h
 stands_finishing (Report names) inputs disk n h one not = absurd h
 stands_finishing (Inspect names) inputs disk n h one not = absurd h
 stands_finishing (Make number units names) inputs disk n h one not = absurd h

@@ -41,7 +41,7 @@ begins_with_fewer IsInForm text k n le begins =
 not_before : (IsInForm : List ℕ → Type 0) (text : List ℕ) (a b : ℕ) → IsFirstBadLine IsInForm text a → IsFirstBadLine IsInForm text b → a < b → ⊥
 not_before IsInForm text a b x y lt = x.bad (begins_with_fewer IsInForm text a (b - 1) (omega arith) y.before)
 
-same_bad_line : (IsInForm : List ℕ → Type 0) (text : List ℕ) (a b : ℕ) → IsFirstBadLine IsInForm text a → IsFirstBadLine IsInForm text b → a ≡ b
+pub same_bad_line : (IsInForm : List ℕ → Type 0) (text : List ℕ) (a b : ℕ) → IsFirstBadLine IsInForm text a → IsFirstBadLine IsInForm text b → a ≡ b
 same_bad_line IsInForm text a b x y =
     elim (cases_order a b) [
       | inl same ↦ same
@@ -49,7 +49,7 @@ same_bad_line IsInForm text a b x y =
       | inr (inr after_it) ↦ absurd (not_before IsInForm text b a y x after_it)
     ]
 
-in_form_good : (IsInForm : List ℕ → Type 0) (text : List ℕ) (line : ℕ) → IsInForm text → IsFirstBadLine IsInForm text line → ⊥
+pub in_form_good : (IsInForm : List ℕ → Type 0) (text : List ℕ) (line : ℕ) → IsInForm text → IsFirstBadLine IsInForm text line → ⊥
 in_form_good IsInForm text line is bad = bad.bad (record { whole = text; in_form = is; same = refl })
 
 -- ---- the capacity file
@@ -109,7 +109,7 @@ season_made capacity requests d messages s declared read made =
       made = subst (λ (e : Declaration). submission_answer e messages ≡ Ok s) same made;
     }
 
-same_ok : {X E : Type 0} (r : Result X E) (x y : X) → r ≡ Ok x → r ≡ Ok y → y ≡ x
+pub same_ok : {X E : Type 0} (r : Result X E) (x y : X) → r ≡ Ok x → r ≡ Ok y → y ≡ x
 same_ok {X} {E} r x y a b = cc
 
 -- an error that was answered, or memory that ran out

@@ -13,4 +13,6 @@ mod DeskLemmas
 mod CheckLemmas
 mod AmendLemmas
 mod UsageLemmas
+mod WaitingLemmas
+mod AllottedLemmas
 mod ReportsLemmas

@@ -165,6 +165,7 @@ stop_resumed names links port workers w v capacity requests certificate lead cha
 stop_resumed names links port workers w v capacity requests certificate lead change season made year (stops.OverLimit limit number) h = absurd h
 stop_resumed names links port workers w v capacity requests certificate lead change season made year (stops.NotValid line reason) h = absurd h
 stop_resumed names links port workers w v capacity requests certificate lead change season made year stops.NoNext h = absurd h
+stop_resumed names links port workers w v capacity requests certificate lead change season made year (stops.ExtraFails line reason) h = absurd h
 stop_resumed names links port workers w v capacity requests certificate lead change season made year (stops.BadForm place line cause) h = absurd h
 stop_resumed names links port workers w v capacity requests certificate lead change season made year (stops.PastLimit limit number cause) h = absurd h
 
@@ -180,6 +181,7 @@ no_client season change (stops.OutOfForm place line) same h = absurd h
 no_client season change (stops.OverLimit limit number) same h = absurd h
 no_client season change (stops.NotValid line reason) same h = absurd h
 no_client season change stops.NoNext same h = absurd h
+no_client season change (stops.ExtraFails line reason) same h = absurd h
 no_client season change (stops.BadForm place line cause) same h = absurd h
 no_client season change (stops.PastLimit limit number cause) same h = absurd h
 

@@ -9,8 +9,8 @@ use Rattle.command_words.specs.Words.{Word}
 
 -- What is refused before any work is done: a file that is not there, or is larger than what is
 -- read; the first line of a file that is not in its form; a limit that is passed, by which number;
--- the first failing line of a certificate, and why it fails; that no season follows for which lines
--- could be written; and the same of a line or of a limit with its cause.
+-- the first failing line of a certificate, or of one more stage, and why it fails; that no season
+-- follows for which lines could be written; and the same of a line or of a limit with its cause.
 pub data Refusal : Type 0 where
   missing : Word → Refusal
   large : Word → Refusal
@@ -18,6 +18,7 @@ pub data Refusal : Type 0 where
   over_limit : Word → ℕ → Refusal
   not_valid : ℕ → Reason → Refusal
   no_next : Refusal
+  extra_fails : ℕ → Reason → Refusal
   bad_form : Word → ℕ → Cause → Refusal
   past_limit : Word → ℕ → Cause → Refusal
 
@@ -49,6 +50,7 @@ refusal_status (out_of_form name line) = 3
 refusal_status (over_limit name number) = 4
 refusal_status (not_valid line reason) = 1
 refusal_status no_next = 15
+refusal_status (extra_fails line reason) = 1
 refusal_status (bad_form name line cause) = 3
 refusal_status (past_limit name number cause) = 4
 
@@ -102,6 +104,8 @@ refusal_text (over_limit name number) = numbered_line (codes "LIMIT") name numbe
 refusal_text (not_valid line reason) =
     codes "NO " ++ (decimal line ++ (32 ∷ (reason_text reason ++ (10 ∷ []))))
 refusal_text no_next = codes "NEXT NONE\n"
+refusal_text (extra_fails line reason) =
+    codes "NO EXTRA " ++ (decimal line ++ (32 ∷ (reason_text reason ++ (10 ∷ []))))
 refusal_text (bad_form name line cause) =
     numbered_line (codes "FORM") name line ++ cause_line cause
 refusal_text (past_limit name number cause) =

@@ -5,6 +5,7 @@ use Rattle.fault_causes.specs.declared.cause.Cause.{Cause}
 use Rattle.command_words.specs.Words.{Word}
 use Rattle.slot_program.specs.Reports.{Report, Refusal, refused, unopened, unread, unwritten}
 use Rattle.slot_program.specs.Reports.{missing, large, out_of_form, over_limit, not_valid, no_next}
+use Rattle.slot_program.specs.Reports.{extra_fails}
 use Rattle.slot_program.specs.Reports.{bad_form, past_limit}
 use Rattle.slot_program.specs.Reports.{JournalRefusal, no_journal, other_journal, bad_slot}
 use Rattle.slot_program.specs.Reports.{journal_fault}
@@ -23,6 +24,7 @@ use Rattle.slot_program.specs.declared.stop.Stop.TheVariants as stops
 abbrev pub limit_text : Limit → List ℕ
 limit_text (limits.Capacity limit) = cap_limit_text limit
 limit_text limits.Units = codes "UNITS"
+limit_text limits.Waiting = codes "WAITING"
 
 abbrev pub journal_refusal : NoJournal → JournalRefusal
 journal_refusal journals.Missing = no_journal
@@ -43,6 +45,7 @@ report_of names (stops.OverLimit limit number) =
 report_of names (stops.NotValid line reason) = Some (refused (not_valid line reason))
 report_of names (stops.Unopened why) = Some (unopened (journal_refusal why))
 report_of names stops.NoNext = Some (refused no_next)
+report_of names (stops.ExtraFails line reason) = Some (refused (extra_fails line reason))
 report_of names (stops.BadForm place line cause) =
     Some (refused (bad_form (name_at names place) line cause))
 report_of names (stops.PastLimit limit number cause) =
@@ -60,6 +63,7 @@ IsRefusalBy names Has (stops.OverLimit limit number) = Has (over_limit (limit_te
 IsRefusalBy names Has (stops.NotValid line reason) = Has (not_valid line reason)
 IsRefusalBy names Has (stops.Unopened why) = ⊥
 IsRefusalBy names Has stops.NoNext = Has no_next
+IsRefusalBy names Has (stops.ExtraFails line reason) = Has (extra_fails line reason)
 IsRefusalBy names Has (stops.BadForm place line cause) =
     Has (bad_form (name_at names place) line cause)
 IsRefusalBy names Has (stops.PastLimit limit number cause) =
@@ -90,6 +94,8 @@ StopLeads names w all (stops.NotValid line reason) v =
     RefusedLead w all (not_valid line reason) v
 StopLeads names w all (stops.Unopened why) v = ⊥
 StopLeads names w all stops.NoNext v = RefusedLead w all no_next v
+StopLeads names w all (stops.ExtraFails line reason) v =
+    RefusedLead w all (extra_fails line reason) v
 StopLeads names w all (stops.BadForm place line cause) v =
     RefusedLead w all (bad_form (name_at names place) line cause) v
 StopLeads names w all (stops.PastLimit limit number cause) v =

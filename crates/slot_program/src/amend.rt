@@ -77,7 +77,7 @@ fn amend_output(
     let _units = submission.units();
     let book = Book::of(alloc, submission, certificate)?;
     let amended = amend_messages(alloc, book, asks)?;
-    let text = entries_line(alloc, amended.entries)?;
+    let text = entries_line(alloc, amended.history.len())?;
     Ok(AmendOutput {
         answers: amended.text,
         text,
@@ -85,7 +85,7 @@ fn amend_output(
 }
 
 /// How many asks were answered.
-fn entries_line(alloc: Global, count: u32) -> Result<String, Memory>
+fn entries_line(alloc: Global, count: usize) -> Result<String, Memory>
     ensures { IfOk result (λ text. string_bytes text ≡ entries_line count) }
 {
     let text = format!(in alloc; "ENTRIES {count}\n")?;

@@ -36,8 +36,8 @@ pub(crate) fn check<C: Cabinet>(
     })
 }
 
-/// What is said of a valid certificate.
-fn yes(alloc: Global) -> Result<String, Memory>
+/// What is said of a valid certificate, and of a valid stage.
+pub(crate) fn yes(alloc: Global) -> Result<String, Memory>
     ensures { IfOk result (λ text. string_bytes text ≡ codes "YES\n") }
 {
     Ok(String::from_str(alloc, "YES\n")?)

@@ -10,6 +10,8 @@ mod finish;
 mod inspect;
 pub mod laws;
 mod make;
+mod recheck;
+mod reclear;
 mod report;
 mod resume;
 mod season;
@@ -20,6 +22,7 @@ mod stop;
 mod top_call;
 mod trial;
 mod usage;
+mod waits;
 mod writes;
 
 pub use top_call::desk;

@@ -26,6 +26,7 @@ ghost use Rattle.slot_program.specs.Steps.{Step};
 ghost use Rattle.slot_program.specs.Jobs.{name_at, season_steps, certificate_steps};
 ghost use Rattle.slot_program.specs.Desk.{World, world_of};
 ghost use Rattle.slot_program.specs.Leads.{Leads, AcceptsAlone};
+ghost use Rattle.slot_program.specs.Waits.{SpellsAlone};
 ghost use Rattle.slot_program.specs.Stops.{IsRefusalBy, IsJudged, StopLeads};
 ghost use Rattle.slot_program.specs.declared.files.TheConstants.{LONGEST_FILE, LONGEST_CERT_FILE};
 
@@ -84,6 +85,15 @@ pub(crate) fn read_certificate<C: Cabinet>(
         × Leads w all (capacity ∷ requests ∷ certificate ∷ []) steps
         (world_of C.files C.fault_count C.log cabinet.new)) }
     ensures valid { IfOk result (IsValid submission.now) }
+    // One text was read, which spells no other certificate.
+    ensures leads { IfOk result (λ c. (certificate : NamedBytes)
+        × SpellsCert certificate.bytes c × SpellsAlone certificate.bytes c
+        × ((w : World) (all : List Step) (steps : List Step) (capacity requests : NamedBytes) →
+        IsSeasonOf capacity.bytes requests.bytes submission.now →
+        Leads w all (capacity ∷ requests ∷ []) (certificate_steps names.now steps)
+        (world_of C.files C.fault_count C.log cabinet.old) →
+        Leads w all (capacity ∷ requests ∷ certificate ∷ []) steps
+        (world_of C.files C.fault_count C.log cabinet.new))) }
     ensures stop { IfErr result (λ stop. (w : World) (all : List Step) (steps : List Step)
         (capacity requests : NamedBytes) →
         IsSeasonOf capacity.bytes requests.bytes submission.now →

@@ -23,6 +23,8 @@ pub(crate) enum Limit {
     Capacity(CapLimit),
     /// The number of units.
     Units,
+    /// The number of lines that wait.
+    Waiting,
 }
 
 /// Why a journal was not opened.
@@ -59,6 +61,8 @@ pub(crate) enum Stop {
     Unopened(NoJournal),
     /// No season follows for which lines could be written.
     NoNext,
+    /// The first line of one more stage that fails, and why.
+    ExtraFails(u32, Reason),
     /// The first line of the file that is not in its form, and why.
     BadForm(usize, u32, Cause),
     /// The limit is passed, by this number, and which it is.
@@ -116,6 +120,7 @@ impl Stop {
             Stop::OutOfForm(_, _) | Stop::BadForm(_, _, _) => 3,
             Stop::OverLimit(_, _) | Stop::PastLimit(_, _, _) => 4,
             Stop::NotValid(_, _) => 1,
+            Stop::ExtraFails(_, _) => 1,
             Stop::Unopened(why) => unopened_status(*why),
             Stop::NoNext => 15,
             Stop::Memory => 7,
@@ -144,6 +149,7 @@ impl Stop {
             Stop::NotValid(line, reason) => Ok(verdict_line(alloc, line, reason_name(reason))?),
             Stop::Unopened(why) => Ok(journal_line(alloc, why)?),
             Stop::NoNext => Ok(String::from_str(alloc, "NEXT NONE\n")?),
+            Stop::ExtraFails(line, reason) => Ok(extra_line(alloc, line, reason_name(reason))?),
             Stop::BadForm(place, line, cause) => {
                 let name = name_at(names, place);
                 Ok(caused_lines(alloc, "FORM", name, u64::from(line), cause)?)
@@ -173,6 +179,7 @@ fn limit_name(limit: Limit) -> &'static str
         Limit::Capacity(CapLimit::Caps) => "CAPS",
         Limit::Capacity(CapLimit::Windows) => "WINDOWS",
         Limit::Units => "UNITS",
+        Limit::Waiting => "WAITING",
     }
 }
 
@@ -230,6 +237,14 @@ fn verdict_line(alloc: Global, line: u32, reason: &str) -> Result<String, Memory
         ≡ codes "NO " ++ (decimal line ++ (32 ∷ (reason.now ++ (10 ∷ []))))) }
 {
     let text = format!(in alloc; "NO {line} {reason}\n")?;
+    Ok(text)
+}
+
+fn extra_line(alloc: Global, line: u32, reason: &str) -> Result<String, Memory>
+    ensures { IfOk result (λ text. string_bytes text
+        ≡ codes "NO EXTRA " ++ (decimal line ++ (32 ∷ (reason.now ++ (10 ∷ []))))) }
+{
+    let text = format!(in alloc; "NO EXTRA {line} {reason}\n")?;
     Ok(text)
 }
 

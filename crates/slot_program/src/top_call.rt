@@ -31,6 +31,8 @@ ghost use Rattle.command_words.specs.declared.job.Job.TheVariants.{Amend as Amen
 ghost use Rattle.command_words.specs.declared.job.Job.TheVariants.{Serve as ServeJob};
 ghost use Rattle.command_words.specs.declared.job.Job.TheVariants.{Resume as ResumeJob};
 ghost use Rattle.command_words.specs.declared.job.Job.TheVariants.{Usage as UsageJob};
+ghost use Rattle.command_words.specs.declared.job.Job.TheVariants.{Reclear as ReclearJob};
+ghost use Rattle.command_words.specs.declared.job.Job.TheVariants.{Recheck as RecheckJob};
 ghost use Rattle.command_words.specs.declared.job.Job.TheVariants.{Report as ReportJob};
 ghost use Rattle.command_words.specs.declared.job.Job.TheVariants.{Inspect as InspectJob};
 ghost use Rattle.command_words.specs.declared.job.Job.TheVariants.{Make as MakeJob};
@@ -42,6 +44,8 @@ use crate::check::check;
 use crate::finish::finish;
 use crate::inspect::inspect;
 use crate::make::make;
+use crate::recheck::recheck;
+use crate::reclear::reclear;
 use crate::report::report;
 use crate::resume::resume;
 use crate::serve::serve;
@@ -57,6 +61,7 @@ use slot_text::Memory;
 use std::alloc::Global;
 use std::sync::Wait;
 use std::thread::Threads;
+use wait_list::laws::{allotted_fit, waiting_marks};
 use wasg_stages::laws::valid_marks;
 use worker_gate::Gate;
 
@@ -67,11 +72,11 @@ use worker_gate::Gate;
 /// the disk is taken out, and put back but where memory runs out.
 ///
 /// The answer is the status of the program: 0 where the work is done; 1 where the certificate that
-/// was read is not valid; 2 where the words are no command's; 3 where a file is not in its form; 4
-/// where a limit is passed; 5 where the cabinet failed, or has no such file or one of more bytes
-/// than are read; 6 where the sink failed; 7 for want of memory; and where the work is done but not
-/// each stage is settled with an allotment, 8 where a stage is INFEASIBLE, and else 9 where one is
-/// OPEN; where clients were served, 10 where a door failed, and else 11 where a client found the
+/// was read is not valid, or a stage of a waiting list; 2 where the words are no command's; 3 where
+/// a file is not in its form; 4 where a limit is passed; 5 where the cabinet failed, or has no such
+/// file or one of more bytes than are read; 6 where the sink failed; 7 for want of memory; and where
+/// the work is done but not each stage is settled with an allotment, 8 where a stage is INFEASIBLE,
+/// and else 9 where one is OPEN; where clients were served, 10 where a door failed, and else 11 where a client found the
 /// history full, with the work done as at 0. Where a journal is to be kept, 13 where there is none,
 /// it is another file, or a slot of it is bad; and 14 where its disk failed: when it was opened, or
 /// while clients were served, with the work done up to then. Where lines of the next season are to
@@ -236,8 +241,8 @@ pub fn desk<R: Threads + Wait + Sync, C: Cabinet, S: Sink, D: Door + Drop, G: Ga
         JournalStands job inputs (option_map K.view disk.old) →
         Contains served_statuses result ⊎ (result ≡ 7) }
 
-    // Where all files are only in their forms, the one other answer is that the certificate is not
-    // valid.
+    // Where all files are only in their forms, the one other answer is that the certificate, or one
+    // more stage, is not valid.
     ensures in_form { (job : JobValue) (held : Files) (inputs : List NamedBytes)
         → job_of (words_of words.now) ≡ Some job → C.files cabinet.old ≡ Some held →
         AllPass (Some held) (form_steps (steps_of job)) inputs →
@@ -250,6 +255,8 @@ pub fn desk<R: Threads + Wait + Sync, C: Cabinet, S: Sink, D: Door + Drop, G: Ga
         (world_of C.files C.fault_count C.log cabinet.new)) }
 {
     valid_marks();
+    waiting_marks();
+    allotted_fit();
     one_standing();
     match carry_out(rt, alloc, words, cabinet, doors, gate, disk) {
         Ok(answer) => match out.put(&answer.text) {
@@ -306,6 +313,14 @@ fn carry_out<R: Threads + Wait + Sync, C: Cabinet, D: Door + Drop, G: Gate, K: D
         Ok(Job::Usage { names }) => carry_out_usage(alloc, &names, cabinet),
         Ok(Job::Report { names }) => carry_out_report(alloc, &names, cabinet),
         Ok(Job::Inspect { names }) => carry_out_inspect(alloc, &names, cabinet),
+        Ok(
+            Job::Reclear {
+                names,
+                nodes,
+                workers,
+            },
+        ) => carry_out_reclear(rt, alloc, &names, nodes, workers, cabinet, gate),
+        Ok(Job::Recheck { names }) => carry_out_recheck(alloc, &names, cabinet),
         Ok(
             Job::Resume {
                 names,
@@ -479,6 +494,49 @@ fn carry_out_usage<C: Cabinet>(
         (C.log cabinet.new) }
 {
     let ended = usage(alloc, names, cabinet);
+    finish(alloc, names, ended)
+}
+
+/// Clears a waiting list, and gives what is to be said.
+fn carry_out_reclear<R: Threads + Sync, C: Cabinet, G: Gate>(
+    rt: &R,
+    alloc: Global,
+    names: &NameList,
+    nodes: u32,
+    workers: u32,
+    cabinet: &mut C,
+    gate: &G,
+) -> Result<Answer, Memory>
+    requires nodes { (1 ≤ nodes) × (nodes ≤ 1000000) }
+    requires workers { (1 ≤ workers) × (workers ≤ 16) }
+    ensures answer { (o : Outside) → IfOk result (λ a.
+        IsAnswer (Some (ReclearJob names.now nodes workers))
+        (world_of C.files C.fault_count C.log cabinet.old) (still o) a.status a.text.items
+        (world_of C.files C.fault_count C.log cabinet.new)) }
+    ensures others { ChangesOnly (C.files cabinet.old)
+        (name_at names.now 4 ∷ name_at names.now 5 ∷ []) (C.files cabinet.new) }
+    ensures asked { LogGrew (C.log cabinet.old)
+        (OnlyOfJob (Some (ReclearJob names.now nodes workers))) (C.log cabinet.new) }
+{
+    let ended = reclear(rt, alloc, names, nodes, workers, cabinet, gate);
+    finish(alloc, names, ended)
+}
+
+/// Checks the stage of a waiting list, and gives what is to be said.
+fn carry_out_recheck<C: Cabinet>(
+    alloc: Global,
+    names: &NameList,
+    cabinet: &mut C,
+) -> Result<Answer, Memory>
+    ensures answer { (o : Outside) → IfOk result (λ a.
+        IsAnswer (Some (RecheckJob names.now))
+        (world_of C.files C.fault_count C.log cabinet.old) (still o) a.status a.text.items
+        (world_of C.files C.fault_count C.log cabinet.new)) }
+    ensures unchanged { C.files cabinet.new ≡ C.files cabinet.old }
+    ensures asked { LogGrew (C.log cabinet.old) (OnlyOfJob (Some (RecheckJob names.now)))
+        (C.log cabinet.new) }
+{
+    let ended = recheck(alloc, names, cabinet);
     finish(alloc, names, ended)
 }
 

@@ -1,9 +1,9 @@
 use Rattle.std.proofs.Common.{ℕ, ◌++◌, codes, refl, ap, ◌∙◌, rules}
 use Rattle.command_words.specs.Words.{Word}
-use Rattle.slot_program.specs.Reports.{refused, unopened, unread, unwritten, missing, large, out_of_form, over_limit, not_valid, no_next, bad_form, past_limit, cabinet_line, numbered_line, cause_line}
+use Rattle.slot_program.specs.Reports.{refused, unopened, unread, unwritten, missing, large, out_of_form, over_limit, not_valid, no_next, cabinet_line, numbered_line, extra_fails, bad_form, past_limit, cause_line}
 use Rattle.slot_program.specs.Jobs.{name_at}
 use Rattle.slot_program.specs.Stops.{limit_text, journal_refusal}
-use Rattle.slot_program.proofs.TextLemmas.{verdict_of}
+use Rattle.slot_program.proofs.TextLemmas.{verdict_of, extra_of}
 use Rattle.slot_program.proofs.stop.Stop.text.Goals as goal
 
 pub returns-in_ok-cabinet_line-in-Missing : goal.returns-in_ok-cabinet_line-in-Missing
@@ -51,6 +51,13 @@ returns-in_ok-journal_line-in-Unopened c =
 
 pub returns-in_ok-from_str-in-NoNext : goal.returns-in_ok-from_str-in-NoNext
 returns-in_ok-from_str-in-NoNext c = (refused no_next, rw c.in-NoNext.is refl, search rules)
+
+pub returns-in_ok-extra_line-in-ExtraFails : goal.returns-in_ok-extra_line-in-ExtraFails
+returns-in_ok-extra_line-in-ExtraFails c = (
+  refused (extra_fails c.in-ExtraFails.line c.in-ExtraFails.reason),
+  rw c.in-ExtraFails.is refl,
+  c.in_ok-extra_line-in-ExtraFails.ensures ∙ ap (extra_of c.in-ExtraFails.line) c.reason_name-in-ExtraFails.ensures,
+)
 
 pub returns-in_ok-caused_lines-in-BadForm : goal.returns-in_ok-caused_lines-in-BadForm
 returns-in_ok-caused_lines-in-BadForm c =
