@@ -10,7 +10,7 @@ pub limits_left-requires : goal.limits_left-requires
 limits_left-requires c =
     let d = c.args.book.now.book.declaration in
     let terms : c.in_ok-terms.terms ≡ waiting_terms d = c.in_ok-terms.ensures.terms ∙ ap waiting_terms c.declaration.ensures.value in
-    c.resources.ensures.count ∙ ap declared_resources (c.in_ok-windows.ensures ∙ ap (λ (x : Declaration). capacity_of x) terms)
+    c.resources.ensures.count ∙ ap declared_resources (c.in_ok-windows.ensures.value ∙ ap (λ (x : Declaration). capacity_of x) terms)
 
 pub allotment_problem-requires-clause-units : goal.allotment_problem-requires-clause-units
 allotment_problem-requires-clause-units c =
