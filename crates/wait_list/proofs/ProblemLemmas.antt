@@ -1,5 +1,5 @@
 -- The problem of the waiting stage.
-use Rattle.std.proofs.Common.{inl, inr, ◌≡◌, ℕ, ◌+◌, ◌<◌, ◌≤◌, refl, sym, ◌∙◌, ap, subst, arith, List, [], ◌∷◌, ◌++◌, length, map}
+use Rattle.std.proofs.Common.{inl, inr, ◌≡◌, ℕ, ◌+◌, ◌<◌, ◌≤◌, refl, sym, ◌∙◌, ap, subst, arith, List, [], ◌∷◌, ◌++◌, length}
 use Rattle.std.specs.Prelude.{All, Option, Some, None, slice_index}
 use Rattle.std.specs.Option.{ForSome, unwrap_or}
 use Rattle.std.proofs.lemmas.Bool.{cases_lt}

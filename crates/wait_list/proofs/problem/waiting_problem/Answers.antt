@@ -1,7 +1,6 @@
-use Rattle.std.proofs.Common.{◌≡◌, List, arith, refl, sym, ◌∙◌, ap}
+use Rattle.std.proofs.Common.{◌≡◌, arith, refl, ◌∙◌, ap}
 use Rattle.season_days.specs.Capacity.{capacity_of, declared_resources}
 use Rattle.season_days.specs.declared.declaration.Declaration.{Declaration}
-use Rattle.series_model.specs.declared.unit.Unit.{Unit as SlotUnit}
 use Rattle.wait_list.specs.Waiting.{waiting_units, waiting_terms}
 use Rattle.wait_list.proofs.ProblemLemmas.{units-fit-at, as-waiting, units-count}
 use Rattle.wait_list.proofs.problem.waiting_problem.Goals as goal
