@@ -16,3 +16,4 @@ mod UsageLemmas
 mod WaitingLemmas
 mod AllottedLemmas
 mod ReportsLemmas
+mod RecheckLemmas
