@@ -16,14 +16,16 @@ use Rattle.series_model.specs.declared.fault.ModelFault.{ModelFault}
 use Rattle.series_model.specs.declared.fault.ModelFault.TheVariants as model_fault
 use Rattle.command_words.specs.Words.{Word}
 use Rattle.fault_causes.specs.Capacities.{IsCapacityCause}
-use Rattle.fault_causes.specs.Requests.{IsMessageCause, IsSubmissionCause}
+use Rattle.fault_causes.specs.Requests.{IsMessageCause, IsSubmissionCause, HasSubmissionFault}
 use Rattle.fault_causes.specs.declared.cause.Cause.{Cause}
 use Rattle.slot_program.specs.Reports.{Refusal, with_cause}
 use Rattle.slot_program.specs.Judgements.{NamedBytes, IsSeasonOf, capacity_cause, requests_cause, IsCapacityRefusal, IsMessageRefusal, IsSubmissionRefusal, CausesMessage, CausesSubmission}
 use Rattle.slot_program.specs.Leads.{AcceptsAlone, RefusesAlone}
-use Rattle.slot_program.specs.Stops.{IsRefusalBy, caused}
+use Rattle.slot_program.specs.Stops.{IsRefusalBy, IsJudged, caused}
+use Rattle.slot_program.specs.declared.stop.Limit.{Limit}
 use Rattle.slot_program.specs.declared.stop.Stop.{Stop}
 use Rattle.slot_program.specs.declared.stop.Stop.TheVariants as stops
+use Rattle.slot_program.proofs.LeadLemmas.{by_property}
 use Rattle.slot_program.proofs.JudgementLemmas.{one_capacity_refusal, one_message_refusal, one_submission_refusal, same_answer, same_err, ok_err}
 
 -- the refusal of which this is the same with its cause has the property; only refusals of a form or
@@ -41,9 +43,37 @@ caused_by names Has (stops.OverLimit limit number) cause h = (_, h, refl)
 caused_by names Has (stops.NotValid line reason) cause h = (_, h, refl)
 caused_by names Has (stops.Unopened why) cause h = absurd h
 caused_by names Has stops.NoNext cause h = (_, h, refl)
+caused_by names Has (stops.ExtraFails line reason) cause h = (_, h, refl)
 caused_by names Has (stops.BadForm place line own) cause h = (_, h, refl)
 caused_by names Has (stops.PastLimit limit number own) cause h = (_, h, refl)
 caused_by names Has stops.Memory cause h = tt
+
+-- a stop that is neither has no cause
+pub caused_same : (stop : Stop) (cause : Cause) → ((place line : ℕ) → stop ≡ stops.OutOfForm place line → ⊥) → ((limit : Limit) (number : ℕ) → stop ≡ stops.OverLimit limit number → ⊥) → stop ≡ caused stop cause
+caused_same (stops.Missing place) cause form over = refl
+caused_same (stops.Large place) cause form over = refl
+caused_same (stops.Unread place) cause form over = refl
+caused_same (stops.Unwritten place) cause form over = refl
+caused_same (stops.OutOfForm place line) cause form over = absurd (form place line refl)
+caused_same (stops.OverLimit limit number) cause form over = absurd (over limit number refl)
+caused_same (stops.NotValid line reason) cause form over = refl
+caused_same (stops.Unopened why) cause form over = refl
+caused_same stops.NoNext cause form over = refl
+caused_same (stops.ExtraFails line reason) cause form over = refl
+caused_same (stops.BadForm place line own) cause form over = refl
+caused_same (stops.PastLimit limit number own) cause form over = refl
+caused_same stops.Memory cause form over = refl
+
+-- a fault that is not want of memory is the text's
+pub not_memory : {A : Type 0} {E : Type 0} (fault memory : E) → A ⊎ (fault ≡ memory) → (fault ≡ memory → ⊥) → A
+not_memory {A} {E} fault memory (inl has) other = has
+not_memory {A} {E} fault memory (inr is) other = absurd (other is)
+
+-- messages that were read of a text and make no submission
+pub fault_of_text : (bytes : List ℕ) (d : Declaration) (messages : List Message) (fault : ModelFault) → ReadsAll bytes messages → (submission_answer d messages ≡ Err fault) ⊎ (fault ≡ model_fault.Memory)
+    → HasSubmissionFault bytes fault ⊎ (fault ≡ model_fault.Memory)
+fault_of_text bytes d messages fault read (inl made) = inl (d, messages, read, made)
+fault_of_text bytes d messages fault read (inr is) = inr is
 
 -- one refusal and one cause are one refusal with its cause
 one_with : (plain other : Refusal) (cause why : Cause) (a b : Refusal) → other ≡ plain → why ≡ cause → a ≡ with_cause plain cause → b ≡ with_cause other why → b ≡ a
@@ -71,6 +101,13 @@ module _ (one_fault : (text : List ℕ) (a b : CapFault) → HasCapacityFault te
             (one_cause bytes fault c cause (subst (λ (g : CapFault). IsCapacityCause bytes g c) one by) because) same two;
         rejects = λ (d, declared). not_both bytes d fault declared has;
       }
+
+  pub judged_capacity : (names : List Word) (name : Word) (bytes : List ℕ) (rest : List NamedBytes) (fault : CapFault) (cause : Cause) (plain : Stop) → HasCapacityFault bytes fault → IsCapacityCause bytes fault cause
+      → IsRefusalBy names (IsCapacityRefusal name (length (lines_of bytes)) fault) plain → IsJudged names capacity_cause name (record { name = name; bytes = bytes } ∷ rest) (caused plain cause)
+  judged_capacity names name bytes rest fault cause plain has because by =
+      let Has : Refusal → Type 0 = IsCapacityRefusal name (length (lines_of bytes)) fault in
+      by_property names (WithCause Has cause) (RefusesAlone capacity_cause name (record { name = name; bytes = bytes } ∷ rest)) (caused plain cause)
+      (λ why is. refuses_capacity_cause name bytes rest fault cause why has because is) (caused_by names Has plain cause by)
 
 -- ---- the requests
 
@@ -133,3 +170,17 @@ module _ (one_declared : (text : List ℕ) (a b : Declaration) → IsCapacityFil
           rejects = λ (s, season). ok_err (submission_answer d messages) s fault
               (same capacity.bytes bytes d s.declaration messages season.messages declared season.declared read season.read (Ok s) season.made) made;
         }
+
+  -- so of the stops of the code
+  pub judged_message : (names : List Word) (name : Word) (capacity : NamedBytes) (bytes : List ℕ) (rest : List NamedBytes) (fault : ScrFault) (cause : Cause) (plain : Stop) → HasScrFault bytes fault → IsMessageCause bytes fault cause
+      → IsRefusalBy names (IsMessageRefusal name fault) plain → IsJudged names requests_cause name (capacity ∷ record { name = name; bytes = bytes } ∷ rest) (caused plain cause)
+  judged_message names name capacity bytes rest fault cause plain has because by =
+      by_property names (WithCause (IsMessageRefusal name fault) cause) (RefusesAlone requests_cause name (capacity ∷ record { name = name; bytes = bytes } ∷ rest)) (caused plain cause)
+      (λ why (first, is, one). refuses_message_cause name capacity bytes fault cause why has because first is one rest) (caused_by names (IsMessageRefusal name fault) plain cause by)
+
+  pub judged_submission : (names : List Word) (name : Word) (capacity : NamedBytes) (bytes : List ℕ) (rest : List NamedBytes) (d : Declaration) (messages : List Message) (fault : ModelFault) (cause : Cause) (plain : Stop)
+      → IsCapacityFile capacity.bytes d → ReadsAll bytes messages → submission_answer d messages ≡ Err fault → IsSubmissionCause bytes fault cause
+      → IsRefusalBy names (IsSubmissionRefusal name fault) plain → IsJudged names requests_cause name (capacity ∷ record { name = name; bytes = bytes } ∷ rest) (caused plain cause)
+  judged_submission names name capacity bytes rest d messages fault cause plain declared read made because by =
+      by_property names (WithCause (IsSubmissionRefusal name fault) cause) (RefusesAlone requests_cause name (capacity ∷ record { name = name; bytes = bytes } ∷ rest)) (caused plain cause)
+      (λ why (first, is, one). refuses_submission_cause name capacity bytes d messages fault cause why declared read made because first is one rest) (caused_by names (IsSubmissionRefusal name fault) plain cause by)

@@ -10,7 +10,7 @@ use Rattle.desk_outside.specs.Files.{Files, Reads}
 use Rattle.desk_outside.specs.Passages.{Passage, read}
 use Rattle.command_words.specs.Words.{Word}
 use Rattle.slot_program.specs.Reports.{Refusal, refusal_status}
-use Rattle.slot_program.specs.Judgements.{NamedBytes, Judgement, Accepts, Refuses, capacity_form, requests_form, certificate_form, valid_certificate, reports_form, next_season, waiting_limit, extra_form, valid_extra}
+use Rattle.slot_program.specs.Judgements.{NamedBytes, Judgement, Accepts, Refuses, capacity_form, requests_form, certificate_form, valid_certificate, reports_form, next_season, waiting_limit, extra_form, valid_extra, capacity_cause, requests_cause}
 use Rattle.slot_program.specs.Steps.{Step, reads, judges, names_read, IsHanded, IsNotHanded, PassFrom, RefuseFrom, form_steps, is_of_form}
 use Rattle.slot_program.specs.Writing.{read_of}
 use Rattle.slot_program.specs.Desk.{World}
@@ -233,6 +233,8 @@ module _ (name : Word) (before : List NamedBytes) (refusal : Refusal) where
   form_stops waiting_limit held steps done alone h = absurd (alone.rejects h.0)
   form_stops extra_form held steps done alone h = absurd (alone.rejects h.0)
   form_stops valid_extra held steps done alone h = extra_status name before refusal alone.refuses
+  form_stops capacity_cause held steps done alone h = absurd (alone.rejects h.0)
+  form_stops requests_cause held steps done alone h = absurd (alone.rejects h.0)
 
   module _ (j : Judgement) (alone : RefusesAlone j name before refusal) where
     due_stops : (held : Files) (steps : List Step) (other : Refusal) (done : List NamedBytes) → RefuseFrom (Some held) 0 0 before (judges j name ∷ steps) other done → other ≡ refusal

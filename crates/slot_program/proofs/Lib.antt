@@ -9,6 +9,7 @@ mod JudgementLemmas
 mod EndLemmas
 mod AnswerLemmas
 mod CauseLemmas
+mod InspectionLemmas
 mod DeskLemmas
 mod CheckLemmas
 mod AmendLemmas

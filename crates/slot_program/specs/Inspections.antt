@@ -1,9 +1,8 @@
 -- What is printed of a season before it is allotted.
-use Rattle.std.specs.Prelude.{ℕ, ◌+◌, Bool, true, false, List, [], ◌∷◌, ◌++◌, length, count_by, sum_by, codes}
+use Rattle.std.specs.Prelude.{ℕ, Bool, ◌==◌, List, [], ◌∷◌, ◌++◌, length, count_by, sum_by, codes}
 use Rattle.std.specs.Fmt.{decimal}
-use Rattle.season_days.specs.Seasons.{season_text}
+use Rattle.season_days.specs.Term.{Term}
 use Rattle.season_days.specs.Capacity.{capacity_of, declared_resources}
-use Rattle.season_days.specs.declared.declaration.Declaration.{Declaration}
 use Rattle.series_model.specs.declared.group.Group.{Group}
 use Rattle.series_model.specs.declared.group.Group.TheVariants.{F, R, L, B, N}
 use Rattle.series_model.specs.declared.unit.Unit.{Unit as SlotUnit}
@@ -12,62 +11,76 @@ use Rattle.series_model.specs.Options.{line_times}
 use Rattle.series_model.specs.Submissions.{SubmissionView}
 use Rattle.series_model.specs.Displacement.{line_dates}
 use Rattle.series_model.specs.Stages.{first_states}
+use Rattle.report_lines.specs.Heads.{season_line}
 use Rattle.report_lines.specs.Peaks.{over_lines, demand_lines}
 
-abbrev pub are_same_group : Group → Group → Bool
-are_same_group F F = true
-are_same_group R R = true
-are_same_group L L = true
-are_same_group B B = true
-are_same_group N N = true
-are_same_group one other = false
+-- a group's letter
+abbrev pub group_letter : Group → ℕ
+group_letter F = 70
+group_letter R = 82
+group_letter L = 76
+group_letter B = 66
+group_letter N = 78
+
+abbrev pub is_of_group : Group → SlotUnit → Bool
+is_of_group group unit = group_letter unit.group == group_letter group
 
 -- how many units ask for this
 abbrev pub group_count : Group → List SlotUnit → ℕ
-group_count group units = count_by (λ (unit : SlotUnit). are_same_group group unit.group) units
+group_count group units = count_by (is_of_group group) units
 
--- how many dates the units have together, and how many movements at their requested times
-abbrev pub date_total : Declaration → List SlotUnit → ℕ
-date_total d units = sum_by (λ (unit : SlotUnit). line_dates d.season unit.request) units
+-- how many dates the units have together
+abbrev pub unit_dates : Term → SlotUnit → ℕ
+unit_dates season unit = line_dates season unit.request
 
-abbrev pub movement_total : Declaration → List SlotUnit → ℕ
-movement_total d units =
-    sum_by (λ (unit : SlotUnit). length (movements_of d.season unit (line_times unit.request))) units
+abbrev pub date_total : Term → List SlotUnit → ℕ
+date_total season units = sum_by (unit_dates season) units
 
--- a word and a number
-abbrev pub numbered : List ℕ → ℕ → List ℕ
-numbered word n = word ++ decimal n
+-- how many movements one has at its requested times, and all together
+abbrev pub movement_count : Term → SlotUnit → ℕ
+movement_count season unit = length (movements_of season unit (line_times unit.request))
 
-abbrev pub airport_line : Declaration → List ℕ
-airport_line d =
-    codes "AIRPORT " ++ (d.airport.0 ++ (codes " SEASON " ++ (season_text d.season ++ 10 ∷ [])))
+abbrev pub movement_total : Term → List SlotUnit → ℕ
+movement_total season units = sum_by (movement_count season) units
+
+-- ---- the lines
+
+abbrev pub messages_line : ℕ → List ℕ
+messages_line n = codes "MESSAGES " ++ (decimal n ++ 10 ∷ [])
 
 abbrev pub units_line : List SlotUnit → List ℕ
 units_line units =
-    numbered (codes "UNITS ") (length units)
-    ++ (numbered (codes " F ") (group_count F units)
-    ++ (numbered (codes " R ") (group_count R units)
-    ++ (numbered (codes " L ") (group_count L units)
-    ++ (numbered (codes " B ") (group_count B units)
-    ++ (numbered (codes " N ") (group_count N units) ++ 10 ∷ [])))))
+    codes "UNITS " ++ (decimal (length units)
+    ++ (codes " F " ++ (decimal (group_count F units)
+    ++ (codes " R " ++ (decimal (group_count R units)
+    ++ (codes " L " ++ (decimal (group_count L units)
+    ++ (codes " B " ++ (decimal (group_count B units)
+    ++ (codes " N " ++ (decimal (group_count N units) ++ 10 ∷ [])))))))))))
 
-abbrev pub dates_line : Declaration → List SlotUnit → List ℕ
-dates_line d units =
-    numbered (codes "DATES ") (date_total d units)
-    ++ (numbered (codes " MOVEMENTS ") (movement_total d units) ++ 10 ∷ [])
+abbrev pub dates_line : Term → List SlotUnit → List ℕ
+dates_line season units =
+    codes "DATES " ++ (decimal (date_total season units)
+    ++ (codes " MOVEMENTS " ++ (decimal (movement_total season units) ++ 10 ∷ [])))
 
-abbrev pub caps_line : Declaration → List ℕ
-caps_line d =
-    numbered (codes "CAPS ") (length d.rules)
-    ++ (numbered (codes " WINDOWS ") (declared_resources (capacity_of d)) ++ 10 ∷ [])
+abbrev pub caps_line : ℕ → ℕ → List ℕ
+caps_line caps windows =
+    codes "CAPS " ++ (decimal caps ++ (codes " WINDOWS " ++ (decimal windows ++ 10 ∷ [])))
 
--- five lines; then where stage 1 has too much in any case, with nothing allotted; and then where
--- the requested times of all units together are above the declared limits
+-- the airport and the season; the messages; the units, and those of each group; the dates of all
+-- units, and the movements of their requested times; the capacity lines, and their windows, of which
+-- the night quota is one
+abbrev pub season_counts : SubmissionView → List ℕ
+season_counts s =
+    season_line s.declaration
+    ++ (messages_line (length s.messages)
+    ++ (units_line s.units
+    ++ (dates_line s.declaration.season s.units
+    ++ caps_line (length s.declaration.rules) (declared_resources (capacity_of s.declaration)))))
+
+-- these five lines; then where stage 1 has too much in any case, with nothing allotted; and then
+-- where the requested times of all units together are above the declared limits
 abbrev pub inspection_text : SubmissionView → List ℕ
 inspection_text s =
-    airport_line s.declaration
-    ++ (numbered (codes "MESSAGES ") (length s.messages) ++ (10 ∷ (units_line s.units
-    ++ (dates_line s.declaration s.units
-    ++ (caps_line s.declaration
+    season_counts s
     ++ (over_lines s.declaration 1 (first_states s.units)
-    ++ demand_lines s.declaration s.units))))))
+    ++ demand_lines s.declaration s.units)

@@ -1,27 +1,34 @@
 //! Looking at a season before it is allotted: what its files hold, or why they are refused.
 
-ghost use Rattle.std.specs.Prelude.{◌≡◌, ◌⊎◌, ◌++◌, ◌∷◌, ◌≤◌, ◌<◌, ◌^◌, [], ℕ, List, length, All, IfOk, IfErr, OnOk, Ok, Err};
+ghost use Rattle.std.specs.Prelude.{◌≡◌, ◌⊎◌, ◌∷◌, ◌≤◌, ◌<◌, ◌^◌, ℕ, List, length, All, IfOk};
+ghost use Rattle.std.specs.Prelude.{IfErr, OnOk, Ok, Err};
+ghost use Rattle.season_days.specs.declared.declaration.Declaration.{Declaration as DeclarationValue};
 ghost use Rattle.season_days.specs.Capacity.{IsDeclaration};
 ghost use Rattle.capacity_file.specs.Declares.{IsCapacityFile};
+ghost use Rattle.capacity_file.specs.Faults.{HasCapacityFault};
+ghost use Rattle.capacity_file.specs.declared.fault.CapFault.TheVariants.{Memory as no_capacity};
+ghost use Rattle.scr_reader.specs.Messages.{ReadsAll, HasScrFault};
+ghost use Rattle.scr_reader.specs.declared.fault.ScrFault.TheVariants.{Memory as no_message};
+ghost use Rattle.scr_reader.specs.declared.message.Message.{Message as MessageValue};
+ghost use Rattle.scr_reader.specs.Printed.{MessagesFit};
+ghost use Rattle.series_model.specs.Submissions.{HasNumbers, MessagePairs, item_count};
+ghost use Rattle.series_model.specs.Submissions.{submission_answer};
+ghost use Rattle.series_model.specs.declared.fault.ModelFault.TheVariants.{Memory as no_model};
+ghost use Rattle.fault_causes.specs.Requests.{HasSubmissionFault};
 ghost use Rattle.command_words.specs.Words.{Word};
 ghost use Rattle.command_words.specs.declared.job.Job.TheVariants.{Inspect as InspectJob};
-ghost use Rattle.slot_program.specs.Judgements.{NamedBytes, IsSeasonOf, IsSubmissionRefusal, capacity_cause as judged_capacity, requests_cause as judged_requests};
+ghost use Rattle.slot_program.specs.Judgements.{NamedBytes, IsSeasonOf};
+ghost use Rattle.slot_program.specs.Judgements.{capacity_cause as judged_capacity};
+ghost use Rattle.slot_program.specs.Judgements.{requests_cause as judged_requests};
 ghost use Rattle.slot_program.specs.Jobs.{name_at};
 ghost use Rattle.slot_program.specs.Desk.{world_of};
 ghost use Rattle.slot_program.specs.Ends.{IsDone, JobStops};
 ghost use Rattle.slot_program.specs.Leads.{AcceptsAlone};
-ghost use Rattle.slot_program.specs.Stops.{IsRefusalBy, caused, IsJudged};
-ghost use Rattle.slot_program.specs.declared.stop.Stop.{Stop as StopValue};
-ghost use Rattle.fault_causes.specs.declared.cause.Cause.{Cause as CauseValue};
-ghost use Rattle.fault_causes.specs.Requests.{IsSubmissionCause};
-ghost use Rattle.scr_reader.specs.Printed.{MessagesFit};
-ghost use Rattle.series_model.specs.Submissions.{HasNumbers, MessagePairs, item_count, submission_answer};
-ghost use Rattle.series_model.specs.declared.fault.ModelFault.{ModelFault as ModelFaultValue};
-ghost use Rattle.series_model.specs.declared.fault.ModelFault.TheVariants.{Memory as no_model};
-ghost use Rattle.slot_program.specs.Inspections.{group_count, date_total, movement_total, numbered, airport_line, units_line, dates_line, caps_line, inspection_text};
+ghost use Rattle.slot_program.specs.Stops.{caused, IsJudged};
 ghost use Rattle.slot_program.specs.declared.files.TheConstants.{LONGEST_FILE as MOST_BYTES};
 
 use crate::files::{LONGEST_FILE, read_file};
+use crate::inspection::inspection_text;
 use crate::season::{capacity_stop, message_stop, submission_stop};
 use crate::stop::{Answer, Stop};
 use capacity_file::laws::one_answer;
@@ -30,13 +37,11 @@ use command_words::NameList;
 use desk_outside::Cabinet;
 use fault_causes::laws::one_cause;
 use fault_causes::{Cause, capacity_cause, message_cause, submission_cause};
-use report_lines::{demand_lines, over_lines, put, put_tagged};
 use scr_reader::laws::{one_reading, read_lines_fit};
 use scr_reader::{MessageList, ScrFault, read_all};
 use season_days::Declaration;
 use series_model::laws::read_messages;
-use series_model::{Group, ModelFault, Submission, Unit, line_times, movements_of};
-use slot_text::Memory;
+use series_model::{ModelFault, Submission};
 use std::alloc::Global;
 
 /// Reads a season, and says what it is; or why it is refused.
@@ -72,6 +77,25 @@ fn with_cause(stop: Stop, cause: Cause) -> Stop
     }
 }
 
+/// Why a text is no capacity file, with the cause.
+fn capacity_refusal(place: usize, bytes: &[u8], fault: CapFault) -> Stop
+    requires short { length bytes.now ≤ MOST_BYTES }
+    requires has { HasCapacityFault bytes.now fault ⊎ (fault ≡ no_capacity) }
+    ensures { (names : List Word) (rest : List NamedBytes) →
+        IsJudged names judged_capacity (name_at names place)
+        (record { name = name_at names place; bytes = bytes.now } ∷ rest) result }
+{
+    one_answer();
+    one_cause();
+    match fault {
+        CapFault::Memory => Stop::Memory,
+        _ => with_cause(
+            capacity_stop(place, bytes, fault),
+            capacity_cause(bytes, fault),
+        ),
+    }
+}
+
 /// The declaration of a capacity file.
 fn judge_capacity(alloc: Global, place: usize, bytes: &[u8]) -> Result<Declaration, Stop>
     requires { length bytes.now ≤ MOST_BYTES }
@@ -87,11 +111,7 @@ fn judge_capacity(alloc: Global, place: usize, bytes: &[u8]) -> Result<Declarati
     one_cause();
     match read_capacity(alloc, bytes) {
         Ok(declaration) => Ok(declaration),
-        Err(CapFault::Memory) => Err(Stop::Memory),
-        Err(fault) => Err(with_cause(
-            capacity_stop(place, bytes, fault),
-            capacity_cause(bytes, fault),
-        )),
+        Err(fault) => Err(capacity_refusal(place, bytes, fault)),
     }
 }
 
@@ -115,14 +135,65 @@ fn judge_requests(
         (capacity ∷ record { name = name_at names place; bytes = bytes.now } ∷ rest) stop) }
 {
     one_answer();
-    one_cause();
     one_reading();
+    one_cause();
     read_messages();
     read_lines_fit();
+    let messages = read_requests(alloc, place, bytes)?;
+    let submission = make_submission(alloc, place, declaration, messages, bytes)?;
+    Ok(submission)
+}
+
+/// Why a text is no list of messages, with the cause.
+fn message_refusal(place: usize, bytes: &[u8], fault: ScrFault) -> Stop
+    requires short { length bytes.now ≤ MOST_BYTES }
+    requires has { HasScrFault bytes.now fault ⊎ (fault ≡ no_message) }
+    ensures { (names : List Word) (capacity : NamedBytes) (rest : List NamedBytes) →
+        IsJudged names judged_requests (name_at names place)
+        (capacity ∷ record { name = name_at names place; bytes = bytes.now } ∷ rest) result }
+{
+    one_answer();
+    one_reading();
+    one_cause();
+    match fault {
+        ScrFault::Memory => Stop::Memory,
+        _ => with_cause(message_stop(place, fault), message_cause(bytes, fault)),
+    }
+}
+
+/// The messages of a text.
+fn read_requests(alloc: Global, place: usize, bytes: &[u8]) -> Result<MessageList, Stop>
+    requires { length bytes.now ≤ MOST_BYTES }
+    ensures found { IfOk result (ReadsAll bytes.now) }
+    ensures stop { IfErr result (λ stop. (names : List Word) (capacity : NamedBytes)
+        (rest : List NamedBytes) → IsJudged names judged_requests (name_at names place)
+        (capacity ∷ record { name = name_at names place; bytes = bytes.now } ∷ rest) stop) }
+{
     match read_all(alloc, bytes) {
-        Ok(messages) => make_submission(alloc, place, declaration, messages, bytes),
-        Err(ScrFault::Memory) => Err(Stop::Memory),
-        Err(fault) => Err(with_cause(message_stop(place, fault), message_cause(bytes, fault))),
+        Ok(messages) => Ok(messages),
+        Err(fault) => Err(message_refusal(place, bytes, fault)),
+    }
+}
+
+/// Why messages of a text make no submission, with the cause.
+fn submission_refusal(place: usize, bytes: &[u8], fault: ModelFault) -> Stop
+    requires short { length bytes.now ≤ MOST_BYTES }
+    requires has { HasSubmissionFault bytes.now fault ⊎ (fault ≡ no_model) }
+    ensures { (d : DeclarationValue) (messages : List MessageValue) → ReadsAll bytes.now messages →
+        (submission_answer d messages ≡ Err fault) ⊎ (fault ≡ no_model) →
+        (names : List Word) (capacity : NamedBytes) (rest : List NamedBytes) →
+        IsCapacityFile capacity.bytes d → IsJudged names judged_requests (name_at names place)
+        (capacity ∷ record { name = name_at names place; bytes = bytes.now } ∷ rest) result }
+{
+    one_answer();
+    one_reading();
+    one_cause();
+    match fault {
+        ModelFault::Memory => Stop::Memory,
+        _ => with_cause(
+            submission_stop(place, fault),
+            submission_cause(bytes, fault),
+        ),
     }
 }
 
@@ -134,130 +205,21 @@ fn make_submission(
     messages: MessageList,
     bytes: &[u8],
 ) -> Result<Submission, Stop>
+    requires short { length bytes.now ≤ MOST_BYTES }
     requires keeps { IsDeclaration declaration }
+    requires read { ReadsAll bytes.now messages }
     requires numbers { All HasNumbers messages }
     requires few { item_count messages < 2 ^ 31 }
     requires fits { MessagesFit messages }
     requires pairs { All MessagePairs messages }
     ensures made { IfOk result (λ s. submission_answer declaration messages ≡ Ok s) }
-    ensures stop { IfErr result (λ stop. (fault : ModelFaultValue) × (cause : CauseValue)
-        × (plain : StopValue)
-        × (((submission_answer declaration messages ≡ Err fault)
-        × IsSubmissionCause bytes.now fault cause) ⊎ (fault ≡ no_model))
-        × ((names : List Word) →
-        IsRefusalBy names (IsSubmissionRefusal (name_at names place) fault) plain)
-        × (stop ≡ caused plain cause)) }
+    ensures stop { IfErr result (λ stop. (names : List Word) (capacity : NamedBytes)
+        (rest : List NamedBytes) → IsCapacityFile capacity.bytes declaration →
+        IsJudged names judged_requests (name_at names place)
+        (capacity ∷ record { name = name_at names place; bytes = bytes.now } ∷ rest) stop) }
 {
     match Submission::make(alloc, declaration, messages) {
         Ok(submission) => Ok(submission),
-        Err(ModelFault::Memory) => Err(Stop::Memory),
-        Err(fault) => Err(with_cause(
-            submission_stop(place, fault),
-            submission_cause(bytes, fault),
-        )),
+        Err(fault) => Err(submission_refusal(place, bytes, fault)),
     }
-}
-
-// How many units ask for this.
-fn group_count(group: Group, units: &[Unit]) -> u64
-    requires { length units.now ≤ 4096 }
-    ensures { result ≡ group_count group units.now }
-{
-    let mut count = 0;
-    for unit in units {
-        if unit.group == group {
-            count += 1;
-        }
-    }
-    count
-}
-
-// How many dates the units have together, and how many movements at their requested times.
-fn totals(alloc: Global, declaration: &Declaration, units: &[Unit]) -> Result<(u64, u64), Memory>
-    requires { length units.now ≤ 4096 }
-    ensures { IfOk result (λ x. (x.0 ≡ date_total declaration.now units.now)
-        × (x.1 ≡ movement_total declaration.now units.now)) }
-{
-    let season = &declaration.season;
-    let mut dates = 0;
-    let mut movements = 0;
-    for unit in units {
-        let listed = movements_of(alloc, season, unit, line_times(&unit.request))?;
-        dates += u64::from(season.count_dates(unit.request.period));
-        movements += listed.len() as u64;
-    }
-    Ok((dates, movements))
-}
-
-// Appends the airport and the season.
-fn put_airport(out: &mut Vec<u8>, declaration: &Declaration) -> Result<(), Memory>
-    ensures { OnOk result (out.new.items ≡ out.old.items ++ airport_line declaration.now) }
-{
-    put(out, b"AIRPORT ")?;
-    put(out, &declaration.airport.0)?;
-    put(out, b" SEASON ")?;
-    put(out, &declaration.season.text())?;
-    put(out, b"\n")
-}
-
-// Appends how many units there are, and how many of each group.
-fn put_units(alloc: Global, out: &mut Vec<u8>, units: &[Unit]) -> Result<(), Memory>
-    requires { length units.now ≤ 4096 }
-    ensures { OnOk result (out.new.items ≡ out.old.items ++ units_line units.now) }
-{
-    put_tagged(alloc, out, b"UNITS ", units.len() as u64)?;
-    put_tagged(alloc, out, b" F ", group_count(Group::F, units))?;
-    put_tagged(alloc, out, b" R ", group_count(Group::R, units))?;
-    put_tagged(alloc, out, b" L ", group_count(Group::L, units))?;
-    put_tagged(alloc, out, b" B ", group_count(Group::B, units))?;
-    put_tagged(alloc, out, b" N ", group_count(Group::N, units))?;
-    put(out, b"\n")
-}
-
-// Appends the dates and movements.
-fn put_dates(
-    alloc: Global,
-    out: &mut Vec<u8>,
-    declaration: &Declaration,
-    units: &[Unit],
-) -> Result<(), Memory>
-    requires { length units.now ≤ 4096 }
-    ensures { OnOk result (out.new.items
-        ≡ out.old.items ++ dates_line declaration.now units.now) }
-{
-    let (dates, movements) = totals(alloc, declaration, units)?;
-    put_tagged(alloc, out, b"DATES ", dates)?;
-    put_tagged(alloc, out, b" MOVEMENTS ", movements)?;
-    put(out, b"\n")
-}
-
-/// What is said of a season.
-fn inspection_text(alloc: Global, submission: &Submission) -> Result<Vec<u8>, Memory>
-    ensures { IfOk result (λ text. text.items ≡ inspection_text submission.now) }
-{
-    let declaration = submission.declaration();
-    let units = submission.units();
-    let mut out = Vec::new(alloc);
-    put_airport(&mut out, declaration)?;
-    put_tagged(
-        alloc,
-        &mut out,
-        b"MESSAGES ",
-        submission.messages().items().len() as u64,
-    )?;
-    put(&mut out, b"\n")?;
-    put_units(alloc, &mut out, units)?;
-    put_dates(alloc, &mut out, declaration, units)?;
-    put_tagged(
-        alloc,
-        &mut out,
-        b"CAPS ",
-        declaration.rules.items().len() as u64,
-    )?;
-    let windows = submission.windows().resources();
-    put_tagged(alloc, &mut out, b" WINDOWS ", u64::from(windows))?;
-    put(&mut out, b"\n")?;
-    put(&mut out, &over_lines(alloc, submission)?)?;
-    put(&mut out, &demand_lines(alloc, submission)?)?;
-    Ok(out)
 }

@@ -8,6 +8,7 @@ mod check;
 mod files;
 mod finish;
 mod inspect;
+mod inspection;
 pub mod laws;
 mod make;
 mod recheck;

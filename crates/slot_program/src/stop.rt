@@ -3,7 +3,8 @@
 ghost use Rattle.std.specs.Prelude.{◌≡◌, ◌∷◌, [], ◌++◌, IfOk, ℕ, List, codes, Some};
 ghost use Rattle.std.specs.Fmt.{decimal};
 ghost use Rattle.std.specs.String.{string_bytes};
-ghost use Rattle.slot_program.specs.Reports.{Report, status_of, text_of, reason_text, cabinet_line, numbered_line, cause_line};
+ghost use Rattle.slot_program.specs.Reports.{Report, status_of, text_of, reason_text};
+ghost use Rattle.slot_program.specs.Reports.{cabinet_line, numbered_line, cause_line};
 ghost use Rattle.command_words.specs.Words.{Word};
 ghost use Rattle.slot_program.specs.Jobs.{name_at};
 ghost use Rattle.slot_program.specs.Reports.{journal_status, journal_text};

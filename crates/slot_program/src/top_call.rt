@@ -14,7 +14,8 @@ ghost use Rattle.slot_program.specs.Reports.{status_of, text_of};
 ghost use Rattle.slot_program.specs.Judgements.{NamedBytes};
 ghost use Rattle.slot_program.specs.Steps.{AllPass, FirstDue, form_steps};
 ghost use Rattle.slot_program.specs.Writing.{read_of, written_of};
-ghost use Rattle.slot_program.specs.Jobs.{AreFilesOf, name_at, steps_of, finishing_of, HeadlineHolds};
+ghost use Rattle.slot_program.specs.Jobs.{AreFilesOf, name_at, steps_of, finishing_of};
+ghost use Rattle.slot_program.specs.Jobs.{HeadlineHolds};
 ghost use Rattle.slot_program.specs.Jobs.{calm_statuses, served_statuses, JournalDue, JournalStands};
 ghost use Rattle.slot_program.specs.Outside.{Outside, still, outside_of, outside_change};
 ghost use Rattle.slot_program.specs.Outside.{doors_change, door_faults, disk_faults, SomeRose};
@@ -74,14 +75,15 @@ use worker_gate::Gate;
 /// The answer is the status of the program: 0 where the work is done; 1 where the certificate that
 /// was read is not valid, or a stage of a waiting list; 2 where the words are no command's; 3 where
 /// a file is not in its form; 4 where a limit is passed; 5 where the cabinet failed, or has no such
-/// file or one of more bytes than are read; 6 where the sink failed; 7 for want of memory; and where
-/// the work is done but not each stage is settled with an allotment, 8 where a stage is INFEASIBLE,
-/// and else 9 where one is OPEN; where clients were served, 10 where a door failed, and else 11 where a client found the
-/// history full, with the work done as at 0. Where a journal is to be kept, 13 where there is none,
-/// it is another file, or a slot of it is bad; and 14 where its disk failed: when it was opened, or
-/// while clients were served, with the work done up to then. Where lines of the next season are to
-/// be written, 15 where there is none, and nothing is written. The clauses say the same of every
-/// command; what a command's steps, writes and work are stands in `specs/Jobs.antt`.
+/// file or one of more bytes than are read; 6 where the sink failed; 7 for want of memory; and
+/// where the work is done but not each stage is settled with an allotment, 8 where a stage is
+/// INFEASIBLE, and else 9 where one is OPEN; where clients were served, 10 where a door failed, and
+/// else 11 where a client found the history full, with the work done as at 0. Where a journal is to
+/// be kept, 13 where there is none, it is another file, or a slot of it is bad; and 14 where its
+/// disk failed: when it was opened, or while clients were served, with the work done up to then.
+/// Where lines of the next season are to be written, 15 where there is none, and nothing is
+/// written. The clauses say the same of every command; what a command's steps, writes and work are
+/// stands in `specs/Jobs.antt`.
 pub fn desk<R: Threads + Wait + Sync, C: Cabinet, S: Sink, D: Door + Drop, G: Gate, K: Disk>(
     rt: &R,
     alloc: Global,

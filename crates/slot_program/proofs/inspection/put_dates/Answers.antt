@@ -1,0 +1,7 @@
+use Rattle.slot_program.proofs.InspectionLemmas.{step_number}
+use Rattle.slot_program.proofs.inspection.put_dates.Goals as goal
+
+pub returns : goal.returns
+returns c =
+    let text = step_number c.args.out.now.items c.put_tagged.new.out.items c.put.new.out.items _ _ _ _ c.date_total.ensures c.in_ok-put_tagged.ensures (step_number c.put_tagged.new.out.items c.put_tagged-2.new.out.items c.put.new.out.items _ _ _ _ c.in_ok-movements.ensures c.in_ok-put_tagged-2.ensures (c.in_ok-put.ensures)) in
+    text
