@@ -54,7 +54,7 @@ module _ (names : List Word) (nodes : ℕ) (capacity requests certificate asks e
   module _ (asked : List Word) (files told : Option Files) (held : HoldsRechecked told asked capacity.bytes requests.bytes certificate.bytes asks.bytes extra.bytes) where
     pub recheck-passes : AllPass files (reclear_steps names) (capacity ∷ requests ∷ certificate ∷ asks ∷ []) →
         AllPass told (recheck_steps asked) (rechecked_files asked capacity.bytes requests.bytes certificate.bytes asks.bytes extra.bytes)
-    recheck-passes (one, one-handed, (one-judged, (two, two-handed, (two-judged, (three, three-handed, (form-judged, (valid-judged, (four, four-handed, (limit-judged, same)))))))))) =
+    recheck-passes (one, one-handed, (one-judged, (two, two-handed, (two-judged, (three, three-handed, (form-judged, (valid-judged, (four, four-handed, (limit-judged, same))))))))) =
         let f1 = file (name_at names 0) one in
         let f2 = file (name_at names 1) two in
         let f3 = file (name_at names 2) three in
@@ -65,21 +65,36 @@ module _ (names : List Word) (nodes : ℕ) (capacity requests certificate asks e
         let e4 = bytes-4 capacity requests certificate asks f1 f2 f3 f4 same in (
           capacity.bytes,
           handed files told (name_at names 0) (name_at asked 0) LONGEST_FILE capacity.bytes one e1 one-handed held.first,
-          ((a.season.declaration, a.made.declared), (
-            requests.bytes,
-            handed files told (name_at names 1) (name_at asked 1) LONGEST_FILE requests.bytes two e2 two-handed held.second,
-            ((a.season, a.made), (
-              certificate.bytes,
-              handed files told (name_at names 2) (name_at asked 2) LONGEST_CERT_FILE certificate.bytes three e3 three-handed held.third,
-              ((a.proved, a.spelled), ((a.season, a.proved, a.made, a.spelled, a.valid), (
-                asks.bytes,
-                handed files told (name_at names 3) (name_at asked 3) LONGEST_FILE asks.bytes four e4 four-handed held.fourth,
-                ((a.season, a.proved, a.output.history, a.made, a.spelled, a.output.asked, a.output.few), (
-                  extra.bytes,
-                  record { held = held.fifth; short = written-short },
-                  (in-form, (is-valid, refl)),
-                )),
-              ))),
-            )),
-          )),
+          (
+            (a.season.declaration, a.made.declared),
+            (
+              requests.bytes,
+              handed files told (name_at names 1) (name_at asked 1) LONGEST_FILE requests.bytes two e2 two-handed held.second,
+              (
+                (a.season, a.made),
+                (
+                  certificate.bytes,
+                  handed files told (name_at names 2) (name_at asked 2) LONGEST_CERT_FILE certificate.bytes three e3 three-handed held.third,
+                  (
+                    (a.proved, a.spelled),
+                    (
+                      (a.season, a.proved, a.made, a.spelled, a.valid),
+                      (
+                        asks.bytes,
+                        handed files told (name_at names 3) (name_at asked 3) LONGEST_FILE asks.bytes four e4 four-handed held.fourth,
+                        (
+                          (a.season, a.proved, a.output.history, a.made, a.spelled, a.output.asked, a.output.few),
+                          (
+                            extra.bytes,
+                            record { held = held.fifth; short = written-short },
+                            (in-form, (is-valid, refl)),
+                          ),
+                        ),
+                      ),
+                    ),
+                  ),
+                ),
+              ),
+            ),
+          ),
         )
