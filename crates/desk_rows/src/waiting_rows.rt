@@ -1,6 +1,7 @@
 //! The rows of `reclear` and `recheck`: waiting lists worked by hand, and one more stage for them.
 
 use crate::play::play_script;
+use std::alloc::Global;
 use std::test::Fail;
 
 /// An hour of one arrival, which is given back on one date. One line waits for it, and then two; of
@@ -40,55 +41,103 @@ holds EXTRA EXTRA 1;STAGE 5 OPTIMAL;CHOICES 2;C 0 0;C 1 1;COST 10;VECTORS 1;VECT
 holds REPLIES SCR;S25;21NOV;ABC;KBA002 01JUN01JUN 0000007 180320 JFK0620 J;\
     UBA003 01JUN01JUN 0000007 180320 JFK0630 J;;
 take EXTRA
-file EXTRA2 what stood there;
-file REPLIES what stood there;
-words reclear CAP SCR CERT ASKS EXTRA2 REPLIES
-line AIRPORT ABC|AIRPORT AB|3 FORM CAP 1;
-line STAGE 1 OPTIMAL|STAGE 1 INFEASIBLE|1 NO 3 MARK;
-line CERT 2|CERT 3|3 FORM CERT 1;
-holds EXTRA2 what stood there;
-cabinet 0|5 CABINET CAP READ;
-cabinet 1|5 CABINET SCR READ;
-cabinet 2|5 CABINET CERT READ;
-cabinet 3|5 CABINET ASKS READ;
-holds EXTRA2 what stood there;
-cabinet 4|5 CABINET EXTRA2 WRITE;
-holds EXTRA2 what stood there;
-cabinet 4:8|5 CABINET EXTRA2 WRITE;
-holds EXTRA2 EXTRA 1;
-holds REPLIES what stood there;
-cabinet 5|5 CABINET REPLIES WRITE;
-holds EXTRA2 EXTRA 1;*END;
-holds REPLIES what stood there;
-cabinet 6|0 WAITING 2;STAGE 5 OPTIMAL 10;
-sink 0|6 
-holds EXTRA2 EXTRA 1;*END;
-words reclear CAP SCR CERT ASKS EXTRA2 REPLIES --nodes 1 --workers 16
-says 0 WAITING 2;STAGE 5 OPTIMAL 10;
-words reclear CAP SCR CERT ASKS EXTRA2 REPLIES --nodes 0
-says 2 WORDS;
-words reclear CAP SCR CERT ASKS EXTRA2
-says 2 WORDS;
 words recheck CAP SCR CERT ASKS EXTRA
 says 0 YES;
 again
 holds EXTRA EXTRA 1;*END;
-line COST 10|COST 0|1 NO EXTRA 6 COST;
-line STAGE 5 OPTIMAL|STAGE 5 INFEASIBLE|1 NO EXTRA 3 MARK;
-line CHOICES 2|CHOICES 3|3 FORM EXTRA 6;
-line EXTRA 1|EXTRA 2|3 FORM EXTRA 1;
-line STAGE 5 OPTIMAL|STAGE 4 OPTIMAL|3 FORM EXTRA 2;
 line STAGE 1 OPTIMAL|STAGE 1 INFEASIBLE|1 NO 3 MARK;
+line AIRPORT ABC|AIRPORT AB|3 FORM CAP 1;
 cabinet 3|5 CABINET ASKS READ;
 cabinet 4|5 CABINET EXTRA READ;
 cabinet 5|0 YES;
 sink 0|6 
-words recheck CAP SCR CERT ASKS EXTRA3
-says 5 CABINET EXTRA3 MISSING;
+words recheck CAP SCR CERT ASKS OTHER
+says 5 CABINET OTHER MISSING;
 words recheck CAP SCR CERT ASKS EXTRA --nodes 5
 says 2 WORDS;
 words recheck CAP SCR CERT ASKS EXTRA REPLIES
+says 2 WORDS;
+file EXTRA what stood there;
+file REPLIES what stood there;
+words reclear CAP SCR CERT ASKS EXTRA REPLIES
+line AIRPORT ABC|AIRPORT AB|3 FORM CAP 1;
+line STAGE 1 OPTIMAL|STAGE 1 INFEASIBLE|1 NO 3 MARK;
+line CERT 2|CERT 3|3 FORM CERT 1;
+holds EXTRA what stood there;
+cabinet 0|5 CABINET CAP READ;
+cabinet 1|5 CABINET SCR READ;
+cabinet 2|5 CABINET CERT READ;
+cabinet 3|5 CABINET ASKS READ;
+holds EXTRA what stood there;
+cabinet 4|5 CABINET EXTRA WRITE;
+holds EXTRA what stood there;
+cabinet 4:8|5 CABINET EXTRA WRITE;
+holds EXTRA EXTRA 1;
+holds REPLIES what stood there;
+cabinet 5|5 CABINET REPLIES WRITE;
+holds EXTRA EXTRA 1;*END;
+holds REPLIES what stood there;
+cabinet 6|0 WAITING 2;STAGE 5 OPTIMAL 10;
+sink 0|6 
+holds EXTRA EXTRA 1;*END;
+words reclear CAP SCR CERT ASKS EXTRA REPLIES --nodes 1 --workers 16
+says 0 WAITING 2;STAGE 5 OPTIMAL 10;
+words reclear CAP SCR CERT ASKS EXTRA REPLIES --nodes 0
+says 2 WORDS;
+words reclear CAP SCR CERT ASKS EXTRA
 says 2 WORDS;";
+
+/// The stage of two lines that wait for one slot, of which each line is damaged, and other stages
+/// for them.
+const DAMAGED: &str = "\
+file CAP AIRPORT ABC;SEASON S25;STEP 5;FLEX 0;GROUND 40;REFUSE 10;\
+    CAP ARR 60 0600 0600 1234567 1;
+file SCR SCR;S25;20NOV;ABC;FBA001 30MAR25OCT 1234567 180320 JFK0610 J;
+words allocate CAP SCR CERT REPLIES
+says 0 STAGE 1 OPTIMAL 0;*
+take CERT
+file ASKS SCR;S25;21NOV;ABC;NBA002 01JUN01JUN 7 180320 JFK0620 J;\
+    NBA003 01JUN01JUN 7 180320 JFK0630 J;DBA001 01JUN01JUN 7 180320 JFK0610 J;
+file EXTRA EXTRA 1;STAGE 5 OPTIMAL;CHOICES 2;C 0 0;C 1 1;COST 10;VECTORS 1;VECTOR 1;P 63 10240;\
+    TREE 1;L 1 1024 10;END;
+words recheck CAP SCR CERT ASKS EXTRA
+says 0 YES;
+fronts EXTRA
+line EXTRA 1|EXTRA 2|3 FORM EXTRA 1;
+line STAGE 5 OPTIMAL|STAGE 4 OPTIMAL|3 FORM EXTRA 2;
+line STAGE 5 OPTIMAL|STAGE 5 NOT TRIED|3 FORM EXTRA 2;
+line STAGE 5 OPTIMAL|STAGE 5 INFEASIBLE|1 NO EXTRA 3 MARK;
+line CHOICES 2|CHOICES 3|3 FORM EXTRA 6;
+line C 1 1|C 1 2|1 NO EXTRA 5 CHOICE;
+line C 1 1|C 1 0|1 NO EXTRA 6 COST;
+line COST 10|COST 0|1 NO EXTRA 6 COST;
+line VECTORS 1|VECTORS 2|3 FORM EXTRA 10;
+line VECTOR 1|VECTOR 0|3 FORM EXTRA 9;
+line P 63 10240|P 63 9216|1 NO EXTRA 11 LEAF;
+line P 63 10240|P 62 10240|1 NO EXTRA 11 LEAF;
+line P 63 10240|P 63 0|1 NO EXTRA 9 PRICE;
+line P 63 10240|P 210 10240|1 NO EXTRA 9 PRICE;
+line L 1 1024 10|L 1 1024 -|0 YES;
+line L 1 1024 10|L 2 1024 10|1 NO EXTRA 11 LEAF;
+line L 1 1024 10|L 1 1 10|1 NO EXTRA 11 LEAF;
+line L 1 1024 10|O 63|1 NO EXTRA 11 OVER;
+line L 1 1024 10|U|1 NO EXTRA 11 UNDONE;
+line L 1 1024 10|S 0 1 10|1 NO EXTRA 10 SHAPE;
+line DBA001 01JUN01JUN 7 180320 JFK0610 J|(none)|1 NO EXTRA 6 FIT;
+line NBA003 01JUN01JUN 7 180320 JFK0630 J|(none)|1 NO EXTRA 3 UNITS;
+file EXTRA EXTRA 1;STAGE 5 OPTIMAL;CHOICES 2;C 0 2;C 1 1;COST 10;VECTORS 1;VECTOR 1;P 63 10240;\
+    TREE 1;L 1 1024 10;END;
+says 1 NO EXTRA 4 CHOICE;
+file EXTRA EXTRA 1;STAGE 5 OPTIMAL;CHOICES 2;C 0 0;C 1 0;COST 0;VECTORS 0;TREE 1;L 0 1 0;END;
+says 1 NO EXTRA 6 FIT;
+file EXTRA EXTRA 1;STAGE 5 OPTIMAL;CHOICES 2;C 0 1;C 1 0;COST 10;VECTORS 1;VECTOR 1;P 63 9217;\
+    TREE 1;L 1 1024 10;END;
+says 0 YES;
+file EXTRA EXTRA 1;STAGE 5 OPTIMAL;CHOICES 2;C 0 0;C 1 1;COST 10;VECTORS 1;VECTOR 1;P 63 10240;\
+    TREE 1;L 1 1024 10;END;END;
+says 3 FORM EXTRA 13;
+file EXTRA EXTRA 1;STAGE 5 INFEASIBLE;CHOICES NONE;VECTORS 0;TREE 1;O 63;END;
+says 1 NO EXTRA 6 OVER;";
 
 /// Offers hold what nobody else is given; what came into the book later waits no more; and three
 /// turnarounds, of which each two exclude each other, within one node and within many.
@@ -133,8 +182,161 @@ says 9 WAITING 3;STAGE 5 OPEN 40 BOUND 30;
 take EXTRA
 words recheck CAP SCR CERT ASKS EXTRA
 says 0 YES;
+line BOUND 30|BOUND 31|1 NO EXTRA *
 words reclear CAP SCR CERT ASKS EXTRA REPLIES
-says 0 WAITING 3;STAGE 5 OPTIMAL 40;";
+says 0 WAITING 3;STAGE 5 OPTIMAL 40;
+take EXTRA
+words recheck CAP SCR CERT ASKS EXTRA
+says 0 YES;";
+
+/// Three such turnarounds on each of six dates: one of three is allotted, and a tree that proves it
+/// has more than 64 nodes, since no bound of one date is above 30.
+const DATES: &str = "\
+file CAP AIRPORT ABC;SEASON S25;STEP 5;FLEX 0;GROUND 40;REFUSE 10;CAP TOT 10 0600 0600 1234567 1;\
+    CAP TOT 10 0700 0700 1234567 1;CAP TOT 10 0800 0800 1234567 1;
+file SCR SCR;S25;20NOV;ABC;FBA011 30MAR04MAY 7 180320 JFK0600 J;\
+    FBA012 30MAR04MAY 7 180320 JFK0700 J;FBA013 30MAR04MAY 7 180320 JFK0800 J;
+words allocate CAP SCR CERT REPLIES
+says 0 STAGE 1 OPTIMAL 0;*
+take CERT
+file ASKS SCR;S25;21NOV;ABC;NBA001 BA001 30MAR30MAR 7 180320 JFK0600 0700JFK JJ;\
+    NBA002 BA002 30MAR30MAR 7 180320 JFK0700 0800JFK JJ;\
+    NBA003 BA003 30MAR30MAR 7 180320 JFK0600 0800JFK JJ;\
+    NBA001 BA001 06APR06APR 7 180320 JFK0600 0700JFK JJ;\
+    NBA002 BA002 06APR06APR 7 180320 JFK0700 0800JFK JJ;\
+    NBA003 BA003 06APR06APR 7 180320 JFK0600 0800JFK JJ;\
+    NBA001 BA001 13APR13APR 7 180320 JFK0600 0700JFK JJ;\
+    NBA002 BA002 13APR13APR 7 180320 JFK0700 0800JFK JJ;\
+    NBA003 BA003 13APR13APR 7 180320 JFK0600 0800JFK JJ;\
+    NBA001 BA001 20APR20APR 7 180320 JFK0600 0700JFK JJ;\
+    NBA002 BA002 20APR20APR 7 180320 JFK0700 0800JFK JJ;\
+    NBA003 BA003 20APR20APR 7 180320 JFK0600 0800JFK JJ;\
+    NBA001 BA001 27APR27APR 7 180320 JFK0600 0700JFK JJ;\
+    NBA002 BA002 27APR27APR 7 180320 JFK0700 0800JFK JJ;\
+    NBA003 BA003 27APR27APR 7 180320 JFK0600 0800JFK JJ;\
+    NBA001 BA001 04MAY04MAY 7 180320 JFK0600 0700JFK JJ;\
+    NBA002 BA002 04MAY04MAY 7 180320 JFK0700 0800JFK JJ;\
+    NBA003 BA003 04MAY04MAY 7 180320 JFK0600 0800JFK JJ;\
+    DBA011 30MAR04MAY 7 180320 JFK0600 J;DBA012 30MAR04MAY 7 180320 JFK0700 J;\
+    DBA013 30MAR04MAY 7 180320 JFK0800 J;
+words reclear CAP SCR CERT ASKS EXTRA REPLIES --nodes 64
+says 9 WAITING 18;STAGE 5 OPEN 240 BOUND *;
+take EXTRA
+words recheck CAP SCR CERT ASKS EXTRA
+says 0 YES;";
+
+/// Which lines wait: not what clashes with one that waits before it, in whatever period; what has no
+/// common date with it does. A refusal costs 9,999 where none is declared.
+const CLASHES: &str = "\
+file CAP AIRPORT ABC;SEASON S25;STEP 5;FLEX 0;GROUND 40;REFUSE 10;\
+    CAP ARR 60 0600 0600 1234567 1;
+file SCR SCR;S25;20NOV;ABC;FBA001 30MAR25OCT 1234567 180320 JFK0610 J;
+words allocate CAP SCR CERT REPLIES
+says 0 STAGE 1 OPTIMAL 0;*
+take CERT
+words reclear CAP SCR CERT ASKS EXTRA REPLIES
+file ASKS SCR;S25;21NOV;ABC;NBA002 25MAY01JUN 7 180320 JFK0620 J;\
+    NBA002 01JUN08JUN 7 180320 JFK0630 J;
+says 0 WAITING 1;STAGE 5 OPTIMAL 20;
+holds REPLIES SCR;S25;21NOV;ABC;UBA002 25MAY01JUN 0000007 180320 JFK0620 J;;
+file ASKS SCR;S25;21NOV;ABC;NBA002 25MAY25MAY 7 180320 JFK0620 J;\
+    BBA002 01JUN08JUN 7 180320 JFK0630 J;
+says 0 WAITING 2;STAGE 5 OPTIMAL 30;
+holds REPLIES SCR;S25;21NOV;ABC;UBA002 25MAY25MAY 0000007 180320 JFK0620 J;\
+    UBA002 01JUN08JUN 0000007 180320 JFK0630 J;;
+file ASKS SCR;S25;21NOV;ABC;NBA002 01JUN01JUN 7 180320 JFK0620 J;
+line REFUSE 10|REFUSE NONE|0 WAITING 1;STAGE 5 OPTIMAL 9999;
+holds EXTRA EXTRA 1;STAGE 5 OPTIMAL;CHOICES 1;C 0 1;COST 9999;*END;
+holds REPLIES SCR;S25;21NOV;ABC;UBA002 01JUN01JUN 0000007 180320 JFK0620 J;;
+words reclear CAP SCR CERT ASKS EXTRA REPLIES --nodes 64
+line REFUSE 10|REFUSE NONE|0 WAITING 1;STAGE 5 OPTIMAL 9999;
+holds EXTRA EXTRA 1;STAGE 5 OPTIMAL;CHOICES 1;C 0 1;COST 9999;VECTORS 0;TREE 3;S 0 1 9999;O 63;\
+    L 0 1 9999;END;";
+
+/// One movement at night in the season, which an offer takes: a line that could have it waits.
+const NIGHTS: &str = "\
+file CAP AIRPORT ABC;SEASON S25;STEP 5;FLEX 30;GROUND 40;REFUSE 10;\
+    CAP ARR 60 2200 2200 1234567 1;NIGHT 2300 0500 1;
+file SCR SCR;S25;20NOV;ABC;FBA001 01JUN01JUN 7 180320 JFK2230 J;
+words allocate CAP SCR CERT REPLIES
+says 0 STAGE 1 OPTIMAL 0;*
+take CERT
+words reclear CAP SCR CERT ASKS EXTRA REPLIES
+file ASKS SCR;S25;21NOV;ABC;NBA002 01JUN01JUN 7 180320 JFK2240 J;\
+    NBA003 01JUN01JUN 7 180320 JFK2250 J;
+says 0 WAITING 1;STAGE 5 OPTIMAL 10;
+holds REPLIES SCR;S25;21NOV;ABC;UBA003 01JUN01JUN 0000007 180320 JFK2250 J;;
+line NIGHT 2300 0500 1|NIGHT 2300 0500 2|0 WAITING 0;STAGE 5 OPTIMAL 0;
+line NBA002 01JUN01JUN 7 180320 JFK2240 J|(none)|0 WAITING 0;STAGE 5 OPTIMAL 0;";
+
+/// A full hour, for which as many lines wait as a stage may have units, and then one more.
+const MANY: &str = "\
+file CAP AIRPORT ABC;SEASON S25;STEP 5;FLEX 0;GROUND 40;REFUSE 10;\
+    CAP ARR 60 0600 0600 1234567 1;
+file SCR SCR;S25;20NOV;ABC;FBA001 30MAR25OCT 1234567 180320 JFK0610 J;
+words allocate CAP SCR CERT REPLIES
+says 0 STAGE 1 OPTIMAL 0;*
+take CERT
+file EXTRA what stood there;
+file REPLIES what stood there;
+words reclear CAP SCR CERT ASKS EXTRA REPLIES
+";
+
+/// A line of a script that puts asks, which differ in the flight, from 1000 on and below a last one.
+fn asks_below(alloc: Global, last: u32) -> Result<String, Fail> {
+    let mut text = String::from_str(alloc, "file ASKS SCR;S25;21NOV;ABC;")?;
+    for flight in 1000..last {
+        let ask = format!(in alloc; "NBA{flight} 01JUN01JUN 7 180320 JFK0620 J;")?;
+        text.push_str(&ask)?;
+    }
+    Ok(text)
+}
+
+/// The script of so many asks that all wait, and of what is said of them.
+fn script_of(alloc: Global, last: u32, said: &str) -> Result<String, Fail> {
+    let asks = asks_below(alloc, last)?;
+    Ok(format!(in alloc; "{MANY}{asks}\n{said}")?)
+}
+
+#[test]
+fn as_many_lines_as_units(rt: HostRuntime) -> Result<(), Fail> {
+    let alloc = rt.alloc();
+    let script = script_of(alloc, 5096, "says 0 WAITING 4096;STAGE 5 OPTIMAL 40960;")?;
+    play_script(&rt, alloc, &script)
+}
+
+#[test]
+fn one_line_too_many(rt: HostRuntime) -> Result<(), Fail> {
+    let alloc = rt.alloc();
+    let script = script_of(
+        alloc,
+        5097,
+        "says 4 LIMIT WAITING 4097;\nholds EXTRA what stood there;\n\
+        holds REPLIES what stood there;\nwords recheck CAP SCR CERT ASKS OTHER\n\
+        says 4 LIMIT WAITING 4097;",
+    )?;
+    play_script(&rt, alloc, &script)
+}
+
+#[test]
+fn each_line_of_a_stage(rt: HostRuntime) -> Result<(), Fail> {
+    play_script(&rt, rt.alloc(), DAMAGED)
+}
+
+#[test]
+fn clashes_and_prices(rt: HostRuntime) -> Result<(), Fail> {
+    play_script(&rt, rt.alloc(), CLASHES)
+}
+
+#[test]
+fn a_night_quota_of_offers(rt: HostRuntime) -> Result<(), Fail> {
+    play_script(&rt, rt.alloc(), NIGHTS)
+}
+
+#[test]
+fn a_stage_that_stays_open(rt: HostRuntime) -> Result<(), Fail> {
+    play_script(&rt, rt.alloc(), DATES)
+}
 
 #[test]
 fn offers_later_entries_and_budgets(rt: HostRuntime) -> Result<(), Fail> {

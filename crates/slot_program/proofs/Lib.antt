@@ -17,3 +17,4 @@ mod UsageLemmas
 mod WaitingLemmas
 mod AllottedLemmas
 mod ReportsLemmas
+mod RecheckLemmas

@@ -33,7 +33,7 @@ use Rattle.slot_program.specs.Reports.{Refusal, out_of_form, over_limit, extra_f
 use Rattle.slot_program.specs.Reclearing.{IsAskedOf, last_book, left_waiting, IsWaitingOutput, IsRecleared, StageIsProved}
 use Rattle.slot_program.specs.Judgements.{NamedBytes, IsSeasonOf, SpellsCert, SpellsExtra, waiting_limit, extra_form, valid_extra}
 use Rattle.slot_program.specs.Leads.{AcceptsAlone, RefusesAlone}
-use Rattle.slot_program.specs.Waits.{SpellsAlone, ExtraAlone, IsLeftBy}
+use Rattle.slot_program.specs.Waits.{SpellsAlone, ExtraAlone, IsWaitingRefusal, IsLeftBy}
 use Rattle.slot_program.proofs.JudgementLemmas.{in_form_good, same_bad_line, same_ok, same_err, ok_err}
 
 -- ---- laws of waiting lists
@@ -120,13 +120,17 @@ module _ (lines : List Line) where
         | inr few ↦ (same_ok (waiting_answer lines) lines waiting (all_kept few) (sym e), few)
       ]
 
-  pub waits_many : (e : WaitFault) (n : ℕ) → e ≡ TooMany n → GivesOr NoWaiting (Err e) (waiting_answer lines) → (n ≡ length lines) × (MOST_UNITS < length lines)
+  waits_many : (e : WaitFault) (n : ℕ) → e ≡ TooMany n → GivesOr NoWaiting (Err e) (waiting_answer lines) → (n ≡ length lines) × (MOST_UNITS < length lines)
   waits_many e n is (inr same) = absurd (not_memory e n is (same_err (Err e) NoWaiting e same refl))
   waits_many e n is (inl same) =
       elim (cases_lt MOST_UNITS (length lines)) [
         | inl many ↦ (same_many e n (length lines) is (same_err (waiting_answer lines) (TooMany (length lines)) e (too_many many) (sym same)), many)
         | inr few ↦ absurd (ok_err (waiting_answer lines) lines e (all_kept few) (sym same))
       ]
+
+  pub waits_fault : (e : WaitFault) (why : Refusal) → IsWaitingRefusal e why → GivesOr NoWaiting (Err e) (waiting_answer lines) → (why ≡ over_limit (codes "WAITING") (length lines)) × (MOST_UNITS < length lines)
+  waits_fault (TooMany n) why is given = let w = waits_many (TooMany n) n refl given in (is ∙ ap (over_limit (codes "WAITING")) w.0, w.1)
+  waits_fault NoWaiting why is given = absurd is
 
 -- ---- the header of replies is of the season
 

@@ -487,6 +487,25 @@ pub record HoldsChecked (files : Option Files) (names : List Word)
   pub second : Holds files (name_at names 1) requests
   pub third : Holds files (name_at names 2) certificate
 
+-- the files of a waiting list and the stage that was written of it, under the names of a recheck
+abbrev pub rechecked_files : List Word → List ℕ → List ℕ → List ℕ → List ℕ → List ℕ →
+    List NamedBytes
+rechecked_files names capacity requests certificate asks extra =
+    record { name = name_at names 0; bytes = capacity }
+    ∷ record { name = name_at names 1; bytes = requests }
+    ∷ record { name = name_at names 2; bytes = certificate }
+    ∷ record { name = name_at names 3; bytes = asks }
+    ∷ record { name = name_at names 4; bytes = extra } ∷ []
+
+-- where files are told, these are held under the names of a recheck
+pub record HoldsRechecked (files : Option Files) (names : List Word)
+    (capacity requests certificate asks extra : List ℕ) : Type 0 where
+  pub first : Holds files (name_at names 0) capacity
+  pub second : Holds files (name_at names 1) requests
+  pub third : Holds files (name_at names 2) certificate
+  pub fourth : Holds files (name_at names 3) asks
+  pub fifth : Holds files (name_at names 4) extra
+
 -- ---- the headline
 
 -- The certificate is valid for the season that the two texts make, and what its marks say is so:

@@ -1,5 +1,5 @@
 -- What waits after asks, as the code has it. Contracts of private functions alone cite this.
-use Rattle.std.specs.Prelude.{◌≡◌, ℕ, ◌≤◌, List, [], ◌∷◌, length, All, Option, IfSome}
+use Rattle.std.specs.Prelude.{◌≡◌, ℕ, ◌≤◌, List, [], ◌∷◌, length, All, Option, IfSome, codes}
 use Rattle.scr_reader.specs.Printed.{LineFits}
 use Rattle.scr_reader.specs.Streams.{messages_at_end}
 use Rattle.scr_reader.specs.declared.header.Header.{Header}
@@ -13,9 +13,12 @@ use Rattle.holding_book.specs.declared.answer.Entry.{Entry}
 use Rattle.holding_book.specs.Books.{SlotBook}
 use Rattle.holding_book.specs.Starts.{start_book}
 use Rattle.amend_run.specs.Amended.{IsFirstHeader}
+use Rattle.wait_list.specs.declared.fault.WaitFault.{WaitFault}
+use Rattle.wait_list.specs.declared.fault.WaitFault.TheVariants as wait_fault
 use Rattle.command_words.specs.Words.{Word}
 use Rattle.slot_program.specs.Amendments.{IsOneHistory}
 use Rattle.slot_program.specs.Reclearing.{IsAskedOf, last_book, left_waiting}
+use Rattle.slot_program.specs.Reports.{Refusal, over_limit}
 use Rattle.slot_program.specs.Judgements.{NamedBytes, IsSeasonOf, SpellsCert, SpellsExtra}
 use Rattle.slot_program.specs.Steps.{Step}
 use Rattle.slot_program.specs.Jobs.{waiting_steps}
@@ -29,6 +32,12 @@ SpellsAlone bytes c = (other : Certificate) → SpellsCert bytes other → other
 -- and no other stage
 abbrev pub ExtraAlone : List ℕ → StageCert → Type 0
 ExtraAlone bytes stage = (other : StageCert) → SpellsExtra bytes other → other ≡ stage
+
+-- so many lines are left that not all may wait
+abbrev pub IsWaitingRefusal : WaitFault → Refusal → Type 0
+IsWaitingRefusal (wait_fault.TooMany waiting) refusal =
+    refusal ≡ over_limit (codes "WAITING") waiting
+IsWaitingRefusal wait_fault.Memory refusal = ⊥
 
 -- the one history of the asks, the book after it, the lines that wait, and the header of replies
 pub record IsLeftBy (s : SubmissionView) (c : Certificate) (asks : List ℕ) (b : SlotBook)

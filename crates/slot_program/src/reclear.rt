@@ -1,6 +1,6 @@
 //! Clearing the waiting list: what asks leave unmet, as one more stage.
 
-ghost use Rattle.std.specs.Prelude.{◌≡◌, ◌≤◌, ◌∷◌, [], All, Some, IfOk, IfErr, IfSome};
+ghost use Rattle.std.specs.Prelude.{◌≡◌, ◌≤◌, ◌∷◌, [], All, Some, IfOk, IfErr, IfSome, length};
 ghost use Rattle.std.specs.String.{string_bytes};
 ghost use Rattle.desk_outside.specs.Files.{ChangesOnly};
 ghost use Rattle.scr_reader.specs.Printed.{LineFits};
@@ -30,7 +30,7 @@ use slot_text::Memory;
 use std::alloc::Global;
 use std::thread::Threads;
 use wait_list::laws::{all_may_be_refused, extra_bytes};
-use wait_list::{allotted_states, reclear as reclear_stage, waiting_problem};
+use wait_list::{Waiting, allotted_states, reclear as reclear_stage, waiting_problem};
 use worker_gate::Gate;
 
 /// What the search of a waiting list gives.
@@ -95,7 +95,7 @@ fn reclear_output<R: Threads + Sync, G: Gate>(
     let stage = reclear_stage(rt, alloc, &problem, nodes, workers, gate)?;
     let extra = print_extra(alloc, &stage)?;
     let replies = write_replies(alloc, left, &stage)?;
-    let text = waiting_text(alloc, left.waiting.lines().len(), &stage)?;
+    let text = waiting_text(alloc, &left.waiting, &stage)?;
     let status = waiting_status(&stage);
     Ok(ReclearOutput {
         extra,
@@ -138,9 +138,11 @@ fn reply_to(alloc: Global, header: &Header, states: &[UnitState]) -> Result<Vec<
 }
 
 /// How many lines wait, and the line of their stage.
-fn waiting_text(alloc: Global, count: usize, stage: &StageCert) -> Result<String, Memory>
-    ensures { IfOk result (λ text. string_bytes text ≡ waiting_text count stage.now) }
+fn waiting_text(alloc: Global, waiting: &Waiting, stage: &StageCert) -> Result<String, Memory>
+    ensures { IfOk result (λ text. string_bytes text
+        ≡ waiting_text (length waiting.now) stage.now) }
 {
+    let count = waiting.lines().len();
     let line = mark_line(alloc, 5, stage)?;
     let text = format!(in alloc; "WAITING {count}\n{line}")?;
     Ok(text)

@@ -14,8 +14,8 @@ ghost use Rattle.slot_program.specs.Steps.{Step};
 ghost use Rattle.slot_program.specs.Jobs.{name_at, waiting_steps};
 ghost use Rattle.slot_program.specs.Desk.{world_of};
 ghost use Rattle.slot_program.specs.Leads.{AcceptsAlone};
-ghost use Rattle.slot_program.specs.Stops.{IsJudged, StopLeads};
-ghost use Rattle.slot_program.specs.Waits.{SpellsAlone, IsLeftBy, IsLeft};
+ghost use Rattle.slot_program.specs.Stops.{IsRefusalBy, IsJudged, StopLeads};
+ghost use Rattle.slot_program.specs.Waits.{SpellsAlone, IsWaitingRefusal, IsLeftBy, IsLeft};
 ghost use Rattle.slot_program.specs.declared.files.TheConstants.{LONGEST_FILE as MOST_BYTES};
 
 use crate::files::{LONGEST_FILE, read_file};
@@ -138,9 +138,16 @@ fn judge_asks(
             waiting,
             header,
         }),
-        Err(WaitFault::TooMany { waiting }) => {
-            Err(Stop::OverLimit(Limit::Waiting, u64::from(waiting)))
-        }
-        Err(WaitFault::Memory) => Err(Stop::Memory),
+        Err(fault) => Err(waiting_stop(fault)),
+    }
+}
+
+/// Why not all lines that are left may wait.
+fn waiting_stop(fault: WaitFault) -> Stop
+    ensures { (names : List Word) → IsRefusalBy names (IsWaitingRefusal fault) result }
+{
+    match fault {
+        WaitFault::TooMany { waiting } => Stop::OverLimit(Limit::Waiting, u64::from(waiting)),
+        WaitFault::Memory => Stop::Memory,
     }
 }

@@ -123,4 +123,4 @@ returns-clause-done g c =
       printed = c.in_ok-text.ensures;
       status_is = refl;
     } in
-    λ o. read_done (Recheck names) w u five three (still o) 0 _ (refl, work)
+    λ o. rw c.into_bytes.ensures.value (read_done (Recheck names) w u five three (still o) 0 (string_bytes c.in_ok-text.text) (refl, work))

@@ -1,6 +1,5 @@
 use Rattle.std.proofs.Common.{[], ◌∷◌, List, refl}
 use Rattle.std.proofs.lemmas.Result.{err_from_is_err_and}
-use Rattle.std.specs.String.{string_bytes}
 use Rattle.command_words.specs.declared.job.Job.TheVariants.{Reclear}
 use Rattle.command_words.specs.Words.{Word}
 use Rattle.slot_program.specs.Judgements.{NamedBytes}
@@ -29,7 +28,7 @@ returns-in_err-left-clause-others g c =
 pub reclear_output-requires : goal.reclear_output-requires
 reclear_output-requires g c =
     let is = c.in_ok-left.ensures.left in
-    record { nodes = c.requires.nodes; workers = c.requires.workers; spelled = is.left.spelled; header = is.left.of_season }
+    (is.left.spelled, is.left.of_season)
 
 pub returns-in_err-output-clause-stop : goal.returns-in_err-output-clause-stop
 returns-in_err-output-clause-stop g c =
@@ -53,7 +52,7 @@ returns-in_err-write_two-clause-stop g c =
     let left = c.in_ok-left.left in
     let out = c.in_ok-output.output in
     let files : List NamedBytes = is.capacity ∷ is.requests ∷ is.certificate ∷ is.asks ∷ [] in
-    let work : IsReclearing names c.args.nodes is.capacity.bytes is.requests.bytes is.certificate.bytes is.asks.bytes (two_files names 4 out.extra.items out.replies.items) out.answer.status (string_bytes out.answer.text) =
+    let work : IsReclearing names c.args.nodes is.capacity.bytes is.requests.bytes is.certificate.bytes is.asks.bytes (two_files names 4 out.extra.items out.replies.items) out.answer.status out.answer.text.items =
     record {
       season = left.submission;
       proved = is.proved;
@@ -62,13 +61,13 @@ returns-in_err-write_two-clause-stop g c =
       made = is.made;
       spelled = is.spelled;
       valid = is.valid;
-      output = recleared_of left.submission is.proved is.asks.bytes left.book.book left.waiting left.header c.args.nodes out.extra.items out.replies.items out.answer.status (string_bytes out.answer.text) is.left c.in_ok-output.ensures;
+      output = recleared_of left.submission is.proved is.asks.bytes left.book.book left.waiting left.header c.args.nodes out.extra.items out.replies.items out.answer.status out.answer.text.items is.left c.in_ok-output.ensures;
       written = refl;
     } in
     let one = c.deref.ensures.value in
     let two = c.deref-2.ensures.value in
     let p = err_from_is_err_and c.from_residual-in_err-write_two.result c.from_residual-in_err-write_two.ensures.1 in
-    rw (p.1, p.2) (λ o. c.in_err-write_two.ensures.stop (Reclear names c.args.nodes c.args.workers) w (still o) files out.answer.status (string_bytes out.answer.text) refl (is.leads [])
+    rw (p.1, p.2) (λ o. c.in_err-write_two.ensures.stop (Reclear names c.args.nodes c.args.workers) w (still o) files out.answer.status out.answer.text.items refl (is.leads [])
     (refl, rw (one, two) work))
 
 pub returns-in_err-write_two-clause-others : goal.returns-in_err-write_two-clause-others
@@ -86,7 +85,7 @@ returns-clause-done g c =
     let left = c.in_ok-left.left in
     let out = c.in_ok-output.output in
     let files : List NamedBytes = is.capacity ∷ is.requests ∷ is.certificate ∷ is.asks ∷ [] in
-    let work : IsReclearing names c.args.nodes is.capacity.bytes is.requests.bytes is.certificate.bytes is.asks.bytes (two_files names 4 out.extra.items out.replies.items) out.answer.status (string_bytes out.answer.text) =
+    let work : IsReclearing names c.args.nodes is.capacity.bytes is.requests.bytes is.certificate.bytes is.asks.bytes (two_files names 4 out.extra.items out.replies.items) out.answer.status out.answer.text.items =
     record {
       season = left.submission;
       proved = is.proved;
@@ -95,12 +94,12 @@ returns-clause-done g c =
       made = is.made;
       spelled = is.spelled;
       valid = is.valid;
-      output = recleared_of left.submission is.proved is.asks.bytes left.book.book left.waiting left.header c.args.nodes out.extra.items out.replies.items out.answer.status (string_bytes out.answer.text) is.left c.in_ok-output.ensures;
+      output = recleared_of left.submission is.proved is.asks.bytes left.book.book left.waiting left.header c.args.nodes out.extra.items out.replies.items out.answer.status out.answer.text.items is.left c.in_ok-output.ensures;
       written = refl;
     } in
     let one = c.deref.ensures.value in
     let two = c.deref-2.ensures.value in
-    λ o. c.in_ok-write_two.ensures.done (Reclear names c.args.nodes c.args.workers) w (still o) files out.answer.status (string_bytes out.answer.text) refl (is.leads [])
+    λ o. c.in_ok-write_two.ensures.done (Reclear names c.args.nodes c.args.workers) w (still o) files out.answer.status out.answer.text.items refl (is.leads [])
     (refl, rw (one, two) work)
 
 pub returns-clause-others : goal.returns-clause-others

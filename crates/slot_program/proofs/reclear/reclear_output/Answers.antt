@@ -1,7 +1,6 @@
-use Rattle.std.proofs.Common.{rules, ◌≡◌, ℕ, List, length, arith, refl, ap, ◌∙◌}
+use Rattle.std.proofs.Common.{◌≡◌, ℕ, List, length, arith, refl, ap}
 use Rattle.cert_format.specs.declared.cert.TheConstants.{MOST_SEASON_BYTES}
 use Rattle.wait_list.specs.Claims.{IsWaitingProof}
-use Rattle.slot_program.specs.Reclearing.{waiting_text}
 use Rattle.slot_program.specs.declared.files.TheConstants.{LONGEST_CERT_FILE}
 use Rattle.slot_program.proofs.reclear.reclear_output.Goals as goal
 
@@ -15,7 +14,6 @@ pub returns : goal.returns
 returns g c =
     let stage = c.in_ok-stage.stage in
     let again = c.in_ok-extra.ensures.again in
-    let count : c.len.result ≡ length c.args.left.now.waiting = search rules in
     let most : MOST_SEASON_BYTES ≡ 536870912 = refl in
     let longest : LONGEST_CERT_FILE ≡ 536870912 = refl in
     record {
@@ -27,7 +25,7 @@ returns g c =
       spelled = record { has_spelling = again; spelled = c.in_ok-extra.ensures.text };
       short = omega (arith, most, longest, ap (λ (l : List ℕ). length l) c.in_ok-extra.ensures.text, c.extra_bytes.ensures stage again c.in_ok-stage.ensures.limits);
       replied = c.in_ok-replies.ensures;
-      printed = c.in_ok-text.ensures ∙ ap (λ (n : ℕ). waiting_text n stage) count;
+      printed = rw c.into_bytes.ensures.value c.in_ok-text.ensures;
       status_is = c.waiting_status-status.ensures.status;
       settled = λ enough. c.waiting_status-status.ensures.settled (c.in_ok-stage.ensures.settled enough);
     }

@@ -10,12 +10,13 @@ use Rattle.holding_book.specs.Books.{SlotBook}
 use Rattle.amend_run.specs.Amended.{IsFirstHeader}
 use Rattle.wait_list.specs.Waiting.{waiting_lines}
 use Rattle.slot_program.specs.Judgements.{NamedBytes, waiting_limit}
-use Rattle.slot_program.specs.Reports.{over_limit}
+use Rattle.slot_program.specs.Reports.{Refusal, over_limit}
 use Rattle.slot_program.specs.Leads.{RefusesAlone}
 use Rattle.slot_program.specs.Reclearing.{left_waiting}
 use Rattle.slot_program.specs.declared.files.TheConstants.{LONGEST_FILE}
+use Rattle.slot_program.proofs.LeadLemmas.{by_property}
 use Rattle.slot_program.proofs.JudgementLemmas.{one_season}
-use Rattle.slot_program.proofs.WaitingLemmas.{waits_ok, waits_many, header_of_season, accepts_waiting, refuses_waiting}
+use Rattle.slot_program.proofs.WaitingLemmas.{waits_ok, waits_fault, header_of_season, accepts_waiting, refuses_waiting}
 use Rattle.slot_program.proofs.waits.judge_asks.Goals as goal
 
 pub of-requires-clause-can : goal.of-requires-clause-can
@@ -59,16 +60,18 @@ returns-in-Ok-clause-alone c = λ name capacity requests proved rest season spel
     accepts_waiting (one_season c.one_answer.ensures.one c.one_reading.ensures.all c.one_reading.ensures.all_fault c.one_reading.ensures.all_or_fault)
     name capacity requests proved (record { name = name; bytes = c.args.asks.now }) rest c.args.submission c.args.certificate.now season spelled alone history am.asked am.only few
 
-pub returns-in-Err-TooMany-clause-stop : goal.returns-in-Err-TooMany-clause-stop
-returns-in-Err-TooMany-clause-stop c = λ names name capacity requests proved rest season spelled alone.
+pub returns-in-Err-clause-stop : goal.returns-in-Err-clause-stop
+returns-in-Err-clause-stop c = λ names name capacity requests proved rest season spelled alone.
     let am = c.in_ok-amended.ensures in
     let history = c.in_ok-amended.amended.history.items in
     let book = c.in_ok-amended.amended.book.book in
     let asks : NamedBytes = record { name = name; bytes = c.args.asks.now } in
-    let w = waits_many (waiting_lines book c.deref.result.now) c.in-Err-TooMany.field-0 c.in-Err-TooMany.waiting c.in-Err-TooMany.field-0-is c.in-Err-TooMany.ensures.answer in
     let moved = ap (λ (h : List Entry). length (waiting_lines book h)) c.deref.ensures.value ∙ ap (λ (b : SlotBook). length (waiting_lines b history)) am.book in
-    let same = c.from.ensures ∙ (w.0 ∙ moved) in
+    by_property names _ _ c.waiting_stop.result
+    (λ why is.
+    let w = waits_fault (waiting_lines book c.deref.result.now) c.in-Err.fault why is c.in-Err.ensures.answer in
     let many = subst (λ (n : ℕ). MOST_UNITS < n) moved w.1 in
-    subst (λ (n : ℕ). RefusesAlone waiting_limit name (capacity ∷ requests ∷ proved ∷ asks ∷ rest) (over_limit (codes "WAITING") n)) (sym same)
+    subst (λ (refusal : Refusal). RefusesAlone waiting_limit name (capacity ∷ requests ∷ proved ∷ asks ∷ rest) refusal) (sym (w.0 ∙ ap (over_limit (codes "WAITING")) moved))
     (refuses_waiting (one_season c.one_answer.ensures.one c.one_reading.ensures.all c.one_reading.ensures.all_fault c.one_reading.ensures.all_or_fault)
-    name capacity requests proved asks rest c.args.submission c.args.certificate.now season spelled alone history am.asked am.only many)
+    name capacity requests proved asks rest c.args.submission c.args.certificate.now season spelled alone history am.asked am.only many))
+    (c.waiting_stop.ensures names)
