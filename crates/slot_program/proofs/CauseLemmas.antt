@@ -122,8 +122,8 @@ module _ (one_declared : (text : List ℕ) (a b : Declaration) → IsCapacityFil
   same = same_answer one_declared one_read one_fault not_both
 
   not_here : (name : Word) (capacity : NamedBytes) (bytes : List ℕ) (s : SubmissionView) → IsSeasonOf capacity.bytes bytes s → (why : Refusal) → CausesMessage name bytes why ⊎ CausesSubmission name capacity.bytes bytes why → ⊥
-  not_here name capacity bytes s season why (inl (fault, plain, cause, has, more)) = not_both bytes season.messages fault season.read has
-  not_here name capacity bytes s season why (inr (d, messages, fault, plain, cause, declared, read, made, more)) =
+  not_here name capacity bytes s season why (inl (fault, plain, cause, has, is, because, one)) = not_both bytes season.messages fault season.read has
+  not_here name capacity bytes s season why (inr (d, messages, fault, plain, cause, declared, read, made, is, because, one)) =
       ok_err (submission_answer s.declaration season.messages) s fault season.made
       (same capacity.bytes bytes s.declaration d season.messages messages season.declared declared season.read read (Err fault) made)
 
@@ -140,7 +140,7 @@ module _ (one_declared : (text : List ℕ) (a b : Declaration) → IsCapacityFil
         one_with plain p cause c why other
         (one_message_refusal name fault plain p is (subst (λ (g : ScrFault). IsMessageRefusal name g p) alike e))
         (one_message bytes fault c cause (subst (λ (g : ScrFault). IsMessageCause bytes g c) alike by) because) one two
-    same_message other (inr (d, messages, f, p, c, declared, read, more)) = absurd (not_both bytes messages fault read has)
+    same_message other (inr (d, messages, f, p, c, declared, read, made, e, by, two)) = absurd (not_both bytes messages fault read has)
 
     pub refuses_message_cause : (rest : List NamedBytes) → RefusesAlone requests_cause name (capacity ∷ record { name = name; bytes = bytes } ∷ rest) why
     refuses_message_cause rest =
@@ -155,7 +155,7 @@ module _ (one_declared : (text : List ℕ) (a b : Declaration) → IsCapacityFil
       (read : ReadsAll bytes messages) (made : submission_answer d messages ≡ Err fault) (because : IsSubmissionCause bytes fault cause) (plain : Refusal) (is : IsSubmissionRefusal name fault plain)
       (one : why ≡ with_cause plain cause) where
     same_submission : (other : Refusal) → CausesMessage name bytes other ⊎ CausesSubmission name capacity.bytes bytes other → other ≡ why
-    same_submission other (inl (f, p, c, has, more)) = absurd (not_both bytes messages f read has)
+    same_submission other (inl (f, p, c, has, e, by, two)) = absurd (not_both bytes messages f read has)
     same_submission other (inr (e, others, f, p, c, there, given, answer, h, by, two)) =
         let alike : f ≡ fault = same_err (submission_answer d messages) fault f made (same capacity.bytes bytes d e messages others declared there read given (Err f) answer) in
         one_with plain p cause c why other

@@ -34,10 +34,9 @@ fn group_letter(group: Group) -> u8
 fn group_count(group: Group, units: &[Unit]) -> u64
     ensures { result ≡ group_count group units.now }
 {
-    let letter = group_letter(group);
     let mut count: u64 = 0;
     for unit in units {
-        if group_letter(unit.group) == letter {
+        if group_letter(unit.group) == group_letter(group) {
             count += 1;
         }
     }

@@ -71,7 +71,7 @@ returns-in_err-submission-clause-stop g c =
     subst (λ (b : List ℕ). Leads w (inspect_steps names) (first ∷ record { name = name_at names 1; bytes = b } ∷ []) (judges requests_cause (name_at names 1) ∷ []) u) (sym c.deref-2.ensures.value)
     (c.in_ok-requests.ensures.leads w (inspect_steps names) (first ∷ []) (judges requests_cause (name_at names 1) ∷ []) two) in
     rw (p.1, p.2) (stop_job names (Inspect names) w after c.in_err-submission.field-0.0
-    (judged_stops names requests_cause (name_at names 1) (first ∷ second ∷ []) c.in_err-submission.field-0.0 w u (inspect_steps names) steps (c.in_err-submission.ensures.stop names first [] c.in_ok-declaration.ensures.found) three))
+    (judged_stops names requests_cause (name_at names 1) (first ∷ second ∷ []) c.in_err-submission.field-0.0 w u (inspect_steps names) [] (c.in_err-submission.ensures.stop names first [] c.in_ok-declaration.ensures.found) three))
 
 pub returns-in_err-text-clause-stop : goal.returns-in_err-text-clause-stop
 returns-in_err-text-clause-stop g c =
