@@ -25,10 +25,11 @@ returns-in_err-left-clause-others g c =
     let names : List Word = name_at c.args.names.now 4 ∷ name_at c.args.names.now 5 ∷ [] in
     c.file_changes.ensures.unchanged (files c.args.cabinet.now) (files c.read_waiting.new.cabinet) names c.read_waiting.ensures.unchanged
 
-pub reclear_output-requires : goal.reclear_output-requires
-reclear_output-requires g c =
-    let is = c.in_ok-left.ensures.left in
-    (is.left.spelled, is.left.of_season)
+pub reclear_output-requires-clause-spelled : goal.reclear_output-requires-clause-spelled
+reclear_output-requires-clause-spelled g c = let is = c.in_ok-left.ensures.left in is.left.spelled
+
+pub reclear_output-requires-clause-header : goal.reclear_output-requires-clause-header
+reclear_output-requires-clause-header g c = let is = c.in_ok-left.ensures.left in is.left.of_season
 
 pub returns-in_err-output-clause-stop : goal.returns-in_err-output-clause-stop
 returns-in_err-output-clause-stop g c =

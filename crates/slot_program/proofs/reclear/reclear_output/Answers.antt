@@ -6,14 +6,15 @@ use Rattle.slot_program.proofs.reclear.reclear_output.Goals as goal
 
 pub waiting_status-status-requires : goal.waiting_status-status-requires
 waiting_status-status-requires g c =
-    let proof : IsWaitingProof c.args.left.now.book.book c.args.left.now.waiting c.in_ok-stage.stage =
-    record { problem = c.in_ok-problem.problem; problem_is = c.in_ok-problem.ensures; proof = c.in_ok-stage.ensures.run.proof } in
-    c.all_may_be_refused.ensures.never c.args.left.now.book.book c.args.left.now.waiting c.in_ok-stage.stage proof
+    c.all_may_be_refused.ensures.never c.args.left.now.book.book c.args.left.now.waiting c.in_ok-stage.stage
+    (record { problem = c.in_ok-problem.problem; problem_is = c.in_ok-problem.ensures; proof = c.in_ok-stage.ensures.run.proof })
 
 pub returns : goal.returns
 returns g c =
     let stage = c.in_ok-stage.stage in
     let again = c.in_ok-extra.ensures.again in
+    let proof : IsWaitingProof c.args.left.now.book.book c.args.left.now.waiting stage =
+    record { problem = c.in_ok-problem.problem; problem_is = c.in_ok-problem.ensures; proof = c.in_ok-stage.ensures.run.proof } in
     let most : MOST_SEASON_BYTES ≡ 536870912 = refl in
     let longest : LONGEST_CERT_FILE ≡ 536870912 = refl in
     record {
@@ -21,7 +22,7 @@ returns g c =
       problem_is = c.in_ok-problem.ensures;
       stage = stage;
       run = c.in_ok-stage.ensures.run;
-      feasible = waiting_status-status-requires g c;
+      feasible = c.all_may_be_refused.ensures.never c.args.left.now.book.book c.args.left.now.waiting stage proof;
       spelled = record { has_spelling = again; spelled = c.in_ok-extra.ensures.text };
       short = omega (arith, most, longest, ap (λ (l : List ℕ). length l) c.in_ok-extra.ensures.text, c.extra_bytes.ensures stage again c.in_ok-stage.ensures.limits);
       replied = c.in_ok-replies.ensures;
