@@ -91,8 +91,8 @@ rule_none c e line rule first none =
     let n = date_count c.season in
     flat_none (excess_line c e line rule first) 0 starts (λ start from to.
     let empty : days_above c e rule first start ≡ [] = filter_none (λ (day : ℕ). is_above e (window_at c rule first start day)) 0 n (λ day since until.
-        let below : day * starts + start < starts * n = mul-add-lt day starts start n (omega (arith, until)) (omega (arith, to)) in
-        none (window_at c rule first start day) (omega arith) (omega (arith, below))) in
+    let below : day * starts + start < starts * n = mul-add-lt day starts start n (omega (arith, until)) (omega (arith, to)) in
+    none (window_at c rule first start day) (omega arith) (omega (arith, below))) in
     ap (excess_days c e line rule first start) empty)
 
 rule_each : (c : Capacity) (e : Excess) (line : ℕ) (rule : Rule) (first : ℕ) → rule_excess c e line rule first ≡ [] → NoneAbove e first (first + windows_of c rule)
