@@ -275,6 +275,7 @@ fn fails_with(
 
 /// A stop at each moment of three puts: while the slot is written it may hold any bytes, and the
 /// file may have any length from the old one on; while the gate is opened it may have any value.
+/// Of two bytes all values of both are tried, of the others some of one at a time.
 #[test]
 fn a_stop_leaves_the_pairs(rt: HostRuntime) -> Result<(), Fail> {
     let alloc = rt.alloc();
@@ -291,6 +292,7 @@ fn leaves_pairs(alloc: Global, season: &Season, done: u32) -> Result<bool, Fail>
     let (_, _, new) = journal_of(alloc, season, done.wrapping_add(1), Vec::new(alloc))?;
     Ok(
         stop_in_slot(alloc, season, &new, old.len(), done)?
+            && stop_in_two_bytes(alloc, season, &new, old.len(), done)?
             && stop_in_gate(alloc, season, &new, old.len(), done)?,
     )
 }
@@ -298,9 +300,7 @@ fn leaves_pairs(alloc: Global, season: &Season, done: u32) -> Result<bool, Fail>
 /// A file with this byte at a place.
 fn with_byte(alloc: Global, file: &[u8], place: usize, byte: u8) -> Result<Vec<u8>, Fail> {
     let mut image = Vec::from_slice(alloc, file)?;
-    if let Some(old) = image.get_mut(place) {
-        *old = byte;
-    }
+    put_byte(&mut image, place, byte);
     Ok(image)
 }
 
@@ -342,6 +342,32 @@ fn is_torn(
         return Ok(false);
     }
     Ok(reopened(alloc, season, &laid[..place])? == done)
+}
+
+/// Whether the file stands for the old pairs with each value of the two bytes behind the gate, which
+/// is closed.
+fn stop_in_two_bytes(
+    alloc: Global,
+    season: &Season,
+    new: &[u8],
+    from: usize,
+    done: u32,
+) -> Result<bool, Fail> {
+    let mut image = with_byte(alloc, new, from.saturating_sub(1), 0)?;
+    for value in 0..65_536_u32 {
+        put_byte(&mut image, from, (value / 256) as u8);
+        put_byte(&mut image, from.saturating_add(1), (value % 256) as u8);
+        if reopened(alloc, season, &image)? != done {
+            return Ok(false);
+        }
+    }
+    Ok(true)
+}
+
+fn put_byte(image: &mut Vec<u8>, place: usize, byte: u8) {
+    if let Some(old) = image.get_mut(place) {
+        *old = byte;
+    }
 }
 
 /// Whether each image of a stop while the gate is opened stands for the old pairs, or with gate 1
