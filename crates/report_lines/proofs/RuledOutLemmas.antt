@@ -1,6 +1,6 @@
 -- Where a load is above a limit there is a line; and the least loads of a stage against its allotments.
 use Rattle.std.proofs.Common.{◌≡◌, ℕ, zero, suc, ◌+◌, ◌-◌, ◌*◌, ◌/◌, ◌%◌, ◌<◌, ◌≤◌, Bool, true, false, cond, refl, sym, ◌∙◌, ap, subst, arith, List, [], ◌∷◌, ◌++◌, length, map, Option, Some, None, inl, inr}
-use Rattle.std.specs.Prelude.{All, Contains, codes, filter, is_some, if◌then◌else◌, nat_lt, slice_get, sum_by}
+use Rattle.std.specs.Prelude.{All, Contains, codes, filter, is_some, if◌then◌else◌, slice_get, sum_by}
 use Rattle.std.specs.Fmt.{decimal}
 use Rattle.std.specs.List.{range_with_len, flat_map}
 use Rattle.std.proofs.lemmas.Bool.{cases_lt, ltb-true, ltb-false}
@@ -26,7 +26,7 @@ use Rattle.series_model.specs.Allotments.{AreAlternatives, IsFeasibleAllotment, 
 use Rattle.series_model.specs.Stages.{first_states, is_due, stage_units, stage_limit}
 use Rattle.report_lines.specs.declared.names.WindowName.TheVariants.{Window}
 use Rattle.report_lines.specs.Words.{name_words}
-use Rattle.report_lines.specs.Peaks.{Excess, is_above, excess_at, greatest_from, window_at, all_days, days_above, excess_days, excess_line, rule_excess, quota_excess, excess_from, excess_lines, unit_load, least_number, least_unit_load, least_units_load, stage_excess, over_lines}
+use Rattle.report_lines.specs.Peaks.{Excess, is_above, excess_at, greatest_from, window_at, days_above, excess_days, excess_line, rule_excess, quota_excess, excess_from, excess_lines, unit_load, least_number, least_unit_load, least_units_load, stage_excess, over_lines}
 
 -- ---- lists that are empty
 
