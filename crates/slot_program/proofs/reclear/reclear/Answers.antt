@@ -26,10 +26,10 @@ returns-in_err-left-clause-others g c =
     c.file_changes.ensures.unchanged (files c.args.cabinet.now) (files c.read_waiting.new.cabinet) names c.read_waiting.ensures.unchanged
 
 pub reclear_output-requires-clause-spelled : goal.reclear_output-requires-clause-spelled
-reclear_output-requires-clause-spelled g c = let is = c.in_ok-left.ensures.left in is.left.spelled
+reclear_output-requires-clause-spelled g c = λ κs lives. let is = c.in_ok-left.ensures.left in is.left.spelled
 
 pub reclear_output-requires-clause-header : goal.reclear_output-requires-clause-header
-reclear_output-requires-clause-header g c = let is = c.in_ok-left.ensures.left in is.left.of_season
+reclear_output-requires-clause-header g c = λ κs lives. let is = c.in_ok-left.ensures.left in is.left.of_season
 
 pub returns-in_err-output-clause-stop : goal.returns-in_err-output-clause-stop
 returns-in_err-output-clause-stop g c =
