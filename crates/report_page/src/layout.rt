@@ -61,7 +61,7 @@ thead th{border-top:0;font-weight:600}\n\
 .r th:first-child,.r :nth-child(3),.r :nth-child(4),.r :nth-child(8){text-align:left}\n\
 .m{font-family:ui-monospace,monospace;font-size:.9em}\n\
 .s td{overflow-wrap:anywhere}\n\
-.g{display:grid;grid-template-columns:repeat(auto-fit,minmax(300px,1fr));gap:1em 1.6em;margin-top:.6em}\n\
+.g{display:grid;grid-template-columns:repeat(auto-fit,minmax(min(300px,100%),1fr));gap:1em 1.6em;margin-top:.6em}\n\
 figure{margin:0;break-inside:avoid;display:flex;flex-direction:column}\n\
 figcaption{font-size:.87em;flex:1}\n\
 svg{display:block;width:100%;height:110px;margin-top:4px;border-top:2px solid #a22;border-bottom:1px solid #111}\n\
