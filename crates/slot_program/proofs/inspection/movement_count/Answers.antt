@@ -12,4 +12,4 @@ pub returns-clause-few : goal.returns-clause-few
 returns-clause-few c =
     let value : c.len.result ≡ movement_count c.args.season.now c.args.unit.now = returns-clause-value c in
     let most : movement_count c.args.season.now c.args.unit.now ≤ 2 * unit_dates c.args.season.now c.args.unit.now = few_movements c.args.season.now c.args.unit.now.request in
-    omega (arith, value, most, c.unit_dates-_dates.ensures.value, c.unit_dates-_dates.ensures.few)
+    omega (arith, value, most, c.unit_dates-dates.ensures.value, c.unit_dates-dates.ensures.few)

@@ -159,7 +159,7 @@ returns-in-Ok-Reclear-clause-answer g c =
     let w : World = world_of g.C.Cabinet.files g.C.Cabinet.fault_count g.C.Cabinet.log c.args.cabinet.now in
     let v : World = world_of g.C.Cabinet.files g.C.Cabinet.fault_count g.C.Cabinet.log c.carry_out_reclear.new.cabinet in
     let o : Outside = outside_of g.D.Door.view g.K.Disk.view c.args.doors.now.items c.args.disk.now in
-    subst (λ (p : Option Job). IfOk c.carry_out_reclear.result (λ a. IsAnswer p w (still o) a.status (string_bytes a.text) v)) (sym (c.in-Ok-Reclear.ensures.found ∙ ap Some c.in-Ok-Reclear.field-0-is))
+    subst (λ (p : Option Job). IfOk c.carry_out_reclear.result (λ a. IsAnswer p w (still o) a.status a.text.items v)) (sym (c.in-Ok-Reclear.ensures.found ∙ ap Some c.in-Ok-Reclear.field-0-is))
     (c.carry_out_reclear.ensures.answer o)
 
 pub returns-in-Ok-Recheck-clause-asked : goal.returns-in-Ok-Recheck-clause-asked
@@ -172,5 +172,5 @@ returns-in-Ok-Recheck-clause-answer g c =
     let w : World = world_of g.C.Cabinet.files g.C.Cabinet.fault_count g.C.Cabinet.log c.args.cabinet.now in
     let v : World = world_of g.C.Cabinet.files g.C.Cabinet.fault_count g.C.Cabinet.log c.carry_out_recheck.new.cabinet in
     let o : Outside = outside_of g.D.Door.view g.K.Disk.view c.args.doors.now.items c.args.disk.now in
-    subst (λ (p : Option Job). IfOk c.carry_out_recheck.result (λ a. IsAnswer p w (still o) a.status (string_bytes a.text) v)) (sym (c.in-Ok-Recheck.ensures.found ∙ ap Some c.in-Ok-Recheck.field-0-is))
+    subst (λ (p : Option Job). IfOk c.carry_out_recheck.result (λ a. IsAnswer p w (still o) a.status a.text.items v)) (sym (c.in-Ok-Recheck.ensures.found ∙ ap Some c.in-Ok-Recheck.field-0-is))
     (c.carry_out_recheck.ensures.answer o)
