@@ -1,12 +1,10 @@
 -- What lines of reasons show of the stages of a valid certificate.
-use Rattle.std.proofs.Common.{◌≡◌, ℕ, zero, suc, ◌+◌, ◌-◌, ◌<◌, ◌≤◌, ◌⊎◌, inl, inr, Bool, true, false, cond, refl, sym, ◌∙◌, ap, subst, arith, List, [], ◌∷◌, ◌++◌, length, take, map, set}
-use Rattle.std.specs.Prelude.{Option, Some, None, All, Contains, IfSome, IsSome, option_map, filter, slice_get, if◌then◌else◌}
+use Rattle.std.proofs.Common.{◌≡◌, ℕ, zero, suc, ◌+◌, ◌-◌, ◌<◌, ◌≤◌, inl, inr, Bool, true, false, cond, refl, sym, ◌∙◌, ap, subst, arith, List, [], ◌∷◌, ◌++◌, length, take, map, set}
+use Rattle.std.specs.Prelude.{Option, Some, None, Contains, IfSome, IsSome, option_map, filter, slice_get}
 use Rattle.std.specs.List.{range_with_len}
 use Rattle.std.proofs.lemmas.Bool.{ltb-true, ltb-false, cases_lt}
 use Rattle.std.proofs.lemmas.List.{append-nil, append_assoc, length-append}
-use Rattle.std.proofs.lemmas.Option.{slice_get-get_or}
-use Rattle.std.proofs.lemmas.List.Sums.{sum_by-cons}
-use Rattle.std.proofs.lemmas.List.Elements.{All-nil, All-cons, All-head, All-tail, filter_passes}
+use Rattle.std.proofs.lemmas.List.Elements.{filter_passes}
 use Rattle.season_days.specs.declared.declaration.Declaration.{Declaration}
 use Rattle.season_days.specs.Capacity.{capacity_of, declared_resources}
 use Rattle.cert_format.specs.declared.cert.Mark.{Mark}
@@ -17,13 +15,12 @@ use Rattle.cert_format.specs.Choices.{choices_of}
 use Rattle.series_model.specs.declared.unit.Unit.{Unit as SlotUnit}
 use Rattle.series_model.specs.declared.times.Times.{Times}
 use Rattle.series_model.specs.declared.state.UnitState.{UnitState}
-use Rattle.series_model.specs.Options.{options_of, options_by, line_times}
-use Rattle.series_model.specs.Movements.{movements_of}
+use Rattle.series_model.specs.Options.{options_of}
 use Rattle.series_model.specs.Displacement.{displacement_of}
 use Rattle.series_model.specs.Marks.{ClaimsOptimal}
 use Rattle.series_model.specs.Submissions.{SubmissionView}
-use Rattle.series_model.specs.Allotments.{AreAlternatives, IsFeasibleAllotment, IsLeastAllotment, HasNoAllotment, allotted_movements, allotted_load}
-use Rattle.series_model.specs.Stages.{first_states, is_due, stage_units, stage_limit, stage_times, times_named, after_stage, after_stages, states_after, IsFeasibleChoice, AreFeasibleFrom}
+use Rattle.series_model.specs.Allotments.{IsFeasibleAllotment, IsLeastAllotment, allotted_load}
+use Rattle.series_model.specs.Stages.{first_states, stage_units, stage_limit, stage_times, times_named, after_stage, after_stages, states_after, IsFeasibleChoice, AreFeasibleFrom}
 use Rattle.wasg_stages.specs.Valid.{MarkClaims, StageClaims, AreClaims, MarksHold}
 use Rattle.report_lines.specs.Peaks.{unit_load}
 use Rattle.season_report.specs.declared.barred.Barred.{Barred}
