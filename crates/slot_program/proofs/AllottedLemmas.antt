@@ -1,5 +1,5 @@
 -- What lines that wait are given can be printed.
-use Rattle.std.proofs.Common.{◌≡◌, ℕ, zero, suc, ◌<◌, ◌≤◌, List, [], ◌∷◌, length, get_or, drop, Option, Some, None, refl, sym, ap, ◌∙◌, subst, arith}
+use Rattle.std.proofs.Common.{◌≡◌, ℕ, zero, suc, ◌<◌, List, [], ◌∷◌, length, get_or, drop, Option, Some, None, refl, sym, subst, arith}
 use Rattle.std.specs.Prelude.{All, slice_get}
 use Rattle.std.specs.List.{flat_map}
 use Rattle.std.specs.Option.{unwrap_or}
@@ -16,14 +16,10 @@ use Rattle.series_model.specs.declared.state.UnitState.{UnitState}
 use Rattle.series_model.specs.Options.{options_of, TimesFit}
 use Rattle.series_model.specs.TimedLines.{line_at, IsNear}
 use Rattle.series_model.specs.Units.{UnitFits}
-use Rattle.cert_format.specs.declared.cert.Mark.{Mark}
-use Rattle.cert_format.specs.declared.cert.Mark.TheVariants.{Optimal, Infeasible, Unsettled, NotTried}
-use Rattle.cert_format.specs.declared.cert.StageCert.{StageCert}
 use Rattle.scr_replies.specs.Answers.{message_reply}
 use Rattle.scr_replies.specs.SeasonReplies.{IsAnswerable, unit_answer}
 use Rattle.wait_list.specs.Waiting.{waiting_unit, waiting_terms, given_state, given_states, allotted_states}
 use Rattle.slot_program.specs.Reclearing.{waiting_replies}
-use Rattle.slot_program.specs.StageLines.{marks_status}
 
 -- the laws of alternatives
 abbrev pub AreSpelled : Type 0

@@ -3,8 +3,6 @@
 ghost use Rattle.std.specs.Prelude.{◌≡◌, ◌≤◌, ◌∷◌, List, All, IfOk, IfErr, OnOk, length};
 ghost use Rattle.scr_reader.specs.Printed.{LineFits};
 ghost use Rattle.cert_format.specs.Printable.{IsPrintableExtra};
-ghost use Rattle.cert_format.specs.declared.cert.StageCert.{StageCert as StageCertValue};
-ghost use Rattle.series_model.specs.Submissions.{SubmissionView};
 ghost use Rattle.cert_format.specs.declared.cert.Certificate.{Certificate as CertificateValue};
 ghost use Rattle.wait_list.specs.Claims.{IsWaitingProof};
 ghost use Rattle.command_words.specs.Words.{Word};

@@ -1,6 +1,6 @@
 //! What waits after the asks of a file, from the book of a certificate.
 
-ghost use Rattle.std.specs.Prelude.{◌≡◌, ◌≤◌, ◌∷◌, [], List, All, IfOk, IfErr, OnOk, length};
+ghost use Rattle.std.specs.Prelude.{◌≡◌, ◌≤◌, ◌∷◌, List, All, IfOk, IfErr, OnOk, length};
 ghost use Rattle.wasg_stages.specs.Valid.{IsValid};
 ghost use Rattle.holding_book.specs.declared.answer.Entry.{Entry as EntryValue};
 ghost use Rattle.holding_book.specs.Asks.{CanAsk};
@@ -11,7 +11,7 @@ ghost use Rattle.slot_program.specs.Reclearing.{IsAskedOf, last_book};
 ghost use Rattle.slot_program.specs.Judgements.{NamedBytes, IsSeasonOf, SpellsCert};
 ghost use Rattle.slot_program.specs.Judgements.{waiting_limit};
 ghost use Rattle.slot_program.specs.Steps.{Step};
-ghost use Rattle.slot_program.specs.Jobs.{name_at, waiting_steps};
+ghost use Rattle.slot_program.specs.Jobs.{waiting_steps};
 ghost use Rattle.slot_program.specs.Desk.{world_of};
 ghost use Rattle.slot_program.specs.Leads.{AcceptsAlone};
 ghost use Rattle.slot_program.specs.Stops.{IsRefusalBy, IsJudged, StopLeads};

@@ -1,4 +1,4 @@
-use Rattle.std.proofs.Common.{◌≡◌, subst}
+use Rattle.std.proofs.Common.{subst}
 use Rattle.cert_checker.specs.declared.verdict.Verdict.{Verdict}
 use Rattle.wait_list.specs.Claims.{IsWaitingProof, WaitingFailsAt, IsWaitingCheck}
 use Rattle.slot_program.proofs.JudgementLemmas.{one_season}

@@ -1,4 +1,4 @@
-use Rattle.std.proofs.Common.{[], ◌∷◌, ◌≡◌, ℕ, List, ap, ◌∙◌, subst, sym}
+use Rattle.std.proofs.Common.{[], ◌∷◌, ◌≡◌, ℕ, List, subst, sym}
 use Rattle.std.proofs.lemmas.Result.{err_from_is_err_and}
 use Rattle.series_model.specs.Submissions.{SubmissionView}
 use Rattle.command_words.specs.Words.{Word}
