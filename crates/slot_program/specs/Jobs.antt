@@ -317,7 +317,7 @@ pub record IsRechecking (capacity requests certificate asks extra : List ℕ)
 
 -- The certificate that was read is valid for the season. The report on it is written before the page
 -- of that report.
-pub record IsReport (names : List Word) (capacity requests certificate : List ℕ)
+pub record IsReporting (names : List Word) (capacity requests certificate : List ℕ)
     (writes : List NamedBytes) (status : ℕ) (text : List ℕ) : Type 0 where
   pub season : SubmissionView
   pub proved : Certificate
@@ -387,7 +387,7 @@ FileWorks (Recheck names) (capacity ∷ requests ∷ certificate ∷ asks ∷ ex
     IsRechecking capacity.bytes requests.bytes certificate.bytes asks.bytes extra.bytes writes status
     text
 FileWorks (Report names) (capacity ∷ requests ∷ certificate ∷ []) writes status text =
-    IsReport names capacity.bytes requests.bytes certificate.bytes writes status text
+    IsReporting names capacity.bytes requests.bytes certificate.bytes writes status text
 FileWorks (Inspect names) (capacity ∷ requests ∷ []) writes status text =
     IsInspection names capacity.bytes requests.bytes writes status text
 FileWorks (Make number units names) [] writes status text =
@@ -519,8 +519,8 @@ pub record MarksAreProved (capacity requests : List ℕ) (s : SubmissionView) (c
   pub marks : MarksHold s c
 
 -- The marks are true. Of `allocate`: of the certificate that is written, whose stage lines are
--- printed, for the season that was read. Of `check`, `amend`, `serve`, `resume`, `usage` and `report`:
--- of the certificate that was read. Of `trial`: of the one whose lines are printed, for the generated
+-- printed, for the season that was read. Of all other commands that read a certificate: of the one
+-- that was read. Of `trial`: of the one whose lines are printed, for the generated
 -- season. `make` proves nothing. And of `amend`: what is written are the answers of one legal history
 -- from the certificate's book. Of `serve`: what is written is the text of such a history, by which
 -- each worker answered the clients of its door. Of `resume`: the same, of the history that follows

@@ -33,10 +33,9 @@ use Rattle.fault_causes.specs.Capacities.{IsCapacityCause}
 use Rattle.fault_causes.specs.Requests.{IsMessageCause, IsSubmissionCause}
 use Rattle.fault_causes.specs.declared.cause.Cause.{Cause}
 use Rattle.slot_program.specs.Reports.{Refusal, out_of_form, over_limit, not_valid, no_next}
-use Rattle.slot_program.specs.Reports.{extra_fails}
+use Rattle.slot_program.specs.Reports.{extra_fails, with_cause}
 use Rattle.slot_program.specs.Reclearing.{IsAskedOf, last_book, left_waiting}
 pub use Rattle.slot_program.specs.Spelled.{SpellsCert, SpellsExtra}
-use Rattle.slot_program.specs.Reports.{with_cause}
 
 -- the name of a file, and bytes that were read from it or are written to it
 pub record NamedBytes : Type 0 where

@@ -112,9 +112,11 @@ pub fn desk<R: Threads + Wait + Sync, C: Cabinet, S: Sink, D: Door + Drop, G: Ga
     // record is its text, and each worker's sessions are right by the bytes that were taken from
     // and put to each link. With a journal that history follows the pairs which the journal had,
     // answered anew: both are one legal history from the book, and what a stop leaves of the disk
-    // is a journal of the pairs and of all that was asked. Exactly the files of the job, under
-    // their names, were read and written, and exactly its text was put, also over a cabinet, a
-    // sink, doors and a disk that tell nothing.
+    // is a journal of the pairs and of all that was asked. One more stage that was written or read
+    // proves what its mark says of the lines that wait beside the book that the asks left. A report
+    // is the report on the certificate, with the page of that report. Exactly the files of the job,
+    // under their names, were read and written, and exactly its text was put, also over a cabinet,
+    // a sink, doors and a disk that tell nothing.
     ensures headline { (job : JobValue) → job_of (words_of words.now) ≡ Some job →
         Contains (finishing_of job) result → result ≢ 14 →
         (inputs writes : List NamedBytes) × (text : List ℕ)
@@ -208,7 +210,7 @@ pub fn desk<R: Threads + Wait + Sync, C: Cabinet, S: Sink, D: Door + Drop, G: Ga
     // With a command's words, where each of its steps passes in the files and no count of the
     // cabinet and the sink rises, the work is done, or the journal was not opened, or memory ran
     // out. With a budget that is enough for each stage, the status of work that is done is not 9
-    // (`IsRunOutput` and `IsTrial`, of which `handed` speaks).
+    // (`IsRunOutput`, `IsWaitingOutput` and `IsTrial`, of which `handed` speaks).
     ensures complete { (job : JobValue) (held : Files) (inputs : List NamedBytes)
         → job_of (words_of words.now) ≡ Some job → C.files cabinet.old ≡ Some held →
         AllPass (Some held) (steps_of job) inputs →

@@ -2,7 +2,7 @@ use Rattle.std.proofs.Common.{[], ◌∷◌, ℕ, List, refl}
 use Rattle.std.proofs.lemmas.Result.{err_from_is_err_and}
 use Rattle.command_words.specs.declared.job.Job.TheVariants.{Report}
 use Rattle.command_words.specs.Words.{Word}
-use Rattle.slot_program.specs.Jobs.{name_at, certificate_steps, check_steps, two_files, IsReport}
+use Rattle.slot_program.specs.Jobs.{name_at, certificate_steps, check_steps, two_files, IsReporting}
 use Rattle.slot_program.specs.Outside.{still}
 use Rattle.slot_program.specs.Desk.{World, world_of}
 use Rattle.slot_program.proofs.LeadLemmas.{memory_read}
@@ -66,7 +66,7 @@ returns-in_err-write_two-clause-stop g c =
     let s = c.in_ok-submission.ensures.found in
     let f = c.in_ok-certificate.ensures.found w (check_steps names) [] s.0 s.1 s.2 (s.3 (certificate_steps names [])) in
     let out = c.in_ok-output.output in
-    let work : IsReport names s.0.bytes s.1.bytes f.0.bytes (two_files names 3 out.report.items out.page.items) 0 out.text.items =
+    let work : IsReporting names s.0.bytes s.1.bytes f.0.bytes (two_files names 3 out.report.items out.page.items) 0 out.text.items =
     record {
       season = c.in_ok-submission.submission;
       proved = c.in_ok-certificate.certificate;
@@ -102,7 +102,7 @@ returns-clause-done g c =
     let s = c.in_ok-submission.ensures.found in
     let f = c.in_ok-certificate.ensures.found w (check_steps names) [] s.0 s.1 s.2 (s.3 (certificate_steps names [])) in
     let out = c.in_ok-output.output in
-    let work : IsReport names s.0.bytes s.1.bytes f.0.bytes (two_files names 3 out.report.items out.page.items) 0 out.text.items =
+    let work : IsReporting names s.0.bytes s.1.bytes f.0.bytes (two_files names 3 out.report.items out.page.items) 0 out.text.items =
     record {
       season = c.in_ok-submission.submission;
       proved = c.in_ok-certificate.certificate;
