@@ -1,6 +1,6 @@
 -- The answers that are due to items: as entries of a history, and as lines.
 use Rattle.std.proofs.Common.{◌≡◌, ℕ, suc, ◌+◌, ◌*◌, ◌<◌, ◌≤◌, inl, inr, refl, sym, ◌∙◌, ap, subst, arith, List, [], ◌∷◌, ◌++◌, length, map, get_or, drop, drop-cons, append_assoc}
-use Rattle.std.specs.Prelude.{All}
+use Rattle.std.specs.Prelude.{All, Result, Ok, Err, OnOk}
 use Rattle.std.proofs.lemmas.List.{append-nil}
 use Rattle.std.proofs.lemmas.List.Elements.{All-nil, All-cons, All-head, All-tail}
 use Rattle.season_days.specs.declared.declaration.Declaration.{Declaration}
@@ -110,6 +110,12 @@ pub entries_next : (b after : SlotBook) (items rest : List Placed) (placed : Pla
     (before ++ due_entry b placed ∷ []) ++ due_entries after rest ≡ before ++ due_entries b items
 entries_next b after items rest placed before is changed =
     rw (is, changed) (append_assoc before (due_entry b placed ∷ []) (due_entries (next b placed.item) rest))
+
+-- ---- what three facts show where a call succeeds
+
+pub all_ok : {X F A B C D : Type 0} (r : Result X F) → OnOk r A → OnOk r B → OnOk r C → (A → B → C → D) → OnOk r D
+all_ok (Ok x) a b c then = then a b c
+all_ok (Err e) a b c then = tt
 
 -- ---- the step of one message
 

@@ -23,7 +23,7 @@ use Rattle.fault_causes.specs.declared.cause.Cause.{Cause}
 use Rattle.fault_causes.specs.declared.cause.Cause.TheVariants as causes
 use Rattle.fault_causes.specs.declared.form.Form.{Form}
 use Rattle.fault_causes.specs.declared.form.Form.TheVariants as forms
-use Rattle.fault_causes.specs.declared.words.Wanted.{Wanted}
+use Rattle.fault_causes.specs.declared.fields.Wanted.{Wanted}
 
 -- ---- the fields behind each word
 

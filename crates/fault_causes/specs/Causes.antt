@@ -9,6 +9,8 @@ use Rattle.fault_causes.specs.declared.cause.FieldName.{FieldName}
 use Rattle.fault_causes.specs.declared.cause.FieldName.TheVariants as fields
 use Rattle.fault_causes.specs.declared.cause.Flaw.{Flaw}
 use Rattle.fault_causes.specs.declared.cause.Flaw.TheVariants as flaws
+use Rattle.fault_causes.specs.declared.cause.OtherCode.{OtherCode}
+use Rattle.fault_causes.specs.declared.cause.OtherCode.TheVariants as others
 use Rattle.fault_causes.specs.declared.cause.Cause.{Cause}
 use Rattle.fault_causes.specs.declared.cause.Cause.TheVariants as causes
 
@@ -57,6 +59,12 @@ flaw_text flaws.Date = codes " DATE"
 flaw_text flaws.Outside = codes " OUTSIDE"
 flaw_text flaws.Reversed = codes " REVERSED"
 
+abbrev pub code_text : OtherCode → List ℕ
+code_text others.D = codes "D"
+code_text others.A = codes "A"
+code_text others.Z = codes "Z"
+code_text others.Q = codes "Q"
+
 abbrev pub cause_text : Cause → List ℕ
 cause_text (causes.Most limit) = codes "MOST " ++ decimal limit
 cause_text (causes.NoLine word) = codes "MISSING " ++ line_word_text word
@@ -71,4 +79,4 @@ cause_text (causes.Header name) = codes "HEADER " ++ header_text name
 cause_text causes.Unpaired = codes "UNPAIRED"
 cause_text causes.OtherSeason = codes "OTHER SEASON"
 cause_text causes.OtherAirport = codes "OTHER AIRPORT"
-cause_text (causes.Code code) = codes "CODE " ++ (code ∷ [])
+cause_text (causes.Code code) = codes "CODE " ++ code_text code

@@ -5,11 +5,11 @@ ghost use Rattle.slot_text.specs.Fields.{fields_of};
 ghost use Rattle.slot_text.specs.Lines.{lines_of};
 ghost use Rattle.capacity_file.specs.Faults.{HasCapacityFault};
 ghost use Rattle.fault_causes.specs.declared.cause.Cause.{Cause as CauseValue};
-ghost use Rattle.fault_causes.specs.Capacities.{fields_behind, IsFieldCause, IsBadLineCause, IsTwiceCause, IsCapacityCause};
+ghost use Rattle.fault_causes.specs.Capacities.{IsBadLineCause, IsTwiceCause, IsCapacityCause};
 
-use crate::cause::{Cause, FieldName, Flaw, LineWord};
-use crate::form::flaw_of;
-use crate::words::{limit_of, line_word, needed, wanted_at};
+use crate::cause::{Cause, FieldName, Flaw};
+use crate::fields::field_cause;
+use crate::words::{limit_of, line_word, needed};
 use capacity_file::CapFault;
 use slot_text::{LONGEST_LINE, Lines, is_trimmed, split_field};
 
@@ -27,30 +27,6 @@ pub(crate) fn line_of(text: &[u8], number: u32) -> &[u8]
         left -= 1;
     }
     &[]
-}
-
-// The first bad field behind a word.
-fn field_cause(word: LineWord, rest: &[u8]) -> Cause
-    ensures { IsFieldCause (fields_behind word) [] 2 (fields_of rest.now) result }
-{
-    let mut rest = rest;
-    let mut before: &[u8] = &[];
-    for place in 0..7 {
-        let number = place + 2;
-        match (wanted_at(word, place), split_field(rest)) {
-            (None, None) => return Cause::Step,
-            (None, Some(_)) => return Cause::End(number),
-            (Some(want), None) => return Cause::Field(number, want.name, Flaw::Missing),
-            (Some(want), Some((text, after))) => {
-                if let Some(flaw) = flaw_of(want.form, before, text) {
-                    return Cause::Field(number, want.name, flaw);
-                }
-                before = text;
-                rest = after;
-            }
-        }
-    }
-    Cause::Step
 }
 
 // Why a line is bad.

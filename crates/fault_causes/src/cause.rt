@@ -1,7 +1,7 @@
 //! Causes, and what each prints.
 
 ghost use Rattle.std.specs.Prelude.{◌≡◌, Some};
-ghost use Rattle.fault_causes.specs.Causes.{line_word_text, header_text, name_text, flaw_text, cause_text};
+ghost use Rattle.fault_causes.specs.Causes.{line_word_text, header_text, name_text, flaw_text, code_text, cause_text};
 
 use std::fmt;
 
@@ -75,6 +75,19 @@ pub enum Flaw {
     Reversed,
 }
 
+/// A code with which a line by itself makes no unit.
+#[derive(Clone, Copy, Debug, PartialEq, Eq)]
+pub enum OtherCode {
+    /// Deleted.
+    D,
+    /// An offer accepted.
+    A,
+    /// An offer declined.
+    Z,
+    /// A question.
+    Q,
+}
+
 /// Why a file is refused.
 #[derive(Clone, Copy, Debug, PartialEq, Eq)]
 pub enum Cause {
@@ -103,7 +116,7 @@ pub enum Cause {
     /// Another airport than the declared one.
     OtherAirport,
     /// A line with this code makes no unit.
-    Code(u8),
+    Code(OtherCode),
 }
 
 impl LineWord {
@@ -197,6 +210,19 @@ impl fmt::Display for Flaw {
     }
 }
 
+impl fmt::Display for OtherCode {
+    ghost output = { λ code. Some (code_text code) };
+
+    fn fmt<W: fmt::Write>(&self, f: &mut fmt::Formatter<W>) -> fmt::Result {
+        f.write_str(match self {
+            OtherCode::D => "D",
+            OtherCode::A => "A",
+            OtherCode::Z => "Z",
+            OtherCode::Q => "Q",
+        })
+    }
+}
+
 impl fmt::Display for Cause {
     ghost output = { λ cause. Some (cause_text cause) };
 
@@ -214,10 +240,7 @@ impl fmt::Display for Cause {
             Cause::Unpaired => f.write_str("UNPAIRED"),
             Cause::OtherSeason => f.write_str("OTHER SEASON"),
             Cause::OtherAirport => f.write_str("OTHER AIRPORT"),
-            Cause::Code(code) => {
-                let code = char::from(code);
-                write!(f, "CODE {code}")
-            }
+            Cause::Code(code) => write!(f, "CODE {code}"),
         }
     }
 }

@@ -1,7 +1,8 @@
 //! Forms of the fields of a capacity file, and what is wrong with a field.
 
-ghost use Rattle.std.specs.Prelude.{◌≡◌, ◌↔◌, IsTrue, Some, None, Option, ℕ};
-ghost use Rattle.fault_causes.specs.Forms.{HasForm, IsFlaw};
+ghost use Rattle.std.specs.Prelude.{◌↔◌, IsTrue};
+ghost use Rattle.schedule_text.specs.Days.{IsDays};
+ghost use Rattle.fault_causes.specs.Forms.{HasForm, IsNotAllowed, IsFlaw};
 
 use crate::cause::Flaw;
 use schedule_text::{read_kind, read_time, read_weekdays};
@@ -69,6 +70,36 @@ pub(crate) fn has_form(form: Form, text: &[u8]) -> bool
     }
 }
 
+// Whether both spell times of the day, the second an earlier one.
+fn is_before(before: &[u8], text: &[u8]) -> bool
+    ensures { IsTrue result ↔ IsNotAllowed Form.Later before.now text.now Flaw.Before }
+{
+    match (read_time(before), read_time(text)) {
+        (Some(one), Some(two)) => two < one,
+        _ => false,
+    }
+}
+
+// Whether both spell the same time of the day.
+fn is_same(before: &[u8], text: &[u8]) -> bool
+    ensures { IsTrue result ↔ IsNotAllowed Form.Other before.now text.now Flaw.Same }
+{
+    match (read_time(before), read_time(text)) {
+        (Some(one), Some(two)) => one == two,
+        _ => false,
+    }
+}
+
+// Whether no weekday is named.
+fn is_empty(text: &[u8]) -> bool
+    ensures { IsTrue result ↔ IsDays text.now 0 }
+{
+    match read_weekdays(text) {
+        Some(days) => days == 0,
+        None => false,
+    }
+}
+
 /// What is wrong with a field, behind one with this text.
 pub(crate) fn flaw_of(form: Form, before: &[u8], text: &[u8]) -> Option<Flaw>
     ensures { IsFlaw form before.now text.now result }
@@ -77,9 +108,9 @@ pub(crate) fn flaw_of(form: Form, before: &[u8], text: &[u8]) -> Option<Flaw>
         return Some(Flaw::Form);
     }
     match form {
-        Form::Later if read_time(text) < read_time(before) => Some(Flaw::Before),
-        Form::Other if read_time(text) == read_time(before) => Some(Flaw::Same),
-        Form::Days if read_weekdays(text) == Some(0) => Some(Flaw::Empty),
+        Form::Later if is_before(before, text) => Some(Flaw::Before),
+        Form::Other if is_same(before, text) => Some(Flaw::Same),
+        Form::Days if is_empty(text) => Some(Flaw::Empty),
         _ => None,
     }
 }

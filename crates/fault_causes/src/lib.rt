@@ -4,6 +4,7 @@
 
 mod capacity;
 mod cause;
+mod fields;
 mod form;
 pub mod laws;
 mod requests;
@@ -12,5 +13,5 @@ mod shape;
 mod words;
 
 pub use capacity::capacity_cause;
-pub use cause::{Cause, FieldName, Flaw, HeaderName, LineWord};
+pub use cause::{Cause, FieldName, Flaw, HeaderName, LineWord, OtherCode};
 pub use requests::{message_cause, submission_cause};

@@ -1,17 +1,17 @@
 //! The fields of a line of a message: what each is for, and what is wrong with one.
 
-ghost use Rattle.std.specs.Prelude.{◌≡◌, ◌≢◌, ◌↔◌, ◌≤◌, ℕ, [], IsTrue, IfSome, Option, Some, not};
-ghost use Rattle.slot_text.specs.Fields.{begins_in_field, fields_of};
-ghost use Rattle.slot_text.specs.declared.station.Station.{Station as StationValue};
-ghost use Rattle.scr_reader.specs.Bytes.{is_letter, is_letter_or_digit};
-ghost use Rattle.scr_reader.specs.Parts.{begins_with_flight, month_text, StationsFit, stations_text};
+ghost use Rattle.std.specs.Prelude.{◌≡◌, ℕ, slice_get};
+ghost use Rattle.slot_text.specs.Fields.{fields_of};
+ghost use Rattle.season_days.specs.Term.{Term};
 ghost use Rattle.scr_reader.specs.Shapes.{shape_of};
-ghost use Rattle.fault_causes.specs.Requests.{shape_named, first_name_of, first_of, named_part, IsDateReading, IsPeriodFlaw, IsNamedFlaw, IsGroup};
+ghost use Rattle.fault_causes.specs.Requests.{shape_named, first_name, first_of, part_named, IsDatesFlaw, IsPeriodFlaw, IsFlawOrForm, NamesWeekdays, IsGroup, IsPartFlaw};
+ghost use Rattle.fault_causes.specs.Standings.{dated_fault, IsDated, IsDateReading, AreDatesReading};
 
 use crate::cause::{FieldName, Flaw};
-use schedule_text::{read_time, read_two_digits, read_weekdays};
-use season_days::{Day, DayFault, Season};
-use slot_text::{Station, field, is_blank_byte};
+use schedule_text::{read_two_digits, read_weekdays};
+use scr_reader::{is_flight_ahead, read_group_with_nights, read_month};
+use season_days::{DayFault, Season};
+use slot_text::field;
 
 /// The movements that a line has.
 #[derive(Clone, Copy, Debug, PartialEq, Eq)]
@@ -21,54 +21,32 @@ pub(crate) enum Movements {
     Both,
 }
 
-fn is_letter(byte: u8) -> bool
-    ensures { result ≡ is_letter byte }
-{
-    byte.is_ascii_uppercase()
+/// A date beside the days of the season: one of them, a date that does not exist, or another one.
+#[derive(Clone, Copy, Debug, PartialEq, Eq)]
+pub(crate) enum Dated {
+    Day,
+    NoDate,
+    Outside,
 }
 
-fn is_letter_or_digit(byte: u8) -> bool
-    ensures { result ≡ is_letter_or_digit byte }
-{
-    byte.is_ascii_uppercase() || byte.is_ascii_digit()
-}
-
-// Whether a text begins as a flight does.
-fn begins_with_flight(text: &[u8]) -> bool
-    ensures { result ≡ begins_with_flight text.now }
-{
-    match text {
-        [a, b, c, d, ..] if is_letter(*c) => {
-            is_letter(*a) && is_letter(*b) && d.is_ascii_digit()
-        }
-        [a, b, c, ..] => {
-            is_letter_or_digit(*a)
-                && is_letter_or_digit(*b)
-                && (is_letter(*a) || is_letter(*b))
-                && c.is_ascii_digit()
-        }
-        _ => false,
-    }
-}
-
-/// The movements of a line.
-pub(crate) fn movements_in(line: &[u8]) -> Movements
+// The movements of a line.
+fn movements_in(line: &[u8]) -> Movements
     ensures { shape_named result ≡ shape_of (fields_of line.now) }
 {
     match field(line, 1) {
         Some(first) if first.len() == 1 => Movements::Departure,
         _ => match field(line, 2) {
-            Some(second) if begins_with_flight(second) => Movements::Both,
+            Some(second) if is_flight_ahead(second) => Movements::Both,
             _ => Movements::Arrival,
         },
     }
 }
 
 // The name of a first field with a code and a flight.
-fn first_name(line: &[u8]) -> FieldName
-    ensures { result ≡ first_name_of (first_of (fields_of line.now)) }
+fn first_name(first: &[u8]) -> FieldName
+    ensures { result ≡ first_name first.now }
 {
-    match line {
+    match first {
         [
             b'N' | b'Y' | b'B' | b'V' | b'F' | b'C' | b'R' | b'I' | b'L' | b'D' | b'A' | b'Z',
             ..
@@ -77,128 +55,148 @@ fn first_name(line: &[u8]) -> FieldName
     }
 }
 
-/// What the field of a number is for, counted from 1; None behind the last.
-pub(crate) fn name_at(line: &[u8], number: u32) -> Option<FieldName>
-    ensures { result ≡ named_part (fields_of line.now) number }
+// The name of the first field of a line.
+fn first_name_in(line: &[u8]) -> FieldName
+    ensures { result ≡ first_name (first_of (fields_of line.now)) }
 {
-    // A departure has a field more in front than the others have.
-    let number = match (movements_in(line), number) {
-        (_, 0) => return None,
-        (Movements::Departure, 1) => return Some(FieldName::Code),
-        (_, 1) => return Some(first_name(line)),
-        (Movements::Arrival, n) => n,
-        (Movements::Departure | Movements::Both, 2) => return Some(FieldName::Flight),
-        (Movements::Departure | Movements::Both, n) => n - 1,
-    };
-    match (movements_in(line), number) {
-        (_, 2) => Some(FieldName::Period),
-        (_, 3) => Some(FieldName::Days),
-        (_, 4) => Some(FieldName::Seats),
-        (Movements::Arrival | Movements::Both, 5) => Some(FieldName::Arrival),
-        (Movements::Departure, 5) => Some(FieldName::Departure),
-        (Movements::Both, 6) => Some(FieldName::Departure),
-        (Movements::Arrival | Movements::Departure, 6) => Some(FieldName::Service),
-        (Movements::Both, 7) => Some(FieldName::Service),
-        _ => None,
+    match field(line, 1) {
+        Some(first) => first_name(first),
+        None => FieldName::Code,
     }
 }
 
-// The month of a name.
-fn read_month(text: &[u8]) -> Option<u8>
-    ensures found { IfSome result (λ month. (1 ≤ month) × (month ≤ 12)
-        × (text.now ≡ month_text month)) }
-    ensures only { (month : ℕ) → 1 ≤ month → month ≤ 12 → text.now ≡ month_text month →
-        result ≡ Some month }
+// The name of a place, counted from 0.
+fn name_in(names: &[FieldName], place: usize) -> Option<FieldName>
+    ensures { result ≡ slice_get names.now place }
 {
-    let names: [&[u8]; 12] = [
-        b"JAN", b"FEB", b"MAR", b"APR", b"MAY", b"JUN", b"JUL", b"AUG", b"SEP", b"OCT", b"NOV",
-        b"DEC",
-    ];
-    let place = names.iter().position(|name| *name == text)?;
-    Some(place as u8 + 1)
+    names.get(place).copied()
 }
 
-// The day of the season that five bytes name, where they have the form of a date.
-fn read_date(season: &Season, text: &[u8]) -> Option<Result<Day, DayFault>>
+/// What the field of a number is for, counted from 1; None behind the last.
+pub(crate) fn name_at(line: &[u8], number: u32) -> Option<FieldName>
+    ensures { result ≡ part_named (fields_of line.now) number }
+{
+    use FieldName::{Arrival, Code, Days, Departure, Flight, Period, Seats, Service};
+    let place = (number as usize).saturating_sub(1);
+    let first = first_name_in(line);
+    match movements_in(line) {
+        Movements::Arrival => name_in(&[first, Period, Days, Seats, Arrival, Service], place),
+        Movements::Departure => {
+            let names = [Code, Flight, Period, Days, Seats, Departure, Service];
+            name_in(&names, place)
+        }
+        Movements::Both => {
+            let names = [
+                first, Flight, Period, Days, Seats, Arrival, Departure, Service,
+            ];
+            name_in(&names, place)
+        }
+    }
+}
+
+// What the calendar answers for a date that is no day of the season.
+fn dated_fault(fault: DayFault) -> Dated
+    ensures { result ≡ dated_fault fault }
+{
+    match fault {
+        DayFault::NoSuchDate => Dated::NoDate,
+        _ => Dated::Outside,
+    }
+}
+
+// What a text says as a date, and None where it has not the form of one.
+fn read_date(season: &Season, text: &[u8]) -> Option<Dated>
     ensures { IsDateReading season.now text.now result }
 {
     if text.len() != 5 {
         return None;
     }
     let (day, month) = text.split_at(2);
-    Some(season.day_of(read_month(month)?, read_two_digits(day)?))
+    let month = read_month(month)?;
+    let day = read_two_digits(day)?;
+    Some(match season.day_of(month, day) {
+        Ok(_) => Dated::Day,
+        Err(fault) => dated_fault(fault),
+    })
+}
+
+// The same of a field of dates, for the first and for the last.
+fn read_dates(season: &Season, text: &[u8]) -> Option<(Dated, Dated)>
+    ensures { AreDatesReading season.now text.now result }
+{
+    if text.len() <= 5 {
+        let date = read_date(season, text)?;
+        return Some((date, date));
+    }
+    let (front, back) = text.split_at(5);
+    let first = read_date(season, front)?;
+    let last = read_date(season, back)?;
+    Some((first, last))
+}
+
+// What is wrong with two dates.
+fn dates_flaw(first: Dated, last: Dated) -> Flaw
+    ensures { (season : Term) (one two : ℕ × ℕ) → IsDated season one first →
+        IsDated season two last → IsDatesFlaw season one two result }
+{
+    match (first, last) {
+        (Dated::NoDate, _) => Flaw::Date,
+        (Dated::Day | Dated::Outside, Dated::NoDate) => Flaw::Date,
+        (Dated::Day, Dated::Day) => Flaw::Reversed,
+        (Dated::Day, Dated::Outside) => Flaw::Outside,
+        (Dated::Outside, Dated::Day | Dated::Outside) => Flaw::Outside,
+    }
 }
 
 // What is wrong with a field of dates.
 fn period_flaw(season: &Season, text: &[u8]) -> Flaw
     ensures { IsPeriodFlaw season.now text.now result }
 {
-    let (front, back) = text.split_at(text.len().min(5));
-    let first = read_date(season, front);
-    let last = if back.is_empty() {
-        first
-    } else {
-        read_date(season, back)
-    };
-    match (first, last) {
-        (None, _) | (_, None) => Flaw::Form,
-        (Some(Err(DayFault::NoSuchDate)), _) | (_, Some(Err(DayFault::NoSuchDate))) => Flaw::Date,
-        (Some(Err(_)), _) | (_, Some(Err(_))) => Flaw::Outside,
-        (Some(Ok(_)), Some(Ok(_))) => Flaw::Reversed,
+    match read_dates(season, text) {
+        Some((first, last)) => dates_flaw(first, last),
+        None => Flaw::Form,
     }
 }
 
-// Whether a text is one station or two.
-fn are_stations(text: &[u8]) -> bool
-    ensures { IsTrue result ↔ ((near : StationValue) × (far : Option StationValue)
-        × StationsFit near far × (text.now ≡ stations_text near far)) }
+// What is wrong with a field of weekdays.
+fn weekdays_flaw(text: &[u8]) -> Flaw
+    ensures { IsFlawOrForm (NamesWeekdays text.now) Flaw.Empty result }
 {
-    match text.len() {
-        3 => Station::read(text).is_some(),
-        6 => {
-            let (near, far) = text.split_at(3);
-            Station::read(near).is_some() && Station::read(far).is_some()
-        }
-        _ => false,
+    match read_weekdays(text) {
+        Some(_) => Flaw::Empty,
+        None => Flaw::Form,
     }
 }
 
-// Whether a field is a departure's time, perhaps a digit of nights, and stations.
-fn is_group(text: &[u8]) -> bool
-    ensures { IsTrue result ↔ IsGroup text.now }
+// What is wrong with a field of a turnaround's departure.
+fn group_flaw(text: &[u8]) -> Flaw
+    ensures { IsFlawOrForm (IsGroup text.now) Flaw.Before result }
 {
-    if text.len() < 4 {
-        return false;
+    match read_group_with_nights(text) {
+        Some(_) => Flaw::Before,
+        None => Flaw::Form,
     }
-    let (time, rest) = text.split_at(4);
-    let stations = match rest {
-        [b'0'..=b'9', stations @ ..] => stations,
-        _ => rest,
-    };
-    read_time(time).is_some() && are_stations(stations)
+}
+
+// What is wrong with a field of a departure.
+fn departure_flaw(movements: Movements, text: &[u8]) -> Flaw
+    ensures { (season : Term) →
+        IsPartFlaw season (shape_named movements) FieldName.Departure text.now result }
+{
+    match movements {
+        Movements::Arrival | Movements::Departure => Flaw::Form,
+        Movements::Both => group_flaw(text),
+    }
 }
 
 /// What is wrong with a field, where those before it are good.
 pub(crate) fn part_flaw(season: &Season, line: &[u8], name: FieldName, text: &[u8]) -> Flaw
-    ensures { IsNamedFlaw season.now (shape_of (fields_of line.now)) name text.now result }
+    ensures { IsPartFlaw season.now (shape_of (fields_of line.now)) name text.now result }
 {
     match name {
         FieldName::Period => period_flaw(season, text),
-        FieldName::Days if read_weekdays(text).is_some() => Flaw::Empty,
-        FieldName::Departure if movements_in(line) == Movements::Both && is_group(text) => {
-            Flaw::Before
-        }
+        FieldName::Days => weekdays_flaw(text),
+        FieldName::Departure => departure_flaw(movements_in(line), text),
         _ => Flaw::Form,
-    }
-}
-
-/// Whether a line begins with a blank.
-pub(crate) fn begins_with_blank(line: &[u8]) -> bool
-    requires { line.now ≢ [] }
-    ensures { result ≡ not (begins_in_field line.now) }
-{
-    match line {
-        [first, ..] => is_blank_byte(*first),
-        [] => false,
     }
 }

@@ -1,6 +1,6 @@
 -- Days on which windows are above limits, one day after the other, and their lines.
-use Rattle.std.proofs.Common.{◌≡◌, ℕ, zero, suc, ◌+◌, ◌-◌, ◌*◌, ◌^◌, ◌<◌, ◌≤◌, Bool, true, false, List, [], ◌∷◌, ◌++◌, length, length-append, drop, append_assoc, append-nil, Option, Some, None, refl, sym, ◌∙◌, ap, subst, arith, inl, inr}
-use Rattle.std.specs.Prelude.{codes, slice_get, slice_index, nat_lt, IfSome, if◌then◌else◌, filter, sum_by, All}
+use Rattle.std.proofs.Common.{◌≡◌, ℕ, suc, ◌+◌, ◌*◌, ◌^◌, ◌<◌, ◌≤◌, Bool, true, false, List, [], ◌∷◌, ◌++◌, length, length-append, drop, append_assoc, append-nil, Option, Some, None, refl, sym, ◌∙◌, ap, subst, arith, inl, inr}
+use Rattle.std.specs.Prelude.{codes, slice_get, slice_index, nat_lt, IfSome, if◌then◌else◌, filter, sum_by}
 use Rattle.std.specs.Fmt.{decimal}
 use Rattle.std.specs.List.{range_with_len}
 use Rattle.std.proofs.lemmas.Bool.{cases_lt, lt-ltb, le-ltb}
@@ -17,7 +17,7 @@ use Rattle.report_lines.specs.declared.excess.ExcessLists.{ExcessLists}
 use Rattle.report_lines.specs.declared.names.WindowName.TheVariants.{Window}
 use Rattle.report_lines.specs.Words.{name_words}
 use Rattle.report_lines.specs.Peaks.{Excess, is_above, excess_at, greatest_from, window_at, all_days, days_above, excess_on, excess_days, excess_line, rule_excess, quota_excess, excess_from}
-use Rattle.report_lines.specs.Private.{IsExcess, IsAboveOf, IsAbove, AddsDay, with_above, by_at, excess_word, told_by, above_text, above_night}
+use Rattle.report_lines.specs.Private.{IsExcess, IsAboveOf, IsAbove, AddsDay, with_above, by_at, told_by, above_text, above_night}
 use Rattle.report_lines.proofs.WindowLemmas.{line_next}
 use Rattle.report_lines.proofs.PeakLemmas.{range_more, greatest_more}
 

@@ -1,10 +1,8 @@
 -- The least loads of a stage's problem as those of its units, and the loads of requests.
-use Rattle.std.proofs.Common.{◌≡◌, ℕ, zero, suc, ◌+◌, ◌-◌, ◌*◌, ◌<◌, ◌≤◌, min, List, [], ◌∷◌, ◌++◌, length, map, take, get_or, replicate, append-nil, Option, Some, None, refl, sym, ◌∙◌, ap, subst, arith}
-use Rattle.std.specs.Prelude.{codes, slice_get, slice_index, sum_by, count_by, All}
+use Rattle.std.proofs.Common.{◌≡◌, ℕ, zero, suc, ◌+◌, ◌-◌, ◌<◌, min, List, [], ◌∷◌, ◌++◌, length, map, take, get_or, replicate, Option, Some, None, refl, sym, ◌∙◌, ap, subst, arith}
+use Rattle.std.specs.Prelude.{codes, slice_get, slice_index}
 use Rattle.std.specs.Fmt.{decimal}
-use Rattle.std.specs.List.{AllZip, flat_map}
-use Rattle.std.proofs.lemmas.Grind.{flat_map-append}
-use Rattle.std.proofs.lemmas.List.{take_more}
+use Rattle.std.specs.List.{AllZip}
 use Rattle.std.proofs.lemmas.List.Sums.{sum_by-append, sum_by-cons, sum_by_more}
 use Rattle.std.proofs.lemmas.Option.{get_or_from_slice_get}
 use Rattle.finite_sums.specs.Sums.{sum_below, least_from, least_within}
@@ -20,20 +18,20 @@ use Rattle.scr_reader.specs.declared.line.Stop.{Stop}
 use Rattle.capacity_windows.specs.Windows.{window_load, window_limit}
 use Rattle.capacity_windows.specs.declared.movement.Movement.{Movement}
 use Rattle.choice_problem.specs.declared.problems.Alt.{Alt}
-use Rattle.choice_problem.specs.Problems.{ProblemView, ChooserView, unit_count, resource_count, limit_of, named_uses, chooser_uses}
-use Rattle.choice_problem.specs.Bounds.{whole_of, low_of, high_of, least_load}
+use Rattle.choice_problem.specs.Problems.{ProblemView, ChooserView, unit_count, resource_count, named_uses, chooser_uses}
+use Rattle.choice_problem.specs.Bounds.{whole_of, least_load}
 use Rattle.choice_problem.specs.Counts.{GrowsBy}
 use Rattle.series_model.specs.declared.unit.Unit.{Unit as SlotUnit}
 use Rattle.series_model.specs.declared.times.Times.{Times}
 use Rattle.series_model.specs.declared.times.Times.TheVariants.{At}
 use Rattle.series_model.specs.declared.state.UnitState.{UnitState}
-use Rattle.series_model.specs.Options.{options_of, line_times, arrival_minute, departure_minute}
+use Rattle.series_model.specs.Options.{options_of, line_times}
 use Rattle.series_model.specs.Movements.{movements_at, movements_of, stop_load}
-use Rattle.series_model.specs.Stages.{first_states, given_movements, movements_given, stage_units, stage_limit}
+use Rattle.series_model.specs.Stages.{first_states, movements_given, stage_units, stage_limit}
 use Rattle.wasg_stages.specs.StageProblems.{IsAltOf, IsChooserOf, IsStageProblem}
 use Rattle.report_lines.specs.declared.excess.ExcessLists.{ExcessLists}
-use Rattle.report_lines.specs.Peaks.{Excess, unit_load, least_number, least_unit_load, least_units_load, earlier_load, AreEarlier, over_told, stage_excess, requested_movements, requested_load, demand_told, demand_excess}
-use Rattle.report_lines.specs.Private.{IsExcess, excess_word, word_by, earlier_of, told_by, rest_by, line_load, lines_load}
+use Rattle.report_lines.specs.Peaks.{unit_load, least_number, least_unit_load, least_units_load, earlier_load, AreEarlier, stage_excess, requested_movements, requested_load, demand_excess}
+use Rattle.report_lines.specs.Private.{IsExcess, word_by, earlier_of, rest_by, line_load, lines_load}
 use Rattle.report_lines.proofs.LeastLemmas.{whole_least}
 
 -- ---- the least over the alternatives of a unit

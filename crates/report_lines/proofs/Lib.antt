@@ -1,5 +1,6 @@
 mod WindowLemmas
 mod PeakLemmas
+mod RuledOutLemmas
 mod AboveLemmas
 mod LeastLemmas
 mod DemandLemmas

@@ -1,5 +1,5 @@
 -- Greatest numbers of days, one day after the other; and lines of starts and of capacity lines, one after the other.
-use Rattle.std.proofs.Common.{◌≡◌, ℕ, zero, suc, ◌+◌, ◌*◌, ◌<◌, Bool, true, false, true≢false, List, [], ◌∷◌, ◌++◌, length, drop, get_or, add-one, append_assoc, append-nil, Option, Some, None, refl, sym, ◌∙◌, ap, subst, arith, ◌≤◌}
+use Rattle.std.proofs.Common.{◌≡◌, ℕ, zero, suc, ◌+◌, ◌*◌, ◌<◌, Bool, true, false, true≢false, List, [], ◌∷◌, ◌++◌, length, drop, add-one, append_assoc, append-nil, Option, Some, None, refl, sym, ◌∙◌, ap, subst, arith, ◌≤◌}
 use Rattle.std.specs.Prelude.{codes, IsNone, slice_get, slice_index, nat_lt, if◌then◌else◌, filter, sum_by, All}
 use Rattle.std.specs.Fmt.{decimal}
 use Rattle.std.specs.List.{range_with_len, flat_map}
@@ -18,7 +18,7 @@ use Rattle.season_days.specs.declared.declaration.Night.{Night}
 use Rattle.season_days.specs.Capacity.{Capacity, start_of, starts_of, windows_of}
 use Rattle.capacity_windows.specs.Windows.{first_of}
 use Rattle.report_lines.specs.declared.profile.Peak.{Peak}
-use Rattle.report_lines.specs.Peaks.{greatest_from, window_at, rule_days, profile_on, profile_days, profile_line, rule_profile, quota_profile, profile_from}
+use Rattle.report_lines.specs.Peaks.{greatest_from, window_at, rule_days, profile_days, profile_line, rule_profile, quota_profile, profile_from}
 use Rattle.report_lines.specs.Private.{HasLoads, IsPeak, with_peak, peak_text, night_text}
 use Rattle.report_lines.proofs.WindowLemmas.{line_next, window_there}
 

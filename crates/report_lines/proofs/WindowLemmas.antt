@@ -1,8 +1,8 @@
 -- Capacity lines and the numbers of their windows.
-use Rattle.std.proofs.Common.{◌≡◌, ℕ, suc, true, false, true≢false, ◌+◌, ◌-◌, ◌*◌, ◌/◌, ◌%◌, ◌<◌, ◌≤◌, List, [], ◌∷◌, ◌++◌, length, take, drop, get_or, append_assoc, Option, Some, None, refl, sym, ◌∙◌, ap, subst, arith, inl, inr}
+use Rattle.std.proofs.Common.{◌≡◌, ℕ, suc, true, false, true≢false, ◌+◌, ◌-◌, ◌*◌, ◌/◌, ◌%◌, ◌<◌, ◌≤◌, List, ◌∷◌, ◌++◌, length, drop, get_or, append_assoc, Option, Some, None, refl, sym, ◌∙◌, ap, subst, arith}
 use Rattle.std.specs.Prelude.{◌↔◌, IsNone, slice_get, IfSome, nat_lt, if◌then◌else◌, is_some, sum_by}
 use Rattle.std.proofs.lemmas.Bool.{lt-ltb, le-ltb}
-use Rattle.std.proofs.lemmas.Nat.{mul-le, mul-add-lt, div-add-mod', div_below, mod_below}
+use Rattle.std.proofs.lemmas.Nat.{mul-le, mul-add-lt, div-add-mod', div_below}
 use Rattle.std.proofs.lemmas.List.{drop_more, drop_all, take_all}
 use Rattle.std.proofs.lemmas.List.Sums.{sum_by_more, sum_by_more_le}
 use Rattle.std.proofs.lemmas.Option.{slice_get-get_or, slice_get_within, get_or_from_slice_get}
@@ -11,7 +11,6 @@ use Rattle.season_days.specs.declared.declaration.Night.{Night}
 use Rattle.season_days.specs.declared.declaration.Rule.{Rule}
 use Rattle.season_days.specs.Capacity.{Capacity, declared_resources, start_of, starts_of, windows_of}
 use Rattle.capacity_windows.specs.Windows.{first_of}
-use Rattle.report_lines.specs.declared.names.WindowName.{WindowName}
 use Rattle.report_lines.specs.declared.names.WindowName.TheVariants.{Window}
 use Rattle.report_lines.specs.Heads.{capacity_line, capacity_lines}
 use Rattle.report_lines.specs.Words.{name_from, quota_name, name_of}

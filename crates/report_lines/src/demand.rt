@@ -172,13 +172,27 @@ fn add_all(
     requires few { length units.now ≤ MOST_UNITS }
     requires count { length loads.old ≡ declared_resources windows.now }
     requires zeros { AreZero loads.old }
-    ensures { OnOk result ((r : ℕ) → r < length loads.new →
+    ensures { OnOk result ((r : ℕ) → r < declared_resources windows.now →
         slice_index loads.new r ≡ lines_load windows.now units.now r) }
 {
     for unit in units {
         add_requested(alloc, windows, unit, loads)?;
     }
     Ok(())
+}
+
+// The load of each resource at the requested times of units.
+fn requested_loads(alloc: Global, windows: &Windows, units: &[Unit]) -> Result<Vec<u32>, Memory>
+    requires units { All (UnitFits windows.now.season) units.now }
+    requires few { length units.now ≤ MOST_UNITS }
+    ensures count { IfOk result
+        (λ loads. length loads.items ≡ declared_resources windows.now) }
+    ensures each { IfOk result (λ loads. (r : ℕ) → r < declared_resources windows.now →
+        slice_index loads.items r ≡ lines_load windows.now units.now r) }
+{
+    let mut loads = vec![in alloc; 0; windows.resources() as usize]?;
+    add_all(alloc, windows, units, &mut loads)?;
+    Ok(loads)
 }
 
 /// The windows, and the night quota, on which all requests together are above the declared limits,
@@ -189,8 +203,7 @@ pub fn demand_lines(alloc: Global, submission: &Submission) -> Result<Vec<u8>, M
 {
     let windows = submission.windows();
     let limits = windows.limits(alloc)?;
-    let mut loads = vec![in alloc; 0; limits.len()]?;
-    add_all(alloc, windows, submission.units(), &mut loads)?;
+    let loads = requested_loads(alloc, windows, submission.units())?;
     let excess = ExcessLists {
         limits: &limits,
         loads: &loads,

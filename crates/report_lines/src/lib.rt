@@ -6,6 +6,7 @@ mod appends;
 mod demand;
 mod excess;
 mod heads;
+pub mod laws;
 mod least;
 mod names;
 mod profile;

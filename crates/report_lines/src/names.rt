@@ -1,11 +1,11 @@
 //! The names of windows in a report.
 
-ghost use Rattle.std.specs.Prelude.{◌≡◌};
-ghost use Rattle.season_days.specs.Capacity.{capacity_of};
+ghost use Rattle.std.specs.Prelude.{◌≡◌, ◌<◌};
+ghost use Rattle.season_days.specs.Capacity.{capacity_of, start_of, starts_of};
 ghost use Rattle.report_lines.specs.Words.{name_of, IsNamedDay};
 
 use capacity_windows::Windows;
-use season_days::Declaration;
+use season_days::{Declaration, Rule};
 
 /// Which window a resource is: of a capacity line, counted from 1, the one of a day of the season
 /// that begins at a minute of the day; or the night quota; or nothing, past the last.
@@ -14,6 +14,14 @@ pub enum WindowName {
     Window { line: u32, day: u32, minute: u32 },
     Night,
     Nothing,
+}
+
+// The minute of the day at which a start of a capacity line lies.
+fn minute_of(step: u32, rule: Rule, start: u32) -> u32
+    requires { start < starts_of step rule }
+    ensures { result ≡ start_of step rule start }
+{
+    rule.from + start * step
 }
 
 /// The name of a resource: one step a capacity line.
@@ -32,7 +40,7 @@ pub(crate) fn name_of(declaration: &Declaration, windows: &Windows, resource: u3
             return WindowName::Window {
                 line: line + 1,
                 day: rest / starts,
-                minute: rule.from + rest % starts * declaration.step,
+                minute: minute_of(declaration.step, rule, rest % starts),
             };
         }
         rest -= count;

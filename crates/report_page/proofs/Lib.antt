@@ -2,3 +2,4 @@ mod TextLemmas
 mod MarkupLemmas
 mod PageLemmas
 mod SizeLemmas
+mod EndLemmas

@@ -1,6 +1,6 @@
 -- Where markup begins in a text, and that none of it is a script.
 use Rattle.std.specs.Prelude.{◌==◌, if◌then◌else◌}
-use Rattle.std.proofs.Common.{◌≡◌, ℕ, ◌<◌, ◌^◌, Bool, true, false, not, ◌&&◌, ◌||◌, List, [], ◌∷◌, ◌++◌, refl, sym, ◌∙◌, arith, inl, inr}
+use Rattle.std.proofs.Common.{◌≡◌, ℕ, Bool, true, false, not, ◌&&◌, ◌||◌, List, [], ◌∷◌, ◌++◌, refl, sym, ◌∙◌, arith, inl, inr}
 use Rattle.std.proofs.lemmas.Bool.{cases_Bool, eq-eqb, eqb-true, and_parts, or_parts, not-true, and_right, or_from, false_from_ne_true, false≢true}
 use Rattle.report_page.specs.Filled.{escaped, number_of, minute_of, word_piece, next_piece, is_stop, told_words, is_word_mark, piece, words_left, filled}
 use Rattle.report_page.specs.Laws.{IsPlain, begins_with, has}
@@ -122,9 +122,9 @@ filled_safe (b ∷ template) words h =
 -- ---- no script
 
 not_here : (b : ℕ) (text : List ℕ) (a c : ℕ) → opens a c ≡ false → (b ≡ 60 → opens_after text ≡ true) → begins_with (60 ∷ a ∷ c ∷ []) (b ∷ text) ≡ false
-not_here b [] a c no x = and_right (60 == b) false refl
-not_here b (d ∷ []) a c no x = and_right (60 == b) ((a == d) && false) (and_right (a == d) false refl)
-not_here b (d ∷ f ∷ text) a c no x =
+not_here b [] a c closed x = and_right (60 == b) false refl
+not_here b (d ∷ []) a c closed x = and_right (60 == b) ((a == d) && false) (and_right (a == d) false refl)
+not_here b (d ∷ f ∷ text) a c closed x =
     false_from_ne_true ((60 == b) && ((a == d) && ((c == f) && true))) (λ h.
     let p = and_parts (60 == b) ((a == d) && ((c == f) && true)) h in
     let q = and_parts (a == d) ((c == f) && true) p.1 in
@@ -133,10 +133,10 @@ not_here b (d ∷ f ∷ text) a c no x =
     let same_c : c ≡ f = eqb-true c f r.0 in
     let open_there : opens d f ≡ true = x (sym (eqb-true 60 b p.0)) in
     let open_here : opens a c ≡ true = rw (same_a, same_c) open_there in
-    false≢true (sym no ∙ open_here))
+    false≢true (sym closed ∙ open_here))
 
 -- `<` with two bytes behind it that may not follow stands nowhere
 pub safe_has : (text : List ℕ) (a c : ℕ) → opens a c ≡ false → IsSafe text → has (60 ∷ a ∷ c ∷ []) text ≡ false
-safe_has [] a c no x = refl
-safe_has (b ∷ text) a c no x =
-    or_from (begins_with (60 ∷ a ∷ c ∷ []) (b ∷ text)) (has (60 ∷ a ∷ c ∷ []) text) (not_here b text a c no x.0) (safe_has text a c no x.1)
+safe_has [] a c closed x = refl
+safe_has (b ∷ text) a c closed x =
+    or_from (begins_with (60 ∷ a ∷ c ∷ []) (b ∷ text)) (has (60 ∷ a ∷ c ∷ []) text) (not_here b text a c closed x.0) (safe_has text a c closed x.1)

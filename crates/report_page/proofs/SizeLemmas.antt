@@ -71,12 +71,18 @@ told_short [] = omega arith
 told_short (word ∷ words) =
     elim (cases_Bool (is_stop word)) [
       | inl stop ↦ rw stop (omega arith)
-      | inr more ↦ rw more (omega (arith, length-append (escaped word) (told_words words), length_escaped word, told_short words))
+      | inr more ↦ rw more (
+          let shown : length (32 ∷ (escaped word ++ told_words words)) + words_share (after_told words) ≤ word_share word + words_share words =
+          omega (arith, length-append (escaped word) (told_words words), length_escaped word, told_short words) in
+          shown)
     ]
 
 next_short : (mark : ℕ) (words : List (List ℕ)) → length (next_piece mark words) + words_share (after_next words) ≤ 1 + words_share words
 next_short mark [] = omega arith
-next_short mark (word ∷ words) = omega (arith, word_short mark word)
+next_short mark (word ∷ words) =
+    let shown : length (word_piece mark word) + words_share words ≤ 1 + (word_share word + words_share words) =
+    omega (arith, word_short mark word) in
+    shown
 
 piece_short : (b : ℕ) (words : List (List ℕ)) → length (piece b words) + words_share (words_left b words) ≤ 1 + words_share words
 piece_short b words =
@@ -108,6 +114,17 @@ shown_length : (template line : List ℕ) → is_short template ≡ true → len
 shown_length template line short =
     omega (arith, filled_length template (fields_of line), leb-true (length template) MOST_TEMPLATE short)
 
+-- ---- two texts
+
+once : (a b : List ℕ) (x y : ℕ) → length a ≤ x → length b ≤ y → length (a ++ b) ≤ x + y
+once a b x y h k = omega (arith, length-append a b, h, k)
+
+twice : (a b : List ℕ) (x y : ℕ) → length a ≤ 2 * x → length b ≤ 2 * y → length (a ++ b) ≤ 2 * (x + y)
+twice a b x y h k = omega (arith, length-append a b, h, k)
+
+with_charts : (a b : List ℕ) (one count share x y : ℕ) → length a ≤ 3 * x + one * share → length b ≤ 3 * y + count * share → length (a ++ b) ≤ 3 * (x + y) + (one + count) * share
+with_charts a b one count share x y h k = omega (arith, length-append a b, h, k, add-mul one count share)
+
 -- ---- parts
 
 row_short : (section : Section) (words : List (List ℕ)) → is_short (row_of section words) ≡ true
@@ -128,7 +145,9 @@ section_length : (section : Section) (lines : List (List ℕ)) → length (secti
 section_length section [] = omega arith
 section_length section (line ∷ lines) =
     let words = fields_of line in
-    omega (arith, length-append (filled (row_of section words) words) (section_rows section lines), shown_length (row_of section words) line (row_short section words), section_length section lines)
+    once (filled (row_of section words) words) (section_rows section lines) (line_share line) (pass_share lines)
+    (shown_length (row_of section words) line (row_short section words))
+    (section_length section lines)
 
 unit_short : (words : List (List ℕ)) → is_short (unit_row words) ≡ true
 unit_short words =
@@ -144,7 +163,9 @@ series_length told [] = omega arith
 series_length told (line ∷ lines) =
     let words = fields_of line in
     let now = is_told told words in
-    omega (arith, length-append (filled (told_row now words) words) (series_rows now lines), shown_length (told_row now words) line (either_short now (unit_row words) [] (unit_short words) refl), series_length now lines)
+    once (filled (told_row now words) words) (series_rows now lines) (line_share line) (pass_share lines)
+    (shown_length (told_row now words) line (either_short now (unit_row words) [] (unit_short words) refl))
+    (series_length now lines)
 
 -- ---- the pictures
 
@@ -159,7 +180,7 @@ bar_length number line =
 bars_length : (number : List ℕ) (lines : List (List ℕ)) → length (bars number lines) ≤ 2 * pass_share lines
 bars_length number [] = omega arith
 bars_length number (line ∷ lines) =
-    omega (arith, length-append (bar number (fields_of line)) (bars number lines), bar_length number line, bars_length number lines)
+    twice (bar number (fields_of line)) (bars number lines) (line_share line) (pass_share lines) (bar_length number line) (bars_length number lines)
 
 one_share : (b : Bool) (best line : List ℕ) → line_share (if b then line else best) ≤ line_share best + line_share line
 one_share b best line =
@@ -171,7 +192,14 @@ higher_share number best line =
 
 peak_share : (number best : List ℕ) (lines : List (List ℕ)) → line_share (peak_from number best lines) ≤ line_share best + pass_share lines
 peak_share number best [] = omega arith
-peak_share number best (line ∷ lines) = omega (arith, higher_share number best line, peak_share number (higher number best line) lines)
+peak_share number best (line ∷ lines) =
+    let more : line_share (peak_from number (higher number best line) lines) ≤ line_share best + (line_share line + pass_share lines) =
+    omega (arith, higher_share number best line, peak_share number (higher number best line) lines) in
+    more
+
+no_words : words_share (fields_of []) ≡ 0
+unfolding fields_of
+no_words = refl
 
 peak_length : (line : List ℕ) → length (peak_part (fields_of line)) ≤ line_share line
 peak_length line =
@@ -203,6 +231,7 @@ picture_length all line =
       shown_length CAPTION.now line refl,
       peak_length peak,
       peak_share number [] all,
+      no_words,
       shown_length FRAME.now line refl,
       shown_length GRID.now line refl,
       bars_length number all,
@@ -219,8 +248,9 @@ chart_length all line =
 charts_length : (all lines : List (List ℕ)) → length (charts all lines) ≤ 3 * pass_share lines + capacity_count lines * picture_share all
 charts_length all [] = omega arith
 charts_length all (line ∷ lines) =
-    let one = if word_is 1 (codes "CAPACITY") (fields_of line) then 1 else 0 in
-    omega (arith, length-append (chart all (fields_of line)) (charts all lines), chart_length all line, charts_length all lines, add-mul one (capacity_count lines) (picture_share all))
+    let words = fields_of line in
+    with_charts (chart all words) (charts all lines) (if word_is 1 (codes "CAPACITY") words then 1 else 0) (capacity_count lines) (picture_share all) (line_share line) (pass_share lines)
+    (chart_length all line) (charts_length all lines)
 
 -- ---- the page
 

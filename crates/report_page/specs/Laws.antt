@@ -1,5 +1,5 @@
 -- What holds of each page.
-use Rattle.std.specs.Prelude.{◌≢◌, ℕ, ◌+◌, ◌*◌, ◌≤◌, ◌==◌, Bool, true, false, ◌&&◌, ◌||◌, if◌then◌else◌, List, [], ◌∷◌, length, sum_by, codes}
+use Rattle.std.specs.Prelude.{◌≢◌, ℕ, ◌+◌, ◌*◌, ◌≤◌, ◌==◌, Bool, true, false, ◌&&◌, ◌||◌, if◌then◌else◌, List, [], ◌∷◌, length, codes}
 use Rattle.slot_text.specs.Fields.{fields_of}
 use Rattle.report_page.specs.Filled.{word_is}
 
@@ -30,14 +30,16 @@ abbrev pub word_share : List ℕ → ℕ
 word_share word = 6 * length word + 20
 
 abbrev pub words_share : List (List ℕ) → ℕ
-words_share words = sum_by word_share words
+words_share [] = 0
+words_share (word ∷ words) = word_share word + words_share words
 
 -- what one pass over lines may give
 abbrev pub line_share : List ℕ → ℕ
 line_share line = MOST_TEMPLATE + words_share (fields_of line)
 
 abbrev pub pass_share : List (List ℕ) → ℕ
-pass_share lines = sum_by line_share lines
+pass_share [] = 0
+pass_share (line ∷ lines) = line_share line + pass_share lines
 
 -- how many lines declare a capacity
 abbrev pub capacity_count : List (List ℕ) → ℕ

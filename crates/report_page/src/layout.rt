@@ -46,7 +46,7 @@ pub const TITLE: &[u8] = b"~ $~ $";
 
 /// The style of all parts.
 pub const STYLE: &[u8] = b"</title>\n<style>\n\
-body{font:15px/1.4 system-ui,sans-serif;max-width:66em;margin:0 auto;padding:0 12px;color:#111;background:#fff}\n\
+body{font:15px/1.4 system-ui,sans-serif;max-width:66em;margin:0 auto;padding:0 12px;color:#111;background:#fff;font-variant-numeric:tabular-nums}\n\
 h1{font-size:1.5em;margin:.6em 0 .2em}\n\
 h2{font-size:1.2em;margin:1.6em 0 .3em;border-bottom:2px solid #246}\n\
 p{margin:.3em 0}\n\
@@ -55,11 +55,13 @@ th,td{padding:2px 6px;text-align:left;vertical-align:top;font-weight:400;border-
 thead th{border-top:0;font-weight:600}\n\
 .n th,.n td{text-align:right}\n\
 .n th:first-child,.n .l{text-align:left}\n\
-.s th{width:3.4em;color:#555}\n\
-.u th,.u td{border-top:2px solid #246;color:#111}\n\
+.s th{color:#555;white-space:nowrap}\n\
+.s .u th,.s .u td{border-top:2px solid #246;color:#111;background:#eef2f7}\n\
+.r th,.r td{text-align:right;white-space:nowrap}\n\
+.r th:first-child,.r :nth-child(3),.r :nth-child(4),.r :nth-child(8){text-align:left}\n\
 .m{font-family:ui-monospace,monospace;font-size:.9em}\n\
 .s td{overflow-wrap:anywhere}\n\
-.g{display:grid;grid-template-columns:repeat(auto-fit,minmax(300px,1fr));gap:1em 1.6em;margin-top:.6em}\n\
+.g{display:grid;grid-template-columns:repeat(auto-fit,minmax(min(300px,100%),1fr));gap:1em 1.6em;margin-top:.6em}\n\
 figure{margin:0;break-inside:avoid;display:flex;flex-direction:column}\n\
 figcaption{font-size:.87em;flex:1}\n\
 svg{display:block;width:100%;height:110px;margin-top:4px;border-top:2px solid #a22;border-bottom:1px solid #111}\n\
@@ -68,8 +70,15 @@ svg{display:block;width:100%;height:110px;margin-top:4px;border-top:2px solid #a
 .b{stroke:#246;stroke-width:var(--step);transform:translateX(calc(var(--step)/2))}\n\
 @media(max-width:600px){body{font-size:13px}th,td{padding:2px 3px}\
 .n thead th{writing-mode:vertical-rl;text-align:right;padding:3px}\
-.n thead th:first-child,.n thead .l{writing-mode:horizontal-tb;vertical-align:bottom;text-align:left}}\n\
-@media print{body{font-size:10pt;max-width:none;padding:0}h2{break-after:avoid}tr{break-inside:avoid}}\n\
+.n thead th:first-child,.n thead .l{writing-mode:horizontal-tb;vertical-align:bottom;text-align:left}\
+.s thead{display:none}.r{border-top:1px solid #ccc}.r th,.r td{border:0}\
+.r td{display:inline-block;padding:0 6px 0 0}.r td:nth-child(2):before{content:\"Stage \"}\
+.r td:nth-child(4):before{content:\"to \"}.r td:nth-child(5):before{content:\"choices \"}\
+.r td:nth-child(6):before{content:\"cost \"}.r td:nth-child(7):before{content:\"dates \"}\
+.r td:nth-child(8):before{content:\"by \"}.r td:nth-child(9):before{content:\"limit \"}\
+.r td:nth-child(10):before{content:\"earlier \"}.r td:nth-child(11):before{content:\"others \"}\
+.r td:nth-child(12):before{content:\"this \"}}\n\
+@media print{body{font-size:9pt;max-width:none;padding:0}th,td{padding:1px 4px}h2{break-after:avoid}tr{break-inside:avoid}}\n\
 ";
 
 /// RULES STEP n FLEX n GROUND n SHARE n REFUSE p
@@ -163,30 +172,31 @@ pub const HOURS: &[u8] = b"</svg><p class=\"x\"><span>00</span><span>06</span><s
 /// Their table's head.
 pub const SERIES: &[u8] = b"</div>\n<h2>Series without the times that they asked for</h2>\n\
 <p>Shift: minutes on one date. Cost: minutes over all dates, or the price of a refusal. Below each \
-series: what it held, asked for and was given; then each cheaper choice of times (arrival and \
-departure), how many dates are barred and by what: a window or the night quota, whose limit \
-the other series of the stage and this one pass together.</p>\n\
-<table class=\"s\">\n";
+series stand the cheaper choices of times (arrival, departure). Not: barred on at least so many dates; \
+at the window or night quota named, the other series of the stage and this one together pass the limit \
+of the stage (Earlier: the load of the stages before). Fits: barred by nothing.</p>\n\
+<table class=\"s\"><thead><tr class=\"r\"><th><th>Stage<th>First times<th>Last times<th>Choices\
+<th>Cost from<th>Dates<th>Barred by<th>Limit<th>Earlier<th>Others<th>This</thead>\n";
 
 /// UNIT n STAGE s outcome DATES d SHIFT a COST c
-pub const UNIT: &[u8] = b"~<tbody><tr class=\"u\"><th>Line $<td>~Stage $: <b>$</b>, \
+pub const UNIT: &[u8] = b"~<tbody><tr class=\"u\"><th>Line $<td colspan=\"11\">~Stage $: <b>$</b>, \
 ~$ dates, ~shift $, ~cost $\n";
 
 /// HELD line
-pub const HELD: &[u8] = b"~<tr><th>Held<td class=\"m\">*\n";
+pub const HELD: &[u8] = b"~<tr><th>Held<td class=\"m\" colspan=\"11\">*\n";
 
 /// ASKED line
-pub const ASKED: &[u8] = b"~<tr><th>Asked<td class=\"m\">*\n";
+pub const ASKED: &[u8] = b"~<tr><th>Asked<td class=\"m\" colspan=\"11\">*\n";
 
 /// GIVEN line
-pub const GIVEN: &[u8] = b"~<tr><th>Given<td class=\"m\">*\n";
+pub const GIVEN: &[u8] = b"~<tr><th>Given<td class=\"m\" colspan=\"11\">*\n";
 
 /// NOT s times TO times COUNT n COST c DATES m BY window LIMIT l EARLIER e OTHERS k USES u
-pub const NOT: &[u8] = b"~<tr><th>Not<td>Stage $: <b>$ $</b> ~to <b>$ $</b> (~$, ~from cost $): \
-~$ dates, ~by* (~limit $, ~earlier stages $, ~others $, ~this $)\n";
+pub const NOT: &[u8] = b"~<tr class=\"r\"><th>Not<td>$<td>$ $~<td>$ $~<td>$~<td>$~<td>$~<td>*\
+~<td>$~<td>$~<td>$~<td>$\n";
 
 /// FITS s times TO times COUNT n COST c
-pub const FITS: &[u8] = b"~<tr><th>Fits<td>Stage $: <b>$ $</b> ~to <b>$ $</b> (~$, ~from cost $)\n";
+pub const FITS: &[u8] = b"~<tr class=\"r\"><th>Fits<td>$<td>$ $~<td>$ $~<td>$~<td>$\n";
 
 /// The end of the page.
 pub const CLOSING: &[u8] = b"</table>\n</body></html>\n";

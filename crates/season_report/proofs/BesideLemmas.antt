@@ -1,6 +1,6 @@
 -- The reasons that are found by the problem of a stage, and counts of the other units, are those of
 -- the stage.
-use Rattle.std.proofs.Common.{◌≡◌, ℕ, zero, suc, ◌+◌, ◌<◌, ◌≤◌, Bool, true, false, cond, refl, sym, ◌∙◌, ap, subst, arith, List, [], ◌∷◌, ◌++◌, length, get_or, map}
+use Rattle.std.proofs.Common.{◌≡◌, ℕ, zero, suc, ◌+◌, ◌<◌, Bool, true, false, cond, refl, sym, ◌∙◌, ap, subst, arith, List, [], ◌∷◌, ◌++◌, length, get_or, map}
 use Rattle.std.specs.Prelude.{Option, Some, None, All, Contains, IfSome, filter, slice_get, slice_index, nat_lt, if◌then◌else◌}
 use Rattle.std.specs.List.{AllZip, range_with_len, flat_map}
 use Rattle.std.proofs.lemmas.Option.{slice_get_within}

@@ -1,12 +1,10 @@
 -- What lines of reasons show of the stages of a valid certificate.
-use Rattle.std.proofs.Common.{◌≡◌, ℕ, zero, suc, ◌+◌, ◌-◌, ◌<◌, ◌≤◌, ◌⊎◌, inl, inr, Bool, true, false, cond, refl, sym, ◌∙◌, ap, subst, arith, List, [], ◌∷◌, ◌++◌, length, take, map, set}
-use Rattle.std.specs.Prelude.{Option, Some, None, All, Contains, IfSome, IsSome, option_map, filter, slice_get, if◌then◌else◌}
+use Rattle.std.proofs.Common.{◌≡◌, ℕ, zero, suc, ◌+◌, ◌-◌, ◌<◌, ◌≤◌, inl, inr, Bool, true, false, cond, refl, sym, ◌∙◌, ap, subst, arith, List, [], ◌∷◌, ◌++◌, length, take, map, set}
+use Rattle.std.specs.Prelude.{Option, Some, None, Contains, IfSome, IsSome, option_map, filter, slice_get}
 use Rattle.std.specs.List.{range_with_len}
 use Rattle.std.proofs.lemmas.Bool.{ltb-true, ltb-false, cases_lt}
 use Rattle.std.proofs.lemmas.List.{append-nil, append_assoc, length-append}
-use Rattle.std.proofs.lemmas.Option.{slice_get-get_or}
-use Rattle.std.proofs.lemmas.List.Sums.{sum_by-cons}
-use Rattle.std.proofs.lemmas.List.Elements.{All-nil, All-cons, All-head, All-tail, filter_passes}
+use Rattle.std.proofs.lemmas.List.Elements.{filter_passes}
 use Rattle.season_days.specs.declared.declaration.Declaration.{Declaration}
 use Rattle.season_days.specs.Capacity.{capacity_of, declared_resources}
 use Rattle.cert_format.specs.declared.cert.Mark.{Mark}
@@ -14,25 +12,22 @@ use Rattle.cert_format.specs.declared.cert.Mark.TheVariants.{Optimal}
 use Rattle.cert_format.specs.declared.cert.StageCert.{StageCert}
 use Rattle.cert_format.specs.declared.cert.Certificate.{Certificate}
 use Rattle.cert_format.specs.Choices.{choices_of}
-use Rattle.series_model.specs.declared.group.Group.{Group}
-use Rattle.series_model.specs.declared.group.Group.TheVariants.{F, R, L, B, N}
 use Rattle.series_model.specs.declared.unit.Unit.{Unit as SlotUnit}
 use Rattle.series_model.specs.declared.times.Times.{Times}
 use Rattle.series_model.specs.declared.state.UnitState.{UnitState}
-use Rattle.series_model.specs.Options.{options_of, options_by, line_times}
-use Rattle.series_model.specs.Movements.{movements_of}
+use Rattle.series_model.specs.Options.{options_of}
 use Rattle.series_model.specs.Displacement.{displacement_of}
 use Rattle.series_model.specs.Marks.{ClaimsOptimal}
 use Rattle.series_model.specs.Submissions.{SubmissionView}
-use Rattle.series_model.specs.Allotments.{AreAlternatives, IsFeasibleAllotment, IsLeastAllotment, HasNoAllotment, allotted_movements, allotted_load}
-use Rattle.series_model.specs.Stages.{first_states, is_due, stage_units, stage_limit, stage_times, times_named, after_stage, after_stages, states_after, IsFeasibleChoice, AreFeasibleFrom}
+use Rattle.series_model.specs.Allotments.{IsFeasibleAllotment, IsLeastAllotment, allotted_load}
+use Rattle.series_model.specs.Stages.{first_states, stage_units, stage_limit, stage_times, times_named, after_stage, after_stages, states_after, IsFeasibleChoice, AreFeasibleFrom}
 use Rattle.wasg_stages.specs.Valid.{MarkClaims, StageClaims, AreClaims, MarksHold}
-use Rattle.report_lines.specs.Peaks.{unit_load, least_number, least_unit_load, least_units_load, stage_excess, is_above}
+use Rattle.report_lines.specs.Peaks.{unit_load}
 use Rattle.season_report.specs.declared.barred.Barred.{Barred}
 use Rattle.season_report.specs.Decisions.{states_before}
 use Rattle.season_report.specs.Reasons.{AllottedStage, units_in, limit_in, others_load, is_passed, passed_by, barred_by, reason_of, is_cheaper, cheaper_than}
-use Rattle.season_report.specs.Laws.{UsesItsBar, AllRows, NoneFits, HasOverLine}
-use Rattle.season_report.proofs.ApartLemmas.{window_load-append, load_apart, cost_apart, load_set, cost_set, alternatives_set}
+use Rattle.season_report.specs.Laws.{UsesItsBar, AllRows, NoneFits}
+use Rattle.season_report.proofs.ApartLemmas.{load_apart, cost_apart, load_set, cost_set, alternatives_set}
 use Rattle.season_report.proofs.RowLemmas.{KeepsDates, rows_keep}
 use Rattle.season_report.proofs.BesideLemmas.{all_cheaper, reason_has, passed_below}
 
@@ -213,108 +208,3 @@ optimal_least s c place block x hold at mark is =
 pub for_some : {A : Type 0} (P : A → Type 0) (o : Option A) → ((x : A) → o ≡ Some x → P x) → IfSome o P
 for_some P None each = tt
 for_some P (Some x) each = each x refl
-
--- ---- the least load of a stage
-
-least_below : (f : Times → ℕ) (options : List Times) (k : ℕ) (times : Times) → slice_get options k ≡ Some times → least_number (map f options) ≤ f times
-least_below f [] k times at = cc
-least_below f (one ∷ []) zero times at = let same : one ≡ times = cc in omega (arith, ap f same)
-least_below f (one ∷ []) (suc k) times at = cc
-least_below f (one ∷ two ∷ options) zero times at = let same : one ≡ times = cc in omega (arith, ap f same)
-least_below f (one ∷ two ∷ options) (suc k) times at = omega (arith, least_below f (two ∷ options) k times at)
-
-got_of : (options : List Times) (times : Times) → Contains options times → (k : ℕ) × (slice_get options k ≡ Some times)
-got_of options times is = (is.0, slice_get-get_or options is.0 times is.1 ∙ ap (λ (its : Times). Some its) is.2)
-
-least_within_load : (d : Declaration) (units : List SlotUnit) (times : List Times) (r : ℕ) → AreAlternatives d units times → least_units_load d units r ≤ allotted_load d units times r
-least_within_load d [] times r are = omega arith
-least_within_load d (unit ∷ units) [] r are = absurd are
-least_within_load d (unit ∷ units) (given ∷ times) r are =
-    let first = sum_by-cons (λ (u : SlotUnit). least_unit_load d u r) unit units in
-    let got = got_of (options_of d unit) given are.0 in
-    let own : least_unit_load d unit r ≤ unit_load d unit given r = least_below (λ (its : Times). unit_load d unit its r) (options_of d unit) got.0 given got.1 in
-    omega (
-      arith,
-      first,
-      own,
-      least_within_load d units times r are.1,
-      window_load-append (capacity_of d) (movements_of d.season unit given) (allotted_movements d.season units times) r,
-    )
-
-pub over_rules_out : (d : Declaration) (stage : ℕ) (states : List UnitState) (r : ℕ) → r < declared_resources (capacity_of d) → is_above (stage_excess d stage states) r ≡ true →
-    HasNoAllotment d (stage_units stage states) (stage_limit d stage states)
-over_rules_out d stage states r lt above times feasible =
-    let over : stage_limit d stage states r < least_units_load d (stage_units stage states) r = ltb-true _ _ above in
-    let no : ⊥ = omega (arith, over, feasible.fits r lt, least_within_load d (stage_units stage states) times r feasible.alternatives) in
-    no
-
--- ---- the units of stage 1 have one alternative
-
-abbrev Single : Declaration → SlotUnit → Type 0
-Single d unit = options_of d unit ≡ line_times unit.request ∷ []
-
-singles : (d : Declaration) (units : List SlotUnit) → All (Single d) (stage_units 1 (first_states units))
-singles d [] = All-nil (Single d)
-singles d (unit ∷ units) =
-    let rest = singles d units in
-    (elim unit.group as (λ g. unit.group ≡ g → All (Single d) (if is_due 1 g None then unit ∷ stage_units 1 (first_states units) else stage_units 1 (first_states units))) [
-      | F ↦ λ is. All-cons (Single d) unit (stage_units 1 (first_states units)) (ap (λ (g : Group). options_by d unit.request unit.historic g) is) rest
-      | R ↦ λ is. rest
-      | L ↦ λ is. rest
-      | B ↦ λ is. rest
-      | N ↦ λ is. rest
-    ]) refl
-
-single_alternatives : (d : Declaration) (units : List SlotUnit) → All (Single d) units → AreAlternatives d units (map (λ (unit : SlotUnit). line_times unit.request) units)
-single_alternatives d [] all = tt
-single_alternatives d (unit ∷ units) all =
-    let one : Single d unit = All-head (Single d) unit units all in (
-      subst (λ (options : List Times). Contains options (line_times unit.request)) (sym one) (0, omega arith, refl),
-      single_alternatives d units (All-tail (Single d) unit units all),
-    )
-
-single_load : (d : Declaration) (units : List SlotUnit) (r : ℕ) → All (Single d) units → allotted_load d units (map (λ (unit : SlotUnit). line_times unit.request) units) r ≡ least_units_load d units r
-single_load d [] r all = refl
-single_load d (unit ∷ units) r all =
-    let one : Single d unit = All-head (Single d) unit units all in
-    let times = map (λ (u : SlotUnit). line_times u.request) units in
-    let first = sum_by-cons (λ (u : SlotUnit). least_unit_load d u r) unit units in
-    let own : least_unit_load d unit r ≡ unit_load d unit (line_times unit.request) r = ap (λ (options : List Times). least_number (map (λ (its : Times). unit_load d unit its r) options)) one in
-    omega (
-      arith,
-      first,
-      own,
-      single_load d units r (All-tail (Single d) unit units all),
-      window_load-append (capacity_of d) (movements_of d.season unit (line_times unit.request)) (allotted_movements d.season units times) r,
-    )
-
--- a test passes at some number below another, or at none
-some_below : (p : ℕ → Bool) (n : ℕ) → ((r : ℕ) × (r < n) × (p r ≡ true)) ⊎ ((r : ℕ) → r < n → p r ≡ false)
-some_below p zero = inr (λ r lt. absurd (omega arith))
-some_below p (suc n) =
-    elim (some_below p n) as (λ w. ((r : ℕ) × (r < suc n) × (p r ≡ true)) ⊎ ((r : ℕ) → r < suc n → p r ≡ false)) [
-      | inl found ↦ inl (found.0, omega (arith, found.1), found.2)
-      | inr none ↦ (elim (p n) as (λ b. p n ≡ b → ((r : ℕ) × (r < suc n) × (p r ≡ true)) ⊎ ((r : ℕ) → r < suc n → p r ≡ false)) [
-        | true ↦ λ is. inl (n, omega arith, is)
-        | false ↦ λ is. inr (λ r lt. elim (cases_lt r n) as (λ w. p r ≡ false) [
-          | inl below ↦ none r below
-          | inr above ↦ let same : n ≡ r = omega arith in subst (λ (k : ℕ). p k ≡ false) same is
-        ])
-      ]) refl
-    ]
-
-pub first_over : (d : Declaration) (units : List SlotUnit) → HasNoAllotment d (stage_units 1 (first_states units)) (stage_limit d 1 (first_states units)) → HasOverLine d 1 (first_states units)
-first_over d units none =
-    let states = first_states units in
-    let own = stage_units 1 states in
-    let all : All (Single d) own = singles d units in
-    let times = map (λ (unit : SlotUnit). line_times unit.request) own in
-    elim (some_below (is_above (stage_excess d 1 states)) (declared_resources (capacity_of d))) as (λ w. HasOverLine d 1 states) [
-      | inl found ↦ found
-      | inr below ↦ absurd (none times (record {
-        alternatives = single_alternatives d own all;
-        fits = λ r lt.
-            let within : least_units_load d own r ≤ stage_limit d 1 states r = ltb-false _ _ (below r lt) in
-            omega (arith, within, single_load d own r all);
-      }))
-    ]

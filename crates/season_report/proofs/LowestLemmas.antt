@@ -1,6 +1,6 @@
 -- The lowest resource above its limit: of two kinds together, of one run more, and what it says of
 -- all that are above.
-use Rattle.std.proofs.Common.{◌≡◌, ℕ, zero, suc, ◌+◌, ◌-◌, ◌<◌, ◌≤◌, ◌⊎◌, inl, inr, Bool, true, false, cond, refl, sym, ◌∙◌, ap, subst, arith, List, [], ◌∷◌, length, get_or, take, map, min, pos, ℤ}
+use Rattle.std.proofs.Common.{◌≡◌, ℕ, zero, suc, ◌+◌, ◌<◌, ◌≤◌, ◌⊎◌, inl, inr, Bool, true, false, cond, refl, sym, ◌∙◌, ap, subst, arith, List, [], ◌∷◌, length, get_or, take, map, min, pos, ℤ}
 use Rattle.std.specs.Prelude.{Option, Some, None, filter, slice_index, nat_lt, nat_le, ◌&&◌, if◌then◌else◌, int_lt}
 use Rattle.std.specs.List.{range_with_len}
 use Rattle.std.proofs.lemmas.Bool.{cases_lt, le-ltb}

@@ -1,5 +1,5 @@
 -- Whether a resource that is above its limit holds a movement, and on how many dates.
-use Rattle.std.proofs.Common.{◌≡◌, ℕ, zero, suc, ◌+◌, ◌-◌, ◌*◌, ◌/◌, ◌<◌, ◌≤◌, ◌⊎◌, inl, inr, Bool, true, false, ◌&&◌, ◌||◌, cond, refl, sym, ◌∙◌, ap, subst, arith, List, [], ◌∷◌, ◌++◌, length, ℤ}
+use Rattle.std.proofs.Common.{◌≡◌, ℕ, zero, suc, ◌+◌, ◌-◌, ◌*◌, ◌<◌, ◌≤◌, ◌⊎◌, inl, inr, Bool, true, false, ◌&&◌, ◌||◌, cond, refl, sym, ◌∙◌, ap, subst, arith, List, [], ◌∷◌, ◌++◌, length, ℤ}
 use Rattle.std.specs.Prelude.{◌↔◌, Option, Some, None, is_some, IfSome, IsNone, IsTrue, filter, slice_get, sum_by, count_by, if◌then◌else◌}
 use Rattle.std.specs.List.{range_with_len, list_any}
 use mir.Val.{bool_byte}

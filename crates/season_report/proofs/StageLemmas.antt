@@ -1,7 +1,7 @@
 -- The stages of a certificate, one after the other: their text, the reasons of the units, and the
 -- loads.
 use Rattle.std.proofs.Common.{◌≡◌, ℕ, zero, suc, ◌+◌, ◌-◌, ◌<◌, ◌≤◌, Bool, true, false, sym, ◌∙◌, ap, subst, arith, List, [], ◌∷◌, ◌++◌, length, get_or, drop}
-use Rattle.std.specs.Prelude.{Option, Some, None, All, IfSome, slice_get, slice_index, ◌^◌}
+use Rattle.std.specs.Prelude.{Option, Some, None, All, IfSome, slice_get, slice_index}
 use Rattle.std.specs.List.{AllByRecursion}
 use Rattle.std.proofs.lemmas.List.{append-nil, append_assoc, drop_more, drop_all}
 use Rattle.std.proofs.lemmas.Option.{slice_get-get_or}

@@ -1,13 +1,12 @@
 -- What the lines of reasons show of the stages of a valid certificate.
-use Rattle.std.specs.Prelude.{◌≡◌, ℕ, ◌<◌, ◌≤◌, true, All, List, Some, IsSome, IfSome, slice_get}
-use Rattle.season_days.specs.Capacity.{capacity_of, declared_resources}
+use Rattle.std.specs.Prelude.{◌≡◌, ℕ, ◌≤◌, All, List, [], Some, IsSome, IfSome, slice_get}
 use Rattle.season_days.specs.declared.declaration.Declaration.{Declaration}
 use Rattle.series_model.specs.declared.unit.Unit.{Unit as SlotUnit}
 use Rattle.series_model.specs.declared.times.Times.{Times}
 use Rattle.series_model.specs.declared.state.UnitState.{UnitState}
 use Rattle.season_report.specs.declared.barred.Barred.{Barred}
 use Rattle.season_report.specs.declared.barred.Row.{Row}
-use Rattle.report_lines.specs.Peaks.{stage_excess, is_above}
+use Rattle.report_lines.specs.Peaks.{over_lines}
 use Rattle.season_report.specs.Reasons.{AllottedStage, units_in}
 use Rattle.season_report.specs.Rows.{unit_rows}
 
@@ -30,8 +29,6 @@ AllRows P a =
 abbrev pub NoneFits : AllottedStage → Type 0
 NoneFits a = AllRows IsBarredRow a
 
--- some line says which resource rules out all allotments of the stage
+-- some line says which window rules out all allotments of the stage
 abbrev pub HasOverLine : Declaration → ℕ → List UnitState → Type 0
-HasOverLine d stage states =
-    (r : ℕ) × (r < declared_resources (capacity_of d))
-    × (is_above (stage_excess d stage states) r ≡ true)
+HasOverLine d stage states = over_lines d stage states ≡ [] → ⊥

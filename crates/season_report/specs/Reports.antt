@@ -1,7 +1,7 @@
 -- The report on a certificate of a submission: what was declared, what each stage decided and where
 -- it has no allotment why, the airlines, each unit with the reasons why it was given nothing
 -- cheaper, and the greatest loads.
-use Rattle.std.specs.Prelude.{ℕ, suc, ◌+◌, Bool, true, false, List, [], ◌∷◌, ◌++◌, map, filter, Option, Some, None, codes}
+use Rattle.std.specs.Prelude.{ℕ, suc, Bool, true, false, List, [], ◌∷◌, ◌++◌, map, filter, Option, Some, None, codes}
 use Rattle.std.specs.Fmt.{decimal}
 use Rattle.std.specs.List.{flat_map}
 use Rattle.season_days.specs.Term.{Term}

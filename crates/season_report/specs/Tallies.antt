@@ -1,6 +1,6 @@
 -- Tallies of units: how many of them were decided how, and what their slots cost; and the airlines
 -- that units are of.
-use Rattle.std.specs.Prelude.{ℕ, ◌+◌, ◌==◌, Bool, true, false, nat_lt, if◌then◌else◌, List, [], ◌∷◌, ◌++◌, length, filter, count_by, sum_by, Option, Some, None, codes}
+use Rattle.std.specs.Prelude.{ℕ, ◌==◌, Bool, true, false, nat_lt, if◌then◌else◌, List, [], ◌∷◌, ◌++◌, length, filter, count_by, sum_by, Option, Some, None, codes}
 use Rattle.std.specs.Fmt.{decimal}
 use Rattle.season_days.specs.declared.declaration.Declaration.{Declaration}
 use Rattle.scr_reader.specs.declared.line.Stop.{Stop}

@@ -1,22 +1,19 @@
 //! Laws of reasons. Each function does nothing; its contract is the law.
 
-ghost use Rattle.std.specs.Prelude.{◌≡◌, ◌+◌, ◌<◌, ℕ, List, true, Some, IfSome, slice_get, ◌≤◌};
+ghost use Rattle.std.specs.Prelude.{◌≡◌, ◌+◌, ◌<◌, ◌≤◌, ℕ, Some, IfSome, slice_get};
 ghost use Rattle.season_days.specs.Capacity.{capacity_of, declared_resources};
-ghost use Rattle.season_days.specs.declared.declaration.Declaration.{Declaration as DeclarationValue};
 ghost use Rattle.capacity_windows.specs.Windows.{window_limit};
-ghost use Rattle.series_model.specs.declared.state.UnitState.{UnitState as UnitStateValue};
-ghost use Rattle.series_model.specs.Allotments.{HasNoAllotment};
-ghost use Rattle.series_model.specs.Stages.{stage_units, stage_limit};
 ghost use Rattle.series_model.specs.Submissions.{SubmissionView};
 ghost use Rattle.cert_format.specs.declared.cert.Mark.TheVariants.{Optimal, Infeasible};
 ghost use Rattle.cert_format.specs.declared.cert.StageCert.{StageCert as StageCertValue};
 ghost use Rattle.cert_format.specs.declared.cert.Certificate.{Certificate as CertificateValue};
 ghost use Rattle.wasg_stages.specs.Valid.{IsValid};
 ghost use Rattle.season_report.specs.Decisions.{states_before};
-ghost use Rattle.report_lines.specs.Peaks.{stage_excess, is_above, earlier_load};
+ghost use Rattle.report_lines.specs.Peaks.{earlier_load};
 ghost use Rattle.season_report.specs.Rows.{allotted_stage};
 ghost use Rattle.season_report.specs.Laws.{UsesItsBar, AllRows, NoneFits, HasOverLine};
 
+use report_lines::laws::ruled_out;
 use series_model::laws::feasible_fits;
 use wasg_stages::laws::{valid_choices, valid_marks};
 
@@ -24,10 +21,10 @@ use wasg_stages::laws::{valid_choices, valid_marks};
 ///
 /// In a stage that is marked OPTIMAL no line says that an alternative fits: each one that costs less
 /// than the one that its unit was given is barred while all others keep theirs, since otherwise an
-/// allotment would displace less. A resource that bars an alternative is used by it. Each window
-/// that is told of a stage without allotment rules out all its allotments by itself, and where stage
-/// 1 has none there is one, since a historic series has one alternative. What all stages gave is
-/// nowhere above a declared limit.
+/// allotment would displace less. A resource that bars an alternative is used by it. Where stage 1
+/// has no allotment a line says which window rules out all, since a historic series has one
+/// alternative; that each such line of any stage does so by itself is `report_lines::laws::ruled_out`.
+/// What all stages gave is nowhere above a declared limit.
 pub fn optimal_reasons()
     ensures none_fits { (s : SubmissionView) (c : CertificateValue) (place : ℕ)
         (block : StageCertValue) →
@@ -39,9 +36,6 @@ pub fn optimal_reasons()
         IsValid s c → slice_get c.stages place ≡ Some block →
         IfSome block.choice (λ choice. AllRows UsesItsBar
         (allotted_stage s.declaration (place + 1) (states_before s c (place + 1)) choice)) }
-    ensures over { (d : DeclarationValue) (stage : ℕ) (states : List UnitStateValue) (r : ℕ) →
-        r < declared_resources (capacity_of d) → is_above (stage_excess d stage states) r ≡ true →
-        HasNoAllotment d (stage_units stage states) (stage_limit d stage states) }
     ensures first { (s : SubmissionView) (c : CertificateValue) (block : StageCertValue) →
         IsValid s c → slice_get c.stages 0 ≡ Some block → block.mark ≡ Infeasible →
         HasOverLine s.declaration 1 (states_before s c 1) }
@@ -53,4 +47,5 @@ pub fn optimal_reasons()
     valid_choices();
     valid_marks();
     feasible_fits();
+    ruled_out();
 }

@@ -3,7 +3,6 @@ use Rattle.std.proofs.Common.{◌≡◌, ℕ, refl, List}
 use Rattle.scr_reader.specs.declared.line.Line.{Line}
 use Rattle.choice_problem.specs.Problems.{ProblemView}
 use Rattle.cert_format.specs.declared.cert.StageCert.{StageCert}
-use Rattle.cert_format.specs.Printable.{IsPrintableExtra}
 use Rattle.cert_format.specs.Proofs.{IsProof}
 use Rattle.cert_checker.specs.declared.verdict.Reason.{Reason}
 use Rattle.cert_checker.specs.declared.verdict.Verdict.{Verdict}

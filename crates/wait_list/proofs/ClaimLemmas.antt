@@ -1,16 +1,14 @@
 -- What the waiting stage proves.
-use Rattle.std.proofs.Common.{inl, inr, ◌≡◌, ℕ, suc, ◌+◌, ◌-◌, ◌<◌, ◌≤◌, refl, sym, ◌∙◌, ap, subst, arith, List, [], ◌∷◌, ◌++◌, length, map}
+use Rattle.std.proofs.Common.{◌≡◌, ℕ, ◌+◌, ◌-◌, ◌≤◌, refl, ap, subst, arith, List, [], ◌∷◌, ◌++◌, map}
 use Rattle.std.specs.Prelude.{Contains}
-use Rattle.std.specs.List.{AllZip, AllByRecursion}
 use Rattle.std.proofs.lemmas.List.Sums.{sum_by-append}
 use Rattle.std.proofs.lemmas.List.Elements.{Contains-push}
 use Rattle.season_days.specs.Term.{Term}
-use Rattle.season_days.specs.Capacity.{Capacity, capacity_of, declared_resources}
+use Rattle.season_days.specs.Capacity.{Capacity, capacity_of}
 use Rattle.season_days.specs.declared.declaration.Declaration.{Declaration}
 use Rattle.scr_reader.specs.declared.line.Line.{Line}
 use Rattle.capacity_windows.specs.Windows.{window_load, window_limit}
 use Rattle.capacity_windows.specs.declared.movement.Movement.{Movement}
-use Rattle.series_model.specs.declared.unit.Unit.{Unit as SlotUnit}
 use Rattle.series_model.specs.declared.times.Times.{Times}
 use Rattle.series_model.specs.declared.times.Times.TheVariants.{Refused}
 use Rattle.series_model.specs.Options.{options_of, shifts_of}
@@ -21,8 +19,8 @@ use Rattle.cert_format.specs.declared.cert.Mark.TheVariants.{Infeasible}
 use Rattle.wasg_stages.specs.Valid.{MarkClaims}
 use Rattle.holding_book.specs.Books.{SlotBook, BookFits, season_of, book_movements}
 use Rattle.holding_book.specs.Left.{left_of}
-use Rattle.wait_list.specs.Waiting.{waiting_unit, waiting_units, waiting_price, waiting_terms}
-use Rattle.wait_list.specs.Claims.{IsWaitingAllotment, FitsBesideBook, IsWaitingProof, WaitingMarkHolds}
+use Rattle.wait_list.specs.Waiting.{waiting_unit, waiting_units, waiting_terms}
+use Rattle.wait_list.specs.Claims.{IsWaitingAllotment, FitsBesideBook, WaitingMarkHolds}
 
 -- ---- beside the book
 

@@ -1,5 +1,5 @@
 -- One more stage has no more bytes than a certificate that has it four times.
-use Rattle.std.proofs.Common.{◌≡◌, ℕ, suc, ◌+◌, ◌<◌, ◌≤◌, Bool, true, false, cond, List, [], ◌∷◌, ◌++◌, length, refl, sym, ap, ◌∙◌, subst, arith, codes, length-append}
+use Rattle.std.proofs.Common.{◌≡◌, ℕ, ◌+◌, ◌≤◌, Bool, true, false, cond, List, [], ◌∷◌, ◌++◌, length, refl, sym, ap, ◌∙◌, subst, arith, codes, length-append}
 use Rattle.std.specs.List.{AllByRecursion}
 use Rattle.std.specs.Fmt.{decimal}
 use Rattle.std.proofs.lemmas.Fmt.{length-decimal-le}
@@ -11,7 +11,7 @@ use Rattle.cert_format.specs.declared.cert.StageCert.{StageCert}
 use Rattle.cert_format.specs.declared.cert.Certificate.{Certificate}
 use Rattle.cert_format.specs.declared.cert.TheConstants.{MOST_SEASON_BYTES}
 use Rattle.cert_format.specs.Lines.{Word, spelled_line, text_of}
-use Rattle.cert_format.specs.Spelling.{numbered, count_words, mark_name, stage_words, is_tried, proof_lines, stage_lines, spelling, ProofFits, StageFitsAs, StageFits, IsCert, IsExtra, extra_spelling}
+use Rattle.cert_format.specs.Spelling.{numbered, count_words, mark_name, stage_words, is_tried, proof_lines, stage_lines, spelling, StageFitsAs, StageFits, IsCert, IsExtra, extra_spelling}
 use Rattle.cert_format.specs.Printable.{IsWithinLimits}
 
 abbrev Line : Type 0

@@ -1,6 +1,9 @@
 -- What lines are given, one line after the other.
-use Rattle.std.proofs.Common.{◌≡◌, ℕ, zero, suc, ◌+◌, ◌<◌, ◌≤◌, refl, sym, ◌∙◌, ap, subst, arith, List, [], ◌∷◌, ◌++◌, length, get_or, drop, drop-cons, append_assoc}
-use Rattle.std.specs.Prelude.{Option, Some, None, slice_get}
+use Rattle.std.proofs.Common.{◌≡◌, ℕ, zero, suc, ◌+◌, ◌<◌, ◌≤◌, refl, sym, ◌∙◌, ap, arith, List, [], ◌∷◌, ◌++◌, length, get_or, drop, drop-cons, append_assoc, Bor}
+use Rattle.std.proofs.Math.Dec.{ltb}
+use Rattle.std.proofs.lemmas.Bool.{ltb-true, ltb-false}
+use Rattle.std.proofs.lemmas.Option.{slice_get_past, slice_get_read}
+use Rattle.std.specs.Prelude.{Option, Some, None, slice_get, is_some, IfSome, option_copied}
 use Rattle.std.specs.Option.{unwrap_or}
 use Rattle.std.proofs.Math.ListN.{drop_of_length-le}
 use Rattle.std.proofs.lemmas.List.{append-nil}
@@ -13,12 +16,17 @@ use Rattle.series_model.specs.declared.state.UnitState.{UnitState}
 use Rattle.series_model.specs.Options.{options_of}
 use Rattle.wait_list.specs.Waiting.{waiting_unit, given_state, given_states}
 
+-- the element that a call of `get` copied, if there is one
+pub got : (numbers : List ℕ) (n : ℕ) (o : Option (Bor ℕ)) → is_some o ≡ ltb n (length numbers) → IfSome o (λ (x : Bor ℕ). x.now ≡ get_or numbers n x.now) → option_copied o ≡ slice_get numbers n
+got numbers n None some is = sym (slice_get_past numbers n (ltb-false n (length numbers) (sym some)))
+got numbers n (Some x) some is = sym (slice_get_read numbers (length numbers) n x.now refl (ltb-true n (length numbers) (sym some)) is)
+
 get-drop : (numbers : List ℕ) (n : ℕ) → slice_get (drop n numbers) 0 ≡ slice_get numbers n
 get-drop numbers zero = refl
 get-drop [] (suc n) = refl
 get-drop (x ∷ numbers) (suc n) = get-drop numbers n
 
-drop-one : (numbers : List ℕ) (n : ℕ) → drop 1 (drop n numbers) ≡ drop (n + 1) numbers
+drop-one : (numbers : List ℕ) (n : ℕ) → drop 1 (drop n numbers) ≡ drop (suc n) numbers
 drop-one numbers zero = refl
 drop-one [] (suc n) = refl
 drop-one (x ∷ numbers) (suc n) = drop-one numbers n
@@ -30,7 +38,7 @@ given-next d lines numbers n line before state lt is =
     let next : suc n ≡ n + 1 = omega arith in
     let first : drop n lines ≡ get_or lines n line ∷ drop (n + 1) lines = drop-cons lines n line lt ∙ ap (λ (k : ℕ). get_or lines n line ∷ drop k lines) next in
     let here : state ≡ given_state d (get_or lines n line) (slice_get (drop n numbers) 0) = is ∙ ap (given_state d (get_or lines n line)) (sym (get-drop numbers n)) in
-    let rest : given_states d (drop (n + 1) lines) (drop (n + 1) numbers) ≡ given_states d (drop (n + 1) lines) (drop 1 (drop n numbers)) = ap (given_states d (drop (n + 1) lines)) (sym (drop-one numbers n)) in
+    let rest : given_states d (drop (n + 1) lines) (drop (n + 1) numbers) ≡ given_states d (drop (n + 1) lines) (drop 1 (drop n numbers)) = ap (given_states d (drop (n + 1) lines)) (sym (drop-one numbers n ∙ ap (λ (k : ℕ). drop k numbers) next)) in
     let whole : state ∷ given_states d (drop (n + 1) lines) (drop (n + 1) numbers) ≡ given_states d (drop n lines) (drop n numbers) =
     ap (λ (s : UnitState). s ∷ given_states d (drop (n + 1) lines) (drop (n + 1) numbers)) here
     ∙ ap (λ (ss : List UnitState). given_state d (get_or lines n line) (slice_get (drop n numbers) 0) ∷ ss) rest

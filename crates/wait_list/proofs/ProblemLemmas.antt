@@ -1,7 +1,7 @@
 -- The problem of the waiting stage.
-use Rattle.std.proofs.Common.{inl, inr, ◌≡◌, ℕ, ◌+◌, ◌<◌, ◌≤◌, refl, sym, ◌∙◌, ap, subst, arith, List, [], ◌∷◌, ◌++◌, length, map}
+use Rattle.std.proofs.Common.{inl, inr, ◌≡◌, ℕ, ◌+◌, ◌<◌, ◌≤◌, refl, sym, ◌∙◌, ap, subst, arith, List, [], ◌∷◌, ◌++◌, length}
 use Rattle.std.specs.Prelude.{All, Option, Some, None, slice_index}
-use Rattle.std.specs.Option.{ForSome}
+use Rattle.std.specs.Option.{ForSome, unwrap_or}
 use Rattle.std.proofs.lemmas.Bool.{cases_lt}
 use Rattle.std.proofs.lemmas.List.{length-map, get_or_append_left, get_or_push}
 use Rattle.std.proofs.lemmas.List.Elements.{All-nil, All-cons, All-head, All-tail}
@@ -21,13 +21,16 @@ use Rattle.wait_list.specs.Waiting.{waiting_unit, waiting_units, waiting_price, 
 
 price-few : (price : Option ℕ) → ForSome price (λ n. n ≤ HIGHEST_REFUSAL_PRICE) → waiting_price price ≤ HIGHEST_REFUSAL_PRICE
 price-few None h = omega arith
-price-few (Some n) h = h
+price-few (Some n) h = h n refl
+
+some-is : (n m : ℕ) → Some n ≡ Some m → n ≡ m
+some-is n m is = ap (λ (o : Option ℕ). unwrap_or o n) is
 
 -- the terms keep the limits of a declaration
 pub terms-keep : (d : Declaration) → IsDeclaration d → IsDeclaration (waiting_terms d)
 terms-keep d keeps = record {
   capacity = keeps.capacity;
-  price = price-few d.refuse keeps.price;
+  price = λ price is. subst (λ (n : ℕ). n ≤ HIGHEST_REFUSAL_PRICE) (some-is (waiting_price d.refuse) price is) (price-few d.refuse keeps.price);
   share = keeps.share;
 }
 

@@ -1,5 +1,5 @@
 -- What a stage of a waiting list proves of the slots that a book leaves, and what a check of it says.
-use Rattle.std.specs.Prelude.{◌≡◌, ℕ, List, ◌++◌}
+use Rattle.std.specs.Prelude.{ℕ, List, ◌++◌}
 use Rattle.season_days.specs.Capacity.{capacity_of}
 use Rattle.scr_reader.specs.declared.line.Line.{Line}
 use Rattle.capacity_windows.specs.Windows.{WindowsFit}

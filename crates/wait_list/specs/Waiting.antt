@@ -1,6 +1,6 @@
 -- The waiting list of a book: the asks for new slots that were answered that there are none, and the
 -- problem of what they can still be given beside the book.
-use Rattle.std.specs.Prelude.{◌≡◌, ℕ, ◌||◌, not, nat_lt, Bool, if◌then◌else◌, List, [], ◌∷◌, ◌++◌, length, map, drop, slice_get, slice_index_or, option_map, Option, Some, None, Result, Ok, Err}
+use Rattle.std.specs.Prelude.{ℕ, ◌||◌, not, nat_lt, Bool, if◌then◌else◌, List, [], ◌∷◌, ◌++◌, length, map, drop, slice_get, slice_index_or, option_map, Option, Some, None, Result, Ok, Err}
 use Rattle.std.specs.Option.{unwrap_or}
 use Rattle.std.specs.List.{list_any}
 use Rattle.season_days.specs.declared.declaration.Declaration.{Declaration}

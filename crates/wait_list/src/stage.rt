@@ -1,6 +1,6 @@
 //! The waiting stage: its search, and the check of a stage that anyone may have made.
 
-ghost use Rattle.std.specs.Prelude.{◌≡◌, ◌↔◌, ◌+◌, ◌*◌, ◌≤◌, ◌×◌, All, IfOk, length};
+ghost use Rattle.std.specs.Prelude.{◌≡◌, ◌↔◌, ◌+◌, ◌*◌, ◌≤◌, All, IfOk, length};
 ghost use Rattle.scr_reader.specs.Printed.{LineFits};
 ghost use Rattle.cert_format.specs.Printable.{IsPrintableExtra, IsWithinLimits};
 ghost use Rattle.cert_format.specs.declared.cert.Mark.TheVariants.{Unsettled};

@@ -1,6 +1,6 @@
 -- The loads of what was given, unit by unit, and limits that are lowered by them.
 use Rattle.std.proofs.Common.{◌≡◌, ℕ, ◌+◌, ◌-◌, ◌<◌, ◌≤◌, ◌∙◌, Bool, refl, ap, arith, List, [], ◌∷◌, length, map, zero, suc, get_or, set, take, sym, subst, pos, ℤ, inl, inr}
-use Rattle.std.specs.Prelude.{slice_get, Some, None, nat_le, ◌&&◌, ◌*◌, if◌then◌else◌}
+use Rattle.std.specs.Prelude.{All, slice_get, Some, None, nat_le, ◌&&◌, ◌*◌, if◌then◌else◌}
 use Rattle.std.proofs.lemmas.Grind.{flat_map-append}
 use Rattle.std.proofs.lemmas.List.{take_more, append-nil, get_or-set_same, get_or-set_other, length-set, length-map}
 use Rattle.std.proofs.lemmas.Option.{get_or_from_slice_get}

@@ -1,4 +1,4 @@
-use Rattle.std.proofs.Common.{◌≡◌, ℕ, ◌+◌, ◌*◌, ◌<◌, ◌≤◌, List, length, take, slice_index, ◌∙◌, ap, arith, rules}
+use Rattle.std.proofs.Common.{◌≡◌, ◌<◌, ◌≤◌, List, length, slice_index, ◌∙◌, ap, arith, rules}
 use Rattle.std.proofs.lemmas.List.{take_all}
 use Rattle.series_model.specs.declared.unit.Unit.{Unit as SlotUnit}
 use Rattle.report_lines.specs.Private.{lines_load}
@@ -30,4 +30,4 @@ pub returns : goal.returns
 returns c = λ r lt.
     let units = c.args.units.now in
     let past : length units ≤ c.loop-unit.unit-index = search rules in
-    c.loop-unit.invariant.sums r (omega (arith, lt, c.loop-unit.invariant.count)) ∙ ap (λ (us : List SlotUnit). lines_load c.args.windows.now us r) (take_all c.loop-unit.unit-index units past)
+    c.loop-unit.invariant.sums r (omega (arith, lt, c.requires.count)) ∙ ap (λ (us : List SlotUnit). lines_load c.args.windows.now us r) (take_all c.loop-unit.unit-index units past)

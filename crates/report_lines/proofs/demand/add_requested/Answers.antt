@@ -1,4 +1,4 @@
-use Rattle.std.proofs.Common.{◌≡◌, ℕ, ◌+◌, ◌<◌, length, arith, sym, ◌∙◌, rules}
+use Rattle.std.proofs.Common.{◌≡◌, ◌<◌, length, arith, sym, ◌∙◌, rules}
 use Rattle.season_days.specs.declared.declaration.Kind.TheVariants.{Arr, Dep}
 use Rattle.series_model.specs.Movements.{stop_load}
 use Rattle.report_lines.specs.Private.{line_load}

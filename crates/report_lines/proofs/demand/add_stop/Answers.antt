@@ -1,4 +1,4 @@
-use Rattle.std.proofs.Common.{◌≡◌, ℕ, ◌+◌, ◌<◌, ◌≤◌, length, arith, subst, sym, rules}
+use Rattle.std.proofs.Common.{ℕ, arith, subst, sym}
 use Rattle.choice_problem.specs.Strips.{part_uses, IsPartInRange}
 use Rattle.series_model.specs.Movements.{stop_load}
 use Rattle.report_lines.proofs.DemandLemmas.{stop_some, stop_none, grows_as, grows_none}

@@ -1,4 +1,4 @@
-use Rattle.std.proofs.Common.{◌≡◌, ℕ, ◌≤◌, List, ◌++◌, length, slice_index, sym, ◌∙◌, ap, arith, refl}
+use Rattle.std.proofs.Common.{ℕ, List, ◌++◌, length, slice_index, sym, ◌∙◌, ap, arith, refl}
 use Rattle.season_days.specs.Capacity.{Capacity, capacity_of, declared_resources}
 use Rattle.report_lines.specs.Peaks.{excess_lines, stage_excess}
 use Rattle.report_lines.proofs.DemandLemmas.{over_is}

@@ -1,4 +1,4 @@
-use Rattle.std.proofs.Common.{◌≡◌, ℕ, ◌+◌, ◌*◌, ◌<◌, ◌≤◌, List, length, slice_index, ◌∙◌, sym, refl, subst, arith, rules}
+use Rattle.std.proofs.Common.{◌≡◌, ℕ, ◌+◌, ◌<◌, List, length, slice_index, ◌∙◌, sym, refl, subst, arith, rules}
 use Rattle.choice_problem.specs.Problems.{resource_count}
 use Rattle.report_lines.specs.declared.least.Used.{Used}
 use Rattle.report_lines.specs.Private.{AreBelow, AreUsed, least_uses}

@@ -1,4 +1,4 @@
-use Rattle.std.proofs.Common.{◌≡◌, ◌≤◌, List, [], length, rules, subst, sym}
+use Rattle.std.proofs.Common.{◌≤◌, List, [], length, rules, subst, sym}
 use Rattle.std.proofs.lemmas.List.{take_all}
 use Rattle.report_lines.specs.declared.least.Used.{Used}
 use Rattle.report_lines.specs.Private.{KeepsLesser}

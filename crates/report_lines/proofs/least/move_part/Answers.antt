@@ -1,7 +1,7 @@
-use Rattle.std.proofs.Common.{◌≡◌, ℕ, ◌+◌, ◌<◌, ◌≤◌, List, length, take, rules, subst, refl, ◌∙◌, []}
+use Rattle.std.proofs.Common.{◌+◌, ◌<◌, ◌≤◌, List, length, take, rules, subst, refl, ◌∙◌, []}
 use Rattle.std.proofs.lemmas.List.{take_all}
 use Rattle.choice_problem.specs.declared.strips.Strip.{Strip}
-use Rattle.choice_problem.specs.Strips.{part_uses, strip_uses}
+use Rattle.choice_problem.specs.Strips.{part_uses}
 use Rattle.report_lines.specs.Private.{MovesUses}
 use Rattle.report_lines.proofs.LeastLemmas.{moves_none, moves_join, part_more}
 use Rattle.report_lines.proofs.least.move_part.Goals as goal

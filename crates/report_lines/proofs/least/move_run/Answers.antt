@@ -1,4 +1,4 @@
-use Rattle.std.proofs.Common.{◌≡◌, ℕ, ◌+◌, length, arith, rules, subst, ◌∙◌, refl}
+use Rattle.std.proofs.Common.{◌≡◌, ℕ, ◌+◌, arith, rules, subst, refl}
 use Rattle.choice_problem.specs.Loops.{run_uses}
 use Rattle.report_lines.specs.Private.{MovesUses}
 use Rattle.report_lines.proofs.LeastLemmas.{moves_none, moves_join, run_more, run_none}

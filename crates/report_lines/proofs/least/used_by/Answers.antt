@@ -1,7 +1,6 @@
-use Rattle.std.proofs.Common.{◌≡◌, ℕ, ◌<◌, length, slice_index, arith, rules, ap, ◌∙◌}
+use Rattle.std.proofs.Common.{◌≡◌, length, arith, rules, ap, ◌∙◌}
 use Rattle.choice_problem.specs.declared.problems.Alt.{Alt}
 use Rattle.choice_problem.specs.Problems.{chooser_at, chooser_uses}
-use Rattle.report_lines.specs.Private.{MovesUses}
 use Rattle.report_lines.proofs.LeastLemmas.{moves_both, moved_all, moved_zero, added_is}
 use Rattle.report_lines.proofs.least.used_by.Goals as goal
 

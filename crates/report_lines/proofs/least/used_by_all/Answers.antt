@@ -1,4 +1,4 @@
-use Rattle.std.proofs.Common.{◌≡◌, ℕ, ◌+◌, ◌-◌, ◌<◌, ◌≤◌, length, arith, rules, sym, ap, subst, List, ◌∙◌}
+use Rattle.std.proofs.Common.{◌≡◌, ℕ, ◌+◌, ◌-◌, ◌<◌, length, arith, rules, sym, ap, subst, List, ◌∙◌}
 use Rattle.choice_problem.specs.Problems.{alt_uses, resource_count}
 use Rattle.report_lines.specs.declared.least.Used.{Used}
 use Rattle.report_lines.specs.Private.{AreUsed, least_uses}

@@ -1,8 +1,6 @@
-use Rattle.std.proofs.Common.{◌≡◌, ℕ, ◌+◌, ◌<◌, List, refl, sym, ◌∙◌, ap, arith, ◌*◌, length, ◌≤◌}
-use Rattle.std.specs.Prelude.{slice_get, Some, get_or}
-use Rattle.season_days.specs.declared.declaration.Rule.{Rule}
+use Rattle.std.proofs.Common.{ℕ, ◌+◌, refl, sym, ◌∙◌, ap, arith, ◌*◌, length, ◌≤◌}
 use Rattle.season_days.specs.Seasons.{date_count}
-use Rattle.season_days.specs.Capacity.{Capacity, windows_of}
+use Rattle.season_days.specs.Capacity.{Capacity}
 use Rattle.report_lines.proofs.WindowLemmas.{line_at, starts_at, next_at, first_end}
 use Rattle.report_lines.proofs.PeakLemmas.{profile_next, profile_end}
 use Rattle.report_lines.proofs.profile.put_profile.Goals as goal

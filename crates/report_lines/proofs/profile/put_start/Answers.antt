@@ -1,6 +1,6 @@
-use Rattle.std.proofs.Common.{◌≡◌, ℕ, ◌+◌, ◌*◌, ◌<◌, List, ◌++◌, slice_index, refl, sym, ◌∙◌, ap, arith}
+use Rattle.std.proofs.Common.{ℕ, ◌+◌, ◌*◌, List, ◌++◌, slice_index, refl, sym, ◌∙◌, ap, arith}
 use Rattle.season_days.specs.Seasons.{is_on}
-use Rattle.season_days.specs.Capacity.{Capacity, capacity_of, starts_of}
+use Rattle.season_days.specs.Capacity.{Capacity}
 use Rattle.report_lines.proofs.WindowLemmas.{starts_at, there_at, start_fits, first_room}
 use Rattle.report_lines.proofs.PeakLemmas.{peak_at, peak_day, peak_line, peak_none}
 use Rattle.report_lines.proofs.profile.put_start.Goals as goal

@@ -1,16 +1,18 @@
-use Rattle.std.proofs.Common.{◌≡◌, ℕ, ◌+◌, ◌≤◌, sym, subst, arith, List, take, length}
+use Rattle.std.proofs.Common.{◌≡◌, ℕ, ◌+◌, ◌≤◌, sym, subst, arith, List, take, length, map}
 use Rattle.std.specs.Prelude.{Option}
 use Rattle.std.proofs.lemmas.List.{take_all, length-map}
 use Rattle.cert_format.specs.declared.cert.Mark.{Mark}
 use Rattle.cert_format.specs.declared.cert.Mark.TheVariants.{Infeasible}
 use Rattle.cert_format.specs.declared.cert.StageCert.{StageCert}
 use Rattle.cert_format.specs.Choices.{choices_of}
+use Rattle.series_model.specs.declared.unit.Unit.{Unit as SlotUnit}
+use Rattle.series_model.specs.Options.{line_times}
 use Rattle.series_model.specs.Stages.{GivenFits, stage_units, stage_limit, first_states, states_after}
 use Rattle.wasg_stages.specs.Valid.{MarkClaims}
 use Rattle.season_report.specs.Decisions.{states_before}
 use Rattle.season_report.specs.Rows.{allotted_stage}
 use Rattle.season_report.specs.Laws.{UsesItsBar, AllRows, NoneFits}
-use Rattle.season_report.proofs.LawLemmas.{for_some, optimal_least, none_fits_in, feasible_at, bars_used, over_rules_out, first_over, marks_at}
+use Rattle.season_report.proofs.LawLemmas.{for_some, optimal_least, none_fits_in, feasible_at, bars_used, marks_at}
 use Rattle.season_report.proofs.laws.optimal_reasons.Goals as goal
 
 pub returns-clause-none_fits : goal.returns-clause-none_fits
@@ -25,16 +27,13 @@ returns-clause-used c = λ s cert place block valid at.
     (λ x is. bars_used (allotted_stage s.declaration (place + 1) (states_before s cert (place + 1)) x)
     (feasible_at s cert place block x (c.valid_choices.ensures s cert valid) at is).feasible)
 
-pub returns-clause-over : goal.returns-clause-over
-returns-clause-over c = over_rules_out
-
 pub returns-clause-first : goal.returns-clause-first
-returns-clause-first c = λ s cert block valid at mark.
+returns-clause-first c = λ s cert block valid at mark is.
     let d = s.declaration in
     let states = first_states s.units in
     let claims : MarkClaims d (stage_units 1 states) (stage_limit d 1 states) block Infeasible =
     subst (λ (m : Mark). MarkClaims d (stage_units 1 states) (stage_limit d 1 states) block m) mark (marks_at s cert 0 block (c.valid_marks.ensures s cert valid) at) in
-    first_over d s.units claims
+    claims (map (λ (unit : SlotUnit). line_times unit.request) (stage_units 1 states)) (c.ruled_out.ensures.first d s.units is)
 
 pub returns-clause-within : goal.returns-clause-within
 returns-clause-within c = λ s cert r valid share lt.

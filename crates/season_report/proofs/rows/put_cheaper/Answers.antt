@@ -1,4 +1,4 @@
-use Rattle.std.proofs.Common.{◌≡◌, ◌+◌, ◌*◌, ◌++◌, ◌<◌, ◌≤◌, ◌∙◌, sym, ap, subst, arith, List, length}
+use Rattle.std.proofs.Common.{◌++◌, ◌∙◌, sym, ap, subst, arith, List, length}
 use Rattle.std.specs.Prelude.{All}
 use Rattle.series_model.specs.declared.times.Times.{Times}
 use Rattle.series_model.specs.Options.{options_of}

@@ -1,4 +1,4 @@
-use Rattle.std.proofs.Common.{◌≡◌, ◌+◌, ◌++◌, ◌<◌, ◌≤◌, ◌∙◌, [], refl, sym, ap, subst, arith, List, ℕ, length}
+use Rattle.std.proofs.Common.{◌≡◌, ◌++◌, ◌∙◌, refl, sym, ap, subst, arith, List, ℕ, length}
 use Rattle.std.proofs.lemmas.List.{append-nil}
 use Rattle.choice_problem.specs.Problems.{alt_uses, alt_cost}
 use Rattle.choice_problem.specs.Counts.{GrowsBy}

@@ -1,4 +1,4 @@
-use Rattle.std.proofs.Common.{◌≡◌, ◌+◌, ◌++◌, ◌<◌, ◌≤◌, ◌∙◌, refl, sym, ap, subst, rules, List, ℕ, length}
+use Rattle.std.proofs.Common.{◌<◌, ◌≤◌, ◌∙◌, refl, sym, ap, subst, rules, List, ℕ, length}
 use Rattle.std.proofs.lemmas.List.Elements.{All-get_or}
 use Rattle.choice_problem.specs.Problems.{resource_count}
 use Rattle.window_counts.specs.Placed.{KeepsLimits}

@@ -1,4 +1,4 @@
-use Rattle.std.proofs.Common.{◌≡◌, ◌++◌, ◌<◌, ◌∙◌, ap, List, ℕ}
+use Rattle.std.proofs.Common.{◌++◌, ◌∙◌, ap, List, ℕ}
 use Rattle.std.specs.Prelude.{slice_index}
 use Rattle.choice_problem.specs.Problems.{alt_uses, alt_cost}
 use Rattle.season_report.proofs.FoundLemmas.{less, less_length, less_grows}

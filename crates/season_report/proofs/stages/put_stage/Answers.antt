@@ -1,4 +1,4 @@
-use Rattle.std.proofs.Common.{◌≡◌, ◌++◌, [], ◌∙◌, false, sym, ap, subst, List, ℕ, Option, rules}
+use Rattle.std.proofs.Common.{◌≡◌, ◌∙◌, false, sym, ap, subst, List, ℕ, Option, rules}
 use Rattle.cert_format.specs.Spelling.{is_tried}
 use Rattle.series_model.specs.Stages.{after_stage}
 use Rattle.report_lines.specs.Peaks.{AreEarlier}

@@ -1,4 +1,4 @@
-use Rattle.std.proofs.Common.{◌≡◌, ◌<◌, ◌≤◌, ◌∙◌, sym, ap, subst, arith, List, ℕ, length}
+use Rattle.std.proofs.Common.{◌∙◌, sym, ap, subst, arith, List, ℕ}
 use Rattle.season_days.specs.declared.declaration.Declaration.{Declaration}
 use Rattle.season_days.specs.Capacity.{IsDeclaration}
 use Rattle.series_model.specs.Stages.{AreFitting}

@@ -1,4 +1,4 @@
-use Rattle.std.proofs.Common.{◌≡◌, ◌<◌, ◌≤◌, refl, rules, drop}
+use Rattle.std.proofs.Common.{refl, rules, drop}
 use Rattle.std.proofs.lemmas.List.Elements.{All-get_or}
 use Rattle.season_report.specs.Private.{IsTold, texts_of}
 use Rattle.season_report.proofs.UnitLemmas.{units_next, units_end}

@@ -1,5 +1,4 @@
 use Rattle.choice_problem.specs.Choices.{IsFeasible}
-use Rattle.std.proofs.Common.{ℕ, List}
 use Rattle.std.specs.Prelude.{Option, Some, None, IfSome}
 use Rattle.holding_book.specs.Left.{left_of}
 use Rattle.wait_list.specs.Waiting.{waiting_units, waiting_terms}

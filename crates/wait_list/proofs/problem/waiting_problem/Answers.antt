@@ -1,7 +1,6 @@
-use Rattle.std.proofs.Common.{◌≡◌, List, arith, refl, sym, ◌∙◌, ap}
+use Rattle.std.proofs.Common.{◌≡◌, arith, refl, ◌∙◌, ap}
 use Rattle.season_days.specs.Capacity.{capacity_of, declared_resources}
 use Rattle.season_days.specs.declared.declaration.Declaration.{Declaration}
-use Rattle.series_model.specs.declared.unit.Unit.{Unit as SlotUnit}
 use Rattle.wait_list.specs.Waiting.{waiting_units, waiting_terms}
 use Rattle.wait_list.proofs.ProblemLemmas.{units-fit-at, as-waiting, units-count}
 use Rattle.wait_list.proofs.problem.waiting_problem.Goals as goal
@@ -10,7 +9,7 @@ pub limits_left-requires : goal.limits_left-requires
 limits_left-requires c =
     let d = c.args.book.now.book.declaration in
     let terms : c.in_ok-terms.terms ≡ waiting_terms d = c.in_ok-terms.ensures.terms ∙ ap waiting_terms c.declaration.ensures.value in
-    c.resources.ensures.count ∙ ap declared_resources (c.in_ok-windows.ensures ∙ ap (λ (x : Declaration). capacity_of x) terms)
+    c.resources.ensures.count ∙ ap declared_resources (c.in_ok-windows.ensures.value ∙ ap (λ (x : Declaration). capacity_of x) terms)
 
 pub allotment_problem-requires-clause-units : goal.allotment_problem-requires-clause-units
 allotment_problem-requires-clause-units c =

@@ -1,4 +1,4 @@
-use Rattle.std.proofs.Common.{◌≡◌, ℕ, ◌+◌, ◌*◌}
+use Rattle.std.proofs.Common.{ℕ, ◌+◌, ◌*◌}
 use Rattle.std.specs.List.{range_with_len}
 use Rattle.report_lines.specs.Peaks.{Excess}
 use Rattle.report_lines.specs.Private.{IsExcess, IsAbove}

@@ -1,4 +1,4 @@
-use Rattle.std.proofs.Common.{◌≡◌, ℕ, ◌+◌, ◌++◌, drop}
+use Rattle.std.proofs.Common.{◌≡◌, ◌+◌, ◌++◌, drop}
 use Rattle.capacity_windows.specs.Windows.{first_of}
 use Rattle.report_lines.specs.Peaks.{Excess, excess_from, excess_lines}
 use Rattle.report_lines.specs.Private.{IsExcess}

@@ -1,6 +1,5 @@
-use Rattle.std.proofs.Common.{◌≡◌, ℕ, ◌+◌, ◌<◌, List, ◌++◌, append-nil, refl, sym, ◌∙◌, subst, arith, rules}
+use Rattle.std.proofs.Common.{◌≡◌, ℕ, ◌+◌, List, ◌++◌, append-nil, refl, sym, ◌∙◌, subst, arith, rules}
 use Rattle.std.specs.List.{flat_map, range_with_len}
-use Rattle.season_days.specs.Capacity.{starts_of}
 use Rattle.report_lines.specs.Peaks.{excess_line}
 use Rattle.report_lines.proofs.WindowLemmas.{starts_at}
 use Rattle.report_lines.proofs.PeakLemmas.{lines_more}

@@ -1,8 +1,7 @@
-use Rattle.std.proofs.Common.{◌≡◌, ℕ, ◌+◌, ◌*◌, ◌<◌, List, ◌++◌, sym, ◌∙◌, ap, arith}
+use Rattle.std.proofs.Common.{ℕ, ◌+◌, ◌*◌, ◌<◌, sym, ap, arith}
 use Rattle.season_days.specs.Capacity.{Capacity, start_of}
-use Rattle.report_lines.specs.Peaks.{window_at}
 use Rattle.report_lines.specs.declared.excess.Above.{Above}
-use Rattle.report_lines.proofs.WindowLemmas.{from_some, starts_at, there_at, start_fits}
+use Rattle.report_lines.proofs.WindowLemmas.{from_some, starts_at, there_at}
 use Rattle.report_lines.proofs.AboveLemmas.{above_at, above_line, above_none}
 use Rattle.report_lines.proofs.excess.ExcessLists.put_start.Goals as goal
 
