@@ -1,5 +1,5 @@
 -- The line of a fault of a capacity file.
-use Rattle.std.proofs.Common.{◌≡◌, ◌≢◌, ◌⊎◌, ℕ, zero, suc, ◌-◌, ◌<◌, Bool, true, false, List, [], ◌∷◌, length, Some, None, refl, sym, ap, subst, ◌∙◌, arith, inl, inr}
+use Rattle.std.proofs.Common.{◌≡◌, ◌≢◌, ◌⊎◌, ℕ, zero, suc, ◌-◌, Bool, true, false, List, [], ◌∷◌, Some, refl, subst, arith, inl, inr}
 use Rattle.std.specs.Prelude.{IsSomeAnd, slice_get, codes}
 use Rattle.std.specs.Bool.{Decides}
 use Rattle.std.specs.Str.{bytes_eq}
@@ -9,7 +9,7 @@ use Rattle.slot_text.specs.Lines.{lines_of}
 use Rattle.slot_text.specs.Fields.{fields_of}
 use Rattle.capacity_file.specs.Words.{word_text}
 use Rattle.capacity_file.specs.Entries.{word_of}
-use Rattle.capacity_file.specs.Lines.{line_at, LineStates, IsRepeat}
+use Rattle.capacity_file.specs.Lines.{line_at, IsRepeat}
 use Rattle.capacity_file.specs.Faults.{HasCapacityFault}
 use Rattle.capacity_file.specs.declared.fault.CapFault.TheVariants.{BadLine, Twice}
 use Rattle.fault_causes.specs.Causes.{line_word_text}
@@ -87,7 +87,3 @@ twice_line text number has =
       cause = causes.Twice own;
       is = (own, first_is _ at.states.values (fields_of at.line) own at.states.fields (repeat_word (lines_of text) number repeat), refl);
     }
-
-pub twice_cause : (text : List ℕ) (number : ℕ) (has : TwiceLine (lines_of text) number) (line : List ℕ) (cause : Cause) → ((l : List ℕ) → slice_get (lines_of text) (number - 1) ≡ Some l → line ≡ l) → IsTwiceCause line cause
-    → LineIs text number (λ l. IsTwiceCause l cause)
-twice_cause text number has line cause found is = rw has.stands (subst (λ (l : List ℕ). IsTwiceCause l cause) (found has.line has.stands) is)

@@ -1,16 +1,16 @@
 -- Dates: their spelling is that of one date, and what is wrong with two.
-use Rattle.std.proofs.Common.{◌≡◌, ◌⊎◌, ℕ, zero, suc, ◌+◌, ◌-◌, ◌*◌, ◌/◌, ◌%◌, ◌<◌, ◌≤◌, Bool, true, eqb, List, [], ◌∷◌, ◌++◌, length, length-append, take, drop, refl, sym, ap, subst, ◌∙◌, arith, inl, inr}
-use Rattle.std.specs.Prelude.{Option, Some, None, Result, Ok, Err, slice_index_or, if◌then◌else◌}
+use Rattle.std.proofs.Common.{◌≡◌, ℕ, zero, suc, ◌+◌, ◌/◌, ◌%◌, ◌<◌, ◌≤◌, eqb, List, ◌++◌, length, length-append, take, drop, refl, sym, ap, subst, ◌∙◌, arith, inl, inr}
+use Rattle.std.specs.Prelude.{Result, Ok, Err, slice_index_or, if◌then◌else◌}
 use Rattle.std.proofs.lemmas.List.{take_at, drop_at, take-append-drop}
-use Rattle.schedule_text.specs.Times.{digit, two_digits}
+use Rattle.schedule_text.specs.Times.{two_digits}
 use Rattle.season_days.specs.Term.{Term}
 use Rattle.season_days.specs.Seasons.{NamesDate, IsDayNamed, IsDayOfFault, IsOutside, number_named}
 use Rattle.season_days.specs.declared.day.Day.{Day}
 use Rattle.season_days.specs.declared.day.DayFault.{DayFault}
 use Rattle.season_days.specs.declared.day.DayFault.TheVariants.{NoSuchDate, OutsideSeason, Reversed, NoDates, Memory}
-use Rattle.scr_reader.specs.Parts.{month_names, month_text, date_text}
+use Rattle.scr_reader.specs.Parts.{month_text, date_text}
 use Rattle.fault_causes.specs.Requests.{HasDateForm, HaveDatesForm, IsRealDate, IsInSeason, IsDatesFlaw, IsPeriodFlaw}
-use Rattle.fault_causes.specs.Standings.{dated_fault, IsDated, IsDateReading, AreDatesReading}
+use Rattle.fault_causes.specs.Standings.{dated_fault, IsDated}
 use Rattle.fault_causes.specs.declared.cause.Flaw.{Flaw}
 use Rattle.fault_causes.specs.declared.cause.Flaw.TheVariants as flaws
 
@@ -79,10 +79,6 @@ one_date text a b x y =
     let months : month_text a.0 ≡ month_text b.0 = ap (drop 2) whole in
     same_pair a b (same_month a.0 b.0 (month_name a.0 x.0 x.1) (month_name b.0 y.0 y.1) months) (same_number a.1 b.1 x.2 y.2 days)
 
-pub date_parts : (text : List ℕ) (date : ℕ × ℕ) → HasDateForm text date → (take 2 text ≡ two_digits date.1) × (drop 2 text ≡ month_text date.0)
-date_parts text date is =
-    (ap (take 2) is.3 ∙ take_at (two_digits date.1) (month_text date.0) 2 refl, ap (drop 2) is.3 ∙ drop_at (two_digits date.1) (month_text date.0) 2 refl)
-
 -- ---- one date or two
 
 -- two dates are those of the first five bytes and of the others
@@ -103,11 +99,7 @@ halves text first last (front, back, x, y, e) =
 two_long : (text : List ℕ) (first last : ℕ × ℕ) → (front back : List ℕ) × HasDateForm front first × HasDateForm back last × (text ≡ front ++ back) → length text ≡ 10
 two_long text first last (front, back, x, y, e) = omega (arith, ap length e, length-append front back, date_long front first x, date_long back last y)
 
--- up to five bytes there is one date, and of more there are two
-pub of_few : (text : List ℕ) (first last : ℕ × ℕ) → length text ≤ 5 → HaveDatesForm text first last → HasDateForm text first × (last ≡ first)
-of_few text first last few (inl one) = one
-of_few text first last few (inr two) = absurd (omega (arith, few, two_long text first last two))
-
+-- of more than five bytes there are two
 pub of_many : (text : List ℕ) (first last : ℕ × ℕ) → 5 < length text → HaveDatesForm text first last → AreHalves text first last
 of_many text first last many (inl one) = absurd (omega (arith, many, date_long text first one.0))
 of_many text first last many (inr two) = halves text first last two

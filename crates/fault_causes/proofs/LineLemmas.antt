@@ -1,13 +1,12 @@
 -- The line of a fault in a message, and the season line above it.
-use Rattle.std.proofs.Common.{◌≡◌, ℕ, zero, suc, ◌+◌, ◌-◌, ◌<◌, ◌≤◌, Bool, true, false, List, [], ◌∷◌, length, take, drop, Some, None, refl, sym, ap, subst, ◌∙◌, arith, inl, inr}
-use Rattle.std.specs.Prelude.{Option, IsSomeAnd, slice_get, if◌then◌else◌}
-use Rattle.slot_text.specs.Lines.{lines_of}
+use Rattle.std.proofs.Common.{◌≡◌, ℕ, zero, suc, ◌+◌, ◌-◌, ◌<◌, ◌≤◌, Bool, true, false, List, [], ◌∷◌, length, take, drop, Some, None, refl, sym, subst, ◌∙◌, arith, inl, inr}
+use Rattle.std.specs.Prelude.{Option, slice_get, if◌then◌else◌}
+use Rattle.std.proofs.lemmas.Option.{slice_get_within}
 use Rattle.season_days.specs.Term.{Term}
 use Rattle.season_days.specs.Seasons.{season_text}
 use Rattle.scr_reader.specs.Rows.{trimmed, Row}
-use Rattle.scr_reader.specs.Messages.{Run, HeaderPart, title, address, parts_from_season, begins_with_slash, header_parts, header_length, HeaderAgrees, IsPartFault, IsHeaderFault, IsLineFault, IsBodyFault, IsMessageFault, IsFaultBelow, IsFirstFault}
+use Rattle.scr_reader.specs.Messages.{Run, HeaderPart, title, address, parts_from_season, begins_with_slash, header_parts, header_length, HeaderAgrees, IsPartFault, IsHeaderFault, IsBodyFault, IsMessageFault, IsFirstFault}
 use Rattle.scr_reader.specs.declared.header.Header.{Header}
-use Rattle.scr_reader.specs.declared.fault.ScrFault.{ScrFault}
 use Rattle.scr_reader.specs.declared.fault.ScrFault.TheVariants.{BadLine, Memory}
 use Rattle.fault_causes.specs.Requests.{lines_since, line_of_season}
 use Rattle.fault_causes.proofs.PlaceLemmas.{Stands, AllStand}
@@ -18,11 +17,6 @@ pub get_drop : (h k : ℕ) (lines : List (List ℕ)) → slice_get (drop h lines
 get_drop zero k lines = let e : 0 + k ≡ k = omega arith in rw e refl
 get_drop (suc h) k [] = refl
 get_drop (suc h) k (line ∷ lines) = let e : suc h + k ≡ suc (h + k) = omega arith in rw e (get_drop h k lines)
-
-pub get_within : (lines : List (List ℕ)) (k : ℕ) (line : List ℕ) → slice_get lines k ≡ Some line → k < length lines
-get_within [] k line e = absurd (cc)
-get_within (first ∷ lines) zero line e = omega arith
-get_within (first ∷ lines) (suc k) line e = omega (arith, get_within lines k line e)
 
 -- ---- the season line in a header that agrees
 
@@ -64,7 +58,7 @@ pub below_header : (lines : List (List ℕ)) (run : Run) (header : Header) → (
 below_header lines run header stand agrees number k line e here =
     let h = header_length run.lines in
     let there : slice_get run.lines (h + k) ≡ Some line = sym (get_drop h k run.lines) ∙ here in
-    let at = stand (h + k) (get_within run.lines (h + k) line there) in
+    let at = stand (h + k) (slice_get_within run.lines (h + k) line there) in
     let named = season_above run.lines header agrees (h + k) (omega arith) in
     let place : run.number + (h + k) - 1 ≡ number - 1 = omega (arith, e) in
     record {

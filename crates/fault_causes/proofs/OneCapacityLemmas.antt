@@ -1,13 +1,11 @@
 -- A fault of a capacity file has one cause.
-use Rattle.std.proofs.Common.{◌≡◌, ◌⊎◌, ℕ, suc, ◌<◌, ◌≤◌, List, [], ◌∷◌, length, refl, sym, ap, subst, ◌∙◌, arith, inl, inr}
+use Rattle.std.proofs.Common.{◌≡◌, ℕ, suc, List, [], ◌∷◌, sym, ap, subst, ◌∙◌, arith, inl, inr}
 use Rattle.std.specs.Prelude.{Option, Some, None, IsSomeAnd, slice_get}
-use Rattle.slot_text.specs.Lines.{lines_of}
-use Rattle.slot_text.specs.Fields.{fields_of, IsTrimmed}
-use Rattle.slot_text.specs.declared.lines.TheConstants.{LONGEST_LINE}
+use Rattle.slot_text.specs.Fields.{fields_of}
 use Rattle.capacity_file.specs.declared.fault.CapFault.{CapFault}
 use Rattle.capacity_file.specs.declared.fault.CapFault.TheVariants as faults
 use Rattle.fault_causes.specs.Causes.{line_word_text}
-use Rattle.fault_causes.specs.Forms.{HasForm, IsNotAllowed, IsFlaw}
+use Rattle.fault_causes.specs.Forms.{IsNotAllowed, IsFlaw}
 use Rattle.fault_causes.specs.Capacities.{fields_behind, IsFieldCause, IsWordCause, IsBadLineCause, IsTwiceCause, IsCapacityCause}
 use Rattle.fault_causes.specs.declared.cause.LineWord.{LineWord}
 use Rattle.fault_causes.specs.declared.cause.Flaw.{Flaw}

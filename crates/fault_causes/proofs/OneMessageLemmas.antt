@@ -1,6 +1,6 @@
 -- A fault of messages has one cause, and so has one of what they ask for.
-use Rattle.std.proofs.Common.{◌≡◌, ◌⊎◌, ℕ, ◌+◌, ◌-◌, ◌/◌, ◌%◌, ◌<◌, Bool, true, false, eqb, List, [], ◌∷◌, refl, sym, ap, subst, ◌∙◌, arith, inl, inr}
-use Rattle.std.specs.Prelude.{Option, Some, None, IsSomeAnd, MatchBool, slice_get, slice_index_or, ◌==◌, if◌then◌else◌}
+use Rattle.std.proofs.Common.{◌≡◌, ℕ, ◌+◌, ◌-◌, ◌/◌, ◌%◌, ◌<◌, Bool, true, false, eqb, List, [], ◌∷◌, refl, sym, ap, subst, ◌∙◌, arith, inl, inr}
+use Rattle.std.specs.Prelude.{Option, Some, None, MatchBool, slice_get, slice_index_or, ◌==◌, if◌then◌else◌}
 use Rattle.slot_text.specs.Lines.{lines_of}
 use Rattle.slot_text.specs.Fields.{begins_in_field, fields_of, field_at}
 use Rattle.season_days.specs.Term.{Term}
@@ -14,7 +14,7 @@ use Rattle.scr_reader.specs.declared.fault.ScrFault.TheVariants as message_fault
 use Rattle.series_model.specs.declared.fault.ModelFault.{ModelFault}
 use Rattle.series_model.specs.declared.fault.ModelFault.TheVariants as model_faults
 use Rattle.fault_causes.specs.Causes.{code_text}
-use Rattle.fault_causes.specs.Requests.{lines_above, line_of_season, part_named, IsFlawOrForm, IsPartFlaw, IsPartCause, IsQuestionCause, IsFieldsCause, IsFieldCause, IsSeasonAbove, IsMessageCause, IsCodeCause, IsSubmissionCause}
+use Rattle.fault_causes.specs.Requests.{lines_above, line_of_season, part_named, IsFlawOrForm, IsPartFlaw, IsPartCause, IsQuestionCause, IsFieldsCause, IsFieldCause, IsMessageCause, IsCodeCause, IsSubmissionCause}
 use Rattle.fault_causes.specs.declared.cause.FieldName.{FieldName}
 use Rattle.fault_causes.specs.declared.cause.FieldName.TheVariants as fields
 use Rattle.fault_causes.specs.declared.cause.Flaw.{Flaw}

@@ -1,19 +1,18 @@
 -- The names of the fields of a line, and its first byte.
-use Rattle.std.proofs.Common.{◌≡◌, ◌≢◌, ℕ, zero, suc, ◌-◌, ◌<◌, ◌≤◌, Bool, true, false, eqb, List, [], ◌∷◌, length, map, refl, sym, ap, subst, ◌∙◌, arith, inl, inr}
-use Rattle.std.specs.Prelude.{Option, Some, None, slice_get, slice_index, MatchBool, ◌==◌, ◌||◌, if◌then◌else◌}
+use Rattle.std.proofs.Common.{◌≡◌, ◌≢◌, ℕ, ◌-◌, ◌≤◌, true, false, List, [], ◌∷◌, length, map, refl, sym, ap, ◌∙◌, arith, inl, inr}
+use Rattle.std.specs.Prelude.{Option, slice_get, slice_index, ◌==◌}
 use Rattle.std.specs.Option.{option_map}
 use Rattle.std.proofs.lemmas.Option.{slice_get-map}
-use Rattle.std.proofs.lemmas.Bool.{cases_Bool, ne_eqb, eqb-true, MatchBool-at_true}
+use Rattle.std.proofs.lemmas.Bool.{cases_Bool, ne_eqb}
 use Rattle.slot_text.specs.Lines.{onto_first}
 use Rattle.slot_text.specs.Fields.{is_blank, begins_in_field, fields_of, field_at}
 use Rattle.season_days.specs.Term.{Term}
 use Rattle.scr_reader.specs.Rows.{is_question}
-use Rattle.scr_reader.specs.Shapes.{Shape, arrival, departure, turnaround, Part, shape_of, parts_of}
+use Rattle.scr_reader.specs.Shapes.{Shape, arrival, departure, turnaround, shape_of, parts_of}
 use Rattle.fault_causes.specs.Requests.{shape_named, first_name, first_of, part_name, part_named, IsQuestionCause, IsPartCause, IsFieldsCause, IsFieldCause}
 use Rattle.fault_causes.specs.declared.cause.FieldName.{FieldName}
 use Rattle.fault_causes.specs.declared.cause.FieldName.TheVariants as fields
 use Rattle.fault_causes.specs.declared.cause.Cause.{Cause}
-use Rattle.fault_causes.specs.declared.cause.Cause.TheVariants as causes
 use Rattle.fault_causes.specs.declared.shape.Movements.{Movements}
 use Rattle.fault_causes.specs.declared.shape.Movements.TheVariants as movements
 
@@ -82,7 +81,3 @@ part_field season [] n cause some other byte h = absurd (omega (arith, some))
 part_field season (b ∷ line) n cause some other byte h =
     let line_is : is_question (fields_of (b ∷ line)) ≡ false = asks b line byte ∙ ne_eqb b 81 other in
     in_field season b line n cause byte (rw line_is h)
-
-pub blank_field : (season : Term) (line : List ℕ) (n : ℕ) → (1 ≤ length line → is_blank (slice_index line 0) ≡ true) → IsFieldCause season line n causes.Blank
-blank_field season [] n blank = refl
-blank_field season (b ∷ line) n blank = let is : is_blank b ≡ true = blank (omega arith) in rw is refl

@@ -1,15 +1,12 @@
 -- Where the line behind another one stands.
-use Rattle.std.proofs.Common.{◌≡◌, ℕ, zero, suc, ◌+◌, ◌-◌, ◌<◌, ◌≢◌, Bool, true, false, eqb, List, [], ◌∷◌, ◌++◌, length, drop, refl, sym, ap, subst, ◌∙◌, arith, inl, inr}
-use Rattle.std.specs.Prelude.{if◌then◌else◌, ◌&&◌, ◌||◌, ◌==◌, not}
+use Rattle.std.proofs.Common.{◌≡◌, ℕ, zero, suc, ◌+◌, Bool, true, false, eqb, List, [], ◌∷◌, ◌++◌, length, refl, sym, ap, subst, ◌∙◌, arith}
+use Rattle.std.specs.Prelude.{if◌then◌else◌}
 use Rattle.std.proofs.lemmas.Bool.{ne_eqb}
 use Rattle.slot_text.specs.Lines.{lines_of}
 use Rattle.slot_text.specs.Fields.{is_blank_line}
 use Rattle.scr_reader.specs.Messages.{begins_with_slash, has_address}
 use Rattle.fault_causes.specs.Requests.{line_of_season, lines_since}
 use Rattle.fault_causes.specs.Standings.{IsStanding, address_next, is_season_next}
-
-pub none_stands : IsStanding 0 false [] []
-none_stands = record { counts = refl; addresses = refl; names = refl }
 
 -- the season's line is among the first three
 far_line : (a b c : List ℕ) (before : List (List ℕ)) (line : List ℕ) (slash : Bool) → begins_with_slash b ≡ slash → is_season_next (suc (suc (suc (length before)))) slash ≡ false
@@ -63,9 +60,6 @@ walk_out before zero lines end none h = h
 walk_out before (suc n) lines end none h =
     let whole : lines_since before (suc n) [] ≡ end = subst (λ (l : List (List ℕ)). lines_since before (suc n) l ≡ end) none h in
     whole
-
-pub walk_end : (before : List (List ℕ)) (n : ℕ) (lines end : List (List ℕ)) → n ≡ 0 → lines_since before n lines ≡ end → before ≡ end
-walk_end before n lines end none h = subst (λ (m : ℕ). lines_since before m lines ≡ end) none h
 
 pub no_lines : (bytes : List ℕ) → bytes ≡ [] → lines_of bytes ≡ []
 unfolding lines_of

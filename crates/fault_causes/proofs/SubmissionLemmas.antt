@@ -1,26 +1,24 @@
 -- The line of an item that makes no unit: it is a line of the text, and begins with its code.
-use Rattle.std.proofs.Common.{◌≡◌, ◌⊎◌, ℕ, zero, suc, ◌+◌, ◌-◌, ◌<◌, ◌≤◌, Bool, true, false, eqb, List, [], ◌∷◌, length, take, drop, refl, sym, ap, subst, ◌∙◌, arith, inl, inr}
-use Rattle.std.specs.Prelude.{Option, Some, None, Result, Ok, Err, IsSomeAnd, slice_get, nat_lt, is_none, ◌==◌, ◌||◌, if◌then◌else◌}
+use Rattle.std.proofs.Common.{◌≡◌, ◌⊎◌, ℕ, zero, suc, ◌+◌, ◌-◌, ◌<◌, Bool, true, false, List, [], ◌∷◌, length, refl, sym, ap, subst, ◌∙◌, arith, inl, inr}
+use Rattle.std.specs.Prelude.{Option, Some, None, Err, IsSomeAnd, slice_get, nat_lt, is_none, ◌==◌, ◌||◌, if◌then◌else◌}
 use Rattle.std.specs.Option.{option_or}
 use Rattle.std.proofs.lemmas.Bool.{cases_Bool, eqb-true}
 use Rattle.std.proofs.lemmas.List.{take_all}
-use Rattle.std.proofs.lemmas.Option.{same_Some, none-some}
+use Rattle.std.proofs.lemmas.Option.{slice_get_within, same_Some, none-some}
 use Rattle.choice_problem.specs.declared.problems.TheConstants.{MOST_UNITS}
 use Rattle.slot_text.specs.Lines.{onto_first}
 use Rattle.slot_text.specs.Fields.{is_blank, begins_in_field, fields_of}
 use Rattle.season_days.specs.Term.{Term}
 use Rattle.season_days.specs.declared.declaration.Declaration.{Declaration}
 use Rattle.scr_reader.specs.Parts.{code_of}
-use Rattle.scr_reader.specs.Rows.{Row, remark, entry, question, line_fields, IsAskedFlight, IsQuestion, IsRow, IsRowOrNone, AreRows}
+use Rattle.scr_reader.specs.Rows.{Row, remark, entry, question, line_fields, IsQuestion, IsRow, IsRowOrNone, AreRows}
 use Rattle.scr_reader.specs.Shapes.{Shape, arrival, departure, turnaround, shape_of, parts_of, part_count, Agree, IsCodeAndFlight, IsLine}
-use Rattle.scr_reader.specs.Messages.{Run, run_from, header_of, header_length, body_of, next_row, pair_item, line_item, row_item, place, items_of, IsMessage, AreMessages, runs_of}
+use Rattle.scr_reader.specs.Messages.{Run, header_length, body_of, next_row, pair_item, line_item, place, items_of, IsMessage, AreMessages}
 use Rattle.scr_reader.specs.declared.line.Code.{Code}
 use Rattle.scr_reader.specs.declared.line.Code.TheVariants as codes_of
 use Rattle.scr_reader.specs.declared.line.Flight.{Flight}
 use Rattle.scr_reader.specs.declared.line.Line.{Line}
 use Rattle.scr_reader.specs.declared.line.Stop.{Stop}
-use Rattle.scr_reader.specs.declared.line.Item.{Item}
-use Rattle.scr_reader.specs.declared.line.Item.TheVariants.{One, Pair, Query}
 use Rattle.scr_reader.specs.declared.message.Placed.{Placed}
 use Rattle.scr_reader.specs.declared.message.Message.{Message}
 use Rattle.series_model.specs.Units.{placed_unit, units_of}
@@ -34,7 +32,7 @@ use Rattle.fault_causes.specs.declared.cause.OtherCode.TheVariants as others
 use Rattle.fault_causes.specs.declared.cause.Cause.{Cause}
 use Rattle.fault_causes.specs.declared.cause.Cause.TheVariants as causes
 use Rattle.fault_causes.proofs.PlaceLemmas.{Stands, AllStand}
-use Rattle.fault_causes.proofs.LineLemmas.{get_drop, get_within}
+use Rattle.fault_causes.proofs.LineLemmas.{get_drop}
 
 -- ---- the fault is that of an item
 
@@ -349,7 +347,7 @@ message_code lines run message stand is number e =
     let loose = in_rows (run.number + h) number is.rows (sym (ap items_fault is.items) ∙ e) in
     let row = row_line message.season (body_of run.lines) is.rows loose.k loose.row is.read loose.here in
     let there : slice_get run.lines (h + loose.k) ≡ Some row.line = sym (get_drop h loose.k run.lines) ∙ row.here in
-    let at = stand (h + loose.k) (get_within run.lines (h + loose.k) row.line there) in
+    let at = stand (h + loose.k) (slice_get_within run.lines (h + loose.k) row.line there) in
     let place : run.number + (h + loose.k) - 1 ≡ number - 1 = omega (arith, loose.place) in
     record {
       line = row.line;

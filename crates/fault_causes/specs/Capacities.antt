@@ -1,5 +1,5 @@
 -- Why a text is no capacity file.
-use Rattle.std.specs.Prelude.{◌≡◌, ◌⊎◌, ℕ, suc, ◌+◌, ◌-◌, ◌^◌, ◌<◌, ◌≤◌, List, [], ◌∷◌, length, Option, Some, None, slice_get, IsSomeAnd}
+use Rattle.std.specs.Prelude.{◌≡◌, ◌⊎◌, ℕ, suc, ◌-◌, ◌^◌, ◌<◌, ◌≤◌, List, [], ◌∷◌, length, Some, None, slice_get, IsSomeAnd}
 use Rattle.slot_text.specs.Lines.{lines_of}
 use Rattle.slot_text.specs.Fields.{fields_of, IsTrimmed}
 use Rattle.slot_text.specs.declared.lines.TheConstants.{LONGEST_LINE}

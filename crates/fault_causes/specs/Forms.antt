@@ -1,5 +1,5 @@
 -- Forms of the fields of a capacity file, and what is wrong with a field.
-use Rattle.std.specs.Prelude.{◌≡◌, ◌⊎◌, ℕ, ◌<◌, ◌≤◌, true, List, [], Option, Some, None, codes}
+use Rattle.std.specs.Prelude.{◌≡◌, ◌⊎◌, ℕ, ◌<◌, ◌≤◌, true, List, Option, Some, None, codes}
 use Rattle.std.specs.Fmt.{decimal}
 use Rattle.slot_text.specs.Numbers.{IsNumber}
 use Rattle.slot_text.specs.Stations.{IsStation}

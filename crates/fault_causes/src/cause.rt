@@ -119,25 +119,6 @@ pub enum Cause {
     Code(OtherCode),
 }
 
-impl LineWord {
-    /// The word.
-    pub fn text(self) -> &'static [u8]
-        ensures { result.now ≡ line_word_text self }
-    {
-        match self {
-            LineWord::Airport => b"AIRPORT",
-            LineWord::Season => b"SEASON",
-            LineWord::Step => b"STEP",
-            LineWord::Flex => b"FLEX",
-            LineWord::Ground => b"GROUND",
-            LineWord::Share => b"SHARE",
-            LineWord::Refuse => b"REFUSE",
-            LineWord::Night => b"NIGHT",
-            LineWord::Cap => b"CAP",
-        }
-    }
-}
-
 impl fmt::Display for LineWord {
     ghost output = { λ word. Some (line_word_text word) };
 

@@ -12,7 +12,7 @@ use season_days::{
 use slot_text::split_field;
 
 /// A field that a line has to have.
-#[derive(Clone, Copy, Debug, PartialEq, Eq)]
+#[derive(Clone, Copy)]
 pub(crate) struct Wanted {
     pub name: FieldName,
     pub form: Form,

@@ -10,7 +10,7 @@ use season_days::Season;
 use slot_text::{Station, read_u64};
 
 /// What a field of a capacity file has to be.
-#[derive(Clone, Copy, Debug, PartialEq, Eq)]
+#[derive(Clone, Copy)]
 pub(crate) enum Form {
     /// The three letters of an airport.
     Airport,

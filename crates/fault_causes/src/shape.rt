@@ -14,7 +14,7 @@ use season_days::{DayFault, Season};
 use slot_text::field;
 
 /// The movements that a line has.
-#[derive(Clone, Copy, Debug, PartialEq, Eq)]
+#[derive(Clone, Copy)]
 pub(crate) enum Movements {
     Arrival,
     Departure,
@@ -22,7 +22,7 @@ pub(crate) enum Movements {
 }
 
 /// A date beside the days of the season: one of them, a date that does not exist, or another one.
-#[derive(Clone, Copy, Debug, PartialEq, Eq)]
+#[derive(Clone, Copy)]
 pub(crate) enum Dated {
     Day,
     NoDate,

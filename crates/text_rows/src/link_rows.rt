@@ -23,31 +23,23 @@ impl<L: Link> Case for LinkCalls<L> {
     fn find(&mut self, alloc: Global, given: &[u8], out: &mut Vec<u8>) -> Result<(), Fail> {
         let (call, rest) = cut(given, b' ');
         match call {
-            b"take" => say_take(&mut self.link, number(rest, 1)?, out)?,
-            b"put" => say_put(&mut self.link, rest, out)?,
+            b"take" => {
+                let mut into = [0u8; 16];
+                let room = (number(rest, 1)? as usize).clamp(1, 16);
+                match self.link.take(&mut into[..room]) {
+                    Ok(n) => out.extend_from_slice(&into[..n.min(16)])?,
+                    Err(_) => out.extend_from_slice(b"fault")?,
+                }
+            }
+            b"put" => match self.link.put(rest) {
+                Ok(()) => out.extend_from_slice(b"put")?,
+                Err(_) => out.extend_from_slice(b"fault")?,
+            },
             _ => return Err("no such call".into()),
         }
         let (faults, ended) = (self.link.faults(), self.link.ended());
         say(alloc, out, format_args!(" {faults} {ended}"))
     }
-}
-
-fn say_take<L: Link>(link: &mut L, room: u32, out: &mut Vec<u8>) -> Result<(), Fail> {
-    let mut into = [0u8; 16];
-    let room = (room as usize).clamp(1, 16);
-    match link.take(&mut into[..room]) {
-        Ok(n) => out.extend_from_slice(&into[..n.min(16)])?,
-        Err(_) => out.extend_from_slice(b"fault")?,
-    }
-    Ok(())
-}
-
-fn say_put<L: Link>(link: &mut L, bytes: &[u8], out: &mut Vec<u8>) -> Result<(), Fail> {
-    match link.put(bytes) {
-        Ok(()) => out.extend_from_slice(b"put")?,
-        Err(_) => out.extend_from_slice(b"fault")?,
-    }
-    Ok(())
 }
 
 // The input `abcdefgh` in pieces of 3, 0 (which is 1) and 9 bytes, then as they fit; room for 4

@@ -335,7 +335,8 @@ fn seat(alloc: Global, costs: &[u64]) -> Result<Chooser, Fail> {
 fn place_parts(alloc: Global, count: usize) -> Result<Vec<Part>, Fail> {
     let mut parts = Vec::new(alloc);
     for place in 0..count {
-        parts.push(Part::new(vec![in alloc; once(place as u32); 1]?))?;
+        let place = u32::try_from(place)?;
+        parts.push(Part::new(vec![in alloc; once(place); 1]?))?;
     }
     Ok(parts)
 }
@@ -343,7 +344,8 @@ fn place_parts(alloc: Global, count: usize) -> Result<Vec<Part>, Fail> {
 fn place_alts(alloc: Global, costs: &[u64]) -> Result<Vec<Alt>, Fail> {
     let mut alts = Vec::new(alloc);
     for (place, cost) in costs.iter().enumerate() {
-        alts.push(alt(*cost, Some(place as u32)))?;
+        let place = u32::try_from(place)?;
+        alts.push(alt(*cost, Some(place)))?;
     }
     Ok(alts)
 }

@@ -1,4 +1,4 @@
-use Rattle.std.proofs.Common.{◌≡◌, ◌+◌, ◌≤◌, drop, length}
+use Rattle.std.proofs.Common.{◌≡◌, ◌+◌, drop}
 use Rattle.slot_text.specs.Fields.{fields_of}
 use Rattle.fault_causes.proofs.FieldLemmas.{Leads}
 use Rattle.fault_causes.proofs.fields.first_bad.Given as goal

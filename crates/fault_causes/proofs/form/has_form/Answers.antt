@@ -1,4 +1,4 @@
-use Rattle.std.proofs.Common.{◌≡◌, ◌↔◌, subst, sym}
+use Rattle.std.proofs.Common.{◌↔◌, subst, sym}
 use Rattle.std.specs.Prelude.{IsTrue}
 use Rattle.fault_causes.specs.Forms.{HasForm}
 use Rattle.fault_causes.specs.declared.form.Form.{Form}

@@ -1,4 +1,3 @@
-use Rattle.std.proofs.Common.{arith}
 use Rattle.slot_text.specs.Fields.{fields_of}
 use Rattle.fault_causes.proofs.ShapeLemmas.{arrival_named, departure_named, both_named}
 use Rattle.fault_causes.proofs.shape.name_at.Goals as goal

@@ -1,5 +1,5 @@
 use Rattle.std.proofs.Common.{sym, subst}
-use Rattle.scr_reader.specs.Shapes.{Shape, shape_of}
+use Rattle.scr_reader.specs.Shapes.{Shape}
 use Rattle.fault_causes.specs.Requests.{shape_named, IsPartFlaw}
 use Rattle.fault_causes.specs.declared.cause.FieldName.{FieldName}
 use Rattle.fault_causes.proofs.shape.part_flaw.Goals as goal

@@ -1,4 +1,4 @@
-use Rattle.std.proofs.Common.{ap, subst, sym}
+use Rattle.std.proofs.Common.{subst, sym}
 use Rattle.fault_causes.specs.Standings.{IsDated}
 use Rattle.fault_causes.specs.declared.shape.Dated.{Dated}
 use Rattle.fault_causes.proofs.DateLemmas.{date_form, fault_dated}
