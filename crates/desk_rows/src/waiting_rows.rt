@@ -228,7 +228,8 @@ words recheck CAP SCR CERT ASKS EXTRA
 says 0 YES;";
 
 /// Which lines wait: not what clashes with one that waits before it, in whatever period; what has no
-/// common date with it does. A refusal costs 9,999 where none is declared.
+/// common date with it does; nor what clashes with an offer, before it is declined. A refusal costs
+/// 9,999 where none is declared.
 const CLASHES: &str = "\
 file CAP AIRPORT ABC;SEASON S25;STEP 5;FLEX 0;GROUND 40;REFUSE 10;\
     CAP ARR 60 0600 0600 1234567 1;
@@ -253,7 +254,20 @@ holds REPLIES SCR;S25;21NOV;ABC;UBA002 01JUN01JUN 0000007 180320 JFK0620 J;;
 words reclear CAP SCR CERT ASKS EXTRA REPLIES --nodes 64
 line REFUSE 10|REFUSE NONE|0 WAITING 1;STAGE 5 OPTIMAL 9999;
 holds EXTRA EXTRA 1;STAGE 5 OPTIMAL;CHOICES 1;C 0 1;COST 9999;VECTORS 0;TREE 3;S 0 1 9999;O 63;\
-    L 0 1 9999;END;";
+    L 0 1 9999;END;
+file CAP AIRPORT ABC;SEASON S25;STEP 5;FLEX 30;GROUND 40;REFUSE 10;\
+    CAP ARR 180 0500 0500 1234567 1;
+words allocate CAP SCR CERT REPLIES
+says 0 STAGE 1 OPTIMAL 0;*
+take CERT
+words reclear CAP SCR CERT ASKS EXTRA REPLIES
+file ASKS SCR;S25;21NOV;ABC;NBA002 01JUN01JUN 7 180320 JFK0620 J;\
+    NBA002 01JUN01JUN 7 180320 JFK0740 J;DBA001 01JUN01JUN 7 180320 JFK0610 J;\
+    ZBA002 01JUN01JUN 7 180320 JFK0800 J;
+says 0 WAITING 1;STAGE 5 OPTIMAL 0;
+holds REPLIES SCR;S25;21NOV;ABC;KBA002 01JUN01JUN 0000007 180320 JFK0620 J;;
+line ZBA002 01JUN01JUN 7 180320 JFK0800 J|(none)|0 WAITING 0;STAGE 5 OPTIMAL 0;
+holds REPLIES";
 
 /// One movement at night in the season, which an offer takes: a line that could have it waits.
 const NIGHTS: &str = "\

@@ -6,7 +6,9 @@ use Rattle.slot_program.proofs.InspectionLemmas.{few_movements}
 use Rattle.slot_program.proofs.inspection.movement_count.Goals as goal
 
 pub returns-clause-value : goal.returns-clause-value
-returns-clause-value c = c.len.ensures ∙ ap (λ (ms : List Movement). length ms) (c.in_ok-listed.ensures ∙ ap (movements_of c.args.season.now c.args.unit.now) c.line_times.ensures)
+returns-clause-value c =
+    c.len.ensures ∙ c.in_ok-listed.listed.ok.0
+    ∙ ap (λ (ms : List Movement). length ms) (c.in_ok-listed.ensures ∙ ap (movements_of c.args.season.now c.args.unit.now) c.line_times.ensures)
 
 pub returns-clause-few : goal.returns-clause-few
 returns-clause-few c =
