@@ -428,7 +428,7 @@ fn statuses_have_an_order(rt: HostRuntime) -> Result<(), Fail> {
     Ok(())
 }
 
-/// What a desk says over two doors, the second of which asks, where an accept of one may fail.
+/// What a desk says over two doors, an accept of the first of which may fail.
 fn says<R: Threads + Wait + Sync>(
     rt: &R,
     alloc: Global,
@@ -443,7 +443,7 @@ fn says<R: Threads + Wait + Sync>(
         None,
         b"",
         failing,
-        &[ASKS, QUERY],
+        &[QUERY, ASKS],
         accept,
     )?;
     Ok(ran.said.clone()?)
