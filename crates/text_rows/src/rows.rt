@@ -17,7 +17,7 @@ pub(crate) trait Case {
 /// Walks the rows, and fails with the first whose finding is not what it wants.
 pub(crate) fn walk<C: Case>(alloc: Global, case: &mut C, table: &[u8]) -> Result<(), Fail> {
     let mut rows = Lines::new(table);
-    for _ in 0..99 {
+    for _ in 0..199 {
         let Some(row) = rows.next_line() else {
             return Ok(());
         };
