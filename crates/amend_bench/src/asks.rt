@@ -43,29 +43,59 @@ pub const NEW_AIRLINE: Airline = Airline {
 /// Asks the book in rounds, each of which begins with a copy of it, so that it stays about as full.
 /// Prints how they were answered, and at full size how many that is in a second.
 pub fn run<R: Print + Clock>(rt: &R, alloc: Global, size: Size, book: &Book) -> anyhow::Result<()> {
-    let (rounds, asks) = match size {
-        Size::Short => (2, 50),
-        Size::Full => (10, 500),
-    };
-    let mut airline = NEW_AIRLINE;
     let mut tallies = vec![in alloc; NO_CALLS; NAMES.len()]?;
-    let mut all = NO_CALLS;
-    let mut copies = NO_CALLS;
-    for _ in 0..rounds {
-        let start = Instant::now(rt)?;
-        let mut copy = book.copy(alloc)?;
-        copies.add(call_since(rt, start)?);
-        let round = ask_many(rt, alloc, &mut copy, &mut airline, &mut tallies, asks)?;
-        all.add(round);
-    }
+    let (copies, all) = ask_rounds(rt, alloc, size, book, &mut tallies)?;
     println!(rt; "asks of a book of {} holdings", book.count())?;
     print_tally(rt, size, "copies", copies)?;
     print_tally(rt, size, "asks", all)?;
+    print_answers(rt, size, &tallies)
+}
+
+fn print_answers<R: Print>(rt: &R, size: Size, tallies: &[Tally]) -> anyhow::Result<()> {
     for (name, tally) in NAMES.iter().zip(tallies.iter()) {
         print!(rt; "  ")?;
         print_tally(rt, size, name, *tally)?;
     }
     Ok(())
+}
+
+// The copies and the asks of all rounds.
+fn ask_rounds<R: Clock>(
+    rt: &R,
+    alloc: Global,
+    size: Size,
+    book: &Book,
+    tallies: &mut [Tally],
+) -> anyhow::Result<(Tally, Tally)> {
+    let (rounds, asks) = match size {
+        Size::Short => (2, 50),
+        Size::Full => (10, 500),
+    };
+    let mut airline = NEW_AIRLINE;
+    let mut all = NO_CALLS;
+    let mut copies = NO_CALLS;
+    for _ in 0..rounds {
+        let (copied, round) = ask_round(rt, alloc, book, &mut airline, tallies, asks)?;
+        copies.add(copied);
+        all.add(round);
+    }
+    Ok((copies, all))
+}
+
+// Copies the book, and asks the copy.
+fn ask_round<R: Clock>(
+    rt: &R,
+    alloc: Global,
+    book: &Book,
+    airline: &mut Airline,
+    tallies: &mut [Tally],
+    asks: u32,
+) -> anyhow::Result<(Tally, Tally)> {
+    let start = Instant::now(rt)?;
+    let mut copy = book.copy(alloc)?;
+    let copied = call_since(rt, start)?;
+    let round = ask_many(rt, alloc, &mut copy, airline, tallies, asks)?;
+    Ok((copied, round))
 }
 
 fn ask_many<R: Clock>(

@@ -20,8 +20,19 @@ pub fn run<R: Print + Clock>(rt: &R, alloc: Global, size: Size, book: &Book) -> 
     };
     println!(rt; "usage of a book of {} holdings", book.count())?;
     let text = reports_text(alloc, book.count(), reports)?;
+    time_reports(rt, alloc, size, book, &text, reports)
+}
+
+fn time_reports<R: Print + Clock>(
+    rt: &R,
+    alloc: Global,
+    size: Size,
+    book: &Book,
+    text: &[u8],
+    reports: u32,
+) -> anyhow::Result<()> {
     let start = Instant::now(rt)?;
-    let Some(usage) = watched(alloc, book, &text)? else {
+    let Some(usage) = watched(alloc, book, text)? else {
         println!(rt; "no usage")?;
         return Ok(());
     };

@@ -1,5 +1,6 @@
 -- What an opening leaves.
 use Rattle.std.proofs.Common.{◌≡◌, ◌⊎◌, ℕ, ◌+◌, ◌≤◌, List, [], ◌∷◌, ◌++◌, length, take, drop, refl, sym, ap, subst, ◌∙◌, append-nil, length-append, inl, inr, arith, Result, Ok, Err, IfOk, IfErr, Option, Some, None}
+use Rattle.std.specs.Prelude.{IfSome, IsErrAnd}
 use Rattle.std.proofs.lemmas.List.{length-take, drop_all, nil_from_length}
 use Rattle.std.proofs.lemmas.List.Elements.{All-nil}
 use Rattle.season_days.specs.Term.{Term}
@@ -11,6 +12,7 @@ use Rattle.amend_journal.specs.Durable.{told_start, ReadsAs, AreDurable, StandsA
 use Rattle.amend_journal.specs.Private.{OnlyLooked, IsShort, AlwaysFaulty, AlwaysJournalOf}
 use Rattle.amend_journal.specs.declared.asked.Asked.{Asked}
 use Rattle.amend_journal.specs.declared.fault.OpenFault.{OpenFault}
+use Rattle.amend_journal.specs.declared.fault.OpenFault.TheVariants.{DiskFault}
 use Rattle.amend_journal.proofs.MomentLemmas.{looks_read, looks_left, looks_always, moments_join, moments_weaker, no_moment, ReadBack, LeftBack}
 use Rattle.amend_journal.proofs.FormatLemmas.{length-header}
 
@@ -241,3 +243,31 @@ synced_fault (Err e) season old mid now law is h = λ s file reads agrees. h s f
 pub synced_durable : {T : Type 0} (r : Result T OpenFault) (items : T → List Asked) (season : Term) (old mid now : List DiskPassage) → LeftLaw → mid ≡ old ++ synced ∷ [] → IfOk r (λ t. AreKeptSynced season mid now (items t)) → IfOk r (λ t. AreKept season old now (items t))
 synced_durable (Ok t) items season old mid now law is h = λ s file reads agrees. h s file (synced_leaves s file old mid law is reads) agrees
 synced_durable (Err e) items season old mid now law is h = tt
+
+-- ---- what a disk tells that it holds
+
+any_told : (told : Option ToldDisk) → IfSome told (λ (t : ToldDisk). Unit {0})
+any_told None = tt
+any_told (Some t) = tt
+
+-- a fault of the disk refuses no content
+pub disk_fault_told : {T : Type 0} (r : Result T OpenFault) (season : Term) (told : Option ToldDisk) → IsErrAnd r (λ fault. fault ≡ DiskFault) → IfErr r (λ fault. IfSome told (λ (d : ToldDisk). HasFault season fault d.bytes))
+disk_fault_told (Ok t) season told h = tt
+disk_fault_told (Err e) season told h = subst (λ (f : OpenFault). IfSome told (λ (d : ToldDisk). HasFault season f d.bytes)) (sym h) (any_told told)
+
+-- what is so of all that may be read is so of what the disk told before its calls, and still tells
+pub told_is : (P : List ℕ → Type 0) (before now : DiskView) → TellsTruly now → now.told ≡ before.told → ((s : DiskStart) (c : List ℕ) → MayRead s now.log c → P c) → IfSome before.told (λ (t : ToldDisk). P t.bytes)
+told_is P before now truly same always =
+    subst (λ (o : Option ToldDisk). IfSome o (λ (t : ToldDisk). P t.bytes)) same (of now.told truly)
+  where
+    of : (o : Option ToldDisk) → IfSome o (λ (t : ToldDisk). MayRead t.start now.log t.bytes) → IfSome o (λ (t : ToldDisk). P t.bytes)
+    of None h = tt
+    of (Some t) h = always t.start t.bytes h
+
+pub told_found_of : {T : Type 0} (r : Result T OpenFault) (items : T → List Asked) (season : Term) (before now : DiskView) → TellsTruly now → now.told ≡ before.told → IfOk r (λ t. AlwaysJournalOf season now.log (items t)) → IfOk r (λ t. IfSome before.told (λ (d : ToldDisk). StandsFor season (items t) d.bytes))
+told_found_of (Ok t) items season before now truly same always = told_is (StandsFor season (items t)) before now truly same (λ s c h. inr (always s c h))
+told_found_of (Err e) items season before now truly same always = tt
+
+pub told_fault_of : {T : Type 0} (r : Result T OpenFault) (season : Term) (before now : DiskView) → TellsTruly now → now.told ≡ before.told → IfErr r (AlwaysFaulty season now.log) → IfErr r (λ fault. IfSome before.told (λ (d : ToldDisk). HasFault season fault d.bytes))
+told_fault_of (Ok t) season before now truly same always = tt
+told_fault_of (Err e) season before now truly same always = told_is (HasFault season e) before now truly same always

@@ -1,7 +1,7 @@
 //! The amendment journal.
 
 ghost use Rattle.std.specs.Prelude.{◌≡◌, ◌⊎◌, ◌+◌, ◌<◌, ◌≤◌, ◌++◌, ◌∷◌, [], ℕ, List, length, IfOk};
-ghost use Rattle.std.specs.Prelude.{IfErr, OnOk, OnErr, MatchResult, All};
+ghost use Rattle.std.specs.Prelude.{IfErr, IfSome, OnOk, OnErr, MatchResult, All};
 ghost use Rattle.desk_outside.specs.Cause.{HasCause};
 ghost use Rattle.desk_disk.specs.Stops.{DiskStart, Agrees, AtEachMoment};
 ghost use Rattle.desk_disk.specs.Disks.{TellsTruly};
@@ -77,6 +77,10 @@ impl<K: Disk> Journal<K> {
         ensures refused { IfErr result (λ refused. (s : DiskStart) (file : List ℕ)
             → ReadsAs s (K.view disk).log file → Agrees s (K.view refused.1).log
             → HasFault season.now refused.0 file) }
+        ensures told_found { IfOk result (λ opened. IfSome (K.view disk).told
+            (λ t. StandsFor season.now opened.1.items t.bytes)) }
+        ensures told_refused { IfErr result (λ refused. IfSome (K.view disk).told
+            (λ t. HasFault season.now refused.0 t.bytes)) }
         ensures moments { (s : DiskStart) (file : List ℕ) (asks : List AskedValue)
             → ReadsAs s (K.view disk).log file → StandsFor season.now asks file
             → MatchResult result

@@ -1,7 +1,7 @@
 //! The opening of a file as a journal.
 
 ghost use Rattle.std.specs.Prelude.{◌≡◌, ◌+◌, ◌*◌, ◌<◌, ◌≤◌, ◌++◌, ◌∷◌, [], List, ℕ, length, IfOk};
-ghost use Rattle.std.specs.Prelude.{IfErr, OnOk, All};
+ghost use Rattle.std.specs.Prelude.{IfErr, IfSome, OnOk, All};
 ghost use Rattle.season_days.specs.Term.{Term};
 ghost use Rattle.desk_outside.specs.Cause.{HasCause};
 ghost use Rattle.desk_disk.specs.Stops.{DiskStart, Agrees, MayRead, MayLeave, AtEachMoment};
@@ -44,6 +44,10 @@ pub(crate) fn open_file<K: Disk>(
     ensures refused { IfErr result (λ fault. (s : DiskStart) (file : List ℕ)
         → ReadsAs s (K.view disk.old).log file → Agrees s (K.view disk.new).log
         → HasFault season.now fault file) }
+    ensures told_found { IfOk result (λ asks. IfSome (K.view disk.old).told
+        (λ t. StandsFor season.now asks.items t.bytes)) }
+    ensures told_refused { IfErr result (λ fault. IfSome (K.view disk.old).told
+        (λ t. HasFault season.now fault t.bytes)) }
     ensures moments { (s : DiskStart) (file : List ℕ) (asks : List AskedValue)
         → ReadsAs s (K.view disk.old).log file → Agrees s (K.view disk.new).log
         → StandsFor season.now asks file
@@ -80,6 +84,10 @@ fn open_synced<K: Disk>(
     ensures refused { IfErr result (λ fault. (s : DiskStart) (file : List ℕ)
         → ReadsAs s (K.view disk.old).log file → Agrees s (K.view disk.new).log
         → HasFault season.now fault file) }
+    ensures told_found { IfOk result (λ asks. IfSome (K.view disk.old).told
+        (λ t. StandsFor season.now asks.items t.bytes)) }
+    ensures told_refused { IfErr result (λ fault. IfSome (K.view disk.old).told
+        (λ t. HasFault season.now fault t.bytes)) }
     ensures moments { (s : DiskStart) (file : List ℕ) (asks : List AskedValue)
         → ((c : List ℕ) → MayLeave s (K.view disk.old).log c → c ≡ file)
         → Agrees s (K.view disk.new).log

@@ -41,6 +41,7 @@ pub(crate) fn read_journal<K: Disk>(
     ensures fit { IfOk result (λ asks. All (IsFit season.now) asks.items) }
     ensures refused { IfErr result (AlwaysFaulty season.now (K.view disk.new).log) }
     ensures later { IsLaterDisk (K.view disk.old) (K.view disk.new) }
+    ensures told { (K.view disk.new).told ≡ (K.view disk.old).told }
     ensures cause { HasOpenCause (K.view disk.old).faults (K.view disk.new).faults result }
 {
     let gate = read_head(disk, size)?;
@@ -57,6 +58,7 @@ fn read_head<K: Disk>(disk: &mut K, size: u64) -> Result<u8, OpenFault>
     ensures refused { IfErr result (λ fault.
         (season : Term) → AlwaysFaulty season (K.view disk.new).log fault) }
     ensures later { IsLaterDisk (K.view disk.old) (K.view disk.new) }
+    ensures told { (K.view disk.new).told ≡ (K.view disk.old).told }
     ensures cause { HasOpenCause (K.view disk.old).faults (K.view disk.new).faults result }
 {
     joined_calls();
@@ -95,6 +97,7 @@ fn read_slots<K: Disk>(
     ensures fit { IfOk result (λ asks. All (IsFit season.now) asks.items) }
     ensures refused { IfErr result (AlwaysFaulty season.now (K.view disk.new).log) }
     ensures later { IsLaterDisk (K.view disk.old) (K.view disk.new) }
+    ensures told { (K.view disk.new).told ≡ (K.view disk.old).told }
     ensures cause { HasOpenCause (K.view disk.old).faults (K.view disk.new).faults result }
 {
     let mut asks = Vec::new(alloc);
@@ -131,6 +134,7 @@ fn push_slot<K: Disk>(
     ensures number { OnOk result (length asks.new.items ≡ number + 1) }
     ensures refused { IfErr result (AlwaysFaulty season.now (K.view disk.new).log) }
     ensures later { IsLaterDisk (K.view disk.old) (K.view disk.new) }
+    ensures told { (K.view disk.new).told ≡ (K.view disk.old).told }
     ensures cause { HasOpenCause (K.view disk.old).faults (K.view disk.new).faults result }
 {
     let mut bytes = [0; 256];
@@ -165,6 +169,7 @@ fn read_slot<K: Disk>(
         → HasRead season.now (K.view disk.old).log size asks 1 → length asks ≡ number
         → AlwaysFaulty season.now (K.view disk.new).log fault) }
     ensures later { IsLaterDisk (K.view disk.old) (K.view disk.new) }
+    ensures told { (K.view disk.new).told ≡ (K.view disk.old).told }
     ensures cause { HasOpenCause (K.view disk.old).faults (K.view disk.new).faults result }
 {
     joined_calls();

@@ -1,6 +1,7 @@
 -- The answers that are due to items: as entries of a history, and as lines.
 use Rattle.std.proofs.Common.{◌≡◌, ℕ, suc, ◌+◌, ◌*◌, ◌<◌, ◌≤◌, inl, inr, refl, sym, ◌∙◌, ap, subst, arith, List, [], ◌∷◌, ◌++◌, length, map, get_or, drop, drop-cons, append_assoc}
-use Rattle.std.specs.Prelude.{All}
+use Rattle.std.specs.Prelude.{All, Result, Ok, Err, OnOk}
+use Rattle.std.proofs.lemmas.List.{append-nil}
 use Rattle.std.proofs.lemmas.List.Elements.{All-nil, All-cons, All-head, All-tail}
 use Rattle.season_days.specs.declared.declaration.Declaration.{Declaration}
 use Rattle.scr_reader.specs.declared.line.Item.{Item}
@@ -101,17 +102,28 @@ due_book : (b : SlotBook) (items : List Placed) → book_after b items ≡ repla
 due_book b [] = refl
 due_book b (placed ∷ items) = due_book (next b placed.item) items
 
-due_count : (b : SlotBook) (items : List Placed) → length (due_entries b items) ≡ length items
+pub due_count : (b : SlotBook) (items : List Placed) → length (due_entries b items) ≡ length items
 due_count b [] = refl
 due_count b (placed ∷ items) = ap (λ (n : ℕ). suc n) (due_count (next b placed.item) items)
 
+pub entries_next : (b after : SlotBook) (items rest : List Placed) (placed : Placed) (before : List Entry) → items ≡ placed ∷ rest → after ≡ next b placed.item →
+    (before ++ due_entry b placed ∷ []) ++ due_entries after rest ≡ before ++ due_entries b items
+entries_next b after items rest placed before is changed =
+    rw (is, changed) (append_assoc before (due_entry b placed ∷ []) (due_entries (next b placed.item) rest))
+
+-- ---- what three facts show where a call succeeds
+
+pub all_ok : {X F A B C D : Type 0} (r : Result X F) → OnOk r A → OnOk r B → OnOk r C → (A → B → C → D) → OnOk r D
+all_ok (Ok x) a b c then = then a b c
+all_ok (Err e) a b c then = tt
+
 -- ---- the step of one message
 
-pub good_step : (b : SlotBook) (lines : List (List ℕ)) (message : Message) (before written : List ℕ) (after : SlotBook) (n : ℕ) →
+pub good_step : (b : SlotBook) (lines : List (List ℕ)) (message : Message) (before written : List ℕ) (past history : List Entry) (after : SlotBook) →
     IsGoodMessage b.declaration.season b.declaration.airport lines message → All (CanAskItem b.declaration) message.items →
-    written ≡ before ++ reply_text message (due_answers b message.items) → after ≡ book_after b message.items → n ≡ length message.items →
-    IsMessageStep b lines before written after n
-good_step b lines message before written after n good can wrote changed count = record {
+    written ≡ before ++ reply_text message (due_answers b message.items) → history ≡ past ++ due_entries b message.items → after ≡ book_after b message.items →
+    IsMessageStep b lines before written past history after
+good_step b lines message before written past history after good can wrote entered changed = record {
   own = due_entries b message.items;
   text = reply_text message (due_answers b message.items);
   legal = due_legal b message.items;
@@ -124,13 +136,13 @@ good_step b lines message before written after n good can wrote changed count = 
   });
   book = changed ∙ due_book b message.items;
   written_is = wrote;
-  number = count ∙ sym (due_count b message.items);
+  history_is = entered;
 }
 
-pub bad_step : (b : SlotBook) (lines : List (List ℕ)) (line : ℕ) (before written : List ℕ) →
+pub bad_step : (b : SlotBook) (lines : List (List ℕ)) (line : ℕ) (before written : List ℕ) (history : List Entry) →
     IsBadAt b.declaration.season b.declaration.airport lines line → written ≡ before ++ bad_text line →
-    IsMessageStep b lines before written b 0
-bad_step b lines line before written bad wrote = record {
+    IsMessageStep b lines before written history history b
+bad_step b lines line before written history bad wrote = record {
   own = [];
   text = bad_text line;
   legal = tt;
@@ -138,5 +150,5 @@ bad_step b lines line before written bad wrote = record {
   answered = inr (record { line = line; bad = bad; none = refl; text_is = refl });
   book = refl;
   written_is = wrote;
-  number = refl;
+  history_is = sym (append-nil history);
 }

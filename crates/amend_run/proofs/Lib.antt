@@ -1,3 +1,4 @@
 mod DueLemmas
 mod RunLemmas
 mod TotalLemmas
+mod OnceLemmas

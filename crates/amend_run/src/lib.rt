@@ -4,4 +4,4 @@
 mod asked;
 mod run;
 
-pub use run::{Amended, amend_messages};
+pub use run::{Amended, amend_messages, first_header};

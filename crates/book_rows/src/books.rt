@@ -36,12 +36,18 @@ pub(crate) fn start_book(
     requests: &str,
     stages: &str,
 ) -> Result<Book, Fail> {
-    valid_choices();
     let submission = submission(alloc, capacity, requests)?;
-    let text = certificate(alloc, stages)?;
-    let cert = read(alloc, text.as_bytes())?;
-    match check(alloc, &submission, &cert)? {
-        Verdict::Yes => Ok(Book::of(alloc, &submission, &cert)?),
+    let cert = certificate(alloc, stages)?;
+    book_of(alloc, &submission, &cert)
+}
+
+// The book of a certificate that the checker accepts.
+fn book_of(alloc: Global, submission: &Submission, cert: &Certificate) -> Result<Book, Fail>
+    requires { IsPrintable cert.now }
+{
+    valid_choices();
+    match check(alloc, submission, cert)? {
+        Verdict::Yes => Ok(Book::of(alloc, submission, cert)?),
         Verdict::No { line, reason: _ } => {
             Err(Fail::new(format!(in alloc; "line {line} of the certificate")?))
         }
@@ -49,24 +55,39 @@ pub(crate) fn start_book(
 }
 
 fn submission(alloc: Global, capacity: &str, requests: &str) -> Result<Submission, Fail> {
-    read_lines_fit();
-    read_messages();
+    let capacity = capacity_text(alloc, capacity)?;
+    let requests = message(alloc, requests)?;
+    read_submission(alloc, capacity.as_bytes(), requests.as_bytes())
+}
+
+// The text of a capacity file with these lines.
+fn capacity_text(alloc: Global, capacity: &str) -> Result<String, Fail> {
     let rules = lines(alloc, capacity)?;
     let shifts = if capacity.starts_with("FLEX") {
         ""
     } else {
         "FLEX 60\nREFUSE NONE\n"
     };
-    let capacity = format!(in alloc;
-        "AIRPORT ABC\nSEASON S25\nSTEP 5\nGROUND 40\n{shifts}{rules}"
-    )?;
-    let requests = message(alloc, requests)?;
+    Ok(format!(in alloc; "AIRPORT ABC\nSEASON S25\nSTEP 5\nGROUND 40\n{shifts}{rules}")?)
+}
+
+fn read_submission(alloc: Global, capacity: &[u8], requests: &[u8]) -> Result<Submission, Fail> {
+    read_lines_fit();
+    read_messages();
     if capacity.len() > 1_000_000 || requests.len() > 1_000_000 {
         return Err("too long".into());
     }
-    let declaration = read_capacity(alloc, capacity.as_bytes())?;
-    let requests = read_all(alloc, requests.as_bytes())?;
+    let declaration = read_capacity(alloc, capacity)?;
+    let requests = read_all(alloc, requests)?;
     Ok(Submission::make(alloc, declaration, requests)?)
+}
+
+// The certificate of four stages, with a semicolon between two.
+fn certificate(alloc: Global, stages: &str) -> Result<Certificate, Fail>
+    ensures { IfOk result (λ cert. IsPrintable cert) }
+{
+    let text = certificate_text(alloc, stages)?;
+    read(alloc, text.as_bytes())
 }
 
 fn read(alloc: Global, text: &[u8]) -> Result<Certificate, Fail>
@@ -78,39 +99,54 @@ fn read(alloc: Global, text: &[u8]) -> Result<Certificate, Fail>
     Ok(read_cert(alloc, text)?)
 }
 
-// A certificate of four stages, with a semicolon between two.
-fn certificate(alloc: Global, stages: &str) -> Result<String, Fail> {
-    let mut text = String::from_str(alloc, "CERT 1\n")?;
-    for (i, stage) in stages.split(';').enumerate() {
-        let block = block(alloc, stage)?;
-        let block = format!(in alloc; "STAGE {} {block}", i + 1)?;
-        text.push_str(&block)?;
+fn certificate_text(alloc: Global, stages: &str) -> Result<String, Fail> {
+    let mut text = String::new(alloc);
+    for (before, stage) in stages.split(';').enumerate() {
+        push_stage(alloc, &mut text, before, stage)?;
     }
-    text.push_str("END\n")?;
-    Ok(text)
+    Ok(format!(in alloc; "CERT 1\n{text}END\n")?)
+}
+
+// Appends the lines of a stage that stands behind so many.
+fn push_stage(alloc: Global, text: &mut String, before: usize, stage: &str) -> Result<(), Fail> {
+    let block = block(alloc, stage)?;
+    text.push_str(&format!(in alloc; "STAGE {} {block}", before.wrapping_add(1))?)?;
+    Ok(())
 }
 
 // The lines of a stage, from its mark on: one that was not tried; one in which this resource is
 // over its limit; one that is open, with nothing or with choices that displace so much before a
 // colon; or else one with choices that displace nothing.
 fn block(alloc: Global, stage: &str) -> Result<String, Fail> {
-    if stage == "untried" {
-        return Ok(String::from_str(alloc, "NOT TRIED\n")?);
-    }
-    if let Some(resource) = stage.strip_prefix("over ") {
-        return Ok(format!(in alloc;
-            "INFEASIBLE\nCHOICES NONE\nVECTORS 0\nTREE 1\nO {resource}\n"
-        )?);
-    }
-    if stage == "open" {
-        return Ok(String::from_str(alloc, "OPEN\nCHOICES NONE\nVECTORS 0\nTREE 1\nU\n")?);
-    }
     if let Some((cost, numbers)) = stage.split_once(':') {
-        let choices = choices(alloc, numbers)?;
-        return Ok(format!(in alloc; "OPEN\n{choices}COST {cost}\nVECTORS 0\nTREE 1\nU\n")?);
+        return chosen(alloc, "OPEN", numbers, cost, "U");
     }
-    let choices = choices(alloc, stage)?;
-    Ok(format!(in alloc; "OPTIMAL\n{choices}COST 0\nVECTORS 0\nTREE 1\nL 0 1 0\n")?)
+    match stage {
+        "untried" => Ok(String::from_str(alloc, "NOT TRIED\n")?),
+        "open" => Ok(String::from_str(alloc, "OPEN\nCHOICES NONE\nVECTORS 0\nTREE 1\nU\n")?),
+        _ => tried(alloc, stage),
+    }
+}
+
+fn tried(alloc: Global, stage: &str) -> Result<String, Fail> {
+    match stage.strip_prefix("over ") {
+        Some(resource) => Ok(format!(in alloc;
+            "INFEASIBLE\nCHOICES NONE\nVECTORS 0\nTREE 1\nO {resource}\n"
+        )?),
+        None => chosen(alloc, "OPTIMAL", stage, "0", "L 0 1 0"),
+    }
+}
+
+// The lines of a stage with this mark, these choices and this leaf.
+fn chosen(
+    alloc: Global,
+    mark: &str,
+    numbers: &str,
+    cost: &str,
+    leaf: &str,
+) -> Result<String, Fail> {
+    let choices = choices(alloc, numbers)?;
+    Ok(format!(in alloc; "{mark}\n{choices}COST {cost}\nVECTORS 0\nTREE 1\n{leaf}\n")?)
 }
 
 // The lines of the choices of a stage: the numbers of alternatives, with blanks between.
@@ -119,8 +155,7 @@ fn choices(alloc: Global, numbers: &str) -> Result<String, Fail> {
     let mut count = 0_u32;
     for number in numbers.split(' ') {
         if !number.is_empty() {
-            let line = format!(in alloc; "C {count} {number}\n")?;
-            text.push_str(&line)?;
+            text.push_str(&format!(in alloc; "C {count} {number}\n")?)?;
             count = count.wrapping_add(1);
         }
     }

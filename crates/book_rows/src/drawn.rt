@@ -5,7 +5,7 @@ ghost use Rattle.holding_book.specs.Asks.{CanAsk};
 use crate::answers::{put_answer, spelled};
 use crate::books::start_book;
 use crate::draws::{Draws, drawn_ask};
-use crate::listed::{all_fit, by_listing, has_flight};
+use crate::listed::{Listed, all_fit, by_listing, has_flight};
 use holding_book::{Answer, Book, Holding, asks_new};
 use scr_reader::{Flight, Item};
 use season_days::Declaration;
@@ -68,7 +68,7 @@ fn kept_counts_agree_with_a_listing(rt: HostRuntime) -> Result<(), Fail> {
     Ok(())
 }
 
-// One ask, if what was drawn is one: the answer and the holdings after it are those of the listing.
+// One ask, if what was drawn is one.
 fn step(
     alloc: Global,
     book: &mut Book,
@@ -77,20 +77,48 @@ fn step(
     number: u32,
 ) -> Result<(), Fail> {
     let drawn = drawn_ask(draws, book.holdings());
-    let Some(ask) = spelled(alloc, book.declaration(), &drawn)? else {
-        return Ok(());
-    };
-    let wanted = by_listing(alloc, book.declaration(), book.holdings(), &ask)?;
-    let answer = answered(alloc, book, &ask, number % 2 == 0)?;
+    match spelled(alloc, book.declaration(), &drawn)? {
+        Some(ask) => put_ask(alloc, book, seen, number, &ask),
+        None => Ok(()),
+    }
+}
+
+// The answer to an ask and the holdings after it are those of the listing.
+fn put_ask(
+    alloc: Global,
+    book: &mut Book,
+    seen: &mut Seen,
+    number: u32,
+    ask: &Item,
+) -> Result<(), Fail>
+    requires { CanAsk book.old.book.declaration ask.now }
+{
+    let wanted = by_listing(alloc, book.declaration(), book.holdings(), ask)?;
+    let answer = answered(alloc, book, ask, number % 2 == 0)?;
     seen.note(&answer);
-    let found = text(alloc, book.declaration(), &ask, &answer)?;
-    let due = text(alloc, book.declaration(), &ask, &wanted.answer)?;
+    compare(alloc, book, ask, number, &answer, &wanted)
+}
+
+fn compare(
+    alloc: Global,
+    book: &Book,
+    ask: &Item,
+    number: u32,
+    answer: &Answer,
+    wanted: &Listed,
+) -> Result<(), Fail> {
+    let found = text(alloc, book.declaration(), ask, answer)?;
+    let due = text(alloc, book.declaration(), ask, &wanted.answer)?;
     if found.as_slice() != due.as_slice() || book.holdings() != wanted.holdings.as_slice() {
-        let found = String::from_utf8_lossy(alloc, &found)?;
-        let due = String::from_utf8_lossy(alloc, &due)?;
-        return Err(Fail::new(format!(in alloc; "ask {number}: {found} for {due}")?));
+        return differ(alloc, number, &found, &due);
     }
     check_places(book)
+}
+
+fn differ(alloc: Global, number: u32, found: &[u8], due: &[u8]) -> Result<(), Fail> {
+    let found = String::from_utf8_lossy(alloc, found)?;
+    let due = String::from_utf8_lossy(alloc, due)?;
+    Err(Fail::new(format!(in alloc; "ask {number}: {found} for {due}")?))
 }
 
 // What the book answers, by itself or with the hint that was found before.

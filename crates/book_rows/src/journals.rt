@@ -29,9 +29,11 @@ const ALL: Reached = Reached {
     broken: false,
 };
 
-/// What is left of a run: what was reached, the holdings, and the bytes of the disk.
+/// What is left of a run: how many pairs its journal had, what was reached, the holdings, and the
+/// bytes of the disk.
 #[derive(Drop)]
 struct Left {
+    found: usize,
     reached: Reached,
     held: Vec<u8>,
     bytes: Vec<u8>,
@@ -60,14 +62,35 @@ fn run<R: Wait>(
     }
     let season = book.declaration().season;
     let disk = MemoryDisk::new(alloc, bytes, ROOM, 99, failing)?;
-    let Ok((journal, pairs)) = Journal::open(alloc, disk, &season) else {
-        return Ok(None);
-    };
+    match Journal::open(alloc, disk, &season) {
+        Ok((journal, pairs)) => {
+            let book = replayed(alloc, book, &pairs)?;
+            Ok(Some(go_on(rt, alloc, journal, book, &season, count)?))
+        }
+        Err(_) => Ok(None),
+    }
+}
+
+/// Asks what a journal lacks of the first so many asks, by a ledger over the book of its pairs.
+fn go_on<R: Wait>(
+    rt: &R,
+    alloc: Global,
+    journal: Journal<MemoryDisk>,
+    book: Book,
+    season: &Season,
+    count: usize,
+) -> Result<Left, Fail>
+    requires journal { journal.season ≡ book.book.declaration.season }
+    requires season { season.now ≡ book.book.declaration.season }
+{
+    if book.count() > 2_000_000 {
+        return Err("too many".into());
+    }
+    let found = journal.count() as usize;
     let mut reached = Reached {
-        done: journal.count() as usize,
+        done: found,
         broken: false,
     };
-    let book = replayed(alloc, book, &pairs)?;
     let (ledger, mut passes) = JournalLedger::start(alloc, journal, book, 2)?;
     let mut second = passes.pop().ok_or("a pass")?;
     let mut first = passes.pop().ok_or("a pass")?;
@@ -75,20 +98,34 @@ fn run<R: Wait>(
         rt,
         alloc,
         &ledger,
-        &season,
+        season,
         &mut first,
         &mut second,
         &mut reached,
         count,
     )?;
     let (book, disk) = closed(alloc, ledger, first, second)?;
+    what_is_left(alloc, found, reached, season, &book, &disk)
+}
+
+/// What is left of a run that has ended with this book and this disk.
+fn what_is_left(
+    alloc: Global,
+    found: usize,
+    reached: Reached,
+    season: &Season,
+    book: &Book,
+    disk: &MemoryDisk,
+) -> Result<Left, Fail> {
     let mut held = Vec::new(alloc);
-    put_holdings(alloc, &mut held, &season, book.holdings())?;
-    Ok(Some(Left {
+    put_holdings(alloc, &mut held, season, book.holdings())?;
+    let bytes = Vec::from_slice(alloc, disk.bytes())?;
+    Ok(Left {
+        found,
         reached,
         held,
-        bytes: Vec::from_slice(alloc, disk.bytes())?,
-    }))
+        bytes,
+    })
 }
 
 /// Asks from the place on that is reached, one caller's ask behind the other's, up to so many.
@@ -183,11 +220,13 @@ fn a_reopened_ledger_goes_on(rt: HostRuntime) -> Result<(), Fail> {
 /// Whether a run over these bytes ends with all asks answered, as the whole one.
 fn ends_alike<R: Wait>(rt: &R, alloc: Global, bytes: &[u8], whole: &Left) -> Result<bool, Fail> {
     let rest = run_on(rt, alloc, bytes, 4)?;
-    Ok(
-        rest.reached == ALL
-            && rest.held.as_slice() == whole.held.as_slice()
-            && rest.bytes.as_slice() == whole.bytes.as_slice(),
-    )
+    Ok(is_alike(&rest, whole))
+}
+
+fn is_alike(rest: &Left, whole: &Left) -> bool {
+    rest.reached == ALL
+        && rest.held.as_slice() == whole.held.as_slice()
+        && rest.bytes.as_slice() == whole.bytes.as_slice()
 }
 
 /// Each call of the disk fails once, five of the opening and four for each ask. Every ask that was
@@ -228,4 +267,100 @@ fn is_opened_again<R: Wait>(
             && (kept == done || kept == done.wrapping_add(1))
             && ends_alike(rt, alloc, &left.bytes, whole)?,
     )
+}
+
+/// Whether a run over an image of a stop finds so many pairs and ends as the whole one.
+fn is_resumed<R: Wait>(
+    rt: &R,
+    alloc: Global,
+    image: &[u8],
+    found: usize,
+    whole: &Left,
+) -> Result<bool, Fail> {
+    let rest = run_on(rt, alloc, image, 4)?;
+    Ok(rest.found == found && is_alike(&rest, whole))
+}
+
+/// Whether each image is resumed that a stop leaves of a file past which these bytes are written:
+/// the file with each front of them.
+fn fronts_are_resumed<R: Wait>(
+    rt: &R,
+    alloc: Global,
+    file: &[u8],
+    written: &[u8],
+    found: usize,
+    whole: &Left,
+) -> Result<bool, Fail> {
+    let mut image = Vec::from_slice(alloc, file)?;
+    for byte in written {
+        if !is_resumed(rt, alloc, &image, found, whole)? {
+            return Ok(false);
+        }
+        image.push(*byte)?;
+    }
+    is_resumed(rt, alloc, &image, found, whole)
+}
+
+/// A stop while the journal is made or one of its first three slots is written: the file has any
+/// length from the old one on, and other bytes than the slot's. A desk that opens it finds the pairs
+/// that were answered, and ends with the same book and the same journal.
+#[test]
+fn each_torn_slot_is_resumed(rt: HostRuntime) -> Result<(), Fail> {
+    let alloc = rt.alloc();
+    let whole = run_on(&rt, alloc, b"", 4)?;
+    for filling in [0, 1, 255] {
+        assert!(rt; fronts_are_resumed(&rt, alloc, b"", &[filling; 17], 0, &whole)?);
+    }
+    for done in 0..3 {
+        assert!(rt; are_torn_resumed(&rt, alloc, done, &whole)?, "slot {done}");
+    }
+    Ok(())
+}
+
+fn are_torn_resumed<R: Wait>(
+    rt: &R,
+    alloc: Global,
+    done: usize,
+    whole: &Left,
+) -> Result<bool, Fail> {
+    let file = run_on(rt, alloc, b"", done)?.bytes;
+    let Some(slot) = whole.bytes.get(file.len()..file.len().wrapping_add(256)) else {
+        return Ok(false);
+    };
+    Ok(
+        fronts_are_resumed(rt, alloc, &file, slot, done, whole)?
+            && fronts_are_resumed(rt, alloc, &file, &[0; 256], done, whole)?
+            && fronts_are_resumed(rt, alloc, &file, &[1; 256], done, whole)?
+            && fronts_are_resumed(rt, alloc, &file, &[255; 256], done, whole)?,
+    )
+}
+
+/// A stop while the gate of one of the first three slots is opened: it has any value.
+#[test]
+fn each_value_of_a_gate_is_resumed(rt: HostRuntime) -> Result<(), Fail> {
+    let alloc = rt.alloc();
+    let whole = run_on(&rt, alloc, b"", 4)?;
+    for done in 0..3 {
+        assert!(rt; are_gates_resumed(&rt, alloc, done, &whole)?, "gate {done}");
+    }
+    Ok(())
+}
+
+fn are_gates_resumed<R: Wait>(
+    rt: &R,
+    alloc: Global,
+    done: usize,
+    whole: &Left,
+) -> Result<bool, Fail> {
+    let mut image = run_on(rt, alloc, b"", done.wrapping_add(1))?.bytes;
+    for value in 0..256_u32 {
+        if let Some(gate) = image.get_mut(done.wrapping_mul(256).wrapping_add(16)) {
+            *gate = value as u8;
+        }
+        let found = done.wrapping_add(usize::from(value == 1));
+        if !is_resumed(rt, alloc, &image, found, whole)? {
+            return Ok(false);
+        }
+    }
+    Ok(true)
 }

@@ -253,16 +253,14 @@ struct Ended {
     second: Said,
 }
 
-// A ledger of two callers over the book, closed after their asks: in this order, or each its own on
-// a thread.
-fn run_ledger<R: Threads + Wait + Sync>(
-    rt: &R,
-    alloc: Global,
-    book: &Book,
-    most: u32,
-    asks: &str,
-    own: Option<(&str, &str)>,
-) -> Result<Ended, Fail> {
+// A ledger of two callers over a copy of the book, and their passes.
+fn begun(alloc: Global, book: &Book, most: u32) -> Result<(Ledger, Pass, Pass), Fail>
+    ensures callers { IfOk result (λ r. r.0.callers ≡ 2) }
+    ensures first { IfOk result (λ r. IsAtRest r.0 r.1) }
+    ensures second { IfOk result (λ r. IsAtRest r.0 r.2) }
+    ensures declared { IfOk result (λ r.
+        book.now.book.declaration ≡ r.0.origin.start.declaration) }
+{
     let copy = book.copy(alloc)?;
     if copy.count() > 1_000_000 || most > 100_000 {
         return Err("too many".into());
@@ -270,21 +268,44 @@ fn run_ledger<R: Threads + Wait + Sync>(
     let (ledger, mut passes) = Ledger::start(alloc, copy, 2, most)?;
     let second = passes.pop().ok_or("a pass")?;
     let first = passes.pop().ok_or("a pass")?;
-    let (one, two) = own.unwrap_or(("", ""));
-    let mut first = new_caller(alloc, first, one)?;
-    let mut second = new_caller(alloc, second, two)?;
-    if own.is_none() {
-        put_in_order(
-            rt,
-            alloc,
-            &ledger,
-            book.declaration(),
-            &mut first,
-            &mut second,
-            asks,
-        )?;
-        return closed(alloc, ledger, first, second);
-    }
+    Ok((ledger, first, second))
+}
+
+// A ledger of two callers over the book, closed after their asks in this order.
+fn run_in_order<R: Wait>(
+    rt: &R,
+    alloc: Global,
+    book: &Book,
+    most: u32,
+    asks: &str,
+) -> Result<Ended, Fail> {
+    let (ledger, first, second) = begun(alloc, book, most)?;
+    let mut first = new_caller(alloc, first, "")?;
+    let mut second = new_caller(alloc, second, "")?;
+    put_in_order(
+        rt,
+        alloc,
+        &ledger,
+        book.declaration(),
+        &mut first,
+        &mut second,
+        asks,
+    )?;
+    closed(alloc, ledger, first, second)
+}
+
+// The same after the asks of each on a thread of its own.
+fn run_on_threads<R: Threads + Wait + Sync>(
+    rt: &R,
+    alloc: Global,
+    book: &Book,
+    most: u32,
+    one: &str,
+    two: &str,
+) -> Result<Ended, Fail> {
+    let (ledger, first, second) = begun(alloc, book, most)?;
+    let first = new_caller(alloc, first, one)?;
+    let second = new_caller(alloc, second, two)?;
     let (first, second) = on_threads(rt, alloc, &ledger, book.declaration(), first, second);
     closed(alloc, ledger, first, second)
 }
@@ -416,14 +437,14 @@ fn callers_have_one_history(rt: HostRuntime) -> Result<(), Fail> {
 }
 
 // Whether a ledger answers as a row wants.
-fn is_as_wanted<R: Threads + Wait + Sync>(rt: &R, alloc: Global, row: &str) -> Result<bool, Fail> {
+fn is_as_wanted<R: Wait>(rt: &R, alloc: Global, row: &str) -> Result<bool, Fail> {
     let (given, wanted) = row.rsplit_once('|').ok_or("a row")?;
     let (given, answers) = given.rsplit_once('|').ok_or("answers")?;
     let (given, asks) = given.rsplit_once('|').ok_or("asks")?;
     let (capacity, most) = given.split_once('|').ok_or("a length")?;
     let most = most.parse::<u32>()?;
     let mut book = start_book(alloc, capacity, "FBA001 0610", "0;;;")?;
-    let ended = run_ledger(rt, alloc, &book, most, asks, None)?;
+    let ended = run_in_order(rt, alloc, &book, most, asks)?;
     Ok(
         has_answers(alloc, &ended, most, answers, wanted)?
             && is_one_history(alloc, &mut book, &ended)?,
@@ -469,11 +490,9 @@ fn callers_on_threads_have_one_history(rt: HostRuntime) -> Result<(), Fail> {
 // Whether two callers on threads have one history, in which one of them has the last place.
 fn is_shared<R: Threads + Wait + Sync>(rt: &R, alloc: Global) -> Result<bool, Fail> {
     let mut book = small_book(alloc)?;
-    let own = (
-        "QBA001;NBA002 0620;QBA099;DBA001 05MAY05MAY 1000000 0610",
-        "QBA001;NBA003 0630;QBA099;DBA001 05MAY05MAY 1000000 0610",
-    );
-    let ended = run_ledger(rt, alloc, &book, 8, "", Some(own))?;
+    let one = "QBA001;NBA002 0620;QBA099;DBA001 05MAY05MAY 1000000 0610";
+    let two = "QBA001;NBA003 0630;QBA099;DBA001 05MAY05MAY 1000000 0610";
+    let ended = run_on_threads(rt, alloc, &book, 8, one, two)?;
     Ok(
         ended.history.len() == 8
             && ended.first.full.is_empty()
@@ -517,18 +536,31 @@ fn second_answer(alloc: Global, declaration: &Declaration, said: &Said) -> Resul
 
 #[test]
 fn a_full_history_stays(rt: HostRuntime) -> Result<(), Fail> {
-    let alloc = rt.alloc();
     for most in [0, 1, 2, 100_000] {
-        let book = small_book(alloc)?;
-        let (after, history, end) = filled(&rt, alloc, &book, most)?;
-        assert_eq!(rt; end, Some(u64::from(most)));
-        assert_eq!(rt; history.len() as u64, u64::from(most));
-        for entry in history.iter() {
-            assert!(rt; entry.caller == 0 && matches!(entry.answer, Answer::W));
-        }
-        assert!(rt; after.holdings() == book.holdings());
+        assert!(rt; stays_full(&rt, rt.alloc(), most)?, "{most}");
     }
     Ok(())
+}
+
+// Whether a history of so many entries is full, each of them a question that found nothing.
+fn stays_full<R: Wait>(rt: &R, alloc: Global, most: u32) -> Result<bool, Fail> {
+    let book = small_book(alloc)?;
+    let (after, history, end) = filled(rt, alloc, &book, most)?;
+    Ok(
+        end == Some(u64::from(most))
+            && history.len() as u64 == u64::from(most)
+            && are_questions(&history)
+            && after.holdings() == book.holdings(),
+    )
+}
+
+fn are_questions(history: &[Entry]) -> bool {
+    for entry in history {
+        if entry.caller != 0 || !matches!(entry.answer, Answer::W) {
+            return false;
+        }
+    }
+    true
 }
 
 // The ledger of one caller after so many questions and a request more, which is not entered: its
@@ -539,30 +571,49 @@ fn filled<R: Wait>(
     book: &Book,
     most: u32,
 ) -> Result<(Book, Vec<Entry>, Option<u64>), Fail> {
-    let question = ask(alloc, book.declaration(), "QBA099")?;
-    let request = ask(alloc, book.declaration(), "NBA002 0620")?;
+    let (ledger, mut pass) = begun_alone(alloc, book, most)?;
+    let end = fill(rt, alloc, &ledger, book.declaration(), &mut pass, most)?;
+    let passes = vec![in alloc; pass]?;
+    let (book, history) = ledger.close(passes);
+    Ok((book, history, end))
+}
+
+// A ledger of one caller over a copy of the book, and its pass.
+fn begun_alone(alloc: Global, book: &Book, most: u32) -> Result<(Ledger, Pass), Fail>
+    ensures callers { IfOk result (λ r. r.0.callers ≡ 1) }
+    ensures rest { IfOk result (λ r. IsAtRest r.0 r.1) }
+    ensures declared { IfOk result (λ r.
+        book.now.book.declaration ≡ r.0.origin.start.declaration) }
+{
     let copy = book.copy(alloc)?;
     if copy.count() > 1_000_000 || most > 100_000 {
         return Err("too many".into());
     }
     let (ledger, mut passes) = Ledger::start(alloc, copy, 1, most)?;
-    let mut pass = passes.pop().ok_or("a pass")?;
-    ask_often(
-        rt,
-        alloc,
-        &ledger,
-        book.declaration(),
-        &mut pass,
-        &question,
-        most,
-    );
-    let end = match ledger.amend(rt, alloc, &mut pass, &request) {
+    let pass = passes.pop().ok_or("a pass")?;
+    Ok((ledger, pass))
+}
+
+// Puts so many questions to the ledger, and a request: the length that the fault named.
+fn fill<R: Wait>(
+    rt: &R,
+    alloc: Global,
+    ledger: &Ledger,
+    declaration: &Declaration,
+    pass: &mut Pass,
+    most: u32,
+) -> Result<Option<u64>, Fail>
+    requires rest { IsAtRest ledger.now pass.old }
+    requires declared { declaration.now ≡ ledger.now.origin.start.declaration }
+    ensures { IsAtRest ledger.now pass.new }
+{
+    let question = ask(alloc, declaration, "QBA099")?;
+    let request = ask(alloc, declaration, "NBA002 0620")?;
+    ask_often(rt, alloc, ledger, declaration, pass, &question, most);
+    Ok(match ledger.amend(rt, alloc, pass, &request) {
         Err(LedgerFault::Full { length }) => Some(length),
         _ => None,
-    };
-    let passes = vec![in alloc; pass]?;
-    let (book, history) = ledger.close(passes);
-    Ok((book, history, end))
+    })
 }
 
 // Puts one ask to the ledger so often.

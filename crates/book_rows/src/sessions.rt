@@ -1,18 +1,29 @@
-//! Sessions over links in memory, by a ledger of one caller: how each one ends, and what it was
-//! sent.
+//! Sessions over links in memory, by a ledger of one caller, with a journal or without: how each one
+//! ends, and what it was sent.
+
+ghost use Rattle.std.specs.Prelude.{◌≡◌, IfOk};
+ghost use Rattle.turn_lock.specs.Seats.{IsAtRest};
+ghost use Rattle.desk_links.specs.LinksInMemory.{IsUnused};
 
 use crate::books::small_book;
+use amend_journal::{Journal, JournalLedger, JournalPass};
+use desk_disk::MemoryDisk;
 use desk_links::MemoryLink;
-use session_desk::{SessionEnd, SessionFault, serve_link};
-use slot_ledger::Ledger;
+use desk_outside::Failure;
+use season_days::Season;
+use session_desk::{SessionEnd, SessionFault, serve_journaled, serve_link};
+use slot_ledger::{Ledger, Pass};
+use slot_text::Station;
 use std::alloc::Global;
 use std::sync::Wait;
 use std::test::Fail;
 use worker_gate::RealGate;
 
-// Rows: the greatest length of the history, the input, how the session ends, and an `H` for each
-// reply that it was sent. `;` stands for LF, `~` for CR, `#` for a message of one query with its
-// empty line, and a number in braces for so many blanks.
+// Rows: the greatest length of the history, and, behind a colon, the call of the link that fails;
+// the input, how the session ends, and an `H` for each reply that it was sent. `;` stands for LF,
+// `~` for CR, `#` for a message of one query with its empty line, and a number in braces for so many
+// blanks. `journal` in place of the length is a ledger with an empty journal; then the call counts
+// those of its disk, five of the opening and four for each ask.
 //
 // A line that is not empty has at most 200 bytes, its blanks in front and a CR without LF counted;
 // blanks alone are an empty line, however many.
@@ -32,7 +43,14 @@ const ROWS: &str = "\
 3|###|Ended HHH
 3|####|Full 3 HHH
 3|##SCR;S25;20NOV;ABC;QBA001;QBA001;QBA001;;|Full 3 HH
-0|#|Full 0 -";
+0|#|Full 0 -
+9:0|#|Link -
+9:1|#|Link -
+9:2|##|Link H
+journal|#|Ended H
+journal:6|#|Broken 1 -
+journal:6|##|Broken 1 -
+journal:10|##|Broken 1 H";
 
 const QUERY: &str = "SCR\nS25\n20NOV\nABC\nQBA001\n\n";
 
@@ -47,11 +65,29 @@ fn sessions_end(rt: HostRuntime) -> Result<(), Fail> {
 }
 
 fn is_as_wanted<R: Wait>(rt: &R, alloc: Global, row: &str) -> Result<bool, Fail> {
-    let (most, row) = row.split_once('|').ok_or("a row")?;
-    let (input, due) = row.split_once('|').ok_or("an end")?;
-    let input = input_of(alloc, input)?;
-    let said = session(rt, alloc, most.parse()?, input)?;
+    let (given, due) = row.rsplit_once('|').ok_or("an end")?;
+    let said = found(rt, alloc, given)?;
     Ok(said.as_str() == due)
+}
+
+// What is said of what a row gives.
+fn found<R: Wait>(rt: &R, alloc: Global, given: &str) -> Result<String, Fail> {
+    let (most, input) = given.split_once('|').ok_or("an input")?;
+    let (most, call) = most.split_once(':').unwrap_or((most, ""));
+    let input = input_of(alloc, input)?;
+    let failing = failing_of(alloc, call)?;
+    match most {
+        "journal" => journaled(rt, alloc, failing, input),
+        _ => session(rt, alloc, most.parse()?, failing, input),
+    }
+}
+
+fn failing_of(alloc: Global, call: &str) -> Result<Vec<Failure>, Fail> {
+    let mut failing = Vec::new(alloc);
+    if !call.is_empty() {
+        failing.push(Failure::at(call.parse()?))?;
+    }
+    Ok(failing)
 }
 
 // The bytes for which the text of an input stands.
@@ -89,7 +125,13 @@ fn put_text(out: &mut Vec<u8>, text: &str) -> Result<(), Fail> {
 }
 
 // How a session over a link with this input ends, and what it was sent.
-fn session<R: Wait>(rt: &R, alloc: Global, most: u32, input: Vec<u8>) -> Result<String, Fail> {
+fn session<R: Wait>(
+    rt: &R,
+    alloc: Global,
+    most: u32,
+    failing: Vec<Failure>,
+    input: Vec<u8>,
+) -> Result<String, Fail> {
     let book = small_book(alloc)?;
     if book.count() > 1_000_000 || most > 100_000 {
         return Err("too many".into());
@@ -98,14 +140,40 @@ fn session<R: Wait>(rt: &R, alloc: Global, most: u32, input: Vec<u8>) -> Result<
     let airport = book.declaration().airport;
     let (ledger, mut passes) = Ledger::start(alloc, book, 1, most)?;
     let mut pass = passes.pop().ok_or("a pass")?;
-    let mut link = MemoryLink::new(alloc, input, Vec::new(alloc), 1_000, Vec::new(alloc))?;
+    let link = link_of(alloc, input, failing)?;
+    served(rt, alloc, &ledger, &mut pass, &season, airport, link)
+}
+
+// A link with this input, of which calls are to fail.
+fn link_of(alloc: Global, input: Vec<u8>, failing: Vec<Failure>) -> Result<MemoryLink, Fail>
+    ensures { IfOk result IsUnused }
+{
+    Ok(MemoryLink::new(alloc, input, Vec::new(alloc), 1_000, failing)?)
+}
+
+// How a session over a link ends, and what it was sent.
+fn served<R: Wait>(
+    rt: &R,
+    alloc: Global,
+    ledger: &Ledger,
+    pass: &mut Pass,
+    season: &Season,
+    airport: Station,
+    link: MemoryLink,
+) -> Result<String, Fail>
+    requires rest { IsAtRest ledger.now pass.old }
+    requires season { season.now ≡ ledger.now.origin.start.declaration.season }
+    requires airport { airport ≡ ledger.now.origin.start.declaration.airport }
+    requires link { IsUnused link }
+{
+    let mut link = link;
     let end = serve_link(
         rt,
         alloc,
         &RealGate,
         ledger.shared(),
-        &mut pass,
-        &season,
+        pass,
+        season,
         airport,
         &mut link,
         0,
@@ -114,15 +182,77 @@ fn session<R: Wait>(rt: &R, alloc: Global, most: u32, input: Vec<u8>) -> Result<
     said(alloc, end, &sent)
 }
 
+// How a session ends by a ledger with an empty journal, calls of whose disk are to fail.
+fn journaled<R: Wait>(
+    rt: &R,
+    alloc: Global,
+    failing: Vec<Failure>,
+    input: Vec<u8>,
+) -> Result<String, Fail> {
+    let book = small_book(alloc)?;
+    if book.count() > 1_000_000 {
+        return Err("too many".into());
+    }
+    let season = book.declaration().season;
+    let airport = book.declaration().airport;
+    let journal = journal_of(alloc, &season, failing)?;
+    let (ledger, mut passes) = JournalLedger::start(alloc, journal, book, 1)?;
+    let mut pass = passes.pop().ok_or("a pass")?;
+    let link = link_of(alloc, input, Vec::new(alloc))?;
+    served_with(rt, alloc, &ledger, &mut pass, &season, airport, link)
+}
+
+// An empty journal, calls of whose disk are to fail.
+fn journal_of(
+    alloc: Global,
+    season: &Season,
+    failing: Vec<Failure>,
+) -> Result<Journal<MemoryDisk>, Fail>
+    ensures { IfOk result (λ journal. journal.season ≡ season.now) }
+{
+    let disk = MemoryDisk::new(alloc, b"", 1_000, 99, failing)?;
+    match Journal::open(alloc, disk, season) {
+        Ok((journal, _)) => Ok(journal),
+        Err(_) => Err("not opened".into()),
+    }
+}
+
+// The same as `served`, by a ledger with a journal.
+fn served_with<R: Wait>(
+    rt: &R,
+    alloc: Global,
+    ledger: &JournalLedger<MemoryDisk>,
+    pass: &mut JournalPass<MemoryDisk>,
+    season: &Season,
+    airport: Station,
+    link: MemoryLink,
+) -> Result<String, Fail>
+    requires rest { IsAtRest ledger.now pass.old }
+    requires season { season.now ≡ ledger.now.origin.start.declaration.season }
+    requires airport { airport ≡ ledger.now.origin.start.declaration.airport }
+    requires link { IsUnused link }
+{
+    let mut link = link;
+    let end = serve_journaled(
+        rt, alloc, &RealGate, ledger, pass, season, airport, &mut link, 0,
+    );
+    let sent = replies(alloc, link.sent())?;
+    said(alloc, end, &sent)
+}
+
 fn said(alloc: Global, end: Result<SessionEnd, SessionFault>, sent: &str) -> Result<String, Fail> {
-    Ok(match end {
-        Ok(SessionEnd::Ended) => format!(in alloc; "Ended {sent}")?,
-        Ok(SessionEnd::Cut) => format!(in alloc; "Cut {sent}")?,
-        Err(SessionFault::Link) => format!(in alloc; "Link {sent}")?,
-        Err(SessionFault::TooLong) => format!(in alloc; "TooLong {sent}")?,
-        Err(SessionFault::Full { length }) => format!(in alloc; "Full {length} {sent}")?,
-        Err(SessionFault::Broken { faults }) => format!(in alloc; "Broken {faults} {sent}")?,
+    let (word, number) = match end {
+        Ok(SessionEnd::Ended) => ("Ended", None),
+        Ok(SessionEnd::Cut) => ("Cut", None),
+        Err(SessionFault::Link) => ("Link", None),
+        Err(SessionFault::TooLong) => ("TooLong", None),
+        Err(SessionFault::Full { length }) => ("Full", Some(length)),
+        Err(SessionFault::Broken { faults }) => ("Broken", Some(faults)),
         Err(SessionFault::Memory) => return Err("memory ran out".into()),
+    };
+    Ok(match number {
+        Some(number) => format!(in alloc; "{word} {number} {sent}")?,
+        None => format!(in alloc; "{word} {sent}")?,
     })
 }
 

@@ -7,68 +7,83 @@ use holding_book::Book;
 use std::alloc::Global;
 use std::test::Fail;
 
-/// Walks the rows, and appends those of which something else is found than they want. A row with strokes
-/// begins a new season: the lines of the capacity file, the requests, and the stages of the
-/// certificate; wanted are the holdings. `book` wants the holdings as they are by now. Every other
-/// row is an ask, and wants the lines of the answer.
+/// Walks the rows, and appends those of which something else is found than they want. A row with
+/// strokes begins a new season, and has a star before it where it is not the first: the lines of the
+/// capacity file, the requests, and the stages of the certificate; wanted are the holdings. `book`
+/// wants the holdings as they are by now. Every other row is an ask, and wants the lines of the
+/// answer.
 pub(crate) fn walk(alloc: Global, rows: &str, wrong: &mut String) -> Result<(), Fail> {
-    let mut book = None;
-    for row in rows.lines() {
-        check_row(alloc, &mut book, row, wrong)?;
+    for season in rows.split('*') {
+        walk_season(alloc, season, wrong)?;
     }
     Ok(())
 }
 
-fn check_row(
-    alloc: Global,
-    book: &mut Option<Book>,
-    row: &str,
-    wrong: &mut String,
-) -> Result<(), Fail> {
+// Walks the rows of one season.
+fn walk_season(alloc: Global, rows: &str, wrong: &mut String) -> Result<(), Fail> {
+    let mut book = begun(alloc, rows)?;
+    walk_rows(alloc, &mut book, rows, wrong)
+}
+
+// The book of the season with which the rows begin.
+fn begun(alloc: Global, rows: &str) -> Result<Book, Fail> {
+    let (capacity, rest) = rows.split_once('|').ok_or("requests")?;
+    let (requests, rest) = rest.split_once('|').ok_or("stages")?;
+    let (stages, _) = rest.split_once(" =").ok_or("holdings")?;
+    start_book(alloc, capacity, requests, stages)
+}
+
+fn walk_rows(alloc: Global, book: &mut Book, rows: &str, wrong: &mut String) -> Result<(), Fail> {
+    for row in rows.lines() {
+        check_row(alloc, book, row, wrong)?;
+    }
+    Ok(())
+}
+
+fn check_row(alloc: Global, book: &mut Book, row: &str, wrong: &mut String) -> Result<(), Fail> {
     let (given, wanted) = row.split_once(" =").ok_or("a row")?;
     let found = find(alloc, book, given)?;
-    let wanted = data_lines(alloc, wanted.trim())?;
-    if found.as_slice() == wanted.as_bytes() {
-        return Ok(());
-    }
-    let found = String::from_utf8_lossy(alloc, &found)?;
-    wrong.push_str(&format!(in alloc; "{row} has {found}")?)?;
-    Ok(())
+    compare(alloc, &found, row, wanted, wrong)
 }
 
-fn find(alloc: Global, book: &mut Option<Book>, given: &str) -> Result<Vec<u8>, Fail> {
-    if let Some((capacity, rest)) = given.split_once('|') {
-        let (requests, stages) = rest.split_once('|').ok_or("stages")?;
-        *book = Some(start_book(alloc, capacity, requests, stages)?);
-        return held(alloc, book);
-    }
-    if given == "book" {
-        return held(alloc, book);
-    }
-    answered(alloc, book, given)
-}
-
-// The lines of the holdings.
-fn held(alloc: Global, book: &Option<Book>) -> Result<Vec<u8>, Fail> {
+// What a row finds: the lines of the holdings, or of the answer to an ask.
+fn find(alloc: Global, book: &mut Book, given: &str) -> Result<Vec<u8>, Fail> {
     let mut out = Vec::new(alloc);
-    let Some(book) = book else {
-        return Err("no season".into());
-    };
-    put_holdings(alloc, &mut out, &book.declaration().season, book.holdings())?;
+    if given == "book" || given.contains('|') {
+        put_holdings(alloc, &mut out, &book.declaration().season, book.holdings())?;
+    } else {
+        answer(alloc, book, given, &mut out)?;
+    }
     Ok(out)
 }
 
-// The lines of the answer to an ask.
-fn answered(alloc: Global, book: &mut Option<Book>, given: &str) -> Result<Vec<u8>, Fail> {
-    let mut out = Vec::new(alloc);
-    let Some(book) = book else {
-        return Err("no season".into());
-    };
+// Appends the lines of the answer to an ask.
+fn answer(alloc: Global, book: &mut Book, given: &str, out: &mut Vec<u8>) -> Result<(), Fail> {
     if book.count() > 1_000_000 {
         return Err("too many holdings".into());
     }
     let ask = ask(alloc, book.declaration(), given)?;
     let answer = book.apply(alloc, &ask)?;
-    put_answer(alloc, &mut out, &book.declaration().season, &ask, &answer)?;
-    Ok(out)
+    put_answer(alloc, out, &book.declaration().season, &ask, &answer)
+}
+
+// Appends a row that wants other lines than were found.
+fn compare(
+    alloc: Global,
+    found: &[u8],
+    row: &str,
+    wanted: &str,
+    wrong: &mut String,
+) -> Result<(), Fail> {
+    let wanted = data_lines(alloc, wanted.trim())?;
+    if found == wanted.as_bytes() {
+        return Ok(());
+    }
+    put_wrong(alloc, found, row, wrong)
+}
+
+fn put_wrong(alloc: Global, found: &[u8], row: &str, wrong: &mut String) -> Result<(), Fail> {
+    let found = String::from_utf8_lossy(alloc, found)?;
+    wrong.push_str(&format!(in alloc; "{row} has {found}")?)?;
+    Ok(())
 }

@@ -18,7 +18,7 @@ use Rattle.cert_format.specs.Spelling.{is_tried, stage_lines}
 use Rattle.series_model.specs.declared.unit.Unit.{Unit as SlotUnit}
 use Rattle.series_model.specs.declared.state.UnitState.{UnitState}
 use Rattle.series_model.specs.Stages.{states_after, may_follow, stage_units, stage_limit}
-use Rattle.wasg_stages.specs.StageProblems.{IsStageProblem}
+use Rattle.wasg_stages.specs.StageProblems.{IsAllotmentProblem, IsStageProblem}
 use Rattle.cert_checker.specs.declared.verdict.Reason.{Reason}
 use Rattle.cert_checker.specs.Tests.{Test, choice_marked, units_counted, alternative_there, cost_exact, choice_fits, bound_within, price_allowed, tree_shaped, tree_open, split_allowed, leaf_closes, over_closes, undone_allowed, floor_closes, Passes, proof_tests, choice_tests, cost_tests, bound_tests, vector_tests, node_tests}
 use Rattle.cert_checker.specs.Verdicts.{FailsFirst, NoneFails, IsFirstFailing}
@@ -96,30 +96,33 @@ lines-same p q c whole =
 
 -- ---- one stage
 
+pub first-one : (p q : ProblemView) (c : StageCert) (number line other : ℕ) (reason why : Reason) → AreSame p q → AreSame q p →
+    IsFirstFailing (Passes p c) number (proof_tests p c) line reason → IsFirstFailing (Passes q c) number (proof_tests q c) other why → (line ≡ other) × (reason ≡ why)
+first-one p q c number line other reason why there back one two =
+    let moved : IsFirstFailing (Passes q c) number (proof_tests q c) line reason =
+    subst (λ (lines : List (List Test)). IsFirstFailing (Passes q c) number lines line reason) (lines-same p q c there.whole)
+    (line-same (Passes p c) (Passes q c) number (proof_tests p c) line reason (passes-same p q c there) (passes-same q p c back) one) in
+    IsFirstFailing-one (Passes q c) number (proof_tests q c) line other reason why moved two
+
+pub none-not_first : (p q : ProblemView) (c : StageCert) (number line : ℕ) (reason : Reason) → AreSame p q → NoneFails (Passes p c) (proof_tests p c) →
+    IsFirstFailing (Passes q c) number (proof_tests q c) line reason → ⊥
+none-not_first p q c number line reason there one two =
+    let moved : NoneFails (Passes q c) (proof_tests q c) = subst (λ (lines : List (List Test)). NoneFails (Passes q c) lines) (lines-same p q c there.whole)
+    (none-same (Passes p c) (Passes q c) (proof_tests p c) (passes-same p q c there) one) in
+    IsFirstFailing-not_none (Passes q c) number (proof_tests q c) line reason moved two
+
 abbrev pub AllSame : Type 0
 AllSame = (d : Declaration) (stage : ℕ) (states : List UnitState) (p q : ProblemView) → IsStageProblem d stage states p → IsStageProblem d stage states q → AreSame p q
 
 below-one : AllSame → (d : Declaration) (stage : ℕ) (states : List UnitState) (number : ℕ) (c : StageCert) (line other : ℕ) (reason why : Reason) →
     FailsBelow d stage states number c line reason → FailsBelow d stage states number c other why → (line ≡ other) × (reason ≡ why)
 below-one all d stage states number c line other reason why one two =
-    let p = one.0 in
-    let q = two.0 in
-    let there = all d stage states p q one.1 two.1 in
-    let back = all d stage states q p two.1 one.1 in
-    let moved : IsFirstFailing (Passes q c) (suc number) (proof_tests q c) line reason =
-    subst (λ (lines : List (List Test)). IsFirstFailing (Passes q c) (suc number) lines line reason) (lines-same p q c there.whole)
-    (line-same (Passes p c) (Passes q c) (suc number) (proof_tests p c) line reason (passes-same p q c there) (passes-same q p c back) one.2) in
-    IsFirstFailing-one (Passes q c) (suc number) (proof_tests q c) line other reason why moved two.2
+    first-one one.0 two.0 c (suc number) line other reason why (all d stage states one.0 two.0 one.1 two.1) (all d stage states two.0 one.0 two.1 one.1) one.2 two.2
 
 below-not_both : AllSame → (d : Declaration) (stage : ℕ) (states : List UnitState) (number : ℕ) (c : StageCert) (line : ℕ) (reason : Reason) →
     PassesBelow d stage states c → FailsBelow d stage states number c line reason → ⊥
 below-not_both all d stage states number c line reason one two =
-    let p = one.0 in
-    let q = two.0 in
-    let there = all d stage states p q one.1 two.1 in
-    let moved : NoneFails (Passes q c) (proof_tests q c) = subst (λ (lines : List (List Test)). NoneFails (Passes q c) lines) (lines-same p q c there.whole)
-    (none-same (Passes p c) (Passes q c) (proof_tests p c) (passes-same p q c there) one.2) in
-    IsFirstFailing-not_none (Passes q c) (suc number) (proof_tests q c) line reason moved two.2
+    none-not_first one.0 two.0 c (suc number) line reason (all d stage states one.0 two.0 one.1 two.1) one.2 two.2
 
 stage-one : AllSame → (d : Declaration) (stage : ℕ) (states : List UnitState) (number : ℕ) (c : StageCert) (tried follows : Bool) (line other : ℕ) (reason why : Reason) →
     StageFails d stage states number c tried follows line reason → StageFails d stage states number c tried follows other why → (line ≡ other) × (reason ≡ why)
@@ -154,12 +157,11 @@ stages-one all d units earlier number (c ∷ certs) line other reason why one tw
       ]
     ]
 
--- two problems of one stage, by what is said of problems that are alike
-pub stage-same : ((p q : ProblemView) (x : List ℕ) → AreAlike p q → choice_cost p x ≡ choice_cost q x) → ((p q : ProblemView) → AreAlike p q → whole_of p ≡ whole_of q) →
-    ((p q : ProblemView) (vectors : List (List Price)) (cost : Option ℕ) (ranges : List (ℕ × ℕ)) (node : Node) → AreAlike p q → NodeHolds p vectors cost ranges node → NodeHolds q vectors cost ranges node) → AllSame
-stage-same cost whole node d stage states p q one two =
-    let units = stage_units stage states in
-    let limit = stage_limit d stage states in
+-- two problems of some units under the same limits, by what is said of problems that are alike
+pub allotment-same : ((p q : ProblemView) (x : List ℕ) → AreAlike p q → choice_cost p x ≡ choice_cost q x) → ((p q : ProblemView) → AreAlike p q → whole_of p ≡ whole_of q) →
+    ((p q : ProblemView) (vectors : List (List Price)) (cost : Option ℕ) (ranges : List (ℕ × ℕ)) (node : Node) → AreAlike p q → NodeHolds p vectors cost ranges node → NodeHolds q vectors cost ranges node) →
+    (d : Declaration) (units : List SlotUnit) (limit : ℕ → ℕ) (p q : ProblemView) → IsAllotmentProblem d units limit p → IsAllotmentProblem d units limit q → AreSame p q
+allotment-same cost whole node d units limit p q one two =
     let alike = problems-alike d units limit p q one two in
     record {
       alike = alike;
@@ -169,3 +171,8 @@ stage-same cost whole node d stage states p q one two =
       whole = whole p q alike;
       node = λ vectors c ranges n. node p q vectors c ranges n alike;
     }
+
+-- and two problems of one stage
+pub stage-same : ((p q : ProblemView) (x : List ℕ) → AreAlike p q → choice_cost p x ≡ choice_cost q x) → ((p q : ProblemView) → AreAlike p q → whole_of p ≡ whole_of q) →
+    ((p q : ProblemView) (vectors : List (List Price)) (cost : Option ℕ) (ranges : List (ℕ × ℕ)) (node : Node) → AreAlike p q → NodeHolds p vectors cost ranges node → NodeHolds q vectors cost ranges node) → AllSame
+stage-same cost whole node d stage states p q one two = allotment-same cost whole node d (stage_units stage states) (stage_limit d stage states) p q one two

@@ -1,6 +1,7 @@
 //! Laws of verdicts. Each function does nothing; its contract is the law.
 
-ghost use Rattle.std.specs.Prelude.{◌≡◌, ℕ, length, true};
+ghost use Rattle.std.specs.Prelude.{◌≡◌, ℕ, List, length, true};
+ghost use Rattle.season_days.specs.declared.declaration.Declaration.{Declaration as DeclarationValue};
 ghost use Rattle.choice_problem.specs.Problems.{ProblemView};
 ghost use Rattle.choice_problem.specs.Alike.{AreAlike};
 ghost use Rattle.cert_format.specs.declared.cert.StageCert.{StageCert as StageCertValue};
@@ -8,11 +9,13 @@ ghost use Rattle.cert_format.specs.declared.cert.Certificate.{Certificate as Cer
 ghost use Rattle.cert_format.specs.Printable.{IsPrintableProof};
 ghost use Rattle.cert_format.specs.Proofs.{IsProof};
 ghost use Rattle.cert_format.specs.Spelling.{is_tried, proof_lines};
+ghost use Rattle.series_model.specs.declared.unit.Unit.{Unit as SlotUnit};
 ghost use Rattle.series_model.specs.Submissions.{SubmissionView};
+ghost use Rattle.wasg_stages.specs.StageProblems.{IsAllotmentProblem};
 ghost use Rattle.wasg_stages.specs.Valid.{IsValid};
 ghost use Rattle.cert_checker.specs.declared.verdict.Reason.{Reason as ReasonValue};
 ghost use Rattle.cert_checker.specs.Tests.{Passes, proof_tests};
-ghost use Rattle.cert_checker.specs.Verdicts.{NoneFails};
+ghost use Rattle.cert_checker.specs.Verdicts.{NoneFails, IsFirstFailing};
 ghost use Rattle.cert_checker.specs.Certificates.{FailsAt};
 
 use choice_problem::{alike_problems, split_trees};
@@ -38,6 +41,33 @@ pub fn alike_proofs()
     ensures { (p q : ProblemView) (c : StageCertValue) →
         AreAlike p q → IsProof p c → IsProof q c }
 {
+    alike_problems();
+}
+
+/// On each problem of some units under the same limits, parts and strips may differ, but the same
+/// tests pass: a proof on one is a proof on the other, a line that is the first to fail on one is
+/// the first on the other, with one first reason, and where there is a proof no line fails.
+pub fn same_tests()
+    ensures proof { (d : DeclarationValue) (units : List SlotUnit) (limit : ℕ → ℕ)
+        (p q : ProblemView) (c : StageCertValue) →
+        IsAllotmentProblem d units limit p → IsAllotmentProblem d units limit q →
+        IsProof p c → IsProof q c }
+    ensures fails { (d : DeclarationValue) (units : List SlotUnit) (limit : ℕ → ℕ)
+        (p q : ProblemView) (c : StageCertValue) (number line other : ℕ)
+        (reason why : ReasonValue) →
+        IsAllotmentProblem d units limit p → IsAllotmentProblem d units limit q →
+        IsFirstFailing (Passes p c) number (proof_tests p c) line reason →
+        IsFirstFailing (Passes q c) number (proof_tests q c) other why →
+        (line ≡ other) × (reason ≡ why) }
+    ensures never { (d : DeclarationValue) (units : List SlotUnit) (limit : ℕ → ℕ)
+        (p q : ProblemView) (version : ℕ) (c : StageCertValue) (number line : ℕ)
+        (reason : ReasonValue) →
+        IsAllotmentProblem d units limit p → IsAllotmentProblem d units limit q →
+        IsPrintableProof version c → IsProof p c →
+        IsFirstFailing (Passes q c) number (proof_tests q c) line reason → ⊥ }
+{
+    passing_lines();
+    alike_proofs();
     alike_problems();
 }
 

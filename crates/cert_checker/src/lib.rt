@@ -18,5 +18,7 @@ mod trees;
 mod verdict;
 
 pub use checks::{check, check_stage};
-pub use laws::{alike_proofs, one_failing_line, one_verdict, passing_lines, tested_lines};
+pub use laws::{
+    alike_proofs, one_failing_line, one_verdict, passing_lines, same_tests, tested_lines,
+};
 pub use verdict::{Reason, Verdict};

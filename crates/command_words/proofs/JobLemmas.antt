@@ -20,13 +20,13 @@ use Rattle.clap.specs.declared.parser.matches.ArgMatches.{ArgMatches}
 use Rattle.slot_text.specs.Numbers.{IsNumber}
 use Rattle.slot_text.specs.Reads.{GivesOr}
 use Rattle.command_words.specs.declared.job.Job.{Job}
-use Rattle.command_words.specs.declared.job.Job.TheVariants.{Allocate, Check, Amend, Serve, Resume, Usage, Make, Trial}
+use Rattle.command_words.specs.declared.job.Job.TheVariants.{Allocate, Check, Amend, Serve, Resume, Usage, Reclear, Recheck, Report, Inspect, Make, Trial}
 use Rattle.command_words.specs.declared.job.WordFault.{WordFault}
 use Rattle.command_words.specs.declared.job.WordFault.TheVariants.{Words, Memory}
 use Rattle.command_words.specs.Words.{Word}
 use Rattle.command_words.specs.Uses.{Use, uses_of, once_after}
 use Rattle.command_words.specs.Values.{names_in, values_given, names_exactly, number_within, number_or}
-use Rattle.command_words.specs.Jobs.{Command, commands, command_named, allocate_job, check_job, amend_job, serve_job, resume_job, make_job, trial_job, generated_job, job_by_uses, job_of, IsJob, usage_job}
+use Rattle.command_words.specs.Jobs.{Command, commands, command_named, allocate_job, check_job, amend_job, serve_job, resume_job, make_job, trial_job, generated_job, job_by_uses, job_of, IsJob, usage_job, reclear_job, recheck_job, report_job, inspect_job}
 use Rattle.command_words.specs.App.{desk_app, values_held, job_by_rows, job_named, AsksFor}
 use Rattle.command_words.specs.Answers.{Answers}
 use Rattle.command_words.proofs.Taken.{AreTaken}
@@ -101,6 +101,28 @@ usage_is : (words : List Word) (values : List (Option Word)) (job : Job) → usa
 usage_is words [] job e = map_some Usage (names_exactly 5 words) job e (λ names is same. subst IsJob same (exactly_counts 5 words names is))
 usage_is words (value ∷ values) job e = absurd cc
 
+reclear_is : (words : List Word) (values : List (Option Word)) (job : Job) → reclear_job words values ≡ Some job → IsJob job
+reclear_is words [] job e = absurd cc
+reclear_is words (nodes ∷ []) job e = absurd cc
+reclear_is words (nodes ∷ workers ∷ []) job e =
+    option_and_then_some _ (names_exactly 6 words) job e (λ names is rest.
+    option_and_then_some _ (number_or 1 1000000 100000 nodes) job rest (λ n n_is last.
+    map_some (Reclear names n) (number_or 1 16 4 workers) job last (λ k k_is same.
+    subst IsJob same (exactly_counts 6 words names is, or_within 1 1000000 100000 n nodes (omega arith) (omega arith) n_is, or_within 1 16 4 k workers (omega arith) (omega arith) k_is))))
+reclear_is words (nodes ∷ workers ∷ more ∷ rest) job e = absurd cc
+
+recheck_is : (words : List Word) (values : List (Option Word)) (job : Job) → recheck_job words values ≡ Some job → IsJob job
+recheck_is words [] job e = map_some Recheck (names_exactly 5 words) job e (λ names is same. subst IsJob same (exactly_counts 5 words names is))
+recheck_is words (value ∷ values) job e = absurd cc
+
+report_is : (words : List Word) (values : List (Option Word)) (job : Job) → report_job words values ≡ Some job → IsJob job
+report_is words [] job e = map_some Report (names_exactly 5 words) job e (λ names is same. subst IsJob same (exactly_counts 5 words names is))
+report_is words (value ∷ values) job e = absurd cc
+
+inspect_is : (words : List Word) (values : List (Option Word)) (job : Job) → inspect_job words values ≡ Some job → IsJob job
+inspect_is words [] job e = map_some Inspect (names_exactly 2 words) job e (λ names is same. subst IsJob same (exactly_counts 2 words names is))
+inspect_is words (value ∷ values) job e = absurd cc
+
 serve_is : (words : List Word) (values : List (Option Word)) (job : Job) → serve_job words values ≡ Some job → IsJob job
 serve_is words [] job e = absurd cc
 serve_is words (links ∷ []) job e = absurd cc
@@ -174,7 +196,7 @@ pub job_is : (words : List Word) (job : Job) → job_of words ≡ Some job → I
 job_is [] job e = absurd cc
 job_is (word ∷ words) job e =
     option_and_then_some _ (command_named commands word) job e (λ c named asked.
-    jobs_by c (uses_of c.options None words) job (all_make commands word c (allocate_is, (check_is, (amend_is, (serve_is, (resume_is, (usage_is, (make_is, (trial_is, tt)))))))) named) asked)
+    jobs_by c (uses_of c.options None words) job (all_make commands word c (allocate_is, (check_is, (amend_is, (serve_is, (resume_is, (usage_is, (reclear_is, (recheck_is, (report_is, (inspect_is, (make_is, (trial_is, tt)))))))))))) named) asked)
 
 -- ---- clap takes the words of a job, and its matches ask for it
 

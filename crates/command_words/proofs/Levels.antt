@@ -249,7 +249,7 @@ options_are (x ∷ cs) word c all e =
     some_command y = Some y
 
 pub options_fit : AllByRecursion (λ x. AreOptions x.options) commands
-options_fit = ((refl, (refl, tt)), (tt, (tt, ((refl, (refl, (refl, tt))), ((refl, (refl, (refl, tt))), (tt, (tt, (tt, tt))))))))
+options_fit = ((refl, (refl, tt)), (tt, (tt, ((refl, (refl, (refl, tt))), ((refl, (refl, (refl, tt))), (tt, ((refl, (refl, tt)), (tt, (tt, (tt, (tt, (tt, tt))))))))))))
 
 pub clap_takes : (word : Text) (ws : List Text) (c : Command) (us : List Use) → command_named commands word ≡ Some c → AllByRecursion Readable ws → AreTaken c.options ws us → fault_of desk_app (word ∷ ws) ≡ []
 clap_takes word ws c us e readable taken =

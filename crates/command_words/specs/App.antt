@@ -9,6 +9,7 @@ use Rattle.clap.specs.declared.parser.matches.ArgMatches.{ArgMatches}
 use Rattle.command_words.specs.Words.{Word}
 use Rattle.command_words.specs.Jobs.{Command, allocate_command, check_command, amend_command}
 use Rattle.command_words.specs.Jobs.{serve_command, resume_command, usage_command}
+use Rattle.command_words.specs.Jobs.{reclear_command, recheck_command, report_command, inspect_command}
 use Rattle.command_words.specs.Jobs.{commands, command_named, job_of}
 use Rattle.command_words.specs.declared.job.Job.{Job}
 
@@ -50,12 +51,29 @@ reading_app = record {
   subs = map command_shape (allocate_command ∷ check_command ∷ amend_command ∷ []);
 }
 
--- with all of them
+-- with those that go on from a certificate, too
 abbrev pub season_app : App
 season_app = record {
   top = desk_top;
   subs = map command_shape (allocate_command ∷ check_command ∷ amend_command
       ∷ serve_command ∷ resume_command ∷ usage_command ∷ []);
+}
+
+-- with those of the waiting list, too
+abbrev pub waiting_app : App
+waiting_app = record {
+  top = desk_top;
+  subs = map command_shape (allocate_command ∷ check_command ∷ amend_command
+      ∷ serve_command ∷ resume_command ∷ usage_command ∷ reclear_command ∷ recheck_command ∷ []);
+}
+
+-- with all of them
+abbrev pub telling_app : App
+telling_app = record {
+  top = desk_top;
+  subs = map command_shape (allocate_command ∷ check_command ∷ amend_command
+      ∷ serve_command ∷ resume_command ∷ usage_command ∷ reclear_command ∷ recheck_command
+      ∷ report_command ∷ inspect_command ∷ []);
 }
 
 abbrev pub desk_app : App

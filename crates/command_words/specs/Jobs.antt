@@ -8,7 +8,8 @@ use Rattle.command_words.specs.Values.{names_in, values_given, names_exactly, nu
 use Rattle.command_words.specs.Values.{number_or}
 use Rattle.command_words.specs.declared.job.Job.{Job}
 use Rattle.command_words.specs.declared.job.Job.TheVariants.{Allocate, Check, Amend, Serve}
-use Rattle.command_words.specs.declared.job.Job.TheVariants.{Resume, Usage, Make, Trial}
+use Rattle.command_words.specs.declared.job.Job.TheVariants.{Resume, Usage, Reclear, Recheck}
+use Rattle.command_words.specs.declared.job.Job.TheVariants.{Report, Inspect, Make, Trial}
 
 -- A command: its word, the names of its options, and the job that it makes of the names and of what
 -- each option is given.
@@ -63,6 +64,30 @@ abbrev pub usage_job : List Word → List (Option Word) → Option Job
 usage_job words [] = option_map Usage (names_exactly 5 words)
 usage_job words (value ∷ values) = None
 
+-- `reclear CAP SCR CERT ASKS EXTRA REPLIES [--nodes n] [--workers k]`
+abbrev pub reclear_job : List Word → List (Option Word) → Option Job
+reclear_job words (nodes ∷ workers ∷ []) =
+    option_and_then (λ names. option_and_then (λ n. option_map (λ k. Reclear names n k)
+    (number_or 1 16 4 workers))
+    (number_or 1 1000000 100000 nodes))
+    (names_exactly 6 words)
+reclear_job words _ = None
+
+-- `recheck CAP SCR CERT ASKS EXTRA`
+abbrev pub recheck_job : List Word → List (Option Word) → Option Job
+recheck_job words [] = option_map Recheck (names_exactly 5 words)
+recheck_job words (value ∷ values) = None
+
+-- `report CAP SCR CERT REPORT PAGE`
+abbrev pub report_job : List Word → List (Option Word) → Option Job
+report_job words [] = option_map Report (names_exactly 5 words)
+report_job words (value ∷ values) = None
+
+-- `inspect CAP SCR`
+abbrev pub inspect_job : List Word → List (Option Word) → Option Job
+inspect_job words [] = option_map Inspect (names_exactly 2 words)
+inspect_job words (value ∷ values) = None
+
 -- What a command makes of the number of a generated season, from 0 to 65536, how many units it has,
 -- from 1 to 4096, and the words behind these two, which are so many names.
 abbrev pub generated_job : (ℕ → ℕ → List Word → Job) → ℕ → List Word → Option Job
@@ -114,6 +139,22 @@ resume_command = record {
 abbrev pub usage_command : Command
 usage_command = record { word = codes "usage"; options = []; job = usage_job }
 
+abbrev pub reclear_command : Command
+reclear_command = record {
+  word = codes "reclear";
+  options = codes "nodes" ∷ codes "workers" ∷ [];
+  job = reclear_job;
+}
+
+abbrev pub recheck_command : Command
+recheck_command = record { word = codes "recheck"; options = []; job = recheck_job }
+
+abbrev pub report_command : Command
+report_command = record { word = codes "report"; options = []; job = report_job }
+
+abbrev pub inspect_command : Command
+inspect_command = record { word = codes "inspect"; options = []; job = inspect_job }
+
 abbrev pub make_command : Command
 make_command = record { word = codes "make"; options = []; job = make_job }
 
@@ -124,7 +165,8 @@ trial_command = record { word = codes "trial"; options = []; job = trial_job }
 abbrev pub commands : List Command
 commands =
     allocate_command ∷ check_command ∷ amend_command ∷ serve_command ∷ resume_command
-    ∷ usage_command ∷ make_command ∷ trial_command ∷ []
+    ∷ usage_command ∷ reclear_command ∷ recheck_command ∷ report_command ∷ inspect_command
+    ∷ make_command ∷ trial_command ∷ []
 
 abbrev pub command_named : List Command → Word → Option Command
 command_named cs word = find (λ c. bytes_eq c.word word) cs
@@ -152,6 +194,11 @@ IsJob (Serve names links port workers) = (length names ≡ 4) × ((1 ≤ links) 
 IsJob (Resume names links port workers) = (length names ≡ 5) × ((1 ≤ links) × (links ≤ 1000))
     × ((1 ≤ port) × (port ≤ 65535)) × ((1 ≤ workers) × (workers ≤ 16))
 IsJob (Usage names) = length names ≡ 5
+IsJob (Reclear names nodes workers) = (length names ≡ 6) × ((1 ≤ nodes) × (nodes ≤ 1000000))
+    × ((1 ≤ workers) × (workers ≤ 16))
+IsJob (Recheck names) = length names ≡ 5
+IsJob (Report names) = length names ≡ 5
+IsJob (Inspect names) = length names ≡ 2
 IsJob (Make number units names) = (number ≤ 65536) × ((1 ≤ units) × (units ≤ 4096))
     × (length names ≡ 2)
 IsJob (Trial number units) = (number ≤ 65536) × ((1 ≤ units) × (units ≤ 4096))

@@ -120,6 +120,31 @@ pub enum Job {
     Usage {
         names: NameList,
     },
+    /// Answer amendments as `Amend` does, and give the asks that were refused what the book then
+    /// leaves, as one more stage with its proof. The names are those of the capacity file, the
+    /// requests, the certificate, the asks, the stage and the replies.
+    Reclear {
+        names: NameList,
+        /// How many nodes the search of the stage may have, from 1 to 1,000,000.
+        nodes: u32,
+        /// How many workers search, from 1 to 16.
+        workers: u32,
+    },
+    /// Check a stage that `Reclear` wrote, or anyone. The names are those of the capacity file, the
+    /// requests, the certificate, the asks and the stage.
+    Recheck {
+        names: NameList,
+    },
+    /// Say why each series was given what it was given, by a certificate. The names are those of
+    /// the capacity file, the requests, the certificate, the report and its page.
+    Report {
+        names: NameList,
+    },
+    /// Say what a capacity file and requests hold, or what is wrong in them. The names are those of
+    /// the two.
+    Inspect {
+        names: NameList,
+    },
     /// Make a generated season, and write it. The names are those of the capacity file and the
     /// requests.
     Make {

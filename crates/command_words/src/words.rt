@@ -1,6 +1,6 @@
 //! From the words of a command line to the job that they ask for.
 
-ghost use Rattle.std.specs.Prelude.{◌≡◌, ◌≢◌, [], None, Some, Ok, Err, IfOk, IfErr, map};
+ghost use Rattle.std.specs.Prelude.{◌≡◌, ◌≢◌, [], None, Some, Ok, Err, IfOk, IfErr, map, codes};
 ghost use Rattle.std.specs.List.{AllByRecursion};
 ghost use Rattle.std.specs.Str.{IsUtf8};
 ghost use Rattle.clap.specs.Words.{rows_of, found_of, first_of};
@@ -10,7 +10,9 @@ ghost use Rattle.command_words.specs.Words.{Word, words_of};
 ghost use Rattle.command_words.specs.Values.{names_exactly, number_within, number_or};
 ghost use Rattle.command_words.specs.Jobs.{job_of, IsJob, allocate_command, check_command};
 ghost use Rattle.command_words.specs.Jobs.{amend_command, serve_command, resume_command};
-ghost use Rattle.command_words.specs.Jobs.{usage_command, make_command, trial_command};
+ghost use Rattle.command_words.specs.Jobs.{usage_command, reclear_command, recheck_command};
+ghost use Rattle.command_words.specs.Jobs.{report_command, inspect_command, make_command};
+ghost use Rattle.command_words.specs.Jobs.{trial_command};
 ghost use Rattle.command_words.specs.Jobs.{make_job, trial_job};
 ghost use Rattle.command_words.specs.App.{names_held, job_by_rows, job_named, AsksFor};
 ghost use Rattle.command_words.specs.Answers.{Answers};
@@ -87,6 +89,10 @@ fn read_job(alloc: Global, name: &str, found: &ArgMatches<'_>) -> Result<Job, Wo
         "serve" => read_serve(alloc, found),
         "resume" => read_resume(alloc, found),
         "usage" => read_usage(alloc, found),
+        "reclear" => read_reclear(alloc, found),
+        "recheck" => read_recheck(alloc, found),
+        "report" => read_report(alloc, found),
+        "inspect" => read_inspect(alloc, found),
         "make" => read_make(alloc, found),
         "trial" => read_trial(found),
         _ => Err(WordFault::Words),
@@ -97,7 +103,7 @@ fn read_allocate(alloc: Global, found: &ArgMatches<'_>) -> Result<Job, WordFault
     ensures { Answers (job_by_rows allocate_command (rows_of (found_of found.now))) result }
 {
     let names = read_names(alloc, found, 4)?;
-    let nodes = read_option(found, "nodes", 1, 1_000_000, 100_000)?;
+    let nodes = read_nodes(found)?;
     let workers = read_option(found, "workers", 1, 16, 4)?;
     Ok(Job::Allocate {
         names,
@@ -155,6 +161,40 @@ fn read_usage(alloc: Global, found: &ArgMatches<'_>) -> Result<Job, WordFault>
 {
     let names = read_names(alloc, found, 5)?;
     Ok(Job::Usage { names })
+}
+
+fn read_reclear(alloc: Global, found: &ArgMatches<'_>) -> Result<Job, WordFault>
+    ensures { Answers (job_by_rows reclear_command (rows_of (found_of found.now))) result }
+{
+    let names = read_names(alloc, found, 6)?;
+    let nodes = read_nodes(found)?;
+    let workers = read_option(found, "workers", 1, 16, 4)?;
+    Ok(Job::Reclear {
+        names,
+        nodes,
+        workers,
+    })
+}
+
+fn read_recheck(alloc: Global, found: &ArgMatches<'_>) -> Result<Job, WordFault>
+    ensures { Answers (job_by_rows recheck_command (rows_of (found_of found.now))) result }
+{
+    let names = read_names(alloc, found, 5)?;
+    Ok(Job::Recheck { names })
+}
+
+fn read_report(alloc: Global, found: &ArgMatches<'_>) -> Result<Job, WordFault>
+    ensures { Answers (job_by_rows report_command (rows_of (found_of found.now))) result }
+{
+    let names = read_names(alloc, found, 5)?;
+    Ok(Job::Report { names })
+}
+
+fn read_inspect(alloc: Global, found: &ArgMatches<'_>) -> Result<Job, WordFault>
+    ensures { Answers (job_by_rows inspect_command (rows_of (found_of found.now))) result }
+{
+    let names = read_names(alloc, found, 2)?;
+    Ok(Job::Inspect { names })
 }
 
 fn read_make(alloc: Global, found: &ArgMatches<'_>) -> Result<Job, WordFault>
@@ -223,6 +263,14 @@ fn copy_names(alloc: Global, names: &[&str], count: usize) -> Result<NameList, W
         items.push(Name::new(String::from_str(alloc, name)?))?;
     }
     Ok(NameList::new(items))
+}
+
+/// How many nodes a search may have.
+fn read_nodes(found: &ArgMatches<'_>) -> Result<u32, WordFault>
+    ensures { let value = first_of (codes "nodes") (rows_of (found_of found.now)) in
+        Answers (number_or 1 1000000 100000 value) result }
+{
+    read_option(found, "nodes", 1, 1_000_000, 100_000)
 }
 
 /// The number that the option is given, from `least` to `most`, or else the usual one.

@@ -1,12 +1,13 @@
 //! Whether a choice fits, and Lagrangian bounds: leaves, price tables and the root vector.
 
 ghost use Rattle.choice_problem.specs.Bounds.{AreRanges, IsVector};
+ghost use Rattle.price_table.specs.Tables.{IsTableFor};
 
 use crate::report::{Size, print_row, step};
 use crate::stages::{first_alternatives, new_requests};
 use choice_problem::{Price, Problem, Ranges, Vector, cost_of, fits, leaf_closes};
 use dual_bound::{floor_of, root_vector};
-use price_table::{bound, price_table};
+use price_table::{PriceTable, bound, price_table};
 use slot_text::Memory;
 use std::alloc::Global;
 use std::time::Instant;
@@ -17,20 +18,50 @@ use std::time::Instant;
 pub fn run(rt: &HostRuntime, alloc: Global, size: Size) -> anyhow::Result<()> {
     let problem = new_requests(alloc, size)?;
     choose(rt, alloc, size, &problem)?;
-    let ranges = Ranges::whole(alloc, &problem)?;
-    let spread = spread_prices(alloc, &problem, 16)?;
-    if !spread.is_for(&problem) {
+    price(rt, alloc, size, &problem)
+}
+
+fn price(rt: &HostRuntime, alloc: Global, size: Size, problem: &Problem) -> anyhow::Result<()> {
+    let ranges = Ranges::whole(alloc, problem)?;
+    let spread = spread_prices(alloc, problem, 16)?;
+    if !spread.is_for(problem) {
         return print_row(rt, "bounds: no vector", &[]);
     }
+    judge_spread(rt, alloc, size, problem, &ranges, &spread)?;
+    judge_root(rt, alloc, size, problem, &ranges)
+}
+
+fn judge_spread(
+    rt: &HostRuntime,
+    alloc: Global,
+    size: Size,
+    problem: &Problem,
+    ranges: &Ranges,
+    spread: &Vector,
+) -> anyhow::Result<()>
+    requires ranges { AreRanges problem.now ranges.now }
+    requires vector { IsVector problem.now spread.now }
+{
     let start = Instant::now(rt)?;
-    let closes = leaf_closes(&problem, &ranges, &spread, 1, Some(1));
+    let closes = leaf_closes(problem, ranges, spread, 1, Some(1));
     step(rt, size, "leaf_closes", start)?;
     print_row(rt, "bounds: a leaf", &[("closes", u64::from(closes))])?;
-    judge(rt, alloc, size, &problem, &ranges, &spread)?;
+    judge(rt, alloc, size, problem, ranges, spread)
+}
+
+fn judge_root(
+    rt: &HostRuntime,
+    alloc: Global,
+    size: Size,
+    problem: &Problem,
+    ranges: &Ranges,
+) -> anyhow::Result<()>
+    requires { AreRanges problem.now ranges.now }
+{
     let start = Instant::now(rt)?;
-    let root = root_vector(alloc, &problem)?;
+    let root = root_vector(alloc, problem)?;
     step(rt, size, "root_vector", start)?;
-    judge(rt, alloc, size, &problem, &ranges, &root)
+    judge(rt, alloc, size, problem, ranges, &root)
 }
 
 // Whether the choice of first alternatives fits.
@@ -76,9 +107,7 @@ fn judge(
     let start = Instant::now(rt)?;
     let tables = [price_table(alloc, problem, vector)?];
     step(rt, size, "price_table", start)?;
-    let start = Instant::now(rt)?;
-    let scaled = bound(problem, ranges, &tables[0], 1024);
-    step(rt, size, "bound", start)?;
+    let scaled = timed_bound(rt, size, problem, ranges, &tables[0])?;
     let start = Instant::now(rt)?;
     let floor = floor_of(problem, ranges, &tables).cost;
     step(rt, size, "floor_of", start)?;
@@ -89,4 +118,20 @@ fn judge(
         ("floor", floor),
     ];
     print_row(rt, "bounds", &numbers)
+}
+
+fn timed_bound(
+    rt: &HostRuntime,
+    size: Size,
+    problem: &Problem,
+    ranges: &Ranges,
+    table: &PriceTable,
+) -> anyhow::Result<i128>
+    requires ranges { AreRanges problem.now ranges.now }
+    requires table { IsTableFor problem.now table.now }
+{
+    let start = Instant::now(rt)?;
+    let scaled = bound(problem, ranges, table, 1024);
+    step(rt, size, "bound", start)?;
+    Ok(scaled)
 }

@@ -29,23 +29,63 @@ pub fn run<R: Threads + Sync + Print + Clock>(
     alloc: Global,
     size: Size,
 ) -> anyhow::Result<()> {
-    let (places, ring_budget) = match size {
+    search_ring(rt, alloc, size)?;
+    search_daily(rt, alloc, size)?;
+    search_generated(rt, alloc, size)
+}
+
+fn search_ring<R: Threads + Sync + Print + Clock>(
+    rt: &R,
+    alloc: Global,
+    size: Size,
+) -> anyhow::Result<()> {
+    let (places, budget) = match size {
         Size::Short => (12, 50),
         Size::Full => (100, 120_000),
     };
     let ring = ring(alloc, places)?.ok_or(Memory)?;
-    let alone = search_by(rt, alloc, size, &ring, ring_budget, 1)?;
-    let together = search_by(rt, alloc, size, &ring, ring_budget, 4)?;
+    compare_workers(rt, alloc, size, &ring, budget)
+}
+
+// Searches a problem by one and by four workers.
+fn compare_workers<R: Threads + Sync + Print + Clock>(
+    rt: &R,
+    alloc: Global,
+    size: Size,
+    problem: &Problem,
+    budget: u32,
+) -> anyhow::Result<()> {
+    let alone = search_by(rt, alloc, size, problem, budget, 1)?;
+    let together = search_by(rt, alloc, size, problem, budget, 4)?;
     if size == Size::Full {
         let share = together.saturating_mul(100) / alone.max(1);
         print_row(rt, "searches: four workers", &[("per cent of one", share)])?;
     }
-    let (units, window, requests) = match size {
-        Size::Short => (8, b"CAP TOT 60 0000 2355 1234567 1\n".as_slice(), 40),
-        Size::Full => (138, b"CAP TOT 60 0000 2355 1234567 17\n".as_slice(), 184),
+    Ok(())
+}
+
+fn search_daily<R: Threads + Sync + Print + Clock>(
+    rt: &R,
+    alloc: Global,
+    size: Size,
+) -> anyhow::Result<()> {
+    let (units, window) = match size {
+        Size::Short => (8, b"CAP TOT 60 0000 2355 1234567 1\n".as_slice()),
+        Size::Full => (138, b"CAP TOT 60 0000 2355 1234567 17\n".as_slice()),
     };
     let daily = last_problem(alloc, units, *b"NNNN", 5, window)?;
-    search_season(rt, alloc, size, &daily)?;
+    search_season(rt, alloc, size, &daily)
+}
+
+fn search_generated<R: Threads + Sync + Print + Clock>(
+    rt: &R,
+    alloc: Global,
+    size: Size,
+) -> anyhow::Result<()> {
+    let requests = match size {
+        Size::Short => 40,
+        Size::Full => 184,
+    };
     let generated = generated_problem(alloc, requests)?;
     search_season(rt, alloc, size, &generated)
 }
@@ -89,11 +129,7 @@ fn search_by<R: Threads + Sync + Print + Clock>(
 ) -> anyhow::Result<u64>
     requires { (1 ≤ workers) × (workers ≤ 16) }
 {
-    let start = Instant::now(rt)?;
-    let outcome = search(rt, alloc, problem, budget, workers, &RealGate)?;
-    let millis = millis_since(rt, start)?;
-    step(rt, size, "search", start)?;
-    let visited = count_visited(nodes_of(&outcome));
+    let (millis, visited) = searched(rt, alloc, size, problem, budget, workers)?;
     let numbers = [
         ("units", u64::from(problem.units())),
         ("workers", u64::from(workers)),
@@ -101,6 +137,24 @@ fn search_by<R: Threads + Sync + Print + Clock>(
     ];
     print_row(rt, "searches", &numbers)?;
     Ok(millis)
+}
+
+// Searches a problem: how many milliseconds that took, and how many nodes were visited.
+fn searched<R: Threads + Sync + Print + Clock>(
+    rt: &R,
+    alloc: Global,
+    size: Size,
+    problem: &Problem,
+    budget: u32,
+    workers: u32,
+) -> anyhow::Result<(u64, u64)>
+    requires { (1 ≤ workers) × (workers ≤ 16) }
+{
+    let start = Instant::now(rt)?;
+    let outcome = search(rt, alloc, problem, budget, workers, &RealGate)?;
+    let millis = millis_since(rt, start)?;
+    step(rt, size, "search", start)?;
+    Ok((millis, count_visited(nodes_of(&outcome))))
 }
 
 // The nodes of the tree of a search.

@@ -1,9 +1,11 @@
 //! Whole runs of seasons: of files, and of generated seasons.
 
+ghost use Rattle.cert_format.specs.Printable.{IsPrintable};
+
 use crate::report::{Size, print_row, step};
 use crate::texts::{MOST_BYTES, submission_of};
 use cert_checker::{Verdict, check};
-use cert_format::StageCert;
+use cert_format::{Certificate, StageCert};
 use choice_problem::Node;
 use desk_outside::{Cabinet, RealCabinet};
 use season_maker::make_season;
@@ -113,9 +115,23 @@ fn run_and_check<R: Threads + Sync + Print + Clock>(
     let start = Instant::now(rt)?;
     let cert = run_season(rt, alloc, season, budget, workers, &RealGate)?;
     step(rt, size, "run", start)?;
+    judge(rt, alloc, size, name, season, &cert)
+}
+
+// Prints the stages of a season, and the verdict on its certificate.
+fn judge<R: Print + Clock>(
+    rt: &R,
+    alloc: Global,
+    size: Size,
+    name: &str,
+    season: &Submission,
+    cert: &Certificate,
+) -> anyhow::Result<()>
+    requires { IsPrintable cert.now }
+{
     print_stages(rt, cert.stages.items())?;
     let start = Instant::now(rt)?;
-    let valid = check(alloc, season, &cert)? == Verdict::Yes;
+    let valid = check(alloc, season, cert)? == Verdict::Yes;
     step(rt, size, "check", start)?;
     println!(rt; "{name}: valid {valid}")?;
     Ok(())

@@ -12,7 +12,7 @@ use std::alloc::{AllocError, Global};
 use std::sync::Wait;
 use std::test::Fail;
 use std::thread::Threads;
-use worker_gate::Gate;
+use worker_gate::{Gate, RealGate};
 
 /// An empty cabinet with room for six files.
 pub(crate) fn new_cabinet(
@@ -71,9 +71,24 @@ pub(crate) fn call_with_disk<R: Threads + Wait + Sync, G: Gate>(
     let list = split_words(alloc, words)?;
     let mut sink = MemorySink::new(alloc, 1000, list_of(alloc, failing)?)?;
     let status = desk(rt, alloc, &list, cabinet, &mut sink, doors, gate, disk);
-    let mut said = format!(in alloc; "{status} ")?;
-    said.push_str(folded(alloc, sink.bytes())?.as_str())?;
-    Ok(said)
+    said(alloc, status, sink.bytes())
+}
+
+/// The status, a blank, and what was printed.
+fn said(alloc: Global, status: u8, printed: &[u8]) -> Result<String, Fail> {
+    let text = folded(alloc, printed)?;
+    Ok(format!(in alloc; "{status} {text}")?)
+}
+
+/// Runs the desk without doors, where no put fails.
+pub(crate) fn call_alone<R: Threads + Wait + Sync>(
+    rt: &R,
+    alloc: Global,
+    words: &str,
+    cabinet: &mut MemoryCabinet,
+) -> Result<String, Fail> {
+    let mut none = Vec::new(alloc);
+    call_desk(rt, alloc, words, cabinet, None, &mut none, &RealGate)
 }
 
 /// A link with this input, which is handed out in pieces of so many bytes, or whole where that is 0,
@@ -144,4 +159,23 @@ pub(crate) fn door_of(
     let links = links_of(alloc, texts, piece, call)?;
     let failing = list_of(alloc, accept)?;
     Ok(MemoryDoor::new(alloc, links, 9, failing)?)
+}
+
+/// A door for each text of clients, without pieces. An accept of the first one is to fail.
+pub(crate) fn doors_of(
+    alloc: Global,
+    clients: &[&str],
+    accept: Option<Failure>,
+) -> Result<Vec<MemoryDoor>, Fail> {
+    let mut doors = Vec::new(alloc);
+    for texts in clients {
+        let fails = if doors.is_empty() { accept } else { None };
+        doors.push(door_of(alloc, *texts, 0, None, fails)?)?;
+    }
+    Ok(doors)
+}
+
+/// The first link that a door handed out.
+pub(crate) fn first_link(doors: &[MemoryDoor], door: usize) -> Option<&MemoryLink> {
+    doors.get(door)?.kept().get(0)
 }

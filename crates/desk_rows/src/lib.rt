@@ -12,6 +12,8 @@ mod desk_calls;
 #[cfg(test)]
 mod play;
 #[cfg(test)]
+mod report_rows;
+#[cfg(test)]
 mod resume_rows;
 #[cfg(test)]
 mod serve_rows;
@@ -19,3 +21,5 @@ mod serve_rows;
 mod texts;
 #[cfg(test)]
 mod usage_rows;
+#[cfg(test)]
+mod waiting_rows;

@@ -22,7 +22,7 @@
 //!
 //! In what is wanted `*` stands for any text. Each certificate that a run wrote is checked.
 
-use crate::desk_calls::{call_desk, door_of, new_cabinet};
+use crate::desk_calls::{call_alone, call_desk, door_of, new_cabinet};
 use crate::texts::{edited, fits, folded, spelled_out};
 use desk_links::MemoryDoor;
 use desk_outside::{Failure, MemoryCabinet};
@@ -157,10 +157,8 @@ fn compare_sent(alloc: Global, play: &mut Play, rest: &str) -> Result<bool, Fail
     let link: usize = link.parse()?;
     let door = play.doors.get(door).ok_or("no such door")?;
     let link = door.kept().get(link).ok_or("no such link")?;
-    let sent = folded(alloc, link.sent())?;
-    let is_sent = fits(sent.as_str(), wanted);
-    play.said = sent;
-    Ok(is_sent)
+    play.said = folded(alloc, link.sent())?;
+    Ok(fits(play.said.as_str(), wanted))
 }
 
 /// The doors of a run.
@@ -269,24 +267,18 @@ fn run_desk<R: Threads + Wait + Sync>(
     play: &mut Play,
     run: &Run<'_>,
 ) -> Result<bool, Fail> {
-    let mut cabinet = filled_cabinet(alloc, &play.files, run)?;
-    let mut doors = made_doors(alloc, play, run)?;
-    let words = play.words.as_str();
-    let said = call_desk(
+    play.cabinet = filled_cabinet(alloc, &play.files, run)?;
+    play.doors = made_doors(alloc, play, run)?;
+    play.said = call_desk(
         rt,
         alloc,
-        words,
-        &mut cabinet,
+        play.words.as_str(),
+        &mut play.cabinet,
         run.sink,
-        &mut doors,
+        &mut play.doors,
         &RealGate,
     )?;
-    let is_said = fits(said.as_str(), run.said);
-    let is_checked = has_valid_certificate(rt, alloc, play.words.as_str(), &said, &mut cabinet)?;
-    play.said = said;
-    play.cabinet = cabinet;
-    play.doors = doors;
-    Ok(is_said && is_checked)
+    Ok(fits(play.said.as_str(), run.said) && has_valid_certificate(rt, alloc, play)?)
 }
 
 /// A cabinet with the files of a run.
@@ -313,26 +305,18 @@ fn room_for(files: &[File]) -> usize {
     room
 }
 
-/// Whether the certificate is valid that these words wrote, where they wrote one.
+/// Whether the certificate is valid that the last run wrote, where it wrote one.
 fn has_valid_certificate<R: Threads + Wait + Sync>(
     rt: &R,
     alloc: Global,
-    words: &str,
-    said: &str,
-    cabinet: &mut MemoryCabinet,
+    play: &mut Play,
 ) -> Result<bool, Fail> {
-    if !words.starts_with("allocate CAP SCR CERT ") || !said.contains("STAGE 4") {
+    if !play.words.as_str().starts_with("allocate CAP SCR CERT ")
+        || !play.said.as_str().contains("STAGE 4")
+    {
         return Ok(true);
     }
-    let verdict = call_desk(
-        rt,
-        alloc,
-        "check CAP SCR CERT",
-        cabinet,
-        None,
-        &mut Vec::new(alloc),
-        &RealGate,
-    )?;
+    let verdict = call_alone(rt, alloc, "check CAP SCR CERT", &mut play.cabinet)?;
     Ok(verdict.as_str() == "0 YES;")
 }
 
@@ -346,25 +330,42 @@ fn play_fronts<R: Threads + Wait + Sync>(
     let whole = filled_cabinet(alloc, &play.files, &plain(""))?;
     let bytes = whole.file(name).ok_or("no such file")?;
     for end in 0..bytes.len() {
-        let mut cabinet = filled_cabinet(alloc, &play.files, &plain(""))?;
-        let _ = cabinet.load(name, &bytes[..end]);
-        let said = call_desk(
-            rt,
-            alloc,
-            play.words.as_str(),
-            &mut cabinet,
-            None,
-            &mut Vec::new(alloc),
-            &RealGate,
-        )?;
-        let line = whole_lines(&bytes[..end]).saturating_add(1);
-        let due = format!(in alloc; "3 FORM {name} {line};")?;
-        if said.as_str() != due.as_str() {
-            play.said = said;
+        if !play_front(rt, alloc, play, name, &bytes[..end])? {
             return Ok(false);
         }
     }
     Ok(true)
+}
+
+/// Whether the form of a file fails at its first line that is not whole, where it has these bytes.
+fn play_front<R: Threads + Wait + Sync>(
+    rt: &R,
+    alloc: Global,
+    play: &mut Play,
+    name: &str,
+    front: &[u8],
+) -> Result<bool, Fail> {
+    let mut cabinet = filled_cabinet(alloc, &play.files, &plain(""))?;
+    let _ = cabinet.load(name, front);
+    let said = call_alone(rt, alloc, play.words.as_str(), &mut cabinet)?;
+    is_form_fault(alloc, play, name, front, said)
+}
+
+/// Whether this was said, that the first line is not whole; what else was said is kept.
+fn is_form_fault(
+    alloc: Global,
+    play: &mut Play,
+    name: &str,
+    front: &[u8],
+    said: String,
+) -> Result<bool, Fail> {
+    let line = whole_lines(front).saturating_add(1);
+    let due = format!(in alloc; "3 FORM {name} {line};")?;
+    if said.as_str() == due.as_str() {
+        return Ok(true);
+    }
+    play.said = said;
+    Ok(false)
 }
 
 /// How many whole lines the bytes have.

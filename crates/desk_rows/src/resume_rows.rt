@@ -1,10 +1,11 @@
 //! The rows of `resume`: a journal that is begun and opened again, files that are no journal, disks
 //! of which each call fails, and images that a stop may leave at each moment.
 
-use crate::desk_calls::{call_with_disk, door_of, new_cabinet};
+use crate::desk_calls::{call_with_disk, doors_of, first_link, new_cabinet};
 use crate::serve_rows::served_cabinet;
 use crate::texts::{fits, folded, spelled_out};
 use desk_disk::MemoryDisk;
+use desk_links::MemoryDoor;
 use desk_outside::{Failure, MemoryCabinet};
 use std::alloc::{AllocError, Global};
 use std::sync::Wait;
@@ -30,41 +31,83 @@ struct Ran {
     bytes: Vec<u8>,
 }
 
-/// Runs the desk on a file of these bytes, of which calls are to fail, with a door for each text of
-/// clients.
+/// Runs the desk on a file of these bytes, of which calls are to fail, or the output, with a door
+/// for each text of clients.
 fn run<R: Threads + Wait + Sync>(
     rt: &R,
     alloc: Global,
     cabinet: &mut MemoryCabinet,
+    sink: Option<Failure>,
     file: &[u8],
     failing: Vec<Failure>,
     clients: &[&str],
     accept: Option<Failure>,
 ) -> Result<Ran, Fail> {
+    let mut disk = disk_of(alloc, file, failing)?;
+    let mut doors = doors_of(alloc, clients, accept)?;
+    run_over(rt, alloc, cabinet, sink, &mut doors, &mut disk)
+}
+
+/// A disk that holds these bytes, of which calls are to fail.
+fn disk_of(alloc: Global, file: &[u8], failing: Vec<Failure>) -> Result<Option<MemoryDisk>, Fail> {
     if file.len() > ROOM {
         return Err("too long".into());
     }
-    let mut disk = Some(MemoryDisk::new(alloc, file, ROOM, 99, failing)?);
-    let mut doors = Vec::new(alloc);
-    for texts in clients {
-        let fails = if doors.is_empty() { None } else { accept };
-        doors.push(door_of(alloc, *texts, 0, None, fails)?)?;
-    }
-    let said = call_with_disk(
-        rt, alloc, WORDS, cabinet, None, &mut doors, &RealGate, &mut disk,
-    )?;
-    let sent = match doors.get(0).and_then(|door| door.kept().get(0)) {
-        Some(link) => folded(alloc, link.sent())?,
-        None => String::new(alloc),
-    };
-    let Some(disk) = disk else {
-        return Err("the disk is gone".into());
-    };
-    let bytes = Vec::from_slice(alloc, disk.bytes())?;
+    Ok(Some(MemoryDisk::new(alloc, file, ROOM, 99, failing)?))
+}
+
+/// Runs the desk over these doors and this disk.
+fn run_over<R: Threads + Wait + Sync>(
+    rt: &R,
+    alloc: Global,
+    cabinet: &mut MemoryCabinet,
+    sink: Option<Failure>,
+    doors: &mut Vec<MemoryDoor>,
+    disk: &mut Option<MemoryDisk>,
+) -> Result<Ran, Fail> {
+    let said = call_with_disk(rt, alloc, WORDS, cabinet, sink, doors, &RealGate, disk)?;
+    let sent = first_sent(alloc, doors.as_slice())?;
+    let bytes = bytes_of(alloc, disk)?;
     Ok(Ran { said, sent, bytes })
 }
 
-/// The same where no call fails, with one client.
+/// What the first link was sent, nothing where there is none.
+fn first_sent(alloc: Global, doors: &[MemoryDoor]) -> Result<String, Fail> {
+    match first_link(doors, 0) {
+        Some(link) => Ok(folded(alloc, link.sent())?),
+        None => Ok(String::new(alloc)),
+    }
+}
+
+/// What a disk holds that the desk has put back.
+fn bytes_of(alloc: Global, disk: &Option<MemoryDisk>) -> Result<Vec<u8>, Fail> {
+    match disk {
+        Some(disk) => Ok(Vec::from_slice(alloc, disk.bytes())?),
+        None => Err("the disk is gone".into()),
+    }
+}
+
+/// The same where no call fails.
+fn calm<R: Threads + Wait + Sync>(
+    rt: &R,
+    alloc: Global,
+    cabinet: &mut MemoryCabinet,
+    file: &[u8],
+    clients: &[&str],
+) -> Result<Ran, Fail> {
+    run(
+        rt,
+        alloc,
+        cabinet,
+        None,
+        file,
+        Vec::new(alloc),
+        clients,
+        None,
+    )
+}
+
+/// The same with one client.
 fn resume<R: Threads + Wait + Sync>(
     rt: &R,
     alloc: Global,
@@ -72,7 +115,7 @@ fn resume<R: Threads + Wait + Sync>(
     file: &[u8],
     client: &str,
 ) -> Result<Ran, Fail> {
-    run(rt, alloc, cabinet, file, Vec::new(alloc), &[client], None)
+    calm(rt, alloc, cabinet, file, &[client])
 }
 
 /// How many pairs a desk finds that opens this file and answers a query.
@@ -92,6 +135,11 @@ fn kept<R: Threads + Wait + Sync>(
     Err(Fail::new(ran.said.clone()?))
 }
 
+/// Whether a run said this, and its file has so many bytes.
+fn is_run(ran: &Ran, said: &str, size: usize) -> bool {
+    ran.said.as_str() == said && ran.bytes.len() == size
+}
+
 /// Two asks are answered and stand in the journal; a desk that opens it again has both, records its
 /// own entries alone, and goes on behind them. Without clients it ends at once.
 #[test]
@@ -99,35 +147,46 @@ fn a_journal_is_begun_and_opened_again(rt: HostRuntime) -> Result<(), Fail> {
     let alloc = rt.alloc();
     let mut cabinet = served_cabinet(&rt, alloc)?;
     let first = resume(&rt, alloc, &mut cabinet, b"", ASKS)?;
-    assert_eq!(rt; first.said.as_str(), "0 KEPT 0;ENTRIES 2;LINKS 1;");
-    assert!(rt;
-        fits(
-            first.sent.as_str(),
-            "SCR;S25;20NOV;ABC;KBA002 *;UBA003 *;OBA003 *JFK0700 J;;"
-        )
-    );
-    assert_eq!(rt; first.bytes.len(), 529);
-    let again = resume(&rt, alloc, &mut cabinet, &first.bytes, QUERY)?;
-    assert_eq!(rt; again.said.as_str(), "0 KEPT 2;ENTRIES 1;LINKS 1;");
-    let due = "SCR;S25;20NOV;ABC;OBA003 30MAR25OCT 1234567 180320 JFK0700 J;;";
-    assert_eq!(rt; again.sent.as_str(), due);
-    assert_eq!(rt; again.bytes.len(), 785);
-    let record = folded(alloc, cabinet.file("RECORD").ok_or("no record")?)?;
-    assert!(rt; fits(record.as_str(), "ENTRY 1 CALLER 0;QBA003;OBA003 *"));
-    let none: [&str; 0] = [];
-    let bytes = &again.bytes;
-    let still = run(
-        &rt,
-        alloc,
-        &mut cabinet,
-        bytes,
-        Vec::new(alloc),
-        &none,
-        None,
-    )?;
-    assert_eq!(rt; still.said.as_str(), "0 KEPT 3;ENTRIES 0;LINKS 0;");
-    assert!(rt; still.bytes == again.bytes);
+    assert!(rt; is_run(&first, "0 KEPT 0;ENTRIES 2;LINKS 1;", 529));
+    let due = "SCR;S25;20NOV;ABC;KBA002 *;UBA003 *;OBA003 *JFK0700 J;;";
+    assert!(rt; fits(first.sent.as_str(), due));
+    assert!(rt; goes_on(&rt, alloc, &mut cabinet, &first.bytes)?);
     Ok(())
+}
+
+/// Whether a desk that opens a journal of two pairs has both, and one that opens it then all three.
+fn goes_on<R: Threads + Wait + Sync>(
+    rt: &R,
+    alloc: Global,
+    cabinet: &mut MemoryCabinet,
+    two: &[u8],
+) -> Result<bool, Fail> {
+    let again = resume(rt, alloc, cabinet, two, QUERY)?;
+    let due = "SCR;S25;20NOV;ABC;OBA003 30MAR25OCT 1234567 180320 JFK0700 J;;";
+    Ok(
+        is_run(&again, "0 KEPT 2;ENTRIES 1;LINKS 1;", 785)
+            && again.sent.as_str() == due
+            && has_own_record(alloc, cabinet)?
+            && is_still(rt, alloc, cabinet, &again.bytes)?,
+    )
+}
+
+/// Whether the record is that of the query alone.
+fn has_own_record(alloc: Global, cabinet: &MemoryCabinet) -> Result<bool, Fail> {
+    let record = folded(alloc, cabinet.file("RECORD").ok_or("no record")?)?;
+    Ok(fits(record.as_str(), "ENTRY 1 CALLER 0;QBA003;OBA003 *"))
+}
+
+/// Whether a desk without clients has these three pairs, and leaves the file as it is.
+fn is_still<R: Threads + Wait + Sync>(
+    rt: &R,
+    alloc: Global,
+    cabinet: &mut MemoryCabinet,
+    three: &[u8],
+) -> Result<bool, Fail> {
+    let none: [&str; 0] = [];
+    let still = calm(rt, alloc, cabinet, three, &none)?;
+    Ok(still.said.as_str() == "0 KEPT 3;ENTRIES 0;LINKS 0;" && still.bytes.as_slice() == three)
 }
 
 /// Two workers write one journal.
@@ -135,10 +194,8 @@ fn a_journal_is_begun_and_opened_again(rt: HostRuntime) -> Result<(), Fail> {
 fn two_workers_keep_one_journal(rt: HostRuntime) -> Result<(), Fail> {
     let alloc = rt.alloc();
     let mut cabinet = served_cabinet(&rt, alloc)?;
-    let both = [ASKS, QUERY];
-    let ran = run(&rt, alloc, &mut cabinet, b"", Vec::new(alloc), &both, None)?;
-    assert_eq!(rt; ran.said.as_str(), "0 KEPT 0;ENTRIES 3;LINKS 2;");
-    assert_eq!(rt; ran.bytes.len(), 785);
+    let ran = calm(&rt, alloc, &mut cabinet, b"", &[ASKS, QUERY])?;
+    assert!(rt; is_run(&ran, "0 KEPT 0;ENTRIES 3;LINKS 2;", 785));
     assert_eq!(rt; kept(&rt, alloc, &mut cabinet, &ran.bytes)?, 3);
     Ok(())
 }
@@ -181,43 +238,68 @@ fn changed(alloc: Global, file: &[u8], place: usize, value: u8) -> Result<Vec<u8
     Ok(out)
 }
 
-/// Files that are refused, and one of this season and one of another.
+/// Whether a desk says this of a file, which stays as it is, and sends nothing.
+fn is_refused<R: Threads + Wait + Sync>(
+    rt: &R,
+    alloc: Global,
+    cabinet: &mut MemoryCabinet,
+    file: &[u8],
+    due: &str,
+) -> Result<bool, Fail> {
+    let ran = resume(rt, alloc, cabinet, file, ASKS)?;
+    Ok(ran.said.as_str() == due && ran.bytes.as_slice() == file && ran.sent.is_empty())
+}
+
+const LINE: &str = "NBA002 30MAR25OCT 1234567 180320 JFK0620 J;";
+
+/// A file that is no journal, and none.
 #[test]
 fn files_are_refused(rt: HostRuntime) -> Result<(), Fail> {
     let alloc = rt.alloc();
     let mut cabinet = served_cabinet(&rt, alloc)?;
     let zeros = vec![in alloc; 0; 300]?;
-    let ran = resume(&rt, alloc, &mut cabinet, &zeros, ASKS)?;
-    assert_eq!(rt; ran.said.as_str(), "13 JOURNAL OTHER;");
-    assert!(rt; ran.bytes == zeros && ran.sent.is_empty());
+    assert!(rt; is_refused(&rt, alloc, &mut cabinet, &zeros, "13 JOURNAL OTHER;")?);
     assert!(rt; cabinet.file("RECORD").is_none());
-    let line = "NBA002 30MAR25OCT 1234567 180320 JFK0620 J;";
-    let here = one_slot(alloc, line)?;
-    assert_eq!(rt; kept(&rt, alloc, &mut cabinet, &here)?, 1);
-    let winter = one_slot(alloc, "NBA002 26OCT28MAR 1234567 180320 JFK0620 J;")?;
-    let empty = one_slot(alloc, "")?;
-    let cut = part(&here, 0, 272)?;
-    for file in [winter.as_slice(), empty.as_slice(), cut] {
-        let ran = resume(&rt, alloc, &mut cabinet, file, ASKS)?;
-        assert_eq!(rt; ran.said.as_str(), "13 JOURNAL SLOT 0;");
-        assert!(rt; ran.bytes.as_slice() == file && ran.sent.is_empty());
-    }
-    let mut none = None;
-    let mut doors = Vec::new(alloc);
-    doors.push(door_of(alloc, ASKS, 0, None, None)?)?;
-    let doors = &mut doors;
-    let said = call_with_disk(
-        &rt,
-        alloc,
-        WORDS,
-        &mut cabinet,
-        None,
-        doors,
-        &RealGate,
-        &mut none,
-    )?;
-    assert_eq!(rt; said.as_str(), "13 JOURNAL NONE;");
+    assert!(rt; is_without_disk(&rt, alloc, &mut cabinet)?);
     Ok(())
+}
+
+fn is_without_disk<R: Threads + Wait + Sync>(
+    rt: &R,
+    alloc: Global,
+    cabinet: &mut MemoryCabinet,
+) -> Result<bool, Fail> {
+    let mut doors = doors_of(alloc, &[ASKS], None)?;
+    let mut none = None;
+    let said = call_with_disk(
+        rt, alloc, WORDS, cabinet, None, &mut doors, &RealGate, &mut none,
+    )?;
+    Ok(said.as_str() == "13 JOURNAL NONE;")
+}
+
+/// A slot of this season, and its front; one of another season, and one without a text.
+#[test]
+fn slots_are_refused(rt: HostRuntime) -> Result<(), Fail> {
+    let alloc = rt.alloc();
+    let mut cabinet = served_cabinet(&rt, alloc)?;
+    let here = one_slot(alloc, LINE)?;
+    assert_eq!(rt; kept(&rt, alloc, &mut cabinet, &here)?, 1);
+    let cut = part(&here, 0, 272)?;
+    assert!(rt; is_refused(&rt, alloc, &mut cabinet, cut, "13 JOURNAL SLOT 0;")?);
+    for text in ["NBA002 26OCT28MAR 1234567 180320 JFK0620 J;", ""] {
+        assert!(rt; is_slot_refused(&rt, alloc, &mut cabinet, text)?, "{text}");
+    }
+    Ok(())
+}
+
+fn is_slot_refused<R: Threads + Wait + Sync>(
+    rt: &R,
+    alloc: Global,
+    cabinet: &mut MemoryCabinet,
+    text: &str,
+) -> Result<bool, Fail> {
+    let file = one_slot(alloc, text)?;
+    is_refused(rt, alloc, cabinet, &file, "13 JOURNAL SLOT 0;")
 }
 
 /// One byte of an open slot is another: its length, and each behind its text.
@@ -225,17 +307,30 @@ fn files_are_refused(rt: HostRuntime) -> Result<(), Fail> {
 fn damaged_slots_are_refused(rt: HostRuntime) -> Result<(), Fail> {
     let alloc = rt.alloc();
     let mut cabinet = served_cabinet(&rt, alloc)?;
-    let text = "NBA002 30MAR25OCT 1234567 180320 JFK0620 J;";
-    let whole = one_slot(alloc, text)?;
+    let whole = one_slot(alloc, LINE)?;
     for place in 18..272 {
-        if place > 18 && place < 19 + text.len() {
+        if place > 18 && place < 19 + LINE.len() {
             continue;
         }
-        let file = changed(alloc, &whole, place, 99)?;
-        let ran = resume(&rt, alloc, &mut cabinet, &file, QUERY)?;
-        assert!(rt; ran.said.as_str() == "13 JOURNAL SLOT 0;", "{place}");
+        assert!(rt;
+            is_damaged(&rt, alloc, &mut cabinet, &whole, place)?,
+            "{place}"
+        );
     }
     Ok(())
+}
+
+/// Whether a slot is refused that has another byte at a place.
+fn is_damaged<R: Threads + Wait + Sync>(
+    rt: &R,
+    alloc: Global,
+    cabinet: &mut MemoryCabinet,
+    whole: &[u8],
+    place: usize,
+) -> Result<bool, Fail> {
+    let file = changed(alloc, whole, place, 99)?;
+    let ran = resume(rt, alloc, cabinet, &file, QUERY)?;
+    Ok(ran.said.as_str() == "13 JOURNAL SLOT 0;")
 }
 
 /// Each call of the disk fails once: five of the opening, and four for each ask. What was entered
@@ -245,24 +340,73 @@ fn each_call_of_the_disk_fails(rt: HostRuntime) -> Result<(), Fail> {
     let alloc = rt.alloc();
     let mut cabinet = served_cabinet(&rt, alloc)?;
     for call in 0..13 {
-        for part in [0, 1, 200, 999] {
-            let failing = [Failure::after(call, part)].to_vec(alloc)?;
-            let ran = run(&rt, alloc, &mut cabinet, b"", failing, &[ASKS], None)?;
-            assert!(rt; ran.sent.is_empty(), "call {call}, {part} bytes");
-            let found = kept(&rt, alloc, &mut cabinet, &ran.bytes)?;
-            if call < 5 {
-                assert_eq!(rt; ran.said.as_str(), "14 JOURNAL FAULT;");
-                assert_eq!(rt; found, 0);
-                continue;
-            }
-            let entered = (call as usize - 5) / 4;
-            let due = format!(in alloc; "14 KEPT 0;ENTRIES {entered};LINKS 1;")?;
-            assert_eq!(rt; ran.said.as_str(), due.as_str());
-            let may_have_more = (call - 5) % 4 >= 2;
-            assert!(rt; found == entered || may_have_more && found == entered + 1);
-        }
+        assert!(rt;
+            may_fail(&rt, alloc, &mut cabinet, b"", ASKS, call)?,
+            "call {call}"
+        );
     }
     Ok(())
+}
+
+/// The same of a journal of two pairs: three of the five calls read it.
+#[test]
+fn each_call_of_a_later_opening_fails(rt: HostRuntime) -> Result<(), Fail> {
+    let alloc = rt.alloc();
+    let mut cabinet = served_cabinet(&rt, alloc)?;
+    let two = resume(&rt, alloc, &mut cabinet, b"", ASKS)?;
+    for call in 0..9 {
+        let kept = may_fail(&rt, alloc, &mut cabinet, &two.bytes, QUERY, call)?;
+        assert!(rt; kept, "call {call}");
+    }
+    Ok(())
+}
+
+/// Whether a call of the disk may fail, after any of these numbers of bytes.
+fn may_fail<R: Threads + Wait + Sync>(
+    rt: &R,
+    alloc: Global,
+    cabinet: &mut MemoryCabinet,
+    file: &[u8],
+    client: &str,
+    call: u64,
+) -> Result<bool, Fail> {
+    for part in [0, 1, 200, 999] {
+        let failing = [Failure::after(call, part)].to_vec(alloc)?;
+        if !may_fail_after(rt, alloc, cabinet, file, client, call, failing)? {
+            return Ok(false);
+        }
+    }
+    Ok(true)
+}
+
+fn may_fail_after<R: Threads + Wait + Sync>(
+    rt: &R,
+    alloc: Global,
+    cabinet: &mut MemoryCabinet,
+    file: &[u8],
+    client: &str,
+    call: u64,
+    failing: Vec<Failure>,
+) -> Result<bool, Fail> {
+    let ran = run(rt, alloc, cabinet, None, file, failing, &[client], None)?;
+    let found = kept(rt, alloc, cabinet, &ran.bytes)?;
+    Ok(ran.sent.is_empty() && is_failed(alloc, file, &ran, call, found as u64)?)
+}
+
+/// Whether a run on a file said that this call failed, and so many pairs were found behind it.
+fn is_failed(alloc: Global, file: &[u8], ran: &Ran, call: u64, found: u64) -> Result<bool, Fail> {
+    let pairs = file.len() as u64 / 256;
+    let Some(behind) = call.checked_sub(5) else {
+        return Ok(
+            ran.said.as_str() == "14 JOURNAL FAULT;"
+                && found == pairs
+                && (file.is_empty() || ran.bytes.as_slice() == file),
+        );
+    };
+    let entered = behind / 4;
+    let due = format!(in alloc; "14 KEPT {pairs};ENTRIES {entered};LINKS 1;")?;
+    let more = found.wrapping_sub(pairs).wrapping_sub(entered);
+    Ok(ran.said.as_str() == due.as_str() && (more == 0 || more == 1 && behind % 4 >= 2))
 }
 
 /// The status of a disk that failed comes before that of a door, and a file that is not in its form
@@ -271,26 +415,38 @@ fn each_call_of_the_disk_fails(rt: HostRuntime) -> Result<(), Fail> {
 fn statuses_have_an_order(rt: HostRuntime) -> Result<(), Fail> {
     let alloc = rt.alloc();
     let mut cabinet = served_cabinet(&rt, alloc)?;
-    let both = [ASKS, QUERY];
-    let accept = Some(Failure::at(0));
-    let ran = run(
-        &rt,
-        alloc,
-        &mut cabinet,
-        b"",
-        Vec::new(alloc),
-        &both,
-        accept,
-    )?;
-    assert_eq!(rt; ran.said.as_str(), "10 KEPT 0;ENTRIES 2;LINKS 1;");
+    let none = Vec::new(alloc);
+    let said = says(&rt, alloc, &mut cabinet, none, Some(Failure::at(0)))?;
+    assert_eq!(rt; said.as_str(), "10 KEPT 0;ENTRIES 2;LINKS 1;");
     let failing = [Failure::at(6)].to_vec(alloc)?;
-    let ran = run(&rt, alloc, &mut cabinet, b"", failing, &both, accept)?;
-    assert_eq!(rt; ran.said.as_str(), "14 KEPT 0;ENTRIES 0;LINKS 1;");
+    let said = says(&rt, alloc, &mut cabinet, failing, Some(Failure::at(0)))?;
+    assert_eq!(rt; said.as_str(), "14 KEPT 0;ENTRIES 0;LINKS 1;");
     let _ = cabinet.load("CERT", b"CERT 3\n");
     let failing = [Failure::at(0)].to_vec(alloc)?;
-    let ran = run(&rt, alloc, &mut cabinet, b"", failing, &both, None)?;
-    assert_eq!(rt; ran.said.as_str(), "3 FORM CERT 1;");
+    let said = says(&rt, alloc, &mut cabinet, failing, None)?;
+    assert_eq!(rt; said.as_str(), "3 FORM CERT 1;");
     Ok(())
+}
+
+/// What a desk says over two doors, an accept of the first of which may fail.
+fn says<R: Threads + Wait + Sync>(
+    rt: &R,
+    alloc: Global,
+    cabinet: &mut MemoryCabinet,
+    failing: Vec<Failure>,
+    accept: Option<Failure>,
+) -> Result<String, Fail> {
+    let ran = run(
+        rt,
+        alloc,
+        cabinet,
+        None,
+        b"",
+        failing,
+        &[QUERY, ASKS],
+        accept,
+    )?;
+    Ok(ran.said.clone()?)
 }
 
 /// A front of a file, and so many bytes of a filling behind it.
@@ -302,88 +458,151 @@ fn image(alloc: Global, front: &[u8], count: usize, filling: &[u8]) -> Result<Ve
     Ok(bytes)
 }
 
-/// A stop while a short file is made anew, and while a pair is put, before its first sync: any
-/// length and any bytes behind what stood before. Then while its gate is opened: any value of the
-/// gate.
+/// Whether a desk finds so many pairs in a file of a front and so many bytes of a filling.
+fn finds<R: Threads + Wait + Sync>(
+    rt: &R,
+    alloc: Global,
+    cabinet: &mut MemoryCabinet,
+    front: &[u8],
+    count: usize,
+    filling: &[u8],
+    pairs: usize,
+) -> Result<bool, Fail> {
+    let file = image(alloc, front, count, filling)?;
+    Ok(kept(rt, alloc, cabinet, &file)? == pairs)
+}
+
+/// A stop while a short file is made anew: any length, and any bytes.
 #[test]
-fn images_of_a_stop_are_opened(rt: HostRuntime) -> Result<(), Fail> {
+fn images_of_a_short_file_are_opened(rt: HostRuntime) -> Result<(), Fail> {
     let alloc = rt.alloc();
     let mut cabinet = served_cabinet(&rt, alloc)?;
-    let ran = resume(&rt, alloc, &mut cabinet, b"", ASKS)?;
-    let two = ran.bytes.as_slice();
-    let zeros = vec![in alloc; 0; 256]?;
+    let two = resume(&rt, alloc, &mut cabinet, b"", ASKS)?;
     for count in 0..18 {
-        for filling in [two, zeros.as_slice()] {
-            let file = image(alloc, b"", count, filling)?;
-            assert_eq!(rt; kept(&rt, alloc, &mut cabinet, &file)?, 0);
-        }
-    }
-    for pairs in 0..2 {
-        let gate = 16 + 256 * pairs;
-        let slot = part(two, gate + 1, gate + 256)?;
-        let mut front = Vec::from_slice(alloc, part(two, 0, gate)?)?;
-        front.push(0)?;
-        for count in [0, 1, 2, 63, 254, 255, 256] {
-            for filling in [slot, zeros.as_slice(), two, b"".as_slice()] {
-                let file = image(alloc, &front, count, filling)?;
-                assert_eq!(rt; kept(&rt, alloc, &mut cabinet, &file)?, pairs);
-            }
-        }
-        for value in [0, 1, 2, 128, 255] {
-            let file = image(alloc, &front, 256, slot)?;
-            let file = changed(alloc, &file, gate, value)?;
-            let due = if value == 1 { pairs + 1 } else { pairs };
-            assert_eq!(rt; kept(&rt, alloc, &mut cabinet, &file)?, due);
-        }
+        let bytes = &two.bytes;
+        let is_empty = finds(&rt, alloc, &mut cabinet, b"", count, bytes, 0)?
+            && finds(&rt, alloc, &mut cabinet, b"", count, &[0; 18], 0)?;
+        assert!(rt; is_empty, "{count} bytes");
     }
     Ok(())
 }
 
-/// Runs the desk on these files, of which a call is to fail, or the output, and gives what it said
-/// and how many pairs the journal has then.
-fn run_failing<R: Threads + Wait + Sync>(
+/// A stop while a pair is put, before its first sync: any length and any bytes behind what stood
+/// before. Then while its gate is opened: any value of the gate.
+#[test]
+fn images_of_a_stop_are_opened(rt: HostRuntime) -> Result<(), Fail> {
+    let alloc = rt.alloc();
+    let mut cabinet = served_cabinet(&rt, alloc)?;
+    let two = resume(&rt, alloc, &mut cabinet, b"", ASKS)?;
+    for pairs in 0..2 {
+        let gate = 16 + 256 * pairs;
+        let front = part(&two.bytes, 0, gate)?;
+        let slot = part(&two.bytes, gate + 1, gate + 256)?;
+        let is_found = are_slots_found(&rt, alloc, &mut cabinet, front, slot, &two.bytes, pairs)?
+            && are_gates_found(&rt, alloc, &mut cabinet, front, slot, pairs)?;
+        assert!(rt; is_found, "{pairs} pairs");
+    }
+    Ok(())
+}
+
+/// Whether so many pairs are found behind a stop before the first sync, where the slot's bytes, or
+/// others, have come in part.
+fn are_slots_found<R: Threads + Wait + Sync>(
     rt: &R,
+    alloc: Global,
+    cabinet: &mut MemoryCabinet,
+    front: &[u8],
+    slot: &[u8],
+    two: &[u8],
+    pairs: usize,
+) -> Result<bool, Fail> {
+    let closed = image(alloc, front, 1, &[0])?;
+    let zeros = vec![in alloc; 0; 256]?;
+    for filling in [slot, zeros.as_slice(), two, b"".as_slice()] {
+        if !is_each_found(rt, alloc, cabinet, &closed, filling, pairs)? {
+            return Ok(false);
+        }
+    }
+    Ok(true)
+}
+
+fn is_each_found<R: Threads + Wait + Sync>(
+    rt: &R,
+    alloc: Global,
+    cabinet: &mut MemoryCabinet,
+    closed: &[u8],
+    filling: &[u8],
+    pairs: usize,
+) -> Result<bool, Fail> {
+    for count in [0, 1, 2, 63, 254, 255, 256] {
+        if !finds(rt, alloc, cabinet, closed, count, filling, pairs)? {
+            return Ok(false);
+        }
+    }
+    Ok(true)
+}
+
+/// Whether so many pairs are found behind a stop while the gate is opened, or with gate 1 one more.
+fn are_gates_found<R: Threads + Wait + Sync>(
+    rt: &R,
+    alloc: Global,
+    cabinet: &mut MemoryCabinet,
+    front: &[u8],
+    slot: &[u8],
+    pairs: usize,
+) -> Result<bool, Fail> {
+    for value in [0, 1, 2, 128, 255] {
+        let due = if value == 1 {
+            pairs.wrapping_add(1)
+        } else {
+            pairs
+        };
+        let file = image(alloc, front, 1, &[value])?;
+        if !finds(rt, alloc, cabinet, &file, 256, slot, due)? {
+            return Ok(false);
+        }
+    }
+    Ok(true)
+}
+
+/// A cabinet with the files of another one that the desk reads, of which a call is to fail.
+fn copied(
     alloc: Global,
     files: &MemoryCabinet,
     call: Option<Failure>,
-    sink: Option<Failure>,
-) -> Result<(String, usize), Fail> {
+) -> Result<MemoryCabinet, Fail> {
     let mut cabinet = new_cabinet(alloc, 300_000, call)?;
     for name in ["CAP", "SCR", "CERT"] {
         let _ = cabinet.load(name, files.file(name).ok_or("no such file")?);
     }
-    let mut disk = Some(MemoryDisk::new(alloc, b"", ROOM, 99, Vec::new(alloc))?);
-    let mut doors = Vec::new(alloc);
-    doors.push(door_of(alloc, ASKS, 0, None, None)?)?;
-    let said = call_with_disk(
-        rt,
-        alloc,
-        WORDS,
-        &mut cabinet,
-        sink,
-        &mut doors,
-        &RealGate,
-        &mut disk,
-    )?;
-    let Some(disk) = disk else {
-        return Err("the disk is gone".into());
-    };
-    let mut whole = served_cabinet(rt, alloc)?;
-    let found = kept(rt, alloc, &mut whole, disk.bytes())?;
-    Ok((said, found))
+    Ok(cabinet)
+}
+
+/// Whether the desk says this on these files, of which a call is to fail, or the output, and the
+/// journal has both pairs then.
+fn stands_behind<R: Threads + Wait + Sync>(
+    rt: &R,
+    alloc: Global,
+    files: &mut MemoryCabinet,
+    call: Option<Failure>,
+    sink: Option<Failure>,
+    due: &str,
+) -> Result<bool, Fail> {
+    let mut cabinet = copied(alloc, files, call)?;
+    let none = Vec::new(alloc);
+    let ran = run(rt, alloc, &mut cabinet, sink, b"", none, &[ASKS], None)?;
+    Ok(ran.said.as_str() == due && kept(rt, alloc, files, &ran.bytes)? == 2)
 }
 
 /// The record cannot be written, or what is said not be put: the journal has all entries.
 #[test]
 fn the_journal_stands_where_the_record_fails(rt: HostRuntime) -> Result<(), Fail> {
     let alloc = rt.alloc();
-    let files = served_cabinet(&rt, alloc)?;
+    let mut files = served_cabinet(&rt, alloc)?;
     let fails = Some(Failure::at(3));
-    let (said, found) = run_failing(&rt, alloc, &files, fails, None)?;
-    assert_eq!(rt; said.as_str(), "5 CABINET RECORD WRITE;");
-    assert_eq!(rt; found, 2);
-    let (said, found) = run_failing(&rt, alloc, &files, None, Some(Failure::at(0)))?;
-    assert_eq!(rt; said.as_str(), "6 ");
-    assert_eq!(rt; found, 2);
+    let due = "5 CABINET RECORD WRITE;";
+    assert!(rt; stands_behind(&rt, alloc, &mut files, fails, None, due)?);
+    let fails = Some(Failure::at(0));
+    assert!(rt; stands_behind(&rt, alloc, &mut files, None, fails, "6 ")?);
     Ok(())
 }

@@ -1,7 +1,7 @@
 //! The rows of `serve`: sessions worked by hand over links in memory, devices that fail at each call,
 //! and two workers that run at once.
 
-use crate::desk_calls::{call_desk, door_of, new_cabinet};
+use crate::desk_calls::{call_alone, call_desk, door_of, doors_of, first_link, new_cabinet};
 use crate::play::play_script;
 use crate::texts::{folded, spelled_out};
 use desk_links::MemoryDoor;
@@ -210,6 +210,8 @@ const TWO_ENTRIES: &str = "ENTRY 1 CALLER 0;NBA002 30MAR25OCT 1234567 180320 JFK
     KBA002 30MAR25OCT 1234567 180320 JFK0620 J;ENTRY 2 CALLER 0;QBA002;\
     HBA002 30MAR25OCT 1234567 180320 JFK0620 J;";
 
+const WORDS: &str = "serve CAP SCR CERT RECORD";
+
 const TWO_ASKS: &str = "SCR;S25;20NOV;ABC;NBA002 30MAR25OCT 1234567 180320 JFK0620 J;QBA002;;";
 
 /// A cabinet with a season and its certificate.
@@ -220,9 +222,7 @@ pub(crate) fn served_cabinet<R: Threads + Wait + Sync>(
     let mut cabinet = new_cabinet(alloc, 4_000_000, None)?;
     let _ = cabinet.load("CAP", &spelled_out(alloc, CAP)?);
     let _ = cabinet.load("SCR", &spelled_out(alloc, SCR)?);
-    let words = "allocate CAP SCR CERT REPLIES";
-    let mut none: Vec<MemoryDoor> = Vec::new(alloc);
-    call_desk(rt, alloc, words, &mut cabinet, None, &mut none, &RealGate)?;
+    call_alone(rt, alloc, "allocate CAP SCR CERT REPLIES", &mut cabinet)?;
     Ok(cabinet)
 }
 
@@ -268,9 +268,7 @@ impl Gate for Meeting {
 fn two_workers_serve_at_once(rt: HostRuntime) -> Result<(), Fail> {
     let alloc = rt.alloc();
     let mut cabinet = served_cabinet(&rt, alloc)?;
-    let mut doors = Vec::new(alloc);
-    doors.push(door_of(alloc, TWO_ASKS, 0, None, None)?)?;
-    doors.push(door_of(alloc, TWO_ASKS, 0, None, None)?)?;
+    let mut doors = doors_of(alloc, &[TWO_ASKS, TWO_ASKS], None)?;
     let gate = Meeting {
         came: AtomicU64::new(0),
         lines: AtomicU64::new(0),
@@ -284,26 +282,56 @@ fn two_workers_serve_at_once(rt: HostRuntime) -> Result<(), Fail> {
 }
 
 // 101 messages of 991 queries for a flight that holds nothing: the history is full behind the 900th
-// ask of the last one, which has no reply.
+// ask of the last one, which has no reply. A door that fails beside it comes before that.
 #[test]
 fn a_history_is_full(rt: HostRuntime) -> Result<(), Fail> {
     let alloc = rt.alloc();
-    let mut cabinet = served_cabinet(&rt, alloc)?;
+    let text = too_many_queries(alloc)?;
+    let said = served(&rt, alloc, &[text.as_str()], None)?;
+    assert_eq!(rt; said.as_str(), "11 ENTRIES 100000;LINKS 1;695600");
+    let both = [TWO_ASKS, text.as_str()];
+    let said = served(&rt, alloc, &both, Some(Failure::at(0)))?;
+    assert_eq!(rt; said.as_str(), "10 ENTRIES 100000;LINKS 1;695600");
+    Ok(())
+}
+
+/// What the desk says over a door for each text of clients, of which an accept of the first may
+/// fail, and how many bytes the first link of the last door was sent.
+fn served<R: Threads + Wait + Sync>(
+    rt: &R,
+    alloc: Global,
+    clients: &[&str],
+    accept: Option<Failure>,
+) -> Result<String, Fail> {
+    let mut cabinet = served_cabinet(rt, alloc)?;
+    served_over(rt, alloc, &mut cabinet, clients, accept)
+}
+
+fn served_over<R: Threads + Wait + Sync>(
+    rt: &R,
+    alloc: Global,
+    cabinet: &mut MemoryCabinet,
+    clients: &[&str],
+    accept: Option<Failure>,
+) -> Result<String, Fail> {
+    let mut doors = doors_of(alloc, clients, accept)?;
+    let said = call_desk(rt, alloc, WORDS, cabinet, None, &mut doors, &RealGate)?;
+    let last = doors.len().saturating_sub(1);
+    let sent = sent_length(doors.as_slice(), last).ok_or("no link")?;
+    Ok(format!(in alloc; "{said}{sent}")?)
+}
+
+fn too_many_queries(alloc: Global) -> Result<String, Fail> {
     let mut text = String::new(alloc);
     for _message in 0..101 {
         text.push_str("SCR;S25;20NOV;ABC;{991 QBA009;};")?;
     }
-    let words = "serve CAP SCR CERT RECORD";
-    let mut doors = Vec::new(alloc);
-    doors.push(door_of(alloc, text.as_str(), 0, None, None)?)?;
-    let said = call_desk(&rt, alloc, words, &mut cabinet, None, &mut doors, &RealGate)?;
-    assert_eq!(rt; said.as_str(), "11 ENTRIES 100000;LINKS 1;");
-    let sent = doors
-        .get(0)
-        .and_then(|door| door.kept().get(0))
-        .map(|link| link.sent().len());
-    assert_eq!(rt; sent, Some(695_600));
-    Ok(())
+    Ok(text)
+}
+
+/// How many bytes the first link of a door was sent.
+fn sent_length(doors: &[MemoryDoor], door: usize) -> Option<usize> {
+    Some(first_link(doors, door)?.sent().len())
 }
 
 // One link in pieces of one byte, of which each take and the put fail in turn: the desk goes on, what
@@ -314,21 +342,43 @@ fn each_call_of_a_link_fails(rt: HostRuntime) -> Result<(), Fail> {
     let mut cabinet = served_cabinet(&rt, alloc)?;
     let takes = spelled_out(alloc, TWO_ASKS)?.len();
     for call in 0..takes + 3 {
-        let mut doors = Vec::new(alloc);
-        doors.push(door_of(alloc, TWO_ASKS, 1, Some(Failure::at(call as u64)), None)?)?;
-        let words = "serve CAP SCR CERT RECORD";
-        let said = call_desk(&rt, alloc, words, &mut cabinet, None, &mut doors, &RealGate)?;
-        let entries = if call < takes { 0 } else { 2 };
-        let due = format!(in alloc; "0 ENTRIES {entries};LINKS 1;")?;
-        assert_eq!(rt; said.as_str(), due.as_str());
-        let sent = doors
-            .get(0)
-            .and_then(|door| door.kept().get(0))
-            .map(|link| link.sent().len());
-        assert_eq!(rt; sent == Some(0), call <= takes);
-        let due = if call < takes { "" } else { TWO_ENTRIES };
-        let record = cabinet.file("RECORD").unwrap_or(b"none");
-        assert_eq!(rt; folded(alloc, record)?.as_str(), due);
+        assert!(rt;
+            goes_on(&rt, alloc, &mut cabinet, takes, call)?,
+            "call {call}"
+        );
     }
     Ok(())
+}
+
+/// Whether the desk goes on where this call of its link fails, of which so many are takes.
+fn goes_on<R: Threads + Wait + Sync>(
+    rt: &R,
+    alloc: Global,
+    cabinet: &mut MemoryCabinet,
+    takes: usize,
+    call: usize,
+) -> Result<bool, Fail> {
+    let mut doors = Vec::new(alloc);
+    doors.push(door_of(alloc, TWO_ASKS, 1, Some(Failure::at(call as u64)), None)?)?;
+    let said = call_desk(rt, alloc, WORDS, cabinet, None, &mut doors, &RealGate)?;
+    let sent = sent_length(doors.as_slice(), 0);
+    Ok(
+        (sent == Some(0)) == (call <= takes)
+            && has_entered(alloc, cabinet, said.as_str(), call >= takes)?,
+    )
+}
+
+/// Whether the desk said and recorded that both asks were entered, or that none was.
+fn has_entered(
+    alloc: Global,
+    cabinet: &MemoryCabinet,
+    said: &str,
+    entered: bool,
+) -> Result<bool, Fail> {
+    let record = folded(alloc, cabinet.file("RECORD").unwrap_or(b"none"))?;
+    Ok(if entered {
+        said == "0 ENTRIES 2;LINKS 1;" && record.as_str() == TWO_ENTRIES
+    } else {
+        said == "0 ENTRIES 0;LINKS 1;" && record.as_str() == ""
+    })
 }

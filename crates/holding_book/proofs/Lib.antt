@@ -4,6 +4,7 @@ mod GrowthLemmas
 mod FlightLemmas
 mod PlacesLemmas
 mod LoadLemmas
+mod LeftLemmas
 mod FitLemmas
 mod NextLemmas
 mod ChangeLemmas

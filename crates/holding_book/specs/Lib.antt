@@ -1,5 +1,6 @@
 pub mod Lines
 pub mod Books
+pub mod Left
 pub mod Asks
 pub mod Replied
 pub mod Rooms

@@ -2,9 +2,12 @@
 
 ghost use Rattle.std.specs.Prelude.{◌≡◌, ◌↔◌, ◌+◌, ◌<◌, ◌≤◌, ◌^◌, length, slice_get, Some, None, IsSome, IsNone, IsTrue, IfOk, OnOk, IfErr, IfSome};
 ghost use Rattle.std.specs.Option.{ForSome};
+ghost use Rattle.season_days.specs.Capacity.{capacity_of, declared_resources};
+ghost use Rattle.season_days.specs.declared.declaration.TheConstants.{HIGHEST_NIGHT_LIMIT};
 ghost use Rattle.scr_reader.specs.Printed.{LineFits};
 ghost use Rattle.holding_book.specs.declared.book.TheConstants.{MOST_NEW_FLIGHTS};
-ghost use Rattle.holding_book.specs.Books.{SlotBook, IsBook, places_of};
+ghost use Rattle.holding_book.specs.Books.{SlotBook, IsBook, places_of, clashes_with};
+ghost use Rattle.holding_book.specs.Left.{left_of};
 ghost use Rattle.holding_book.specs.Asks.{CanAsk, outcome, reply, next};
 ghost use Rattle.holding_book.specs.Replied.{HasAnswerLines};
 ghost use Rattle.holding_book.specs.Private.Steps.{IsAskStep};
@@ -14,6 +17,7 @@ ghost use Rattle.holding_book.specs.Starts.{start_book, HasFeasibleChoices};
 
 use crate::answer::Answer;
 use crate::change::{Change, put_lists};
+use crate::finding::clashes_with_held;
 use crate::holding::Holding;
 use crate::laws::{answer_lines, next_fits};
 use crate::loads::Loads;
@@ -165,6 +169,25 @@ impl Book {
         ensures { result.now ≡ places_of flight.now self.now.book.holdings }
     {
         self.places.of_flight(flight)
+    }
+
+    /// Whether a line clashes with one of the holdings: has a common date with it, and the same
+    /// arrival flight or the same departure flight. One step a holding of its flights.
+    pub fn clashes(&self, line: &Line) -> bool
+        ensures { result
+            ≡ clashes_with self.now.book.declaration.season line.now self.now.book.holdings }
+    {
+        let season = &self.loads.declaration().season;
+        clashes_with_held(season, line, &self.holdings, &self.places)
+    }
+
+    /// What all holdings leave of a resource's limit, as the book keeps it: one step.
+    pub fn left(&self, resource: u32) -> u32
+        requires { resource < declared_resources (capacity_of self.now.book.declaration) }
+        ensures value { result ≡ left_of self.now.book resource }
+        ensures few { result ≤ HIGHEST_NIGHT_LIMIT }
+    {
+        self.loads.left(resource)
     }
 
     /// The line at the cheapest alternative at which it fits beside the holdings, the first of

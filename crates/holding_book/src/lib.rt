@@ -26,4 +26,5 @@ mod uses;
 pub use answer::{Answer, Entry};
 pub use book::{Book, Hint, MOST_NEW_FLIGHTS, asks_new};
 pub use holding::{Holding, HoldingList, State};
+pub use lines::clashes;
 pub use room::Room;

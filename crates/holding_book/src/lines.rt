@@ -42,7 +42,7 @@ fn shares_flight(one: &Option<Stop>, other: &Option<Stop>) -> bool
 }
 
 /// Whether two lines have a common date, and the same arrival flight or the same departure flight.
-pub(crate) fn clashes(season: &Season, one: &Line, other: &Line) -> bool
+pub fn clashes(season: &Season, one: &Line, other: &Line) -> bool
     ensures { result ≡ clashes season.now one.now other.now }
 {
     (shares_flight(&one.arrival, &other.arrival) || shares_flight(&one.departure, &other.departure))

@@ -88,6 +88,14 @@ impl Loads {
         &self.declaration
     }
 
+    /// What a resource has left.
+    pub fn left(&self, resource: u32) -> u32
+        requires { resource < length self.now.left }
+        ensures { result ≡ slice_index self.now.left resource }
+    {
+        self.left.count(resource)
+    }
+
     /// The uses of a line at some times: one part for each of its movements.
     pub fn parts_at(&self, alloc: Global, line: &Line, times: Times) -> Result<Uses, Memory>
         requires line { LineFits self.now.declaration.season line.now }

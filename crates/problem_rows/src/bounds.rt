@@ -1,12 +1,13 @@
 //! Vectors, their bounds, and floors.
 
 ghost use Rattle.choice_problem.specs.Bounds.{AreRanges};
+ghost use Rattle.price_table.specs.Tables.{IsTableFor};
 
-use crate::problems::{problem, ranges, table, table_of, vector};
+use crate::problems::{problem, ranges, table_of, vector};
 use crate::texts::{Case, piece, seen, walk};
 use choice_problem::{PRICED_SCALE, Problem, Ranges, SCALE_BOUND, Vector, leaf_closes};
 use dual_bound::{floor_of, node_vector, root_vector};
-use price_table::{Totals, bound, closes};
+use price_table::{PriceTable, Totals, bound, closes};
 use std::alloc::Global;
 use std::test::Fail;
 
@@ -73,13 +74,23 @@ struct JudgedCase;
 impl Case for JudgedCase {
     fn find(&mut self, alloc: Global, row: &str) -> Result<String, Fail> {
         let problem = problem(alloc, piece(row, 0))?;
-        let ranges = ranges(alloc, &problem, piece(row, 1))?;
-        let vector = asked(alloc, &problem, &ranges, piece(row, 2))?;
-        let mut out = String::new(alloc);
-        add_prices(alloc, &mut out, &vector)?;
-        add_bound(alloc, &mut out, &problem, &ranges, &vector)?;
-        Ok(out)
+        judged(alloc, &problem, row)
     }
+}
+
+fn judged(alloc: Global, problem: &Problem, row: &str) -> Result<String, Fail> {
+    let ranges = ranges(alloc, problem, piece(row, 1))?;
+    let vector = asked(alloc, problem, &ranges, piece(row, 2))?;
+    shown(alloc, problem, &ranges, &vector)
+}
+
+fn shown(alloc: Global, problem: &Problem, ranges: &Ranges, vector: &Vector) -> Result<String, Fail>
+    requires { AreRanges problem.now ranges.now }
+{
+    let mut out = String::new(alloc);
+    add_prices(alloc, &mut out, vector)?;
+    add_bound(alloc, &mut out, problem, ranges, vector)?;
+    Ok(out)
 }
 
 // A window at half past six; three units that exclude each other, at the root and on both sides of a split; two units by
@@ -126,17 +137,41 @@ fn floors_are_rounded_up(rt: HostRuntime) -> Result<(), Fail> {
 // costs below 80.
 fn agree(alloc: Global, row: &str, prices: &str) -> Result<bool, Fail> {
     let problem = problem(alloc, piece(row, 0))?;
-    let ranges = ranges(alloc, &problem, piece(row, 1))?;
     let scale = seen(piece(row, 2)).unwrap_or(SCALE_BOUND);
+    agree_in(alloc, &problem, piece(row, 1), scale, prices)
+}
+
+fn agree_in(
+    alloc: Global,
+    problem: &Problem,
+    spans: &str,
+    scale: u64,
+    prices: &str,
+) -> Result<bool, Fail> {
+    let ranges = ranges(alloc, problem, spans)?;
     let vector = vector(alloc, prices)?;
-    if !vector.is_for(&problem) || scale >= SCALE_BOUND {
+    let table = table_of(alloc, problem, &vector)?;
+    agree_at(alloc, problem, &ranges, &vector, &table, scale)
+}
+
+fn agree_at(
+    alloc: Global,
+    problem: &Problem,
+    ranges: &Ranges,
+    vector: &Vector,
+    table: &PriceTable,
+    scale: u64,
+) -> Result<bool, Fail>
+    requires ranges { AreRanges problem.now ranges.now }
+    requires table { IsTableFor problem.now table.now }
+{
+    if !vector.is_for(problem) || scale >= SCALE_BOUND {
         return Err("leaf".into());
     }
-    let table = table(alloc, &problem, prices)?;
-    let totals = Totals::of(alloc, &problem, &ranges, &table, scale)?;
+    let totals = Totals::of(alloc, problem, ranges, table, scale)?;
     for cost in 0..80 {
-        let plain = leaf_closes(&problem, &ranges, &vector, scale, Some(cost));
-        let fast = closes(&problem, &ranges, &table, scale, Some(cost));
+        let plain = leaf_closes(problem, ranges, vector, scale, Some(cost));
+        let fast = closes(problem, ranges, table, scale, Some(cost));
         if plain != fast || plain != totals.closes(Some(cost)) {
             return Ok(false);
         }
@@ -168,9 +203,7 @@ fn bounds_close_as_leaves_do(rt: HostRuntime) -> Result<(), Fail> {
     let alloc = rt.alloc();
     for row in AGREEING.lines() {
         for prices in AGREEING_PRICES.split('|') {
-            let same = agree(alloc, row, prices);
-            assert!(rt; same.is_ok(), "{row} {prices}");
-            assert!(rt; same?, "{row} {prices}");
+            assert!(rt; agree(alloc, row, prices)?, "{row} {prices}");
         }
     }
     Ok(())

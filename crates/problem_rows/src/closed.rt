@@ -32,11 +32,15 @@ struct ClosedCase;
 impl Case for ClosedCase {
     fn find(&mut self, alloc: Global, row: &str) -> Result<String, Fail> {
         let problem = problem(alloc, piece(row, 0))?;
-        let budget = small_at(&numbers(alloc, piece(row, 1))?, 0);
-        let start = start(alloc, &problem, piece(row, 2))?;
-        let ending = closing_search(alloc, &problem, start, budget)?;
-        shown(alloc, &ending)
+        searched(alloc, &problem, row)
     }
+}
+
+fn searched(alloc: Global, problem: &Problem, row: &str) -> Result<String, Fail> {
+    let budget = small_at(&numbers(alloc, piece(row, 1))?, 0);
+    let start = start(alloc, problem, piece(row, 2))?;
+    let ending = closing_search(alloc, problem, start, budget)?;
+    shown(alloc, &ending)
 }
 
 fn shown(alloc: Global, ending: &Ending) -> Result<String, Fail> {
@@ -97,13 +101,21 @@ fn problems_are_closed(rt: HostRuntime) -> Result<(), Fail> {
     walk(rt.alloc(), &mut ClosedCase, CLOSED)
 }
 
+// The cost of the choice of a number, if it is feasible.
+fn cost_at(alloc: Global, problem: &Problem, number: u32) -> Result<Option<u64>, Fail> {
+    let choice = numbered(alloc, number)?;
+    if choice.is_for(problem) && fits(alloc, problem, &choice)? {
+        Ok(Some(cost_of(problem, &choice)))
+    } else {
+        Ok(None)
+    }
+}
+
 // The least cost of a feasible choice, of all that there are.
 fn least_cost(alloc: Global, problem: &Problem) -> Result<Option<u64>, Fail> {
     let mut least: Option<u64> = None;
     for number in 0..CHOICES {
-        let choice = numbered(alloc, number)?;
-        if choice.is_for(problem) && fits(alloc, problem, &choice)? {
-            let cost = cost_of(problem, &choice);
+        if let Some(cost) = cost_at(alloc, problem, number)? {
             least = Some(least.map_or(cost, |other| other.min(cost)));
         }
     }
@@ -124,10 +136,19 @@ fn drawn_problems_are_closed(rt: HostRuntime) -> Result<(), Fail> {
     let alloc = rt.alloc();
     let mut draws = Draws { last: 5 };
     for number in 0..2_000 {
-        let problem = drawn(alloc, &mut draws)?;
-        let want = least_cost(alloc, &problem)?;
-        let found = closing_search(alloc, &problem, None, 1_000)?;
-        assert!(rt; closed_cost(&found) == Some(want), "{number}");
+        assert!(rt; drawn_is_closed(alloc, &mut draws)?, "{number}");
     }
     Ok(())
+}
+
+// Whether the next problem that is drawn is closed at its least cost.
+fn drawn_is_closed(alloc: Global, draws: &mut Draws) -> Result<bool, Fail> {
+    let problem = drawn(alloc, draws)?;
+    is_closed(alloc, &problem)
+}
+
+fn is_closed(alloc: Global, problem: &Problem) -> Result<bool, Fail> {
+    let want = least_cost(alloc, problem)?;
+    let found = closing_search(alloc, problem, None, 1_000)?;
+    Ok(closed_cost(&found) == Some(want))
 }

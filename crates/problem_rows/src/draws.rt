@@ -28,23 +28,37 @@ impl Draws {
 
 /// A problem of four units with up to four alternatives each over six resources.
 pub(crate) fn drawn(alloc: Global, draws: &mut Draws) -> Result<Problem, Fail> {
-    let mut units = Vec::new(alloc);
-    for _ in 0..4 {
-        let parts = drawn_parts(alloc, draws)?;
-        let alts = drawn_alts(alloc, draws)?;
-        if !Chooser::allows(&parts, &alts) {
-            return Err("unit".into());
-        }
-        units.push(Chooser::new(parts, alts))?;
-    }
-    let mut limits = Vec::new(alloc);
-    for _ in 0..6 {
-        limits.push(draws.below(9) as i64)?;
-    }
+    let units = drawn_units(alloc, draws)?;
+    let limits = drawn_limits(alloc, draws)?;
     if !Problem::allows(&units, &limits) {
         return Err("problem".into());
     }
     Ok(Problem::new(units, limits))
+}
+
+fn drawn_units(alloc: Global, draws: &mut Draws) -> Result<Vec<Chooser>, Fail> {
+    let mut units = Vec::new(alloc);
+    for _ in 0..4 {
+        units.push(drawn_unit(alloc, draws)?)?;
+    }
+    Ok(units)
+}
+
+fn drawn_unit(alloc: Global, draws: &mut Draws) -> Result<Chooser, Fail> {
+    let parts = drawn_parts(alloc, draws)?;
+    let alts = drawn_alts(alloc, draws)?;
+    if !Chooser::allows(&parts, &alts) {
+        return Err("unit".into());
+    }
+    Ok(Chooser::new(parts, alts))
+}
+
+fn drawn_limits(alloc: Global, draws: &mut Draws) -> Result<Vec<i64>, Fail> {
+    let mut limits = Vec::new(alloc);
+    for _ in 0..6 {
+        limits.push(draws.below(9) as i64)?;
+    }
+    Ok(limits)
 }
 
 // Three parts of two strips each.

@@ -72,13 +72,17 @@ fn over(problem: &Problem, ranges: &Ranges, resource: u32) -> Option<bool>
 // whether resource 0 is over.
 fn closed(alloc: Global, row: &str) -> Result<Option<bool>, Fail> {
     let problem = problem(alloc, piece(row, 0))?;
-    let ranges = ranges(alloc, &problem, piece(row, 1))?;
+    closed_in(alloc, &problem, row)
+}
+
+fn closed_in(alloc: Global, problem: &Problem, row: &str) -> Result<Option<bool>, Fail> {
+    let ranges = ranges(alloc, problem, piece(row, 1))?;
     if piece(row, 3) == "over" {
-        return Ok(over(&problem, &ranges, 0));
+        return Ok(over(problem, &ranges, 0));
     }
     let vector = vector(alloc, piece(row, 2))?;
     let scale = seen(piece(row, 3)).unwrap_or(0);
-    Ok(closes(&problem, &ranges, &vector, scale, seen(piece(row, 4))))
+    Ok(closes(problem, &ranges, &vector, scale, seen(piece(row, 4))))
 }
 
 // No prices: the bound is the least costs, 0. Ten for each use: 20 a unit, less 30 for the limits. Scale 0: two uses of a
@@ -129,21 +133,38 @@ impl Case for EdgeCase {
         let (strip, limit) = (piece(row, 0), piece(row, 1));
         let clauses = format!(in alloc; "P {strip}; A 0 0 -; A 7 - -; U; L 9 {limit} 9")?;
         let problem = problem(alloc, &clauses)?;
-        let choice = choice(alloc, "0")?;
-        if !choice.is_for(&problem) {
-            return Err("choice".into());
-        }
-        let fits = fits(alloc, &problem, &choice)?;
-        let ranges = ranges(alloc, &problem, "0 0")?;
-        let vector = vector(alloc, "1 3")?;
-        let mut first = 0;
-        for seen in 0..9 {
-            if closes(&problem, &ranges, &vector, 1, Some(seen)) == Some(true) {
-                first = seen + 1;
-            }
-        }
-        Ok(format!(in alloc; "{fits} {:?} {first}", over(&problem, &ranges, 1))?)
+        edge(alloc, &problem)
     }
+}
+
+fn edge(alloc: Global, problem: &Problem) -> Result<String, Fail> {
+    let fits = first_fits(alloc, problem)?;
+    let ranges = ranges(alloc, problem, "0 0")?;
+    let first = first_open(alloc, problem, &ranges)?;
+    Ok(format!(in alloc; "{fits} {:?} {first}", over(problem, &ranges, 1))?)
+}
+
+// Whether the choice of the first alternative fits.
+fn first_fits(alloc: Global, problem: &Problem) -> Result<bool, Fail> {
+    let choice = choice(alloc, "0")?;
+    if !choice.is_for(problem) {
+        return Err("choice".into());
+    }
+    Ok(fits(alloc, problem, &choice)?)
+}
+
+// The first cost for which a price of 3 on resource 1 does not close.
+fn first_open(alloc: Global, problem: &Problem, ranges: &Ranges) -> Result<u64, Fail>
+    requires { AreRanges problem.now ranges.now }
+{
+    let vector = vector(alloc, "1 3")?;
+    let mut first = 0;
+    for seen in 0..9 {
+        if closes(problem, ranges, &vector, 1, Some(seen)) == Some(true) {
+            first = seen + 1;
+        }
+    }
+    Ok(first)
 }
 
 // A limit of 0; a window that holds one movement twice; four runs in one place.

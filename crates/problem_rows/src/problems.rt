@@ -174,10 +174,15 @@ pub(crate) fn read_problem(alloc: Global, text: &str) -> Result<Option<Problem>,
         allowed,
         ..
     } = draft;
-    if allowed && Problem::allows(&units, &limits) {
-        Ok(Some(Problem::new(units, limits)))
+    Ok(if allowed { made(units, limits) } else { None })
+}
+
+// The problem of these units and limits, where it is allowed.
+fn made(units: Vec<Chooser>, limits: Vec<i64>) -> Option<Problem> {
+    if Problem::allows(&units, &limits) {
+        Some(Problem::new(units, limits))
     } else {
-        Ok(None)
+        None
     }
 }
 
@@ -196,6 +201,21 @@ pub(crate) fn problem(alloc: Global, text: &str) -> Result<Problem, Fail> {
 // A unit on so many dates, whose times lie 5 minutes apart, the requested one in the middle; from half an hour before to
 // 25 minutes after it they use a window that is full on each date: resource r is the window on date r.
 fn window(alloc: Global, dates: u32) -> Result<Option<Problem>, Fail> {
+    let alts = window_alts(alloc, dates)?;
+    let parts = window_parts(alloc, dates)?;
+    if !Chooser::allows(&parts, &alts) {
+        return Ok(None);
+    }
+    full(alloc, vec![in alloc; Chooser::new(parts, alts)]?, dates)
+}
+
+// The problem of these units where each resource is full.
+fn full(alloc: Global, units: Vec<Chooser>, dates: u32) -> Result<Option<Problem>, Fail> {
+    let limits = vec![in alloc; 0; dates as usize]?;
+    Ok(made(units, limits))
+}
+
+fn window_alts(alloc: Global, dates: u32) -> Result<Vec<Alt>, Fail> {
     let mut alts = Vec::new(alloc);
     for place in 0..25_u64 {
         let minutes = 5 * place.abs_diff(12);
@@ -206,23 +226,18 @@ fn window(alloc: Global, dates: u32) -> Result<Option<Problem>, Fail> {
             two: None,
         })?;
     }
+    Ok(alts)
+}
+
+// A part that uses the window of each date once.
+fn window_parts(alloc: Global, dates: u32) -> Result<Vec<Part>, Fail> {
     let strip = Strip {
         first: 0,
         width: 1,
         gap: 1,
         times: dates,
     };
-    let parts = vec![in alloc; Part::new(vec![in alloc; strip]?)]?;
-    if !Chooser::allows(&parts, &alts) {
-        return Ok(None);
-    }
-    let units = vec![in alloc; Chooser::new(parts, alts)]?;
-    let limits = vec![in alloc; 0; dates as usize]?;
-    if Problem::allows(&units, &limits) {
-        Ok(Some(Problem::new(units, limits)))
-    } else {
-        Ok(None)
-    }
+    Ok(vec![in alloc; Part::new(vec![in alloc; strip]?)]?)
 }
 
 /// The whole ranges, narrowed to these: the least and the greatest alternative of each of the first units.

@@ -16,18 +16,28 @@ impl Case for KeptCase {
     fn find(&mut self, alloc: Global, text: &str) -> Result<String, Fail> {
         let problem = problem(alloc, text)?;
         let kept = Reduced::of(alloc, &problem)?;
-        let mut out = String::new(alloc);
-        for (number, class) in kept.classes().iter().enumerate() {
-            out.push_str(&format!(in alloc; "{} to {}:", class.resource, class.limit)?)?;
-            add_users(alloc, &mut out, &kept, number)?;
-            out.push_str(" ")?;
-        }
-        out.push_str("/")?;
-        for part in 0..kept.parts() {
-            add_uses(alloc, &mut out, &kept, part)?;
-        }
-        Ok(out)
+        shown(alloc, &kept)
     }
+}
+
+fn shown(alloc: Global, kept: &Reduced) -> Result<String, Fail> {
+    let mut out = String::new(alloc);
+    add_classes(alloc, &mut out, kept)?;
+    out.push_str("/")?;
+    for part in 0..kept.parts() {
+        add_uses(alloc, &mut out, kept, part)?;
+    }
+    Ok(out)
+}
+
+// The classes with their limits and their users.
+fn add_classes(alloc: Global, out: &mut String, kept: &Reduced) -> Result<(), Fail> {
+    for (number, class) in kept.classes().iter().enumerate() {
+        out.push_str(&format!(in alloc; "{} to {}:", class.resource, class.limit)?)?;
+        add_users(alloc, out, kept, number)?;
+        out.push_str(" ")?;
+    }
+    Ok(())
 }
 
 // The users of a class: from part to part, and how often.
@@ -128,15 +138,26 @@ fn fits_classes(problem: &Problem, kept: &Reduced, choice: &[u32]) -> bool {
 fn agrees(alloc: Global, problem: &Problem) -> Result<bool, Fail> {
     let kept = Reduced::of(alloc, problem)?;
     for number in 0..CHOICES {
-        let choice = numbered(alloc, number)?;
-        if choice.is_for(problem) {
-            let by_classes = fits_classes(problem, &kept, choice.items());
-            if fits(alloc, problem, &choice)? != by_classes {
-                return Ok(false);
-            }
+        if !agrees_at(alloc, problem, &kept, number)? {
+            return Ok(false);
         }
     }
     Ok(true)
+}
+
+// The same of the choice of a number, if it is one.
+fn agrees_at(alloc: Global, problem: &Problem, kept: &Reduced, number: u32) -> Result<bool, Fail> {
+    let choice = numbered(alloc, number)?;
+    if !choice.is_for(problem) {
+        return Ok(true);
+    }
+    Ok(fits(alloc, problem, &choice)? == fits_classes(problem, kept, choice.items()))
+}
+
+// Whether the next problem that is drawn agrees.
+fn drawn_agrees(alloc: Global, draws: &mut Draws) -> Result<bool, Fail> {
+    let problem = drawn(alloc, draws)?;
+    agrees(alloc, &problem)
 }
 
 #[test]
@@ -144,9 +165,7 @@ fn what_fits_the_classes_fits(rt: HostRuntime) -> Result<(), Fail> {
     let alloc = rt.alloc();
     let mut draws = Draws { last: 1 };
     for number in 0..1_000 {
-        let problem = drawn(alloc, &mut draws)?;
-        let agrees = agrees(alloc, &problem)?;
-        assert!(rt; agrees, "{number}");
+        assert!(rt; drawn_agrees(alloc, &mut draws)?, "{number}");
     }
     Ok(())
 }

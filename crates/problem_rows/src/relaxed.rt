@@ -39,6 +39,20 @@ fn keep(program: &Program<'_>, relaxation: &mut Relaxation, unit: u32, range: (u
     }
 }
 
+// Lets each unit take the alternatives of its range alone.
+fn keep_all(problem: &Problem, program: &Program<'_>, relaxation: &mut Relaxation, ranges: &Ranges)
+    requires { AreRanges problem.now ranges.now }
+{
+    for unit in 0..problem.units() {
+        keep(
+            program,
+            relaxation,
+            unit,
+            (ranges.low(unit), ranges.high(unit)),
+        );
+    }
+}
+
 // How a relaxation of ranges ends: solved, with the value in thousandths and the bound of its vector; or without a
 // solution, and whether a ray shows it.
 fn ending(
@@ -50,24 +64,39 @@ fn ending(
 ) -> Result<String, Fail>
     requires { AreRanges problem.now ranges.now }
 {
-    for unit in 0..problem.units() {
-        keep(
-            program,
-            relaxation,
-            unit,
-            (ranges.low(unit), ranges.high(unit)),
-        );
-    }
+    keep_all(problem, program, relaxation, ranges);
     let ended = relaxation.solve(alloc, program, 1_000, 1_000_000_000_000.0)?;
-    if ended.end == End::Solved {
-        let thousandths = saturating_f64_to_i64(relaxation.true_value(program) * 1_000.0 + 0.5);
-        let vector = relaxation.vector(alloc, problem, program)?;
-        let scaled = bound_at(alloc, problem, ranges, &vector, PRICED_SCALE)?;
-        return Ok(format!(in alloc; "{thousandths} {scaled}")?);
+    match ended.end {
+        End::Solved => solved(alloc, problem, program, relaxation, ranges),
+        End::Infeasible => unsolved(alloc, problem, program, relaxation, ranges),
+        _ => Err("pivots".into()),
     }
-    if ended.end != End::Infeasible {
-        return Err("pivots".into());
-    }
+}
+
+fn solved(
+    alloc: Global,
+    problem: &Problem,
+    program: &Program<'_>,
+    relaxation: &Relaxation,
+    ranges: &Ranges,
+) -> Result<String, Fail>
+    requires { AreRanges problem.now ranges.now }
+{
+    let thousandths = saturating_f64_to_i64(relaxation.true_value(program) * 1_000.0 + 0.5);
+    let vector = relaxation.vector(alloc, problem, program)?;
+    let scaled = bound_at(alloc, problem, ranges, &vector, PRICED_SCALE)?;
+    Ok(format!(in alloc; "{thousandths} {scaled}")?)
+}
+
+fn unsolved(
+    alloc: Global,
+    problem: &Problem,
+    program: &Program<'_>,
+    relaxation: &Relaxation,
+    ranges: &Ranges,
+) -> Result<String, Fail>
+    requires { AreRanges problem.now ranges.now }
+{
     let vector = relaxation.ray(alloc, problem, program, 1_024)?;
     let shows = bound_at(alloc, problem, ranges, &vector, 0)? > 0;
     Ok(format!(in alloc; "none {shows}")?)
@@ -92,17 +121,36 @@ impl Case for RelaxedCase {
         let reduced = Reduced::of(alloc, &problem)?;
         let excluded = flags(alloc, piece(row, 1))?;
         let program = Program::new(alloc, &problem, &reduced, &excluded)?;
-        let mut first = Relaxation::start(alloc, &program)?;
-        let whole = ranges(alloc, &problem, "")?;
-        let ended = ending(alloc, &problem, &program, &mut first, &whole)?;
-        if piece(row, 2).is_empty() {
-            return Ok(ended);
-        }
-        let narrow = ranges(alloc, &problem, piece(row, 2))?;
-        let mut next = first.copy(alloc)?;
-        let narrowed = ending(alloc, &problem, &program, &mut next, &narrow)?;
-        Ok(format!(in alloc; "{ended}, {narrowed}")?)
+        endings(alloc, &problem, &program, piece(row, 2))
     }
+}
+
+// How a relaxation ends on all alternatives, and a copy of it on these ranges.
+fn endings(
+    alloc: Global,
+    problem: &Problem,
+    program: &Program<'_>,
+    narrow: &str,
+) -> Result<String, Fail> {
+    let mut first = Relaxation::start(alloc, program)?;
+    let ended = ending_on(alloc, problem, program, &mut first, "")?;
+    if narrow.is_empty() {
+        return Ok(ended);
+    }
+    let mut next = first.copy(alloc)?;
+    let narrowed = ending_on(alloc, problem, program, &mut next, narrow)?;
+    Ok(format!(in alloc; "{ended}, {narrowed}")?)
+}
+
+fn ending_on(
+    alloc: Global,
+    problem: &Problem,
+    program: &Program<'_>,
+    relaxation: &mut Relaxation,
+    spans: &str,
+) -> Result<String, Fail> {
+    let ranges = ranges(alloc, problem, spans)?;
+    ending(alloc, problem, program, relaxation, &ranges)
 }
 
 // In turn: one of two units makes room, the cheaper one; whichever of them is kept from it, the other one does. Four units

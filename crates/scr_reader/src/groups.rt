@@ -70,8 +70,9 @@ pub(crate) fn read_departure_group(text: &[u8]) -> Option<(Station, Option<Stati
     Some((near, far, minute))
 }
 
-/// A time, perhaps a digit of nights, then stations.
-pub(crate) fn read_group_with_nights(text: &[u8]) -> Option<(Station, Option<Station>, u16, u8)>
+/// The station, the further one if there is one, the minute of the day and the nights of a
+/// turnaround's departure: a time, perhaps a digit of nights, then one station or two.
+pub fn read_group_with_nights(text: &[u8]) -> Option<(Station, Option<Station>, u16, u8)>
     ensures found { IfSome result (λ x. (nights : List ℕ)
         × IsDepartureGroup text.now nights x.0 x.1 x.2 × IsNights nights x.3) }
     ensures only { (near : StationValue) (far : Option StationValue) (minute n : ℕ)

@@ -10,8 +10,8 @@ ghost use Rattle.scr_reader.specs.Shapes.{NamesPeriod};
 use schedule_text::{read_two_digits, read_weekdays};
 use season_days::{Day, Period, Season};
 
-/// The month of a name.
-pub(crate) fn read_month(text: &[u8]) -> Option<u8>
+/// The month, from 1 to 12, of its name: the first three letters of its English name, as capitals.
+pub fn read_month(text: &[u8]) -> Option<u8>
     ensures found { IfSome result (λ month. (1 ≤ month) × (month ≤ 12)
         × (text.now ≡ month_text month)) }
     ensures only { (month : ℕ) → 1 ≤ month → month ≤ 12 → text.now ≡ month_text month →

@@ -14,4 +14,4 @@ mod states;
 pub use history::history_text;
 pub use received::{Received, one_received, receive};
 pub use reply::{put_bad, put_reply, reply_message};
-pub use season::season_replies;
+pub use season::{season_replies, units_reply};

@@ -12,7 +12,7 @@ ghost use Rattle.scr_replies.specs.SeasonReplies.{unit_answer, replies_from, rep
 use crate::given::put_units;
 use crate::states::final_states;
 use cert_format::Certificate;
-use scr_reader::{Message, print_header};
+use scr_reader::{Header, Message, print_header};
 use season_days::Season;
 use series_model::{Submission, UnitState};
 use slot_text::Memory;
@@ -68,29 +68,47 @@ fn put_replies(
     let mut next = 0;
     for message in messages {
         let count = unit_count(message);
-        put_reply(alloc, out, season, message, &states[next..next + count])?;
+        put_units_reply(
+            alloc,
+            out,
+            season,
+            &message.header(),
+            &states[next..next + count],
+        )?;
         next += count;
     }
     Ok(())
 }
 
-// Appends the reply to a message that has these units.
-fn put_reply(
+// Appends the reply to a message with this header that has these units.
+fn put_units_reply(
     alloc: Global,
     out: &mut Vec<u8>,
     season: &Season,
-    message: &Message,
+    header: &Header,
     states: &[UnitState],
 ) -> Result<(), Memory>
     requires { All (IsAnswerable season.now) states.now }
     ensures { OnOk result (out.new.items
         ≡ out.old.items
-        ++ message_reply (header_of message.now) (flat_map (unit_answer season.now) states.now)) }
+        ++ message_reply header.now (flat_map (unit_answer season.now) states.now)) }
 {
-    print_header(alloc, out, &message.header())?;
+    print_header(alloc, out, header)?;
     put_units(alloc, out, season, states)?;
     out.push(b'\n')?;
     Ok(())
+}
+
+/// The reply to one message with this header, whose items are these units, by what each was given:
+/// as `season_replies` answers the units of a season.
+pub fn units_reply(alloc: Global, header: &Header, states: &[UnitState]) -> Result<Vec<u8>, Memory>
+    requires { All (IsAnswerable header.now.season) states.now }
+    ensures { IfOk result (λ text. text.items
+        ≡ message_reply header.now (flat_map (unit_answer header.now.season) states.now)) }
+{
+    let mut out = Vec::new(alloc);
+    put_units_reply(alloc, &mut out, &header.season, header, states)?;
+    Ok(out)
 }
 
 // How many units a message makes, each of whose items makes one.

@@ -291,13 +291,16 @@ fn one_changed_line_is_bad_or_is_read(rt: HostRuntime) -> Result<(), Fail> {
         (EXTRA, EXTRA_ROWS, true),
     ] {
         for line in rows.split('\n') {
-            let row = read_row(line)?;
-            let changed = with_row(rt.alloc(), text, &row)?;
-            let bad = bad_line(rt.alloc(), changed.as_bytes(), is_extra)?;
-            assert_eq!(rt; bad, number(row.wanted), "{line}");
+            assert!(rt; is_as_wanted(rt.alloc(), text, line, is_extra)?, "{line}");
         }
     }
     Ok(())
+}
+
+fn is_as_wanted(alloc: Global, text: &str, line: &str, is_extra: bool) -> Result<bool, Fail> {
+    let row = read_row(line)?;
+    let changed = with_row(alloc, text, &row)?;
+    Ok(bad_line(alloc, changed.as_bytes(), is_extra)? == number(row.wanted))
 }
 
 // The number of a line; 0 for `-`.
@@ -347,8 +350,7 @@ fn every_byte_replaced_is_bad_or_read(rt: HostRuntime) -> Result<(), Fail> {
         let rows = rows_at(rt.alloc(), line, column)?;
         for byte in 0..=255_u8 {
             if byte != *old {
-                let changed = replaced(rt.alloc(), at, byte)?;
-                let bad = bad_line(rt.alloc(), &changed, false)?;
+                let bad = bad_at(rt.alloc(), at, byte)?;
                 let wanted = wanted_line(&rows, line, byte);
                 assert_eq!(rt; bad, wanted, "byte {byte} at {line} {column}");
             }
@@ -360,6 +362,12 @@ fn every_byte_replaced_is_bad_or_read(rt: HostRuntime) -> Result<(), Fail> {
         }
     }
     Ok(())
+}
+
+// The bad line of the example with this byte at this place.
+fn bad_at(alloc: Global, place: usize, byte: u8) -> Result<u32, Fail> {
+    let changed = replaced(alloc, place, byte)?;
+    bad_line(alloc, &changed, false)
 }
 
 // The rows for a line and a column.

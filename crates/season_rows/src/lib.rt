@@ -1,5 +1,5 @@
 //! Tests of a season's crates, as tables of worked seasons: windows, units and stages, certificates
-//! as text, their checks, and replies.
+//! as text, their checks, replies, and reports.
 #![tactic(auto)]
 
 #[cfg(test)]
@@ -8,6 +8,8 @@ mod certificates;
 mod lines;
 #[cfg(test)]
 mod replies;
+#[cfg(test)]
+mod reports;
 #[cfg(test)]
 mod seasons;
 #[cfg(test)]

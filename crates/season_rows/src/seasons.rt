@@ -27,18 +27,29 @@ pub fn made(
     capacity: &str,
     messages: &str,
 ) -> Result<Result<Submission, ModelFault>, Fail> {
+    let capacity = capacity_text(alloc, season, capacity)?;
+    let messages = whole(alloc, season, messages)?;
+    read_season(alloc, capacity.as_bytes(), messages.as_bytes())
+}
+
+// The text of a capacity file with these lines below the ground time.
+fn capacity_text(alloc: Global, season: &str, capacity: &str) -> Result<String, Fail> {
+    let capacity = lines(alloc, capacity)?;
+    Ok(format!(in alloc; "AIRPORT ABC\nSEASON {season}\nSTEP 5\nGROUND 40\n{capacity}")?)
+}
+
+fn read_season(
+    alloc: Global,
+    capacity: &[u8],
+    messages: &[u8],
+) -> Result<Result<Submission, ModelFault>, Fail> {
     read_lines_fit();
     read_messages();
-    let capacity = lines(alloc, capacity)?;
-    let capacity = format!(in alloc;
-        "AIRPORT ABC\nSEASON {season}\nSTEP 5\nGROUND 40\n{capacity}"
-    )?;
-    let messages = whole(alloc, season, messages)?;
     if capacity.len() > 1_000_000 || messages.len() > 1_000_000 {
         return Err("too long".into());
     }
-    let declaration = read_capacity(alloc, capacity.as_bytes())?;
-    let messages = read_all(alloc, messages.as_bytes())?;
+    let declaration = read_capacity(alloc, capacity)?;
+    let messages = read_all(alloc, messages)?;
     Ok(Submission::make(alloc, declaration, messages))
 }
 

@@ -10,7 +10,8 @@ use std::test::Fail;
 use wasg_stages::{Earlier, stage_problem, units_of_stage};
 
 // Rows: the lines of a capacity file below the ground time and those of a message below its header,
-// with semicolons between; and below these questions, each with its answer. A question has a stage,
+// with semicolons between, and a star before them where they are not the first; and below these
+// questions, each with its answer. A question has a stage,
 // the choices of the stages before it with commas between, and then a choice of the stage, which
 // fits its limits or is over them, and its cost; or a resource, for the positions of the stage's
 // units and its limit there; or a unit, for the numbers of its alternatives and of its parts.
@@ -29,7 +30,7 @@ choice 1|start|0 0|over 0
 choice 1|start|0|none
 choice 1|start|0 1|none
 choice 4|start||fits 0
-FLEX 60;REFUSE NONE;CAP ARR 20 0620 0620 1234567 1|FBA001 30MAR25OCT 1234567 180320 JFK0625 \
+*FLEX 60;REFUSE NONE;CAP ARR 20 0620 0620 1234567 1|FBA001 30MAR25OCT 1234567 180320 JFK0625 \
     J;CBA002 30MAR25OCT 1234567 180320 JFK0610 J;LBA002 30MAR25OCT 1234567 180320 JFK0630 J
 choice 2|0|0|over 0
 choice 2|0|1|fits 4200
@@ -37,7 +38,7 @@ choice 2|0|2|none
 choice 2|none|0|fits 0
 limit 2|0|0|1: 0
 limit 2|none|0|1: 1
-FLEX 0;REFUSE 10;CAP ARR 60 0600 0600 1234567 3|BBA001 30MAR 7 180320 JFK0610 J;BBA002 30MAR 7 \
+*FLEX 0;REFUSE 10;CAP ARR 60 0600 0600 1234567 3|BBA001 30MAR 7 180320 JFK0610 J;BBA002 30MAR 7 \
     180320 JFK0610 J;BBA003 30MAR 7 180320 JFK0610 J;BBA004 30MAR 7 180320 JFK0610 J
 choice 3|,|0 0 1 1|fits 20
 choice 3|,|0 0 0 1|over 10
@@ -48,13 +49,13 @@ limit 3|,|0|0 1 2 3: 2
 limit 4|,,0 1 0 1|0|1 3: 1
 limit 4|,,0 1 0 1|1|1 3: 3
 limit 4|,,none|0|0 1 2 3: 3
-FLEX 60;REFUSE NONE;CAP ARR 60 0600 0600 1234567 1;NIGHT 2300 0500 2|FBA001 30MAR 7 180320 \
+*FLEX 60;REFUSE NONE;CAP ARR 60 0600 0600 1234567 1;NIGHT 2300 0500 2|FBA001 30MAR 7 180320 \
     JFK2330 J;FBA002 30MAR 7 180320 JFK2330 J;FBA003 30MAR 7 180320 JFK2330 J
 choice 1|start|0 0 0|over 0
 limit 1|start|210|0 1 2: 2
 limit 3|start|210|: 1
 limit 4|start|210|: 2
-FLEX 60;REFUSE NONE;CAP ARR 60 0600 0600 1234567 1;NIGHT 2300 0500 1|FBA001 30MAR 7 180320 \
+*FLEX 60;REFUSE NONE;CAP ARR 60 0600 0600 1234567 1;NIGHT 2300 0500 1|FBA001 30MAR 7 180320 \
     JFK2330 J;NBA002 05APR 6 180320 JFK0445 J
 choice 4|0,,|15|fits 15
 choice 4|0,,|14|over 10
@@ -63,48 +64,83 @@ choice 4|0,,|25|none
 choice 4|none|12|fits 0
 limit 4|0,,|210|1: 0
 limit 4|0,,|211|1: none
-FLEX 60;REFUSE NONE|NBA002 BA003 30MAR25OCT 1234567 180320 JFK0630 0715JFK JJ
+*FLEX 60;REFUSE NONE|NBA002 BA003 30MAR25OCT 1234567 180320 JFK0630 0715JFK JJ
 parts 4|start|0|349 50
-FLEX 60;REFUSE NONE|CBA001 BA002 30MAR 7 180320 JFK2200 06301JFK JJ;RBA001 BA002 30MAR 7 180320 \
+*FLEX 60;REFUSE NONE|CBA001 BA002 30MAR 7 180320 JFK2200 06301JFK JJ;RBA001 BA002 30MAR 7 180320 \
     JFK2200 2300JFK JJ
 parts 2|start|0|13 14";
 
 #[test]
 fn stages_are_as_worked(rt: HostRuntime) -> Result<(), Fail> {
-    let alloc = rt.alloc();
-    let mut season = ("", "");
-    for row in ROWS.split('\n') {
-        if row.starts_with("FLEX") {
-            season = row.split_once('|').ok_or("messages")?;
-        } else {
-            let (question, want) = row.rsplit_once('|').ok_or("an answer")?;
-            let submission = submission(alloc, "S25", season.0, season.1)?;
-            let found = answer(alloc, &submission, question)?;
-            assert_eq!(rt; found.as_str(), want, "{question}");
-        }
+    for season in ROWS.split('*') {
+        check_season(rt.alloc(), season)?;
     }
     Ok(())
+}
+
+fn check_season(alloc: Global, rows: &str) -> Result<(), Fail> {
+    let (season, questions) = rows.split_once('\n').ok_or("questions")?;
+    let (capacity, messages) = season.split_once('|').ok_or("messages")?;
+    let submission = submission(alloc, "S25", capacity, messages)?;
+    check_questions(alloc, &submission, questions)
+}
+
+fn check_questions(alloc: Global, submission: &Submission, questions: &str) -> Result<(), Fail> {
+    for row in questions.lines() {
+        check_question(alloc, submission, row)?;
+    }
+    Ok(())
+}
+
+fn check_question(alloc: Global, submission: &Submission, row: &str) -> Result<(), Fail> {
+    let (question, want) = row.rsplit_once('|').ok_or("an answer")?;
+    let found = answer(alloc, submission, question)?;
+    if found.as_str() == want {
+        return Ok(());
+    }
+    Err(Fail::new(format!(in alloc; "{row} has {found}")?))
 }
 
 fn answer(alloc: Global, submission: &Submission, question: &str) -> Result<String, Fail> {
     let (word, rest) = question.split_once(' ').ok_or("a stage")?;
     let (stage, rest) = rest.split_once('|').ok_or("choices")?;
     let (before, asked) = rest.split_once('|').ok_or("a choice")?;
-    let stage = stage.parse::<u32>()?;
+    answer_at(
+        alloc,
+        submission,
+        word,
+        stage.parse::<u32>()?,
+        before,
+        asked,
+    )
+}
+
+fn answer_at(
+    alloc: Global,
+    submission: &Submission,
+    word: &str,
+    stage: u32,
+    before: &str,
+    asked: &str,
+) -> Result<String, Fail> {
     let choices = choices(alloc, before)?;
     if choices.len() > 3 {
         return Err("choices".into());
     }
     let earlier = Earlier::new(choices);
     let problem = stage_problem(alloc, submission, stage, &earlier)?;
+    if word != "limit" {
+        return of_problem(alloc, &problem, word, asked);
+    }
+    let units = units_of_stage(alloc, submission, stage, &earlier)?;
+    limit(alloc, &problem, &units, asked)
+}
+
+fn of_problem(alloc: Global, problem: &Problem, word: &str, asked: &str) -> Result<String, Fail> {
     let numbers = numbers(alloc, asked)?;
     match word {
-        "choice" => judged(alloc, &problem, &Choice::new(numbers)),
-        "limit" => {
-            let units = units_of_stage(alloc, submission, stage, &earlier)?;
-            limit(alloc, &problem, &units, &numbers)
-        }
-        "parts" => parts(alloc, &problem, &numbers),
+        "choice" => judged(alloc, problem, &Choice::new(numbers)),
+        "parts" => parts(alloc, problem, &numbers),
         _ => Err("a question".into()),
     }
 }
@@ -137,8 +173,8 @@ fn judged(alloc: Global, problem: &Problem, choice: &Choice) -> Result<String, F
 }
 
 // Positions of units, and the limit of a resource, if there is such a one.
-fn limit(alloc: Global, problem: &Problem, units: &[u32], asked: &[u32]) -> Result<String, Fail> {
-    let resource = asked.first().copied().ok_or("a resource")?;
+fn limit(alloc: Global, problem: &Problem, units: &[u32], asked: &str) -> Result<String, Fail> {
+    let resource = asked.parse::<u32>()?;
     let units = text_of(alloc, units)?;
     let units = units.trim();
     if resource < problem.resources() {

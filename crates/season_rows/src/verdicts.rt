@@ -478,22 +478,48 @@ fn each_damaged_line_is_named(rt: HostRuntime) -> Result<(), Fail> {
         EXCLUSIVE,
         EMPTY,
     ] {
-        let submission = submission(rt.alloc(), "S25", season.0, season.1)?;
-        for line in season.3.split('\n') {
-            let row = read_row(line)?;
-            let text = with_row(rt.alloc(), season.2, &row)?;
-            let found = verdict(rt.alloc(), &submission, &text)?;
-            assert_eq!(rt; found.as_str(), row.wanted, "{line}");
-        }
+        check_season(rt.alloc(), season.0, season.1, season.2, season.3)?;
     }
     Ok(())
+}
+
+fn check_season(
+    alloc: Global,
+    capacity: &str,
+    messages: &str,
+    text: &str,
+    rows: &str,
+) -> Result<(), Fail> {
+    let submission = submission(alloc, "S25", capacity, messages)?;
+    check_rows(alloc, &submission, text, rows)
+}
+
+fn check_rows(alloc: Global, submission: &Submission, text: &str, rows: &str) -> Result<(), Fail> {
+    for line in rows.split('\n') {
+        check_row(alloc, submission, text, line)?;
+    }
+    Ok(())
+}
+
+fn check_row(alloc: Global, submission: &Submission, text: &str, line: &str) -> Result<(), Fail> {
+    let row = read_row(line)?;
+    let text = with_row(alloc, text, &row)?;
+    let found = verdict(alloc, submission, &text)?;
+    if found.as_str() == row.wanted {
+        return Ok(());
+    }
+    Err(Fail::new(format!(in alloc; "{line} has {found}")?))
 }
 
 // The verdict on the certificate of a text, in which `PRICES` stands for a price at each of the
 // first 210 resources.
 fn verdict(alloc: Global, submission: &Submission, text: &str) -> Result<String, Fail> {
     let cert = read(alloc, with_prices(alloc, text)?.as_bytes())?;
-    match check(alloc, submission, &cert)? {
+    said(alloc, check(alloc, submission, &cert)?)
+}
+
+fn said(alloc: Global, verdict: Verdict) -> Result<String, Fail> {
+    match verdict {
         Verdict::Yes => Ok(String::from_str(alloc, "YES")?),
         Verdict::No { line, reason } => {
             let word = word(reason);
@@ -503,17 +529,18 @@ fn verdict(alloc: Global, submission: &Submission, text: &str) -> Result<String,
 }
 
 fn with_prices(alloc: Global, text: &str) -> Result<String, Fail> {
-    let mut out = String::new(alloc);
     let Some((before, after)) = text.split_once("PRICES\n") else {
-        out.push_str(text)?;
-        return Ok(out);
+        return Ok(String::from_str(alloc, text)?);
     };
-    out.push_str(before)?;
+    let prices = price_lines(alloc)?;
+    Ok(format!(in alloc; "{before}{prices}{after}")?)
+}
+
+fn price_lines(alloc: Global) -> Result<String, Fail> {
+    let mut out = String::new(alloc);
     for resource in 0..210 {
-        let line = format!(in alloc; "P {resource} 32768\n")?;
-        out.push_str(&line)?;
+        out.push_str(&format!(in alloc; "P {resource} 32768\n")?)?;
     }
-    out.push_str(after)?;
     Ok(out)
 }
 

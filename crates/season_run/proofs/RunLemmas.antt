@@ -1,5 +1,5 @@
 -- A stage of a run, from the trial of its problem and the stage that this made.
-use Rattle.std.proofs.Common.{◌≡◌, ℕ, zero, suc, ◌*◌, ◌<◌, ◌≤◌, refl, sym, ◌∙◌, ap, subst, arith, List, [], ◌∷◌, ◌++◌, length, length-append, drop, map, true, false, Option, Some, None}
+use Rattle.std.proofs.Common.{◌≡◌, ℕ, zero, suc, ◌+◌, ◌*◌, ◌<◌, ◌≤◌, refl, sym, ◌∙◌, ap, subst, arith, List, [], ◌∷◌, ◌++◌, length, length-append, drop, map, true, false, Option, Some, None}
 use Rattle.std.specs.Prelude.{All, IfSome, IsNone, IsSomeAnd, is_some, sum_by}
 use Rattle.std.specs.List.{AllZip, AllByRecursion}
 use Rattle.std.specs.Option.{option_map}
@@ -247,25 +247,29 @@ count-same d (unit ∷ units) (m ∷ choosers) h =
     let rest = count-same d units choosers h.1 in
     ap (λ (n : ℕ). n * product_of (map (λ (m : ChooserView). length m.alts) choosers)) here ∙ ap (λ (n : ℕ). length (options_of d unit) * n) rest
 
-pub tried-run : (d : Declaration) (stage : ℕ) (states : List UnitState) (budget : ℕ) (c : StageCert) (p : ProblemView) (o : Outcome) → IsStageProblem d stage states p → IsTrialEnd p budget o →
-    MakesStage p o c → IsStageRun p budget c → IsTriedRun d stage states budget c
-tried-run d stage states budget c p o is t made r = record {
+-- ---- a stage that was run
+
+-- all that is said of a stage that was run on its problem
+pub run-all : FewerDriven → (budget : ℕ) (c : StageCert) (p : ProblemView) (o : Outcome) → IsTrialEnd p budget o → MakesStage p o c → IsProof p c → unit_count p ≤ 4096 → resource_count p ≤ 1000000 →
+    budget ≤ 1000000 →
+    IsStageRun p budget c × (is_tried c.mark ≡ true) × IsPrintableProof 2 c × IsWithinLimits c × (2 * choice_count p ≤ budget + 1 → c.mark ≡ marks.Unsettled → ⊥)
+run-all fewer budget c p o t made proof units resources most =
+    let r = stage-run fewer p budget c proof o t made in (
+      r,
+      made-tried p o c made,
+      made-printable p budget o c t made proof r.listed.few,
+      stage-limits p budget o c units resources most made r,
+      λ enough e. settled-mark p o c (t.settled enough) made e,
+    )
+
+-- the same of a stage of a season
+pub tried-run : (d : Declaration) (stage : ℕ) (states : List UnitState) (budget : ℕ) (c : StageCert) (p : ProblemView) → IsStageProblem d stage states p → IsStageRun p budget c →
+    (2 * choice_count p ≤ budget + 1 → c.mark ≡ marks.Unsettled → ⊥) → IsTriedRun d stage states budget c
+tried-run d stage states budget c p is r settled = record {
   problem = p;
   problem_is = is;
   run = r;
   settled = λ enough e.
       let same : choice_count p ≡ allotment_count d (stage_units stage states) = count-same d (stage_units stage states) p.units is.units_are in
-      settled-mark p o c (t.settled (omega (arith, enough, same))) made e;
+      settled (omega (arith, enough, same)) e;
 }
-
--- all that is said of a stage that was tried
-pub tried-all : FewerDriven → (d : Declaration) (stage : ℕ) (states : List UnitState) (budget : ℕ) (c : StageCert) (p : ProblemView) (o : Outcome) → IsStageProblem d stage states p → IsTrialEnd p budget o →
-    MakesStage p o c → IsProof p c → unit_count p ≤ 4096 → resource_count p ≤ 1000000 → budget ≤ 1000000 →
-    (is_tried c.mark ≡ true) × IsTriedRun d stage states budget c × FitsSeason c
-tried-all fewer d stage states budget c p o is t made proof units resources most =
-    let r = stage-run fewer p budget c proof o t made in
-    let tried = made-tried p o c made in (
-      tried,
-      tried-run d stage states budget c p o is t made r,
-      fits-season c tried (made-printable p budget o c t made proof r.listed.few) (stage-limits p budget o c units resources most made r),
-    )

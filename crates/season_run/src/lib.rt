@@ -10,6 +10,6 @@ mod stages;
 mod trials;
 
 pub use laws::settled_run;
-pub use seasons::run_season;
+pub use seasons::{run_season, run_stage};
 pub use stages::stage_cert;
 pub use trials::SMALL_BUDGET;

@@ -1,16 +1,18 @@
 //! The stages of a season, one after the other.
 
-ghost use Rattle.std.specs.Prelude.{◌≡◌, ◌≤◌, true, IfOk};
+ghost use Rattle.std.specs.Prelude.{◌≡◌, ◌+◌, ◌*◌, ◌≤◌, true, IfOk};
+ghost use Rattle.cert_format.specs.Printable.{IsPrintableProof, IsWithinLimits};
 ghost use Rattle.cert_format.specs.Spelling.{is_tried};
-ghost use Rattle.cert_format.specs.declared.cert.Mark.TheVariants.{NotTried};
+ghost use Rattle.cert_format.specs.declared.cert.Mark.TheVariants.{NotTried, Unsettled};
+ghost use Rattle.search_workers.specs.Outcomes.{choice_count};
 ghost use Rattle.series_model.specs.Stages.{AreStates};
-ghost use Rattle.season_run.specs.Runs.{IsRun, IsTriedRun};
+ghost use Rattle.season_run.specs.Runs.{IsRun, IsStageRun, IsTriedRun};
 ghost use Rattle.season_run.specs.Steps.{FitsSeason, IsNextStage};
 
 use crate::stages::stage_cert;
 use crate::trials::settle_stage;
 use cert_format::{Certificate, StageCert, StageList, line_counts};
-use choice_problem::fewer_vectors;
+use choice_problem::{Problem, fewer_vectors};
 use series_model::laws::one_more_stage;
 use series_model::{Submission, UnitState, after_stage, next_may_follow, states_of};
 use slot_text::Memory;
@@ -103,12 +105,38 @@ fn tried_stage<R: Threads + Sync, G: Gate>(
         (λ c. IsTriedRun submission.now.declaration stage states.now budget c) }
     ensures fits { IfOk result (λ c. FitsSeason c) }
 {
-    fewer_vectors();
     let problem = problem_after(alloc, submission, stage, states)?;
+    let cert = run_stage(rt, alloc, &problem, budget, workers, gate)?;
+    Ok(cert)
+}
+
+/// Searches the problem of one stage, and gives the stage of a certificate that proves what was
+/// found: by a search of at most `budget` nodes with so many workers, each of which passes the gate
+/// before a visit. It is what `run_season` does with each stage that is tried, and serves any other
+/// problem, as that of one more stage.
+pub fn run_stage<R: Threads + Sync, G: Gate>(
+    rt: &R,
+    alloc: Global,
+    problem: &Problem,
+    budget: u32,
+    workers: u32,
+    gate: &G,
+) -> Result<StageCert, Memory>
+    requires budget { (1 ≤ budget) × (budget ≤ 1000000) }
+    requires workers { (1 ≤ workers) × (workers ≤ 16) }
+    ensures run { IfOk result (λ c. IsStageRun problem.now budget c) }
+    ensures tried { IfOk result (λ c. is_tried c.mark ≡ true) }
+    ensures printable { IfOk result (λ c. IsPrintableProof 2 c) }
+    ensures limits { IfOk result (λ c. IsWithinLimits c) }
+    // With a budget of at least twice the number of choices, less one, the stage is not OPEN.
+    ensures settled { 2 * choice_count problem.now ≤ budget + 1 →
+        IfOk result (λ c. c.mark ≡ Unsettled → ⊥) }
+{
+    fewer_vectors();
     let _resources = problem.resources();
     let _units = problem.units();
-    let outcome = settle_stage(rt, alloc, &problem, budget, workers, gate)?;
-    let cert = stage_cert(alloc, &problem, outcome)?;
+    let outcome = settle_stage(rt, alloc, problem, budget, workers, gate)?;
+    let cert = stage_cert(alloc, problem, outcome)?;
     Ok(cert)
 }
 

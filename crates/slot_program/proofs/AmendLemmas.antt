@@ -1,6 +1,7 @@
--- The book with which amendments begin has at most one holding a unit.
-use Rattle.std.proofs.Common.{◌≡◌, ℕ, suc, ◌≤◌, List, [], ◌∷◌, length, Option, Some, None, refl, ap, ◌∙◌, arith, inl, inr}
-use Rattle.std.specs.List.{filter_map, cons_option}
+-- The book with which amendments begin has at most one holding a unit; what is said of a history that
+-- begins with it.
+use Rattle.std.proofs.Common.{◌≡◌, ℕ, suc, ◌≤◌, List, [], ◌∷◌, length, Option, Some, None, refl, ap, ◌∙◌, subst, arith, inl, inr}
+use Rattle.std.specs.List.{filter_map, cons_option, concat}
 use Rattle.std.proofs.lemmas.Bool.{cases_Bool}
 use Rattle.season_days.specs.declared.declaration.Declaration.{Declaration}
 use Rattle.series_model.specs.declared.unit.Unit.{Unit as SlotUnit}
@@ -10,7 +11,11 @@ use Rattle.series_model.specs.Submissions.{SubmissionView}
 use Rattle.series_model.specs.Stages.{is_due_state, after_allotment, after_stage, after_stages, first_states, states_after, stage_times}
 use Rattle.cert_format.specs.declared.cert.Certificate.{Certificate}
 use Rattle.cert_format.specs.Choices.{choices_of}
+use Rattle.holding_book.specs.declared.answer.Entry.{Entry}
+use Rattle.holding_book.specs.Books.{SlotBook}
 use Rattle.holding_book.specs.Starts.{holding_of, start_book}
+use Rattle.amend_run.specs.Amended.{FitsThroughout, IsAskedBy}
+use Rattle.slot_program.specs.Amendments.{entries_line, AmendsLegally}
 
 cons_few : {X : Type 0} (o : Option X) (xs : List X) (n : ℕ) → length xs ≤ n → length (cons_option o xs) ≤ suc n
 cons_few None xs n few = omega (arith, few)
@@ -48,3 +53,17 @@ start_few s c =
     let same : length states ≡ length s.units = stages_same s.declaration 1 (first_states s.units) (choices_of c) ∙ first_same s.units in
     let few : length (filter_map holding_of states) ≤ length states = mapped_few holding_of states in
     omega (arith, same, few)
+
+-- what is written and printed of a history that begins with that book
+pub amends : (start b : SlotBook) (asks answers text : List ℕ) (history : List Entry) (texts : List (List ℕ)) → b ≡ start → IsAskedBy b asks history texts → FitsThroughout b history → answers ≡ concat texts → text ≡ entries_line (length history)
+    → AmendsLegally start asks answers text
+amends start b asks answers text history texts same asked fits written printed =
+    subst (λ (x : SlotBook). AmendsLegally x asks answers text) same
+    (record {
+      history = history;
+      texts = texts;
+      one = record { legal = asked.legal; fits = fits };
+      answered = asked.answered;
+      written = written;
+      printed = printed;
+    })

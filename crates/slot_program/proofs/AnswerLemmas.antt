@@ -72,6 +72,9 @@ module _ (job : Job) (w : World) (change : OutsideChange) (v : World) where
   stop_ended names (stops.NotValid line reason) report same lead e = ended_by _ report e (refused_ended same _ lead)
   stop_ended names (stops.Unopened why) report same lead e = absurd lead
   stop_ended names stops.NoNext report same lead e = ended_by _ report e (refused_ended same _ lead)
+  stop_ended names (stops.ExtraFails line reason) report same lead e = ended_by _ report e (refused_ended same _ lead)
+  stop_ended names (stops.BadForm place line cause) report same lead e = ended_by _ report e (refused_ended same _ lead)
+  stop_ended names (stops.PastLimit limit number cause) report same lead e = ended_by _ report e (refused_ended same _ lead)
   stop_ended names stops.Memory report same lead e = absurd (none-some report e)
 
   pub finished_exact : (files : Option Files) (done : List NamedBytes) (status : ℕ) (text : List ℕ) → IfSome files (λ held. ToldLead held (steps_of job) done []) → Contains (finishing_of job) status
@@ -109,6 +112,9 @@ stop_asked names w v all written (stops.OverLimit limit number) lead = (map read
 stop_asked names w v all written (stops.NotValid line reason) lead = (map read_of lead.inputs, lead.log, files_asked (names_read all) written lead.inputs lead.named)
 stop_asked names w v all written (stops.Unopened why) lead = absurd lead
 stop_asked names w v all written stops.NoNext lead = (map read_of lead.inputs, lead.log, files_asked (names_read all) written lead.inputs lead.named)
+stop_asked names w v all written (stops.ExtraFails line reason) lead = (map read_of lead.inputs, lead.log, files_asked (names_read all) written lead.inputs lead.named)
+stop_asked names w v all written (stops.BadForm place line cause) lead = (map read_of lead.inputs, lead.log, files_asked (names_read all) written lead.inputs lead.named)
+stop_asked names w v all written (stops.PastLimit limit number cause) lead = (map read_of lead.inputs, lead.log, files_asked (names_read all) written lead.inputs lead.named)
 stop_asked names w v all written stops.Memory lead = (map read_of lead.inputs, lead.log, files_asked (names_read all) written lead.inputs lead.named)
 
 -- ---- the end of a job
@@ -140,6 +146,9 @@ module _ (job : Job) (w : World) (change : OutsideChange) (v : World) where
   job_stop_ended names (stops.NotValid line reason) report h e = stop_ended job w change v names (stops.NotValid line reason) report h.0 h.1 e
   job_stop_ended names (stops.Unopened why) report stop e = ended_by job w change v _ report e (unopened_ended (journal_refusal why) stop)
   job_stop_ended names stops.NoNext report h e = stop_ended job w change v names stops.NoNext report h.0 h.1 e
+  job_stop_ended names (stops.ExtraFails line reason) report h e = stop_ended job w change v names (stops.ExtraFails line reason) report h.0 h.1 e
+  job_stop_ended names (stops.BadForm place line cause) report h e = stop_ended job w change v names (stops.BadForm place line cause) report h.0 h.1 e
+  job_stop_ended names (stops.PastLimit limit number cause) report h e = stop_ended job w change v names (stops.PastLimit limit number cause) report h.0 h.1 e
   job_stop_ended names stops.Memory report lead e = absurd (none-some report e)
 
   pub job_stop_asked : (names : List Word) (stop : Stop) → JobStopsBy names job w change stop v → LogGrew w.log (OnlyOfJob (Some job)) v.log
@@ -152,6 +161,9 @@ module _ (job : Job) (w : World) (change : OutsideChange) (v : World) where
   job_stop_asked names (stops.NotValid line reason) h = stop_asked names w v (steps_of job) (names_written job) (stops.NotValid line reason) h.1
   job_stop_asked names (stops.Unopened why) stop = stop.asked
   job_stop_asked names stops.NoNext h = stop_asked names w v (steps_of job) (names_written job) stops.NoNext h.1
+  job_stop_asked names (stops.ExtraFails line reason) h = stop_asked names w v (steps_of job) (names_written job) (stops.ExtraFails line reason) h.1
+  job_stop_asked names (stops.BadForm place line cause) h = stop_asked names w v (steps_of job) (names_written job) (stops.BadForm place line cause) h.1
+  job_stop_asked names (stops.PastLimit limit number cause) h = stop_asked names w v (steps_of job) (names_written job) (stops.PastLimit limit number cause) h.1
   job_stop_asked names stops.Memory lead = stop_asked names w v (steps_of job) (names_written job) stops.Memory lead
 
 -- ---- nothing passed

@@ -8,19 +8,22 @@ use Rattle.wasg_stages.specs.Valid.{IsValid, MarksHold}
 use Rattle.series_model.specs.Submissions.{SubmissionView}
 use Rattle.cert_format.specs.declared.cert.Certificate.{Certificate}
 use Rattle.command_words.specs.Words.{Word}
-use Rattle.slot_program.specs.Reports.{Report, Refusal, no_command, refused, unread, unwritten, finished, status_of, text_of, refusal_status, missing, large, out_of_form, over_limit, not_valid, JournalRefusal, no_journal, other_journal, bad_slot, journal_fault, journal_status, unopened, no_next}
+use Rattle.slot_program.specs.Reports.{Report, Refusal, no_command, refused, unread, unwritten, finished, status_of, text_of, refusal_status, missing, large, out_of_form, over_limit, not_valid, JournalRefusal, no_journal, other_journal, bad_slot, journal_fault, journal_status, unopened, no_next, extra_fails, bad_form, past_limit}
 use Rattle.slot_program.specs.Judgements.{NamedBytes}
 use Rattle.slot_program.specs.Steps.{Step, reads, judges, names_read, PassFrom, AllPass}
 use Rattle.slot_program.specs.Writing.{read_of, written_of}
-use Rattle.slot_program.specs.Jobs.{AreFilesOf, name_at, check_steps, steps_of, names_written, searched_statuses, served_statuses, resumed_statuses, finished_statuses, calm_statuses, finishing_of, FileWorks, ServiceWorks, ResumeWorks, Works, IsWithoutJournal, JournalDue, JournalStands, HeadlineHolds}
+use Rattle.slot_program.specs.Jobs.{AreFilesOf, name_at, check_steps, steps_of, names_written, searched_statuses, recleared_statuses, served_statuses, resumed_statuses, finished_statuses, calm_statuses, finishing_of, FileWorks, ServiceWorks, ResumeWorks, Works, IsWithoutJournal, JournalDue, JournalStands, HeadlineHolds}
 use Rattle.slot_program.specs.Outside.{OutsideChange, IsStill, door_faults, disk_faults, SomeRose, DiskRose}
 use Rattle.slot_program.specs.Desk.{World, IsFinished, EndsUnopened, JobEnds, Ends, IsStatus}
 use Rattle.slot_program.specs.Answers.{IsThrough, ToldExact, IsExact}
+use Rattle.wait_list.specs.Claims.{IsWaitingProof}
+use Rattle.slot_program.specs.Reclearing.{last_book, left_waiting}
 use Rattle.slot_program.proofs.EndLemmas.{works_finishing}
+use Rattle.slot_program.proofs.WaitingLemmas.{WaitingMarks, AllottedFit, stage_proved}
 use Rattle.slot_program.proofs.ServiceLemmas.{works_calm, works_risen}
 use Rattle.slot_program.proofs.JournalLemmas.{Standings, works_disk_calm, works_disk_risen, without_calm, without_risen, pass_one, work_due, without_due, without_stands, stands_finishing}
 use Rattle.command_words.specs.declared.job.Job.{Job}
-use Rattle.command_words.specs.declared.job.Job.TheVariants.{Allocate, Check, Amend, Serve, Resume, Usage, Make, Trial}
+use Rattle.command_words.specs.declared.job.Job.TheVariants.{Allocate, Check, Amend, Serve, Resume, Usage, Reclear, Recheck, Report as ReportJob, Inspect, Make, Trial}
 
 -- ---- statuses of work that is done
 
@@ -43,6 +46,11 @@ among_searched n (suc zero, lt, is) = (1, omega arith, is)
 among_searched n (suc (suc zero), lt, is) = (2, omega arith, is)
 among_searched n (suc (suc (suc k)), lt, is) = absurd (omega (arith, lt))
 
+among_recleared : (n : ℕ) → Contains recleared_statuses n → Contains finished_statuses n
+among_recleared n (zero, lt, is) = (0, omega arith, is)
+among_recleared n (suc zero, lt, is) = (2, omega arith, is)
+among_recleared n (suc (suc k), lt, is) = absurd (omega (arith, lt))
+
 among_served : (n : ℕ) → Contains served_statuses n → Contains finished_statuses n
 among_served n (zero, lt, is) = (0, omega arith, is)
 among_served n (suc zero, lt, is) = (3, omega arith, is)
@@ -61,6 +69,10 @@ finishing_among (Allocate names nodes workers) n one = among_searched n one
 finishing_among (Check names) n one = among_zero n one
 finishing_among (Amend names) n one = among_zero n one
 finishing_among (Usage names) n one = among_zero n one
+finishing_among (Reclear names nodes workers) n one = among_recleared n one
+finishing_among (Recheck names) n one = among_zero n one
+finishing_among (ReportJob names) n one = among_zero n one
+finishing_among (Inspect names) n one = among_zero n one
 finishing_among (Serve names links port workers) n one = among_served n one
 finishing_among (Resume names links port workers) n one = among_resumed n one
 finishing_among (Make number units names) n one = among_zero n one
@@ -114,6 +126,9 @@ refusal_range (out_of_form name line) = (omega arith, λ e. omega (arith, e))
 refusal_range (over_limit name number) = (omega arith, λ e. omega (arith, e))
 refusal_range (not_valid line reason) = (omega arith, λ e. omega (arith, e))
 refusal_range no_next = (omega arith, λ e. omega (arith, e))
+refusal_range (extra_fails line reason) = (omega arith, λ e. omega (arith, e))
+refusal_range (bad_form name line cause) = (omega arith, λ e. omega (arith, e))
+refusal_range (past_limit name number cause) = (omega arith, λ e. omega (arith, e))
 
 refusal_not_finished : (refusal : Refusal) → Contains finished_statuses (refusal_status refusal) → ⊥
 refusal_not_finished (missing name) one = not_finished 5 (omega arith) (omega arith) one
@@ -122,6 +137,9 @@ refusal_not_finished (out_of_form name line) one = not_finished 3 (omega arith) 
 refusal_not_finished (over_limit name number) one = not_finished 4 (omega arith) (omega arith) one
 refusal_not_finished (not_valid line reason) one = not_finished 1 (omega arith) (omega arith) one
 refusal_not_finished no_next one = not_fifteen one
+refusal_not_finished (extra_fails line reason) one = not_finished 1 (omega arith) (omega arith) one
+refusal_not_finished (bad_form name line cause) one = not_finished 3 (omega arith) (omega arith) one
+refusal_not_finished (past_limit name number cause) one = not_finished 4 (omega arith) (omega arith) one
 
 refusal_not_two : (refusal : Refusal) → refusal_status refusal ≡ 2 → ⊥
 refusal_not_two (missing name) e = omega (arith, e)
@@ -130,6 +148,9 @@ refusal_not_two (out_of_form name line) e = omega (arith, e)
 refusal_not_two (over_limit name number) e = omega (arith, e)
 refusal_not_two (not_valid line reason) e = omega (arith, e)
 refusal_not_two no_next e = omega (arith, e)
+refusal_not_two (extra_fails line reason) e = omega (arith, e)
+refusal_not_two (bad_form name line cause) e = omega (arith, e)
+refusal_not_two (past_limit name number cause) e = omega (arith, e)
 
 refusal_not_fourteen : (refusal : Refusal) → refusal_status refusal ≡ 14 → ⊥
 refusal_not_fourteen (missing name) e = omega (arith, e)
@@ -138,6 +159,9 @@ refusal_not_fourteen (out_of_form name line) e = omega (arith, e)
 refusal_not_fourteen (over_limit name number) e = omega (arith, e)
 refusal_not_fourteen (not_valid line reason) e = omega (arith, e)
 refusal_not_fourteen no_next e = omega (arith, e)
+refusal_not_fourteen (extra_fails line reason) e = omega (arith, e)
+refusal_not_fourteen (bad_form name line cause) e = omega (arith, e)
+refusal_not_fourteen (past_limit name number cause) e = omega (arith, e)
 
 refusal_is_status : (refusal : Refusal) → IsStatus (refusal_status refusal)
 refusal_is_status (missing name) = (5, omega arith, refl)
@@ -146,6 +170,9 @@ refusal_is_status (out_of_form name line) = (3, omega arith, refl)
 refusal_is_status (over_limit name number) = (4, omega arith, refl)
 refusal_is_status (not_valid line reason) = (1, omega arith, refl)
 refusal_is_status no_next = (14, omega arith, refl)
+refusal_is_status (extra_fails line reason) = (1, omega arith, refl)
+refusal_is_status (bad_form name line cause) = (3, omega arith, refl)
+refusal_is_status (past_limit name number cause) = (4, omega arith, refl)
 
 -- ---- the status of a journal that was not opened
 
@@ -412,6 +439,28 @@ file_named (Usage names) (capacity ∷ requests ∷ []) writes status text work 
 file_named (Usage names) (capacity ∷ requests ∷ certificate ∷ []) writes status text work = absurd work
 file_named (Usage names) (capacity ∷ requests ∷ certificate ∷ operated ∷ []) writes status text work = ap (λ (l : List NamedBytes). named l) work.written
 file_named (Usage names) (capacity ∷ requests ∷ certificate ∷ operated ∷ more ∷ rest) writes status text work = absurd work
+file_named (Reclear names nodes workers) [] writes status text work = absurd work
+file_named (Reclear names nodes workers) (capacity ∷ []) writes status text work = absurd work
+file_named (Reclear names nodes workers) (capacity ∷ requests ∷ []) writes status text work = absurd work
+file_named (Reclear names nodes workers) (capacity ∷ requests ∷ certificate ∷ []) writes status text work = absurd work
+file_named (Reclear names nodes workers) (capacity ∷ requests ∷ certificate ∷ asks ∷ []) writes status text work = ap (λ (l : List NamedBytes). named l) work.written
+file_named (Reclear names nodes workers) (capacity ∷ requests ∷ certificate ∷ asks ∷ more ∷ rest) writes status text work = absurd work
+file_named (Recheck names) [] writes status text work = absurd work
+file_named (Recheck names) (capacity ∷ []) writes status text work = absurd work
+file_named (Recheck names) (capacity ∷ requests ∷ []) writes status text work = absurd work
+file_named (Recheck names) (capacity ∷ requests ∷ certificate ∷ []) writes status text work = absurd work
+file_named (Recheck names) (capacity ∷ requests ∷ certificate ∷ asks ∷ []) writes status text work = absurd work
+file_named (Recheck names) (capacity ∷ requests ∷ certificate ∷ asks ∷ extra ∷ []) writes status text work = ap (λ (l : List NamedBytes). named l) work.written
+file_named (Recheck names) (capacity ∷ requests ∷ certificate ∷ asks ∷ extra ∷ more ∷ rest) writes status text work = absurd work
+file_named (ReportJob names) [] writes status text work = absurd work
+file_named (ReportJob names) (capacity ∷ []) writes status text work = absurd work
+file_named (ReportJob names) (capacity ∷ requests ∷ []) writes status text work = absurd work
+file_named (ReportJob names) (capacity ∷ requests ∷ certificate ∷ []) writes status text work = ap (λ (l : List NamedBytes). named l) work.written
+file_named (ReportJob names) (capacity ∷ requests ∷ certificate ∷ more ∷ rest) writes status text work = absurd work
+file_named (Inspect names) [] writes status text work = absurd work
+file_named (Inspect names) (capacity ∷ []) writes status text work = absurd work
+file_named (Inspect names) (capacity ∷ requests ∷ []) writes status text work = ap (λ (l : List NamedBytes). named l) work.written
+file_named (Inspect names) (capacity ∷ requests ∷ more ∷ rest) writes status text work = absurd work
 file_named (Serve names links port workers) inputs writes status text work = absurd work
 file_named (Resume names links port workers) inputs writes status text work = absurd work
 file_named (Make number units names) [] writes status text work = ap (λ (l : List NamedBytes). named l) work.written
@@ -438,6 +487,10 @@ works_named (Allocate names nodes workers) inputs writes change status text work
 works_named (Check names) inputs writes change status text work = file_named (Check names) inputs writes status text work.1
 works_named (Amend names) inputs writes change status text work = file_named (Amend names) inputs writes status text work.1
 works_named (Usage names) inputs writes change status text work = file_named (Usage names) inputs writes status text work.1
+works_named (Reclear names nodes workers) inputs writes change status text work = file_named (Reclear names nodes workers) inputs writes status text work.1
+works_named (Recheck names) inputs writes change status text work = file_named (Recheck names) inputs writes status text work.1
+works_named (ReportJob names) inputs writes change status text work = file_named (ReportJob names) inputs writes status text work.1
+works_named (Inspect names) inputs writes change status text work = file_named (Inspect names) inputs writes status text work.1
 works_named (Serve names links port workers) inputs writes change status text work = service_named names links inputs writes change status text work
 works_named (Resume names links port workers) inputs writes change status text work = resume_named names links inputs writes change status text work
 works_named (Make number units names) inputs writes change status text work = file_named (Make number units names) inputs writes status text work.1
@@ -449,7 +502,7 @@ files_of job files inputs writes change status text pass work = record {
   written = works_named job inputs writes change status text work;
 }
 
-module _ (marks : (s : SubmissionView) (c : Certificate) → IsValid s c → MarksHold s c) where
+module _ (marks : (s : SubmissionView) (c : Certificate) → IsValid s c → MarksHold s c) (waits : WaitingMarks) (fit : AllottedFit) where
   check_marks : (names : List Word) (files : Option Files) (done writes : List NamedBytes) (change : OutsideChange) (status : ℕ) (text : List ℕ) → AllPass files (check_steps names) done → writes ≡ [] → HeadlineHolds (Check names) done writes change status text
   check_marks names files done writes change status text (one, handed1, (capacity, (two, handed2, (season, (three, handed3, (spelled, ((s, c, made, spells, valid), all))))))) none =
       let a : NamedBytes = record { name = name_at names 0; bytes = one } in
@@ -487,6 +540,57 @@ module _ (marks : (s : SubmissionView) (c : Certificate) → IsValid s c → Mar
       subst (λ (l : List NamedBytes). HeadlineHolds (Usage names) (capacity ∷ requests ∷ certificate ∷ operated ∷ []) l change status text) (sym work.written)
       (work.season, work.proved, work.spelled, record { made = work.made; valid = work.valid; marks = marks work.season work.proved work.valid }, work.reports, work.said, work.output)
   file_marks (Usage names) files (capacity ∷ requests ∷ certificate ∷ operated ∷ more ∷ rest) writes change status text pass work = absurd work
+  file_marks (Reclear names nodes workers) files [] writes change status text pass work = absurd work
+  file_marks (Reclear names nodes workers) files (capacity ∷ []) writes change status text pass work = absurd work
+  file_marks (Reclear names nodes workers) files (capacity ∷ requests ∷ []) writes change status text pass work = absurd work
+  file_marks (Reclear names nodes workers) files (capacity ∷ requests ∷ certificate ∷ []) writes change status text pass work = absurd work
+  file_marks (Reclear names nodes workers) files (capacity ∷ requests ∷ certificate ∷ asks ∷ []) writes change status text pass work =
+      let cleared = work.output in
+      let out = cleared.output in
+      let proof : IsWaitingProof (last_book work.season work.proved cleared.history) (left_waiting work.season work.proved cleared.history) out.stage =
+      record { problem = out.problem; problem_is = out.problem_is; proof = out.run.proof } in
+      subst (λ (l : List NamedBytes). HeadlineHolds (Reclear names nodes workers) (capacity ∷ requests ∷ certificate ∷ asks ∷ []) l change status text) (sym work.written) (
+        work.season,
+        work.proved,
+        work.spelled,
+        record { made = work.made; valid = work.valid; marks = marks work.season work.proved work.valid },
+        cleared.history,
+        out.stage,
+        out.spelled,
+        stage_proved waits fit work.season work.proved asks.bytes cleared.history out.stage cleared.asked cleared.one proof,
+        out.printed,
+      )
+  file_marks (Reclear names nodes workers) files (capacity ∷ requests ∷ certificate ∷ asks ∷ more ∷ rest) writes change status text pass work = absurd work
+  file_marks (Recheck names) files [] writes change status text pass work = absurd work
+  file_marks (Recheck names) files (capacity ∷ []) writes change status text pass work = absurd work
+  file_marks (Recheck names) files (capacity ∷ requests ∷ []) writes change status text pass work = absurd work
+  file_marks (Recheck names) files (capacity ∷ requests ∷ certificate ∷ []) writes change status text pass work = absurd work
+  file_marks (Recheck names) files (capacity ∷ requests ∷ certificate ∷ asks ∷ []) writes change status text pass work = absurd work
+  file_marks (Recheck names) files (capacity ∷ requests ∷ certificate ∷ asks ∷ extra ∷ []) writes change status text pass work =
+      subst (λ (l : List NamedBytes). HeadlineHolds (Recheck names) (capacity ∷ requests ∷ certificate ∷ asks ∷ extra ∷ []) l change status text) (sym work.written) (
+        work.season,
+        work.proved,
+        work.spelled,
+        record { made = work.made; valid = work.valid; marks = marks work.season work.proved work.valid },
+        work.history,
+        work.stage,
+        work.said,
+        stage_proved waits fit work.season work.proved asks.bytes work.history work.stage work.asked work.one work.proof,
+      )
+  file_marks (Recheck names) files (capacity ∷ requests ∷ certificate ∷ asks ∷ extra ∷ more ∷ rest) writes change status text pass work = absurd work
+  file_marks (ReportJob names) files [] writes change status text pass work = absurd work
+  file_marks (ReportJob names) files (capacity ∷ []) writes change status text pass work = absurd work
+  file_marks (ReportJob names) files (capacity ∷ requests ∷ []) writes change status text pass work = absurd work
+  file_marks (ReportJob names) files (capacity ∷ requests ∷ certificate ∷ []) writes change status text pass work =
+      subst (λ (l : List NamedBytes). HeadlineHolds (ReportJob names) (capacity ∷ requests ∷ certificate ∷ []) l change status text) (sym work.written)
+      (work.season, work.proved, work.spelled, record { made = work.made; valid = work.valid; marks = marks work.season work.proved work.valid }, work.output)
+  file_marks (ReportJob names) files (capacity ∷ requests ∷ certificate ∷ more ∷ rest) writes change status text pass work = absurd work
+  file_marks (Inspect names) files [] writes change status text pass work = absurd work
+  file_marks (Inspect names) files (capacity ∷ []) writes change status text pass work = absurd work
+  file_marks (Inspect names) files (capacity ∷ requests ∷ []) writes change status text pass work =
+      subst (λ (l : List NamedBytes). HeadlineHolds (Inspect names) (capacity ∷ requests ∷ []) l change status text) (sym work.written)
+      (work.season, work.made, work.printed)
+  file_marks (Inspect names) files (capacity ∷ requests ∷ more ∷ rest) writes change status text pass work = absurd work
   file_marks (Serve names links port workers) files done writes change status text pass work = absurd work
   file_marks (Resume names links port workers) files done writes change status text pass work = absurd work
   file_marks (Make number units names) files done writes change status text pass work = tt
@@ -518,6 +622,10 @@ module _ (marks : (s : SubmissionView) (c : Certificate) → IsValid s c → Mar
   work_marks (Check names) files done writes change status text pass work = file_marks (Check names) files done writes change status text pass work.1
   work_marks (Amend names) files done writes change status text pass work = file_marks (Amend names) files done writes change status text pass work.1
   work_marks (Usage names) files done writes change status text pass work = file_marks (Usage names) files done writes change status text pass work.1
+  work_marks (Reclear names nodes workers) files done writes change status text pass work = file_marks (Reclear names nodes workers) files done writes change status text pass work.1
+  work_marks (Recheck names) files done writes change status text pass work = file_marks (Recheck names) files done writes change status text pass work.1
+  work_marks (ReportJob names) files done writes change status text pass work = file_marks (ReportJob names) files done writes change status text pass work.1
+  work_marks (Inspect names) files done writes change status text pass work = file_marks (Inspect names) files done writes change status text pass work.1
   work_marks (Serve names links port workers) files done writes change status text pass work = service_marks names links port workers done writes change status text work
   work_marks (Resume names links port workers) files done writes change status text pass work = resume_marks names links port workers done writes change status text work
   work_marks (Make number units names) files done writes change status text pass work = file_marks (Make number units names) files done writes change status text pass work.1

@@ -1,6 +1,6 @@
 -- The work of a job is done, or its writes are cut short.
 use Rattle.std.proofs.Common.{◌≡◌, ℕ, ◌+◌, Bool, true, false, List, [], ◌∷◌, ◌++◌, map, Option, Some, None, refl, sym, ap, ◌∙◌, subst, append_assoc, arith, inl, inr}
-use Rattle.std.specs.Prelude.{All, Contains, is_some}
+use Rattle.std.specs.Prelude.{All, Contains, is_some, if◌then◌else◌, ◌||◌}
 use Rattle.std.proofs.lemmas.Bool.{cases_Bool}
 use Rattle.std.proofs.lemmas.List.{append-nil}
 use Rattle.std.proofs.lemmas.List.Elements.{All-nil, All-cons, All-append, All-map}
@@ -11,7 +11,7 @@ use Rattle.command_words.specs.Words.{Word}
 use Rattle.slot_program.specs.Judgements.{NamedBytes}
 use Rattle.slot_program.specs.Steps.{names_read}
 use Rattle.slot_program.specs.Writing.{read_of, AreWritten}
-use Rattle.slot_program.specs.Jobs.{IsWithoutJournal, name_at, one_file, two_files, steps_of, names_written, served_statuses, resumed_statuses, finishing_of, FileWorks, ServiceWorks, ResumeWorks, Works}
+use Rattle.slot_program.specs.Jobs.{IsWithoutJournal, name_at, one_file, two_files, steps_of, names_written, recleared_statuses, served_statuses, resumed_statuses, finishing_of, FileWorks, ServiceWorks, ResumeWorks, Works}
 use Rattle.slot_program.specs.Outside.{OutsideChange, still, IsStill}
 use Rattle.slot_program.specs.Services.{some_ended, is_door_end, is_full_end, served_status}
 use Rattle.slot_program.specs.Resumed.{resumed_status}
@@ -19,11 +19,14 @@ use Rattle.session_desk.specs.declared.worker.DoorWork.{DoorWork}
 use Rattle.slot_program.specs.Desk.{World, LogGrew, OnlyOfJob, IsOfFiles}
 use Rattle.slot_program.specs.Leads.{Leads}
 use Rattle.slot_program.specs.Ends.{IsDoneBy, IsCutShort, StopsUnopened, JobStopsBy, JobStops}
+use Rattle.cert_format.specs.declared.cert.Mark.{Mark}
+use Rattle.cert_format.specs.declared.cert.Mark.TheVariants.{Optimal, Infeasible, Unsettled, NotTried}
+use Rattle.slot_program.specs.StageLines.{is_infeasible, is_open}
 use Rattle.slot_program.specs.Reports.{JournalRefusal}
 use Rattle.slot_program.specs.Stops.{StopLeads}
 use Rattle.slot_program.proofs.StageLemmas.{marks_among}
 use Rattle.command_words.specs.declared.job.Job.{Job}
-use Rattle.command_words.specs.declared.job.Job.TheVariants.{Allocate, Check, Amend, Serve, Resume, Usage, Make, Trial}
+use Rattle.command_words.specs.declared.job.Job.TheVariants.{Allocate, Check, Amend, Serve, Resume, Usage, Reclear, Recheck, Report, Inspect, Make, Trial}
 use Rattle.slot_program.specs.declared.stop.Stop.{Stop}
 use Rattle.slot_program.specs.declared.stop.Stop.TheVariants as stops
 
@@ -31,6 +34,13 @@ use Rattle.slot_program.specs.declared.stop.Stop.TheVariants as stops
 
 only_zero : (n : ℕ) → n ≡ 0 → Contains {X = ℕ} (0 ∷ []) n
 only_zero n e = subst (λ (k : ℕ). Contains {X = ℕ} (0 ∷ []) k) (sym e) (0, omega arith, refl)
+
+-- of one stage that is not INFEASIBLE
+one_among : (mark : Mark) → (mark ≡ Infeasible → ⊥) → Contains recleared_statuses (if is_infeasible mark || false then 8 else (if is_open mark || false then 9 else 0))
+one_among Optimal not = (0, omega arith, refl)
+one_among Infeasible not = absurd (not refl)
+one_among Unsettled not = (1, omega arith, refl)
+one_among NotTried not = (0, omega arith, refl)
 
 file_finishing : (job : Job) (inputs writes : List NamedBytes) (status : ℕ) (text : List ℕ) → FileWorks job inputs writes status text → Contains (finishing_of job) status
 file_finishing (Allocate names nodes workers) [] writes status text work = absurd work
@@ -55,6 +65,30 @@ file_finishing (Usage names) (capacity ∷ requests ∷ []) writes status text w
 file_finishing (Usage names) (capacity ∷ requests ∷ certificate ∷ []) writes status text work = absurd work
 file_finishing (Usage names) (capacity ∷ requests ∷ certificate ∷ operated ∷ []) writes status text work = only_zero status work.status_is
 file_finishing (Usage names) (capacity ∷ requests ∷ certificate ∷ operated ∷ more ∷ rest) writes status text work = absurd work
+file_finishing (Reclear names nodes workers) [] writes status text work = absurd work
+file_finishing (Reclear names nodes workers) (capacity ∷ []) writes status text work = absurd work
+file_finishing (Reclear names nodes workers) (capacity ∷ requests ∷ []) writes status text work = absurd work
+file_finishing (Reclear names nodes workers) (capacity ∷ requests ∷ certificate ∷ []) writes status text work = absurd work
+file_finishing (Reclear names nodes workers) (capacity ∷ requests ∷ certificate ∷ asks ∷ []) writes status text work =
+    let out = work.output.output in
+    subst (λ (n : ℕ). Contains recleared_statuses n) (sym out.status_is) (one_among out.stage.mark out.feasible)
+file_finishing (Reclear names nodes workers) (capacity ∷ requests ∷ certificate ∷ asks ∷ more ∷ rest) writes status text work = absurd work
+file_finishing (Recheck names) [] writes status text work = absurd work
+file_finishing (Recheck names) (capacity ∷ []) writes status text work = absurd work
+file_finishing (Recheck names) (capacity ∷ requests ∷ []) writes status text work = absurd work
+file_finishing (Recheck names) (capacity ∷ requests ∷ certificate ∷ []) writes status text work = absurd work
+file_finishing (Recheck names) (capacity ∷ requests ∷ certificate ∷ asks ∷ []) writes status text work = absurd work
+file_finishing (Recheck names) (capacity ∷ requests ∷ certificate ∷ asks ∷ extra ∷ []) writes status text work = only_zero status work.status_is
+file_finishing (Recheck names) (capacity ∷ requests ∷ certificate ∷ asks ∷ extra ∷ more ∷ rest) writes status text work = absurd work
+file_finishing (Report names) [] writes status text work = absurd work
+file_finishing (Report names) (capacity ∷ []) writes status text work = absurd work
+file_finishing (Report names) (capacity ∷ requests ∷ []) writes status text work = absurd work
+file_finishing (Report names) (capacity ∷ requests ∷ certificate ∷ []) writes status text work = only_zero status work.status_is
+file_finishing (Report names) (capacity ∷ requests ∷ certificate ∷ more ∷ rest) writes status text work = absurd work
+file_finishing (Inspect names) [] writes status text work = absurd work
+file_finishing (Inspect names) (capacity ∷ []) writes status text work = absurd work
+file_finishing (Inspect names) (capacity ∷ requests ∷ []) writes status text work = only_zero status work.status_is
+file_finishing (Inspect names) (capacity ∷ requests ∷ more ∷ rest) writes status text work = absurd work
 file_finishing (Serve names links port workers) inputs writes status text work = absurd work
 file_finishing (Resume names links port workers) inputs writes status text work = absurd work
 file_finishing (Make number units names) [] writes status text work = only_zero status work.status_is
@@ -105,6 +139,10 @@ works_finishing (Allocate names nodes workers) inputs writes change status text 
 works_finishing (Check names) inputs writes change status text work = file_finishing (Check names) inputs writes status text work.1
 works_finishing (Amend names) inputs writes change status text work = file_finishing (Amend names) inputs writes status text work.1
 works_finishing (Usage names) inputs writes change status text work = file_finishing (Usage names) inputs writes status text work.1
+works_finishing (Reclear names nodes workers) inputs writes change status text work = file_finishing (Reclear names nodes workers) inputs writes status text work.1
+works_finishing (Recheck names) inputs writes change status text work = file_finishing (Recheck names) inputs writes status text work.1
+works_finishing (Report names) inputs writes change status text work = file_finishing (Report names) inputs writes status text work.1
+works_finishing (Inspect names) inputs writes change status text work = file_finishing (Inspect names) inputs writes status text work.1
 works_finishing (Serve names links port workers) inputs writes change status text work = service_finishing names links inputs writes change status text work
 works_finishing (Resume names links port workers) inputs writes change status text work = resume_finishing names links inputs writes change status text work
 works_finishing (Make number units names) inputs writes change status text work = file_finishing (Make number units names) inputs writes status text work.1
@@ -122,6 +160,9 @@ stop_job_by names job w change v (stops.OverLimit limit number) same lead = (sam
 stop_job_by names job w change v (stops.NotValid line reason) same lead = (same, lead)
 stop_job_by names job w change v (stops.Unopened why) same lead = absurd lead
 stop_job_by names job w change v stops.NoNext same lead = (same, lead)
+stop_job_by names job w change v (stops.ExtraFails line reason) same lead = (same, lead)
+stop_job_by names job w change v (stops.BadForm place line cause) same lead = (same, lead)
+stop_job_by names job w change v (stops.PastLimit limit number cause) same lead = (same, lead)
 stop_job_by names job w change v stops.Memory same lead = lead
 
 pub stop_job : (names : List Word) (job : Job) (w v : World) (stop : Stop) → StopLeads names w (steps_of job) stop v → JobStops names job w stop v

@@ -16,7 +16,7 @@ use Rattle.holding_book.specs.Starts.{start_book}
 use Rattle.session_desk.specs.declared.worker.DoorWork.{DoorWork}
 use Rattle.command_words.specs.Words.{Word}
 use Rattle.command_words.specs.declared.job.Job.{Job}
-use Rattle.command_words.specs.declared.job.Job.TheVariants.{Allocate, Check, Amend, Serve, Resume, Usage, Make, Trial}
+use Rattle.command_words.specs.declared.job.Job.TheVariants.{Allocate, Check, Amend, Serve, Resume, Usage, Reclear, Recheck, Report, Inspect, Make, Trial}
 use Rattle.slot_program.specs.Reports.{JournalRefusal, no_journal, other_journal, bad_slot, journal_fault, journal_status}
 use Rattle.slot_program.specs.Judgements.{NamedBytes}
 use Rattle.slot_program.specs.Steps.{Step, reads, judges, PassFrom}
@@ -24,7 +24,7 @@ use Rattle.slot_program.specs.Outside.{OutsideChange, disk_faults, DiskRose}
 use Rattle.slot_program.specs.Services.{some_ended, is_door_end, is_full_end, served_status}
 use Rattle.slot_program.specs.Journals.{IsUnopened, IsLeftWith, TellsFile, IsDueJournal, TellsPairs}
 use Rattle.slot_program.specs.Resumed.{resumed_status}
-use Rattle.slot_program.specs.Jobs.{searched_statuses, served_statuses, finishing_of, ServiceWorks, ResumeWorks, Works, IsSeasonTerm, IsJournalless, IsWithoutJournal, JournalDue, JournalStands}
+use Rattle.slot_program.specs.Jobs.{searched_statuses, recleared_statuses, served_statuses, finishing_of, ServiceWorks, ResumeWorks, Works, IsSeasonTerm, IsJournalless, IsWithoutJournal, JournalDue, JournalStands}
 
 -- ---- the count of the disk, by how a job ended
 
@@ -101,6 +101,10 @@ works_disk_calm (Amend names) inputs writes change status text not work = ap dis
 works_disk_calm (Serve names links port workers) inputs writes change status text not work = service_disk names links inputs writes change status text work
 works_disk_calm (Resume names links port workers) inputs writes change status text not work = resume_disk names links inputs writes change status text not work
 works_disk_calm (Usage names) inputs writes change status text not work = ap disk_faults work.0
+works_disk_calm (Reclear names nodes workers) inputs writes change status text not work = ap disk_faults work.0
+works_disk_calm (Recheck names) inputs writes change status text not work = ap disk_faults work.0
+works_disk_calm (Report names) inputs writes change status text not work = ap disk_faults work.0
+works_disk_calm (Inspect names) inputs writes change status text not work = ap disk_faults work.0
 works_disk_calm (Make number units names) inputs writes change status text not work = ap disk_faults work.0
 works_disk_calm (Trial number units) inputs writes change status text not work = ap disk_faults work.0
 
@@ -109,6 +113,11 @@ searched_not (zero, lt, is) = omega (arith, is)
 searched_not (suc zero, lt, is) = omega (arith, is)
 searched_not (suc (suc zero), lt, is) = omega (arith, is)
 searched_not (suc (suc (suc k)), lt, is) = omega (arith, lt)
+
+recleared_not : Contains recleared_statuses 14 → ⊥
+recleared_not (zero, lt, is) = omega (arith, is)
+recleared_not (suc zero, lt, is) = omega (arith, is)
+recleared_not (suc (suc k), lt, is) = omega (arith, lt)
 
 served_not : Contains served_statuses 14 → ⊥
 served_not (zero, lt, is) = omega (arith, is)
@@ -128,6 +137,10 @@ works_disk_risen (Amend names) inputs writes change text work one = absurd (zero
 works_disk_risen (Serve names links port workers) inputs writes change text work one = absurd (served_not one)
 works_disk_risen (Resume names links port workers) inputs writes change text work one = resume_rose names links inputs writes change 14 text refl work
 works_disk_risen (Usage names) inputs writes change text work one = absurd (zero_not one)
+works_disk_risen (Reclear names nodes workers) inputs writes change text work one = absurd (recleared_not one)
+works_disk_risen (Recheck names) inputs writes change text work one = absurd (zero_not one)
+works_disk_risen (Report names) inputs writes change text work one = absurd (zero_not one)
+works_disk_risen (Inspect names) inputs writes change text work one = absurd (zero_not one)
 works_disk_risen (Make number units names) inputs writes change text work one = absurd (zero_not one)
 works_disk_risen (Trial number units) inputs writes change text work one = absurd (searched_not one)
 
@@ -165,6 +178,10 @@ with_three (Resume names links port workers) (capacity ∷ requests ∷ []) chan
 with_three (Resume names links port workers) (capacity ∷ requests ∷ certificate ∷ []) change why h next = next capacity.bytes requests.bytes h
 with_three (Resume names links port workers) (capacity ∷ requests ∷ certificate ∷ more ∷ rest) change why h next = absurd h
 with_three (Usage names) inputs change why h next = absurd h
+with_three (Reclear names nodes workers) inputs change why h next = absurd h
+with_three (Recheck names) inputs change why h next = absurd h
+with_three (Report names) inputs change why h next = absurd h
+with_three (Inspect names) inputs change why h next = absurd h
 with_three (Make number units names) inputs change why h next = absurd h
 with_three (Trial number units) inputs change why h next = absurd h
 
@@ -176,12 +193,10 @@ without_risen job inputs change why is h = with_three job inputs change why h (�
 
 -- ---- a disk that tells
 
-agrees_by : (told : Option ToldDisk) (log : List DiskPassage) (s : DiskStart) → told_start told ≡ Some s → IfSome told (λ t. MayRead t.start log t.bytes) → Agrees s log
-agrees_by None log s is truly = absurd cc
-agrees_by (Some t) log s is truly = (t.bytes, subst (λ (x : DiskStart). MayRead x log t.bytes) (same_Some t.start s is) truly)
-
-told_agrees : (d e : DiskView) (s : DiskStart) (file : List ℕ) → TellsFile d s file → IsLaterDisk d e → Agrees s e.log
-told_agrees d e s file tells later = agrees_by e.told e.log s (later.start ∙ tells.start) (later.truly tells.truly)
+-- what is so of what the disk tells that it holds
+told_so : (P : List ℕ → Type 0) (x d : DiskView) (file : List ℕ) → x ≡ d → TellsFile x file → IfSome d.told (λ (t : ToldDisk). P t.bytes) → P file
+told_so P x d file same tells h =
+    subst P tells.2 (subst (λ (o : Option ToldDisk). IfSome o (λ (t : ToldDisk). P t.bytes)) (ap (λ (v : DiskView). v.told) (sym same) ∙ tells.1) h)
 
 -- files that are told are read in one way
 pub pass_one : (held : Files) (before : List NamedBytes) (steps : List Step) (a b : List NamedBytes) → PassFrom (Some held) before steps a → PassFrom (Some held) before steps b → a ≡ b
@@ -201,57 +216,47 @@ pub record Standings : Type 0 where
 
 module _ (law : Standings) (season : Term) (year : season.year < 100) where
   -- it was opened: so nothing was due
-  found_due : (IsSeason : Term → Type 0) (disk : Option DiskView) (d e : DiskView) (pairs : List Asked) (why : JournalRefusal) → IsSeason season → disk ≡ Some d → IsLaterDisk d e
-      → ((s : DiskStart) (file : List ℕ) → ((c : List ℕ) → MayRead s d.log c → c ≡ file) → Agrees s e.log → StandsFor season pairs file) → IsDueJournal IsSeason disk why → ⊥
-  found_due IsSeason disk d e pairs no_journal is at later found due = let bad : no_view ≡ Some d = sym due ∙ at in absurd cc
-  found_due IsSeason disk d e pairs other_journal is at later found (x, s, file, has, tells, other) =
-      let same : x ≡ d = same_Some x d (sym has ∙ at) in
-      let here : TellsFile d s file = subst (λ (y : DiskView). TellsFile y s file) same tells in
-      law.not_other season file pairs (found s file here.reads (told_agrees d e s file here later)) other
-  found_due IsSeason disk d e pairs (bad_slot number) is at later found (x, s, file, has, tells, bad) =
-      let same : x ≡ d = same_Some x d (sym has ∙ at) in
-      let here : TellsFile d s file = subst (λ (y : DiskView). TellsFile y s file) same tells in
-      law.not_bad season file pairs number year (found s file here.reads (told_agrees d e s file here later)) (bad season is)
-  found_due IsSeason disk d e pairs journal_fault is at later found due = due
+  found_due : (IsSeason : Term → Type 0) (disk : Option DiskView) (d : DiskView) (pairs : List Asked) (why : JournalRefusal) → IsSeason season → disk ≡ Some d → IfSome d.told (λ (t : ToldDisk). StandsFor season pairs t.bytes) → IsDueJournal IsSeason disk why → ⊥
+  found_due IsSeason disk d pairs no_journal is at told due = let bad : no_view ≡ Some d = sym due ∙ at in absurd cc
+  found_due IsSeason disk d pairs other_journal is at told (x, file, has, tells, other) =
+      law.not_other season file pairs (told_so (StandsFor season pairs) x d file (same_Some x d (sym has ∙ at)) tells told) other
+  found_due IsSeason disk d pairs (bad_slot number) is at told (x, file, has, tells, bad) =
+      law.not_bad season file pairs number year (told_so (StandsFor season pairs) x d file (same_Some x d (sym has ∙ at)) tells told) (bad season is)
+  found_due IsSeason disk d pairs journal_fault is at told due = due
 
   -- it was not: for what was due, or the disk failed
   refused_due : (IsSeason : Term → Type 0) (disk after : Option DiskView) (why due : JournalRefusal) → IsSeason season → IsUnopened season why disk after → IsDueJournal IsSeason disk due → (why ≡ due) ⊎ (journal_status why ≡ 14)
   refused_due IsSeason None after why no_journal is h d = inl h.0
-  refused_due IsSeason None after why other_journal is h d = let bad : no_view ≡ Some d.0 = d.3 in absurd cc
-  refused_due IsSeason None after why (bad_slot number) is h d = let bad : no_view ≡ Some d.0 = d.3 in absurd cc
+  refused_due IsSeason None after why other_journal is h d = let bad : no_view ≡ Some d.0 = d.2 in absurd cc
+  refused_due IsSeason None after why (bad_slot number) is h d = let bad : no_view ≡ Some d.0 = d.2 in absurd cc
   refused_due IsSeason None after why journal_fault is h d = absurd d
   refused_due IsSeason (Some x) None why due is h d = absurd h
   refused_due IsSeason (Some x) (Some e) no_journal due is h d = absurd h.0
   refused_due IsSeason (Some x) (Some e) journal_fault due is h d = inr refl
   refused_due IsSeason (Some x) (Some e) other_journal no_journal is h d = absurd cc
   refused_due IsSeason (Some x) (Some e) other_journal other_journal is h d = inl refl
-  refused_due IsSeason (Some x) (Some e) other_journal (bad_slot number) is h (y, s, file, has, tells, bad) =
-      let here : TellsFile x s file = subst (λ (z : DiskView). TellsFile z s file) (same_Some y x (sym has)) tells in
-      absurd (law.one_fault season file number (bad season is) (h.0.1 s file here.reads (told_agrees x e s file here h.1.later)))
+  refused_due IsSeason (Some x) (Some e) other_journal (bad_slot number) is h (y, file, has, tells, bad) =
+      absurd (law.one_fault season file number (bad season is) (told_so IsOther y x file (same_Some y x (sym has)) tells h.0.1))
   refused_due IsSeason (Some x) (Some e) other_journal journal_fault is h d = absurd d
   refused_due IsSeason (Some x) (Some e) (bad_slot number) no_journal is h d = absurd cc
-  refused_due IsSeason (Some x) (Some e) (bad_slot number) other_journal is h (y, s, file, has, tells, other) =
-      let here : TellsFile x s file = subst (λ (z : DiskView). TellsFile z s file) (same_Some y x (sym has)) tells in
-      absurd (law.one_fault season file number (h.0.1 s file here.reads (told_agrees x e s file here h.1.later)) other)
-  refused_due IsSeason (Some x) (Some e) (bad_slot number) (bad_slot other) is h (y, s, file, has, tells, bad) =
-      let here : TellsFile x s file = subst (λ (z : DiskView). TellsFile z s file) (same_Some y x (sym has)) tells in
-      inl (ap bad_slot (law.one_number season file number other year (h.0.1 s file here.reads (told_agrees x e s file here h.1.later)) (bad season is)))
+  refused_due IsSeason (Some x) (Some e) (bad_slot number) other_journal is h (y, file, has, tells, other) =
+      absurd (law.one_fault season file number (told_so (IsBadSlot season number) y x file (same_Some y x (sym has)) tells h.0.1) other)
+  refused_due IsSeason (Some x) (Some e) (bad_slot number) (bad_slot other) is h (y, file, has, tells, bad) =
+      inl (ap bad_slot (law.one_number season file number other year (told_so (IsBadSlot season number) y x file (same_Some y x (sym has)) tells h.0.1) (bad season is)))
   refused_due IsSeason (Some x) (Some e) (bad_slot number) journal_fault is h d = absurd d
 
   -- it was not, though the file stands for pairs: the disk failed
   refused_stands : (IsSeason : Term → Type 0) (disk after : Option DiskView) (why : JournalRefusal) → IsSeason season → IsUnopened season why disk after → TellsPairs IsSeason disk → journal_status why ≡ 14
-  refused_stands IsSeason None after why is h t = let bad : no_view ≡ Some t.0 = t.3 in absurd cc
+  refused_stands IsSeason None after why is h t = let bad : no_view ≡ Some t.0 = t.2 in absurd cc
   refused_stands IsSeason (Some x) None why is h t = absurd h
   refused_stands IsSeason (Some x) (Some e) no_journal is h t = absurd h.0
   refused_stands IsSeason (Some x) (Some e) journal_fault is h t = refl
-  refused_stands IsSeason (Some x) (Some e) other_journal is h (y, s, file, has, tells, stands) =
-      let here : TellsFile x s file = subst (λ (z : DiskView). TellsFile z s file) (same_Some y x (sym has)) tells in
+  refused_stands IsSeason (Some x) (Some e) other_journal is h (y, file, has, tells, stands) =
       let pairs = stands season is in
-      absurd (law.not_other season file pairs.0 pairs.1 (h.0.1 s file here.reads (told_agrees x e s file here h.1.later)))
-  refused_stands IsSeason (Some x) (Some e) (bad_slot number) is h (y, s, file, has, tells, stands) =
-      let here : TellsFile x s file = subst (λ (z : DiskView). TellsFile z s file) (same_Some y x (sym has)) tells in
+      absurd (law.not_other season file pairs.0 pairs.1 (told_so IsOther y x file (same_Some y x (sym has)) tells h.0.1))
+  refused_stands IsSeason (Some x) (Some e) (bad_slot number) is h (y, file, has, tells, stands) =
       let pairs = stands season is in
-      absurd (law.not_bad season file pairs.0 number year pairs.1 (h.0.1 s file here.reads (told_agrees x e s file here h.1.later)))
+      absurd (law.not_bad season file pairs.0 number year pairs.1 (told_so (IsBadSlot season number) y x file (same_Some y x (sym has)) tells h.0.1))
 
 -- ---- a job
 
@@ -267,10 +272,14 @@ work_due law (Resume names links port workers) (capacity ∷ []) writes change s
 work_due law (Resume names links port workers) (capacity ∷ requests ∷ []) writes change status text why work due = due
 work_due law (Resume names links port workers) (capacity ∷ requests ∷ certificate ∷ []) writes change status text why work due =
     let out = work.output in
-    found_due law work.season.declaration.season work.year (IsSeasonTerm capacity.bytes requests.bytes) change.before.disk out.before out.after out.pairs why
-    (record { submission = work.season; made = work.made; term = refl }) out.handed_in out.kept.later out.kept.found due
+    found_due law work.season.declaration.season work.year (IsSeasonTerm capacity.bytes requests.bytes) change.before.disk out.before out.pairs why
+    (record { submission = work.season; made = work.made; term = refl }) out.handed_in out.kept.told due
 work_due law (Resume names links port workers) (capacity ∷ requests ∷ certificate ∷ more ∷ rest) writes change status text why work due = due
 work_due law (Usage names) inputs writes change status text why work due = due
+work_due law (Reclear names nodes workers) inputs writes change status text why work due = due
+work_due law (Recheck names) inputs writes change status text why work due = due
+work_due law (Report names) inputs writes change status text why work due = due
+work_due law (Inspect names) inputs writes change status text why work due = due
 work_due law (Make number units names) inputs writes change status text why work due = due
 work_due law (Trial number units) inputs writes change status text why work due = due
 
@@ -286,6 +295,10 @@ without_due law (Resume names links port workers) (capacity ∷ requests ∷ cer
     refused_due law h.season h.year (IsSeasonTerm capacity.bytes requests.bytes) change.before.disk change.after.disk why due h.is h.refused d
 without_due law (Resume names links port workers) (capacity ∷ requests ∷ certificate ∷ more ∷ rest) change why due h d = absurd h
 without_due law (Usage names) inputs change why due h d = absurd h
+without_due law (Reclear names nodes workers) inputs change why due h d = absurd h
+without_due law (Recheck names) inputs change why due h d = absurd h
+without_due law (Report names) inputs change why due h d = absurd h
+without_due law (Inspect names) inputs change why due h d = absurd h
 without_due law (Make number units names) inputs change why due h d = absurd h
 without_due law (Trial number units) inputs change why due h d = absurd h
 
@@ -302,6 +315,10 @@ without_stands law (Resume names links port workers) (capacity ∷ requests ∷ 
     refused_stands law h.season h.year (IsSeasonTerm capacity.bytes requests.bytes) change.before.disk change.after.disk why h.is h.refused d
 without_stands law (Resume names links port workers) (capacity ∷ requests ∷ certificate ∷ more ∷ rest) change why h d = absurd h
 without_stands law (Usage names) inputs change why h d = absurd h
+without_stands law (Reclear names nodes workers) inputs change why h d = absurd h
+without_stands law (Recheck names) inputs change why h d = absurd h
+without_stands law (Report names) inputs change why h d = absurd h
+without_stands law (Inspect names) inputs change why h d = absurd h
 without_stands law (Make number units names) inputs change why h d = absurd h
 without_stands law (Trial number units) inputs change why h d = absurd h
 
@@ -317,5 +334,9 @@ stands_finishing (Resume names links port workers) inputs disk n h (suc (suc zer
 stands_finishing (Resume names links port workers) inputs disk n h (suc (suc (suc zero)), lt, is) not = absurd (not (sym is))
 stands_finishing (Resume names links port workers) inputs disk n h (suc (suc (suc (suc k))), lt, is) not = absurd (omega (arith, lt))
 stands_finishing (Usage names) inputs disk n h one not = absurd h
+stands_finishing (Reclear names nodes workers) inputs disk n h one not = absurd h
+stands_finishing (Recheck names) inputs disk n h one not = absurd h
+stands_finishing (Report names) inputs disk n h one not = absurd h
+stands_finishing (Inspect names) inputs disk n h one not = absurd h
 stands_finishing (Make number units names) inputs disk n h one not = absurd h
 stands_finishing (Trial number units) inputs disk n h one not = absurd h

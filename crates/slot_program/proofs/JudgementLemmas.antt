@@ -41,7 +41,7 @@ begins_with_fewer IsInForm text k n le begins =
 not_before : (IsInForm : List ℕ → Type 0) (text : List ℕ) (a b : ℕ) → IsFirstBadLine IsInForm text a → IsFirstBadLine IsInForm text b → a < b → ⊥
 not_before IsInForm text a b x y lt = x.bad (begins_with_fewer IsInForm text a (b - 1) (omega arith) y.before)
 
-same_bad_line : (IsInForm : List ℕ → Type 0) (text : List ℕ) (a b : ℕ) → IsFirstBadLine IsInForm text a → IsFirstBadLine IsInForm text b → a ≡ b
+pub same_bad_line : (IsInForm : List ℕ → Type 0) (text : List ℕ) (a b : ℕ) → IsFirstBadLine IsInForm text a → IsFirstBadLine IsInForm text b → a ≡ b
 same_bad_line IsInForm text a b x y =
     elim (cases_order a b) [
       | inl same ↦ same
@@ -49,12 +49,12 @@ same_bad_line IsInForm text a b x y =
       | inr (inr after_it) ↦ absurd (not_before IsInForm text b a y x after_it)
     ]
 
-in_form_good : (IsInForm : List ℕ → Type 0) (text : List ℕ) (line : ℕ) → IsInForm text → IsFirstBadLine IsInForm text line → ⊥
+pub in_form_good : (IsInForm : List ℕ → Type 0) (text : List ℕ) (line : ℕ) → IsInForm text → IsFirstBadLine IsInForm text line → ⊥
 in_form_good IsInForm text line is bad = bad.bad (record { whole = text; in_form = is; same = refl })
 
 -- ---- the capacity file
 
-one_capacity_refusal : (name : Word) (lines : ℕ) (fault : CapFault) (one other : Refusal) → IsCapacityRefusal name lines fault one → IsCapacityRefusal name lines fault other → other ≡ one
+pub one_capacity_refusal : (name : Word) (lines : ℕ) (fault : CapFault) (one other : Refusal) → IsCapacityRefusal name lines fault one → IsCapacityRefusal name lines fault other → other ≡ one
 one_capacity_refusal name lines (capacity_fault.BadLine line) one other a b = b ∙ sym a
 one_capacity_refusal name lines (capacity_fault.Missing word) one other a b = b ∙ sym a
 one_capacity_refusal name lines (capacity_fault.Twice line) one other a b = b ∙ sym a
@@ -79,14 +79,14 @@ module _ (one_fault : (text : List ℕ) (a b : CapFault) → HasCapacityFault te
 
 -- ---- the requests
 
-one_message_refusal : (name : Word) (fault : ScrFault) (one other : Refusal) → IsMessageRefusal name fault one → IsMessageRefusal name fault other → other ≡ one
+pub one_message_refusal : (name : Word) (fault : ScrFault) (one other : Refusal) → IsMessageRefusal name fault one → IsMessageRefusal name fault other → other ≡ one
 one_message_refusal name (message_fault.BadLine line field) one other a b = b ∙ sym a
 one_message_refusal name (message_fault.BadHeader line) one other a b = b ∙ sym a
 one_message_refusal name (message_fault.Unpaired line) one other a b = b ∙ sym a
 one_message_refusal name (message_fault.TooLong line) one other a b = b ∙ sym a
 one_message_refusal name message_fault.Memory one other a b = absurd a
 
-one_submission_refusal : (name : Word) (fault : ModelFault) (one other : Refusal) → IsSubmissionRefusal name fault one → IsSubmissionRefusal name fault other → other ≡ one
+pub one_submission_refusal : (name : Word) (fault : ModelFault) (one other : Refusal) → IsSubmissionRefusal name fault one → IsSubmissionRefusal name fault other → other ≡ one
 one_submission_refusal name (model_fault.OtherSeason line) one other a b = b ∙ sym a
 one_submission_refusal name (model_fault.OtherAirport line) one other a b = b ∙ sym a
 one_submission_refusal name (model_fault.NotInitial line) one other a b = b ∙ sym a
@@ -109,7 +109,7 @@ season_made capacity requests d messages s declared read made =
       made = subst (λ (e : Declaration). submission_answer e messages ≡ Ok s) same made;
     }
 
-same_ok : {X E : Type 0} (r : Result X E) (x y : X) → r ≡ Ok x → r ≡ Ok y → y ≡ x
+pub same_ok : {X E : Type 0} (r : Result X E) (x y : X) → r ≡ Ok x → r ≡ Ok y → y ≡ x
 same_ok {X} {E} r x y a b = cc
 
 -- an error that was answered, or memory that ran out
@@ -124,10 +124,10 @@ all_counted count n lines e h =
     let none : length (lines_of lines) ≡ 0 = subst (λ (l : List ℕ). length (lines_of l) ≡ 0) (sym e) refl in
     omega (arith, h, none)
 
-same_err : {X E : Type 0} (r : Result X E) (x y : E) → r ≡ Err x → r ≡ Err y → y ≡ x
+pub same_err : {X E : Type 0} (r : Result X E) (x y : E) → r ≡ Err x → r ≡ Err y → y ≡ x
 same_err {X} {E} r x y a b = cc
 
-ok_err : {X E : Type 0} (r : Result X E) (x : X) (y : E) → r ≡ Ok x → r ≡ Err y → ⊥
+pub ok_err : {X E : Type 0} (r : Result X E) (x : X) (y : E) → r ≡ Ok x → r ≡ Err y → ⊥
 ok_err {X} {E} r x y a b = cc
 
 module _ (one_declared : (text : List ℕ) (a b : Declaration) → IsCapacityFile text a → IsCapacityFile text b → a ≡ b)
@@ -135,7 +135,7 @@ module _ (one_declared : (text : List ℕ) (a b : Declaration) → IsCapacityFil
     (one_fault : (bytes : List ℕ) (e f : ScrFault) → HasScrFault bytes e → HasScrFault bytes f → e ≡ f)
     (not_both : (bytes : List ℕ) (a : List Message) (e : ScrFault) → ReadsAll bytes a → HasScrFault bytes e → ⊥) where
   -- whichever declaration and messages of the texts are answered, the answer is the same
-  same_answer : (capacity requests : List ℕ) (d e : Declaration) (messages others : List Message) → IsCapacityFile capacity d → IsCapacityFile capacity e → ReadsAll requests messages → ReadsAll requests others
+  pub same_answer : (capacity requests : List ℕ) (d e : Declaration) (messages others : List Message) → IsCapacityFile capacity d → IsCapacityFile capacity e → ReadsAll requests messages → ReadsAll requests others
       → (answer : Result SubmissionView ModelFault) → submission_answer e others ≡ answer → submission_answer d messages ≡ answer
   same_answer capacity requests d e messages others dd de rm ro answer h =
       subst (λ (m : List Message). submission_answer d m ≡ answer) (one_read requests others messages ro rm)

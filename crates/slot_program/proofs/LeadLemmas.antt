@@ -10,7 +10,7 @@ use Rattle.desk_outside.specs.Files.{Files, Reads}
 use Rattle.desk_outside.specs.Passages.{Passage, read}
 use Rattle.command_words.specs.Words.{Word}
 use Rattle.slot_program.specs.Reports.{Refusal, refusal_status}
-use Rattle.slot_program.specs.Judgements.{NamedBytes, Judgement, Accepts, Refuses, capacity_form, requests_form, certificate_form, valid_certificate, reports_form, next_season}
+use Rattle.slot_program.specs.Judgements.{NamedBytes, Judgement, Accepts, Refuses, capacity_form, requests_form, certificate_form, valid_certificate, reports_form, next_season, waiting_limit, extra_form, valid_extra, capacity_cause, requests_cause}
 use Rattle.slot_program.specs.Steps.{Step, reads, judges, names_read, IsHanded, IsNotHanded, PassFrom, RefuseFrom, form_steps, is_of_form}
 use Rattle.slot_program.specs.Writing.{read_of}
 use Rattle.slot_program.specs.Desk.{World}
@@ -214,6 +214,14 @@ valid_status name (capacity ∷ []) refusal refuses = absurd refuses
 valid_status name (capacity ∷ requests ∷ []) refusal refuses = absurd refuses
 valid_status name (capacity ∷ requests ∷ certificate ∷ rest) refusal (s, c, line, reason, season, spells, fails, is) = ap refusal_status is
 
+extra_status : (name : Word) (before : List NamedBytes) (refusal : Refusal) → Refuses valid_extra name before refusal → refusal_status refusal ≡ 1
+extra_status name [] refusal refuses = absurd refuses
+extra_status name (capacity ∷ []) refusal refuses = absurd refuses
+extra_status name (capacity ∷ requests ∷ []) refusal refuses = absurd refuses
+extra_status name (capacity ∷ requests ∷ certificate ∷ []) refusal refuses = absurd refuses
+extra_status name (capacity ∷ requests ∷ certificate ∷ asks ∷ []) refusal refuses = absurd refuses
+extra_status name (capacity ∷ requests ∷ certificate ∷ asks ∷ extra ∷ rest) refusal (s, c, history, stage, line, reason, season, spells, asked, said, fails, is) = ap refusal_status is
+
 module _ (name : Word) (before : List NamedBytes) (refusal : Refusal) where
   form_stops : (j : Judgement) (held : Files) (steps : List Step) (done : List NamedBytes) → RefusesAlone j name before refusal → PassFrom (Some held) before (if is_of_form j then judges j name ∷ steps else steps) done → refusal_status refusal ≡ 1
   form_stops capacity_form held steps done alone h = absurd (alone.rejects h.0)
@@ -222,6 +230,11 @@ module _ (name : Word) (before : List NamedBytes) (refusal : Refusal) where
   form_stops valid_certificate held steps done alone h = valid_status name before refusal alone.refuses
   form_stops reports_form held steps done alone h = absurd (alone.rejects h.0)
   form_stops next_season held steps done alone h = absurd (alone.rejects h.0)
+  form_stops waiting_limit held steps done alone h = absurd (alone.rejects h.0)
+  form_stops extra_form held steps done alone h = absurd (alone.rejects h.0)
+  form_stops valid_extra held steps done alone h = extra_status name before refusal alone.refuses
+  form_stops capacity_cause held steps done alone h = absurd (alone.rejects h.0)
+  form_stops requests_cause held steps done alone h = absurd (alone.rejects h.0)
 
   module _ (j : Judgement) (alone : RefusesAlone j name before refusal) where
     due_stops : (held : Files) (steps : List Step) (other : Refusal) (done : List NamedBytes) → RefuseFrom (Some held) 0 0 before (judges j name ∷ steps) other done → other ≡ refusal
@@ -260,6 +273,9 @@ judged_stops names j name before (stops.OverLimit limit number) w v all steps wh
 judged_stops names j name before (stops.NotValid line reason) w v all steps why lead = refused_judge name before _ j why w v all steps lead
 judged_stops names j name before (stops.Unopened why_not) w v all steps why lead = absurd why
 judged_stops names j name before stops.NoNext w v all steps why lead = refused_judge name before _ j why w v all steps lead
+judged_stops names j name before (stops.ExtraFails line reason) w v all steps why lead = refused_judge name before _ j why w v all steps lead
+judged_stops names j name before (stops.BadForm place line cause) w v all steps why lead = refused_judge name before _ j why w v all steps lead
+judged_stops names j name before (stops.PastLimit limit number cause) w v all steps why lead = refused_judge name before _ j why w v all steps lead
 judged_stops names j name before stops.Memory w v all steps why lead = memory_read w v v all before (judges j name ∷ steps) lead refl
 
 -- files that are accepted stop a judgement for want of memory alone
@@ -273,6 +289,9 @@ only_memory names j name files (stops.OverLimit limit number) accepts why = absu
 only_memory names j name files (stops.NotValid line reason) accepts why = absurd (why.rejects accepts)
 only_memory names j name files (stops.Unopened why_not) accepts why = absurd why
 only_memory names j name files stops.NoNext accepts why = absurd (why.rejects accepts)
+only_memory names j name files (stops.ExtraFails line reason) accepts why = absurd (why.rejects accepts)
+only_memory names j name files (stops.BadForm place line cause) accepts why = absurd (why.rejects accepts)
+only_memory names j name files (stops.PastLimit limit number cause) accepts why = absurd (why.rejects accepts)
 only_memory names j name files stops.Memory accepts why = refl
 
 -- ---- refusals by a property
@@ -287,4 +306,7 @@ by_property names One Other (stops.OverLimit limit number) on why = on _ why
 by_property names One Other (stops.NotValid line reason) on why = on _ why
 by_property names One Other (stops.Unopened why_not) on why = why
 by_property names One Other stops.NoNext on why = on _ why
+by_property names One Other (stops.ExtraFails line reason) on why = on _ why
+by_property names One Other (stops.BadForm place line cause) on why = on _ why
+by_property names One Other (stops.PastLimit limit number cause) on why = on _ why
 by_property names One Other stops.Memory on why = tt

@@ -8,8 +8,13 @@ mod LeadLemmas
 mod JudgementLemmas
 mod EndLemmas
 mod AnswerLemmas
+mod CauseLemmas
+mod InspectionLemmas
 mod DeskLemmas
 mod CheckLemmas
 mod AmendLemmas
 mod UsageLemmas
+mod WaitingLemmas
+mod AllottedLemmas
 mod ReportsLemmas
+mod RecheckLemmas

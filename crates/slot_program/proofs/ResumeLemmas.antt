@@ -1,7 +1,7 @@
 -- What was served with a journal: its pairs answered anew, the disk that it leaves, and why a worker
 -- ended.
 use Rattle.std.proofs.Common.{◌≡◌, ◌<◌, ℕ, true, List, [], ◌∷◌, ◌++◌, Option, Some, None, refl, sym, ap, subst, ◌∙◌, append_assoc}
-use Rattle.std.specs.Prelude.{All, is_some}
+use Rattle.std.specs.Prelude.{All, IfSome, is_some}
 use Rattle.std.proofs.lemmas.List.Elements.{All-nil, All-cons, All-head, All-tail, All-append}
 use Rattle.season_days.specs.Term.{Term}
 use Rattle.season_days.specs.declared.declaration.Declaration.{Declaration}
@@ -137,6 +137,7 @@ module _ (season : Term) (pairs : List Asked) (d : DiskView) (k : KeptView) (ope
       agrees = λ s t. opened.later.agrees s (later.agrees s t);
     };
     fit = opened.fit;
+    told = opened.told;
     found = λ s file reads agrees. opened.found s file reads (later.agrees s agrees);
     moments = moments asks failure h;
     left = left asks failure h;
@@ -165,6 +166,9 @@ stop_resumed names links port workers w v capacity requests certificate lead cha
 stop_resumed names links port workers w v capacity requests certificate lead change season made year (stops.OverLimit limit number) h = absurd h
 stop_resumed names links port workers w v capacity requests certificate lead change season made year (stops.NotValid line reason) h = absurd h
 stop_resumed names links port workers w v capacity requests certificate lead change season made year stops.NoNext h = absurd h
+stop_resumed names links port workers w v capacity requests certificate lead change season made year (stops.ExtraFails line reason) h = absurd h
+stop_resumed names links port workers w v capacity requests certificate lead change season made year (stops.BadForm place line cause) h = absurd h
+stop_resumed names links port workers w v capacity requests certificate lead change season made year (stops.PastLimit limit number cause) h = absurd h
 
 -- no client was served yet
 pub no_client : (season : Term) (change : OutsideChange) (stop : Stop) → change.after.doors ≡ change.before.doors → DiskStops season change.before.disk change.after.disk stop → JournalStops season change stop
@@ -178,18 +182,22 @@ no_client season change (stops.OutOfForm place line) same h = absurd h
 no_client season change (stops.OverLimit limit number) same h = absurd h
 no_client season change (stops.NotValid line reason) same h = absurd h
 no_client season change stops.NoNext same h = absurd h
+no_client season change (stops.ExtraFails line reason) same h = absurd h
+no_client season change (stops.BadForm place line cause) same h = absurd h
+no_client season change (stops.PastLimit limit number cause) same h = absurd h
 
 -- ---- an opening that was refused
 
 -- by its fault, with what is said of the disk
 pub record IsRefusedOpen (season : Term) (fault : OpenFault) (d e : DiskView) : Type 0 where
   pub later : IsLaterDisk d e
+  pub told : IfSome d.told (λ t. HasFault season fault t.bytes)
   pub why : ForFile d e (λ s file. HasFault season fault file)
   pub images : ForFile d e (λ s file. LeavesNoWorse s d.log e.log season file)
   pub cause : CountsFault fault d.faults e.faults
 
 pub open_stops : (season : Term) (fault : OpenFault) (d e : DiskView) → IsRefusedOpen season fault d e → DiskStops season (Some d) (Some e) (open_stop fault)
-open_stops season openings.NotJournal d e h = ((h.cause, h.why), record { later = h.later; images = h.images })
-open_stops season (openings.BadSlot number) d e h = ((h.cause, h.why), record { later = h.later; images = h.images })
+open_stops season openings.NotJournal d e h = ((h.cause, h.told, h.why), record { later = h.later; images = h.images })
+open_stops season (openings.BadSlot number) d e h = ((h.cause, h.told, h.why), record { later = h.later; images = h.images })
 open_stops season openings.DiskFault d e h = (h.cause, record { later = h.later; images = h.images })
 open_stops season openings.Memory d e h = tt

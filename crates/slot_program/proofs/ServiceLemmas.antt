@@ -20,9 +20,9 @@ use Rattle.session_desk.specs.declared.worker.DoorWork.{DoorWork}
 use Rattle.session_desk.specs.Served.{Session, EndsWorker}
 use Rattle.command_words.specs.Words.{Word}
 use Rattle.command_words.specs.declared.job.Job.{Job}
-use Rattle.command_words.specs.declared.job.Job.TheVariants.{Allocate, Check, Amend, Serve, Resume, Usage, Make, Trial}
+use Rattle.command_words.specs.declared.job.Job.TheVariants.{Allocate, Check, Amend, Serve, Resume, Usage, Reclear, Recheck, Report, Inspect, Make, Trial}
 use Rattle.slot_program.specs.Judgements.{NamedBytes}
-use Rattle.slot_program.specs.Jobs.{searched_statuses, finishing_of, ServiceWorks, ResumeWorks, Works}
+use Rattle.slot_program.specs.Jobs.{searched_statuses, recleared_statuses, finishing_of, ServiceWorks, ResumeWorks, Works}
 use Rattle.slot_program.specs.Resumed.{resumed_status}
 use Rattle.slot_program.specs.Outside.{OutsideChange, door_faults, SomeRose}
 use Rattle.slot_program.specs.Services.{IsWorker, AreWorkers, never_breaks, is_door_end, is_full_end, is_broken_end, some_ended, served_status}
@@ -215,6 +215,10 @@ works_calm (Allocate names nodes workers) inputs writes change status text work 
 works_calm (Check names) inputs writes change status text work is = ap door_faults work.0
 works_calm (Amend names) inputs writes change status text work is = ap door_faults work.0
 works_calm (Usage names) inputs writes change status text work is = ap door_faults work.0
+works_calm (Reclear names nodes workers) inputs writes change status text work is = ap door_faults work.0
+works_calm (Recheck names) inputs writes change status text work is = ap door_faults work.0
+works_calm (Report names) inputs writes change status text work is = ap door_faults work.0
+works_calm (Inspect names) inputs writes change status text work is = ap door_faults work.0
 works_calm (Serve names links port workers) inputs writes change status text work is = service_calm names links inputs writes change status text work is
 works_calm (Resume names links port workers) inputs writes change status text work is = resume_calm names links inputs writes change status text work is
 works_calm (Make number units names) inputs writes change status text work is = ap door_faults work.0
@@ -225,6 +229,11 @@ not_ten_searched (zero, lt, is) = omega (arith, is)
 not_ten_searched (suc zero, lt, is) = omega (arith, is)
 not_ten_searched (suc (suc zero), lt, is) = omega (arith, is)
 not_ten_searched (suc (suc (suc k)), lt, is) = omega (arith, lt)
+
+not_ten_recleared : Contains recleared_statuses 10 → ⊥
+not_ten_recleared (zero, lt, is) = omega (arith, is)
+not_ten_recleared (suc zero, lt, is) = omega (arith, is)
+not_ten_recleared (suc (suc k), lt, is) = omega (arith, lt)
 
 not_ten_zero : Contains {X = ℕ} (0 ∷ []) 10 → ⊥
 not_ten_zero (zero, lt, is) = omega (arith, is)
@@ -237,6 +246,10 @@ works_risen (Allocate names nodes workers) inputs writes change text work one = 
 works_risen (Check names) inputs writes change text work one = absurd (not_ten_zero one)
 works_risen (Amend names) inputs writes change text work one = absurd (not_ten_zero one)
 works_risen (Usage names) inputs writes change text work one = absurd (not_ten_zero one)
+works_risen (Reclear names nodes workers) inputs writes change text work one = absurd (not_ten_recleared one)
+works_risen (Recheck names) inputs writes change text work one = absurd (not_ten_zero one)
+works_risen (Report names) inputs writes change text work one = absurd (not_ten_zero one)
+works_risen (Inspect names) inputs writes change text work one = absurd (not_ten_zero one)
 works_risen (Serve names links port workers) inputs writes change text work one = service_risen names links inputs writes change 10 text work refl
 works_risen (Resume names links port workers) inputs writes change text work one = resume_risen names links inputs writes change 10 text work refl
 works_risen (Make number units names) inputs writes change text work one = absurd (not_ten_zero one)

@@ -1,29 +1,38 @@
 -- What each job does, by cases: its steps, the files that it writes, its work, and its statuses.
-use Rattle.std.specs.Prelude.{◌≡◌, ℕ, ◌+◌, ◌<◌, ◌≤◌, List, [], ◌∷◌, ◌++◌, length, map, slice_index_or, codes, Contains}
+use Rattle.std.specs.Prelude.{◌≡◌, ℕ, ◌+◌, ◌<◌, ◌≤◌, List, [], ◌∷◌, ◌++◌, length, map, codes}
+use Rattle.std.specs.Prelude.{slice_index_or, Contains}
 use Rattle.std.specs.Prelude.{Option}
 use Rattle.std.specs.Fmt.{decimal}
 use Rattle.season_days.specs.Term.{Term}
 use Rattle.series_model.specs.Submissions.{SubmissionView}
 use Rattle.cert_format.specs.declared.cert.Certificate.{Certificate}
+use Rattle.cert_format.specs.declared.cert.StageCert.{StageCert}
 use Rattle.wasg_stages.specs.Valid.{IsValid, MarksHold}
 use Rattle.season_run.specs.Runs.{IsRun, IsEnoughFor}
 use Rattle.scr_replies.specs.SeasonReplies.{replies_text}
 use Rattle.season_maker.specs.Texts.{generated_capacity, generated_requests}
+use Rattle.holding_book.specs.declared.answer.Entry.{Entry}
 use Rattle.holding_book.specs.Starts.{start_book}
+use Rattle.wait_list.specs.Claims.{IsWaitingProof}
 use Rattle.desk_outside.specs.Files.{Files}
 use Rattle.desk_disk.specs.Disks.{DiskView}
 use Rattle.command_words.specs.Words.{Word}
 use Rattle.slot_program.specs.StageLines.{mark_lines, marks_status, node_total}
 use Rattle.slot_program.specs.Judgements.{NamedBytes, IsSeasonOf, SpellsCert, capacity_form}
 use Rattle.slot_program.specs.Judgements.{requests_form, certificate_form, valid_certificate}
-use Rattle.slot_program.specs.Judgements.{reports_form, next_season}
-use Rattle.slot_program.specs.Amendments.{AmendsLegally}
+use Rattle.slot_program.specs.Judgements.{reports_form, next_season, SpellsExtra, waiting_limit}
+use Rattle.slot_program.specs.Judgements.{extra_form, valid_extra, capacity_cause, requests_cause}
+use Rattle.slot_program.specs.Amendments.{AmendsLegally, IsOneHistory}
+use Rattle.slot_program.specs.Reclearing.{IsAskedOf, last_book, left_waiting, waiting_text}
+use Rattle.slot_program.specs.Reclearing.{IsRecleared, StageIsProved}
 use Rattle.slot_program.specs.Services.{ServesLegally}
 use Rattle.slot_program.specs.Resumed.{ResumesLegally}
 use Rattle.slot_program.specs.Journals.{IsUnopened, IsDueJournal, TellsPairs}
 use Rattle.slot_program.specs.Outside.{OutsideChange, IsStill}
 use Rattle.slot_program.specs.Reports.{JournalRefusal}
 use Rattle.slot_program.specs.Usages.{IsWatched}
+use Rattle.slot_program.specs.Reasons.{IsReported}
+use Rattle.slot_program.specs.Inspections.{inspection_text}
 use Rattle.usage_watch.specs.Reports.{SaysOperated}
 use Rattle.usage_watch.specs.declared.operated.Operated.{Operated}
 use Rattle.slot_program.specs.Steps.{Step, reads, judges, names_read, Holds}
@@ -31,7 +40,8 @@ use Rattle.slot_program.specs.declared.files.TheConstants.{LONGEST_FILE, LONGEST
 use Rattle.slot_program.specs.declared.trial.TheConstants.{TRIAL_NODES}
 use Rattle.command_words.specs.declared.job.Job.{Job}
 use Rattle.command_words.specs.declared.job.Job.TheVariants.{Allocate, Check, Amend, Serve}
-use Rattle.command_words.specs.declared.job.Job.TheVariants.{Resume, Usage, Make, Trial}
+use Rattle.command_words.specs.declared.job.Job.TheVariants.{Resume, Usage, Reclear, Recheck}
+use Rattle.command_words.specs.declared.job.Job.TheVariants.{Report, Inspect, Make, Trial}
 
 -- the name of this number, counted from 0, in the order in which the command takes names
 abbrev pub name_at : List Word → ℕ → Word
@@ -72,6 +82,27 @@ usage_steps names =
     season_steps names (certificate_steps names (reads (name_at names 3) LONGEST_FILE
     ∷ judges reports_form (name_at names 3) ∷ judges next_season (name_at names 3) ∷ []))
 
+-- behind a certificate that is valid asks are read, and the lines that they leave waiting are counted
+abbrev pub waiting_steps : List Word → List Step → List Step
+waiting_steps names steps =
+    season_steps names (certificate_steps names (reads (name_at names 3) LONGEST_FILE
+    ∷ judges waiting_limit (name_at names 3) ∷ steps))
+
+abbrev pub reclear_steps : List Word → List Step
+reclear_steps names = waiting_steps names []
+
+-- and behind them one more stage is read: its form is judged, and then whether it is valid
+abbrev pub recheck_steps : List Word → List Step
+recheck_steps names =
+    waiting_steps names (reads (name_at names 4) LONGEST_CERT_FILE
+    ∷ judges extra_form (name_at names 4) ∷ judges valid_extra (name_at names 4) ∷ [])
+
+-- a season is read as for the other commands, and a refusal says why
+abbrev pub inspect_steps : List Word → List Step
+inspect_steps names =
+    reads (name_at names 0) LONGEST_FILE ∷ judges capacity_cause (name_at names 0)
+    ∷ reads (name_at names 1) LONGEST_FILE ∷ judges requests_cause (name_at names 1) ∷ []
+
 -- a generated season is not read
 abbrev pub steps_of : Job → List Step
 steps_of (Allocate names nodes workers) = allocate_steps names
@@ -80,6 +111,10 @@ steps_of (Amend names) = amend_steps names
 steps_of (Serve names links port workers) = serve_steps names
 steps_of (Resume names links port workers) = serve_steps names
 steps_of (Usage names) = usage_steps names
+steps_of (Reclear names nodes workers) = reclear_steps names
+steps_of (Recheck names) = recheck_steps names
+steps_of (Report names) = check_steps names
+steps_of (Inspect names) = inspect_steps names
 steps_of (Make number units names) = []
 steps_of (Trial number units) = []
 
@@ -92,6 +127,10 @@ names_written (Amend names) = name_at names 4 ∷ []
 names_written (Serve names links port workers) = name_at names 3 ∷ []
 names_written (Resume names links port workers) = name_at names 4 ∷ []
 names_written (Usage names) = name_at names 4 ∷ []
+names_written (Reclear names nodes workers) = name_at names 4 ∷ name_at names 5 ∷ []
+names_written (Recheck names) = []
+names_written (Report names) = name_at names 3 ∷ name_at names 4 ∷ []
+names_written (Inspect names) = []
 names_written (Make number units names) = name_at names 0 ∷ name_at names 1 ∷ []
 names_written (Trial number units) = []
 
@@ -105,6 +144,10 @@ pub record AreFilesOf (job : Job) (inputs writes : List NamedBytes) : Type 0 whe
 -- where stages were searched, one may be INFEASIBLE, or OPEN
 abbrev pub searched_statuses : List ℕ
 searched_statuses = 0 ∷ 8 ∷ 9 ∷ []
+
+-- the stage of a waiting list is never INFEASIBLE, since each line may be refused
+abbrev pub recleared_statuses : List ℕ
+recleared_statuses = 0 ∷ 9 ∷ []
 
 -- where clients were served, a door may have failed, or the history have been full
 abbrev pub served_statuses : List ℕ
@@ -130,6 +173,10 @@ finishing_of (Amend names) = 0 ∷ []
 finishing_of (Serve names links port workers) = served_statuses
 finishing_of (Resume names links port workers) = resumed_statuses
 finishing_of (Usage names) = 0 ∷ []
+finishing_of (Reclear names nodes workers) = recleared_statuses
+finishing_of (Recheck names) = 0 ∷ []
+finishing_of (Report names) = 0 ∷ []
+finishing_of (Inspect names) = 0 ∷ []
 finishing_of (Make number units names) = 0 ∷ []
 finishing_of (Trial number units) = searched_statuses
 
@@ -233,6 +280,65 @@ pub record IsUsage (names : List Word) (capacity requests certificate operated :
   pub written : writes ≡ one_file names 4 next
   pub status_is : status ≡ 0
 
+-- The certificate that was read is valid for the season, the asks are answered from the book with the
+-- slots that it gives, and the lines that wait after them are searched; the stage is written before
+-- the replies.
+pub record IsReclearing (names : List Word) (nodes : ℕ)
+    (capacity requests certificate asks : List ℕ) (writes : List NamedBytes) (status : ℕ)
+    (text : List ℕ) : Type 0 where
+  pub season : SubmissionView
+  pub proved : Certificate
+  pub extra : List ℕ
+  pub replies : List ℕ
+  pub made : IsSeasonOf capacity requests season
+  pub spelled : SpellsCert certificate proved
+  pub valid : IsValid season proved
+  pub output : IsRecleared season proved asks nodes extra replies status text
+  pub written : writes ≡ two_files names 4 extra replies
+
+-- The stage that was read has a proof on the problem of the lines that wait after the asks.
+pub record IsRechecking (capacity requests certificate asks extra : List ℕ)
+    (writes : List NamedBytes) (status : ℕ) (text : List ℕ) : Type 0 where
+  pub season : SubmissionView
+  pub proved : Certificate
+  pub history : List Entry
+  pub stage : StageCert
+  pub made : IsSeasonOf capacity requests season
+  pub spelled : SpellsCert certificate proved
+  pub valid : IsValid season proved
+  pub asked : IsAskedOf season proved asks history
+  pub one : IsOneHistory (start_book season proved) history
+  pub said : SpellsExtra extra stage
+  pub proof : IsWaitingProof (last_book season proved history) (left_waiting season proved history)
+      stage
+  pub written : writes ≡ []
+  pub printed : text ≡ codes "YES\n"
+  pub status_is : status ≡ 0
+
+-- The certificate that was read is valid for the season. The report on it is written before the page
+-- of that report.
+pub record IsReporting (names : List Word) (capacity requests certificate : List ℕ)
+    (writes : List NamedBytes) (status : ℕ) (text : List ℕ) : Type 0 where
+  pub season : SubmissionView
+  pub proved : Certificate
+  pub report : List ℕ
+  pub page : List ℕ
+  pub made : IsSeasonOf capacity requests season
+  pub spelled : SpellsCert certificate proved
+  pub valid : IsValid season proved
+  pub output : IsReported season proved report page text
+  pub written : writes ≡ two_files names 3 report page
+  pub status_is : status ≡ 0
+
+-- What the two files hold is printed, and nothing is written.
+pub record IsInspection (names : List Word) (capacity requests : List ℕ)
+    (writes : List NamedBytes) (status : ℕ) (text : List ℕ) : Type 0 where
+  pub season : SubmissionView
+  pub made : IsSeasonOf capacity requests season
+  pub written : writes ≡ []
+  pub printed : text ≡ inspection_text season
+  pub status_is : status ≡ 0
+
 -- the capacity file of a generated season is written before its requests, and nothing is printed
 pub record IsMade (number units : ℕ) (names : List Word) (writes : List NamedBytes) (status : ℕ)
     (text : List ℕ) : Type 0 where
@@ -272,6 +378,18 @@ FileWorks (Amend names) (capacity ∷ requests ∷ certificate ∷ asks ∷ []) 
     IsAmendment names capacity.bytes requests.bytes certificate.bytes asks.bytes writes status text
 FileWorks (Usage names) (capacity ∷ requests ∷ certificate ∷ operated ∷ []) writes status text =
     IsUsage names capacity.bytes requests.bytes certificate.bytes operated.bytes writes status text
+FileWorks (Reclear names nodes workers) (capacity ∷ requests ∷ certificate ∷ asks ∷ []) writes
+    status text =
+    IsReclearing names nodes capacity.bytes requests.bytes certificate.bytes asks.bytes writes status
+    text
+FileWorks (Recheck names) (capacity ∷ requests ∷ certificate ∷ asks ∷ extra ∷ []) writes status
+    text =
+    IsRechecking capacity.bytes requests.bytes certificate.bytes asks.bytes extra.bytes writes status
+    text
+FileWorks (Report names) (capacity ∷ requests ∷ certificate ∷ []) writes status text =
+    IsReporting names capacity.bytes requests.bytes certificate.bytes writes status text
+FileWorks (Inspect names) (capacity ∷ requests ∷ []) writes status text =
+    IsInspection names capacity.bytes requests.bytes writes status text
 FileWorks (Make number units names) [] writes status text =
     IsMade number units names writes status text
 FileWorks (Trial number units) [] writes status text = IsTrial number units writes status text
@@ -305,6 +423,14 @@ Works (Resume names links port workers) inputs writes change status text =
     ResumeWorks names links inputs writes change status text
 Works (Usage names) inputs writes change status text =
     IsStill change × FileWorks (Usage names) inputs writes status text
+Works (Reclear names nodes workers) inputs writes change status text =
+    IsStill change × FileWorks (Reclear names nodes workers) inputs writes status text
+Works (Recheck names) inputs writes change status text =
+    IsStill change × FileWorks (Recheck names) inputs writes status text
+Works (Report names) inputs writes change status text =
+    IsStill change × FileWorks (Report names) inputs writes status text
+Works (Inspect names) inputs writes change status text =
+    IsStill change × FileWorks (Inspect names) inputs writes status text
 Works (Make number units names) inputs writes change status text =
     IsStill change × FileWorks (Make number units names) inputs writes status text
 Works (Trial number units) inputs writes change status text =
@@ -361,6 +487,25 @@ pub record HoldsChecked (files : Option Files) (names : List Word)
   pub second : Holds files (name_at names 1) requests
   pub third : Holds files (name_at names 2) certificate
 
+-- the files of a waiting list and the stage that was written of it, under the names of a recheck
+abbrev pub rechecked_files : List Word → List ℕ → List ℕ → List ℕ → List ℕ → List ℕ →
+    List NamedBytes
+rechecked_files names capacity requests certificate asks extra =
+    record { name = name_at names 0; bytes = capacity }
+    ∷ record { name = name_at names 1; bytes = requests }
+    ∷ record { name = name_at names 2; bytes = certificate }
+    ∷ record { name = name_at names 3; bytes = asks }
+    ∷ record { name = name_at names 4; bytes = extra } ∷ []
+
+-- where files are told, these are held under the names of a recheck
+pub record HoldsRechecked (files : Option Files) (names : List Word)
+    (capacity requests certificate asks extra : List ℕ) : Type 0 where
+  pub first : Holds files (name_at names 0) capacity
+  pub second : Holds files (name_at names 1) requests
+  pub third : Holds files (name_at names 2) certificate
+  pub fourth : Holds files (name_at names 3) asks
+  pub fifth : Holds files (name_at names 4) extra
+
 -- ---- the headline
 
 -- The certificate is valid for the season that the two texts make, and what its marks say is so:
@@ -374,14 +519,18 @@ pub record MarksAreProved (capacity requests : List ℕ) (s : SubmissionView) (c
   pub marks : MarksHold s c
 
 -- The marks are true. Of `allocate`: of the certificate that is written, whose stage lines are
--- printed, for the season that was read. Of `check`, `amend`, `serve`, `resume` and `usage`: of the
--- certificate that was read. Of `trial`: of the one whose lines are printed, for the generated
+-- printed, for the season that was read. Of all other commands that read a certificate: of the one
+-- that was read. Of `trial`: of the one whose lines are printed, for the generated
 -- season. `make` proves nothing. And of `amend`: what is written are the answers of one legal history
 -- from the certificate's book. Of `serve`: what is written is the text of such a history, by which
 -- each worker answered the clients of its door. Of `resume`: the same, of the history that follows
 -- the pairs of the journal; these, answered anew, and it are one legal history from the
 -- certificate's book, and the journal keeps all of it. Of `usage`: what is written and printed is
--- what the certificate's book keeps, by the reports that were read.
+-- what the certificate's book keeps, by the reports that were read. Of `reclear` and `recheck`: what
+-- the stage that was written or read says of the lines that wait is so beside the book that the asks
+-- left, which fits together with what is allotted. Of `report`: what is written is the report on the
+-- certificate and the page of that report, and the tally of all units is printed. `inspect` proves
+-- nothing of a certificate: what is printed are the counts of the season that the two files make.
 abbrev pub HeadlineHolds : Job → List NamedBytes → List NamedBytes → OutsideChange → ℕ → List ℕ
     → Type 0
 HeadlineHolds (Allocate names nodes workers) (capacity ∷ requests ∷ [])
@@ -413,6 +562,26 @@ HeadlineHolds (Usage names) (capacity ∷ requests ∷ certificate ∷ operated 
     × MarksAreProved capacity.bytes requests.bytes s c
     × (reports : List Operated) × SaysOperated s.declaration.season operated.bytes reports
     × IsWatched s (start_book s c) reports next.bytes text
+HeadlineHolds (Reclear names nodes workers) (capacity ∷ requests ∷ certificate ∷ asks ∷ [])
+    (extra ∷ replies ∷ []) change status text =
+    (s : SubmissionView) × (c : Certificate) × SpellsCert certificate.bytes c
+    × MarksAreProved capacity.bytes requests.bytes s c
+    × (history : List Entry) × (stage : StageCert) × SpellsExtra extra.bytes stage
+    × StageIsProved s c asks.bytes history stage
+    × (text ≡ waiting_text (length (left_waiting s c history)) stage)
+HeadlineHolds (Recheck names) (capacity ∷ requests ∷ certificate ∷ asks ∷ extra ∷ []) [] change
+    status text =
+    (s : SubmissionView) × (c : Certificate) × SpellsCert certificate.bytes c
+    × MarksAreProved capacity.bytes requests.bytes s c
+    × (history : List Entry) × (stage : StageCert) × SpellsExtra extra.bytes stage
+    × StageIsProved s c asks.bytes history stage
+HeadlineHolds (Report names) (capacity ∷ requests ∷ certificate ∷ []) (report ∷ page ∷ []) change
+    status text =
+    (s : SubmissionView) × (c : Certificate) × SpellsCert certificate.bytes c
+    × MarksAreProved capacity.bytes requests.bytes s c
+    × IsReported s c report.bytes page.bytes text
+HeadlineHolds (Inspect names) (capacity ∷ requests ∷ []) [] change status text =
+    (s : SubmissionView) × IsSeasonOf capacity.bytes requests.bytes s × (text ≡ inspection_text s)
 HeadlineHolds (Make number units names) inputs writes change status text = Unit {0}
 HeadlineHolds (Trial number units) [] [] change status text =
     (s : SubmissionView) × (c : Certificate) × (text ≡ trial_text c)

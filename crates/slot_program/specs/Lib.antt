@@ -1,10 +1,14 @@
 pub mod Reports
+pub mod Spelled
 pub mod Judgements
 pub mod Steps
 pub mod Writing
 pub mod StageLines
 pub mod Amendments
 pub mod Usages
+pub mod Reclearing
+pub mod Reasons
+pub mod Inspections
 pub mod Outside
 pub mod Services
 pub mod Journals
@@ -15,4 +19,5 @@ pub mod Leads
 pub mod Stops
 pub mod Opened
 pub mod Ends
+pub mod Waits
 pub mod Answers

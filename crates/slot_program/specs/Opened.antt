@@ -1,6 +1,6 @@
 -- A journal on its way: it was opened, or why it was not. Contracts of private functions alone cite
 -- this.
-use Rattle.std.specs.Prelude.{◌≡◌, ◌≤◌, List, All, Option, length}
+use Rattle.std.specs.Prelude.{◌≡◌, ◌≤◌, List, All, Option, IfSome, length}
 use Rattle.season_days.specs.Term.{Term}
 use Rattle.desk_disk.specs.Disks.{DiskView}
 use Rattle.amend_journal.specs.Format.{IsFit}
@@ -26,6 +26,7 @@ pub record IsOpened (season : Term) (pairs : List Asked) (d : DiskView) (journal
   pub season_is : journal.season ≡ season
   pub count : journal.count ≡ length pairs
   pub few : length pairs ≤ MOST_PAIRS
+  pub told : IfSome d.told (λ t. StandsFor season pairs t.bytes)
   pub found : ForFile d journal.disk (λ s file. StandsFor season pairs file)
   pub durable : ForFile d journal.disk (λ s file. AreDurable s journal.disk.log season pairs)
   pub images : ForFile d journal.disk (λ s file.

@@ -3,12 +3,14 @@ use Rattle.std.specs.Prelude.{ℕ, List, [], ◌∷◌, ◌++◌, codes}
 use Rattle.std.specs.Fmt.{decimal}
 use Rattle.cert_checker.specs.declared.verdict.Reason.{Reason}
 use Rattle.cert_checker.specs.declared.verdict.Reason.TheVariants as because
+use Rattle.fault_causes.specs.Causes.{cause_text}
+use Rattle.fault_causes.specs.declared.cause.Cause.{Cause}
 use Rattle.command_words.specs.Words.{Word}
 
 -- What is refused before any work is done: a file that is not there, or is larger than what is
 -- read; the first line of a file that is not in its form; a limit that is passed, by which number;
--- the first failing line of a certificate, and why it fails; and that no season follows for which
--- lines could be written.
+-- the first failing line of a certificate, or of one more stage, and why it fails; that no season
+-- follows for which lines could be written; and the same of a line or of a limit with its cause.
 pub data Refusal : Type 0 where
   missing : Word → Refusal
   large : Word → Refusal
@@ -16,6 +18,9 @@ pub data Refusal : Type 0 where
   over_limit : Word → ℕ → Refusal
   not_valid : ℕ → Reason → Refusal
   no_next : Refusal
+  extra_fails : ℕ → Reason → Refusal
+  bad_form : Word → ℕ → Cause → Refusal
+  past_limit : Word → ℕ → Cause → Refusal
 
 -- Why a journal was not opened, behind all files that are read: there is no disk; its file begins
 -- as no journal does; the slot of this number is not whole, or spells nothing in the season; or a
@@ -45,6 +50,9 @@ refusal_status (out_of_form name line) = 3
 refusal_status (over_limit name number) = 4
 refusal_status (not_valid line reason) = 1
 refusal_status no_next = 15
+refusal_status (extra_fails line reason) = 1
+refusal_status (bad_form name line cause) = 3
+refusal_status (past_limit name number cause) = 4
 
 abbrev pub journal_status : JournalRefusal → ℕ
 journal_status no_journal = 13
@@ -84,6 +92,10 @@ reason_text because.Over = codes "OVER"
 reason_text because.Undone = codes "UNDONE"
 reason_text because.Floor = codes "FLOOR"
 
+-- a second line says why
+abbrev pub cause_line : Cause → List ℕ
+cause_line cause = cause_text cause ++ 10 ∷ []
+
 abbrev pub refusal_text : Refusal → List ℕ
 refusal_text (missing name) = cabinet_line name (codes "MISSING")
 refusal_text (large name) = cabinet_line name (codes "LARGE")
@@ -92,6 +104,12 @@ refusal_text (over_limit name number) = numbered_line (codes "LIMIT") name numbe
 refusal_text (not_valid line reason) =
     codes "NO " ++ (decimal line ++ (32 ∷ (reason_text reason ++ (10 ∷ []))))
 refusal_text no_next = codes "NEXT NONE\n"
+refusal_text (extra_fails line reason) =
+    codes "NO EXTRA " ++ (decimal line ++ (32 ∷ (reason_text reason ++ (10 ∷ []))))
+refusal_text (bad_form name line cause) =
+    numbered_line (codes "FORM") name line ++ cause_line cause
+refusal_text (past_limit name number cause) =
+    numbered_line (codes "LIMIT") name number ++ cause_line cause
 
 abbrev pub journal_text : JournalRefusal → List ℕ
 journal_text no_journal = codes "JOURNAL NONE\n"
@@ -106,3 +124,9 @@ text_of (unopened why) = journal_text why
 text_of (unread name) = cabinet_line name (codes "READ")
 text_of (unwritten name) = cabinet_line name (codes "WRITE")
 text_of (finished status text) = text
+
+-- the same refusal with its cause
+abbrev pub with_cause : Refusal → Cause → Refusal
+with_cause (out_of_form name line) cause = bad_form name line cause
+with_cause (over_limit name number) cause = past_limit name number cause
+with_cause refusal cause = refusal

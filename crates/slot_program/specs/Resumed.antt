@@ -1,5 +1,5 @@
--- Serving clients with a journal: the one history begins with what the journal had, and each entry
--- more is in the journal before it is answered.
+-- Serving clients with a journal: the one history begins with what the journal had, and the journal
+-- keeps each entry more.
 use Rattle.std.specs.Prelude.{◌≡◌, ℕ, Bool, true, if◌then◌else◌, List, [], ◌∷◌, ◌++◌, length, codes}
 use Rattle.std.specs.Prelude.{Option, Some, is_some}
 use Rattle.std.specs.Fmt.{decimal}

@@ -1,32 +1,17 @@
 -- What is printed of the stages of a season, and with which status.
 use Rattle.std.specs.Prelude.{ℕ, suc, List, [], ◌∷◌, ◌++◌, Bool, true, false, ◌||◌}
-use Rattle.std.specs.Prelude.{if◌then◌else◌, Option, Some, None, codes, sum_by}
+use Rattle.std.specs.Prelude.{if◌then◌else◌, codes, sum_by}
 use Rattle.std.specs.Fmt.{decimal}
 use Rattle.choice_problem.specs.Trees.{node_count}
 use Rattle.cert_format.specs.declared.cert.Mark.{Mark}
 use Rattle.cert_format.specs.declared.cert.Mark.TheVariants.{Optimal, Infeasible}
 use Rattle.cert_format.specs.declared.cert.Mark.TheVariants.{Unsettled, NotTried}
 use Rattle.cert_format.specs.declared.cert.StageCert.{StageCert}
+pub use Rattle.season_report.specs.Reports.{cost_word, bound_words, mark_words}
 
 -- ---- lines
 
--- what an allotment displaces, in minutes, if there is one
-abbrev pub cost_word : Option ℕ → List ℕ
-cost_word None = codes "NONE"
-cost_word (Some cost) = decimal cost
-
--- what each allotment displaces at least, where that is stated
-abbrev pub bound_words : Option ℕ → List ℕ
-bound_words None = []
-bound_words (Some bound) = codes " BOUND " ++ decimal bound
-
--- `OPTIMAL c`, `INFEASIBLE`, `OPEN c BOUND b`, `OPEN NONE BOUND b` or `NOT TRIED`
-abbrev pub mark_words : StageCert → Mark → List ℕ
-mark_words c Optimal = codes "OPTIMAL " ++ cost_word c.cost
-mark_words c Infeasible = codes "INFEASIBLE"
-mark_words c Unsettled = codes "OPEN " ++ (cost_word c.cost ++ bound_words c.bound)
-mark_words c NotTried = codes "NOT TRIED"
-
+-- a line has the number of the stage and its mark
 abbrev pub mark_line : ℕ → StageCert → List ℕ
 mark_line stage c =
     codes "STAGE " ++ (decimal stage ++ (32 ∷ (mark_words c c.mark ++ (10 ∷ []))))

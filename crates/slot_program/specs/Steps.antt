@@ -10,6 +10,8 @@ use Rattle.slot_program.specs.Reports.{Refusal, missing, large}
 use Rattle.slot_program.specs.Judgements.{NamedBytes, Judgement, Accepts, Refuses}
 use Rattle.slot_program.specs.Judgements.{capacity_form, requests_form, certificate_form}
 use Rattle.slot_program.specs.Judgements.{valid_certificate, reports_form, next_season}
+use Rattle.slot_program.specs.Judgements.{waiting_limit, extra_form, valid_extra}
+use Rattle.slot_program.specs.Judgements.{capacity_cause, requests_cause}
 
 -- a file is read that has at most so many bytes; or what was read so far is judged, and a refusal
 -- names this file
@@ -85,8 +87,8 @@ abbrev pub FirstDue : Files → List Step → Refusal → Type 0
 FirstDue held steps refusal =
     (read : List NamedBytes) × RefuseFrom (Some held) 0 0 [] steps refusal read
 
--- the steps without the judgement of whether a certificate is valid: all files are there and in
--- their forms, and what is written has a season, where these pass
+-- the steps without the judgements of whether a certificate and one more stage are valid: all files
+-- are there, in their forms and within limits, and what is written has a season, where these pass
 abbrev pub is_of_form : Judgement → Bool
 is_of_form capacity_form = true
 is_of_form requests_form = true
@@ -94,6 +96,11 @@ is_of_form certificate_form = true
 is_of_form valid_certificate = false
 is_of_form reports_form = true
 is_of_form next_season = true
+is_of_form waiting_limit = true
+is_of_form extra_form = true
+is_of_form valid_extra = false
+is_of_form capacity_cause = true
+is_of_form requests_cause = true
 
 abbrev pub form_steps : List Step → List Step
 form_steps [] = []

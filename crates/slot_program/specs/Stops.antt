@@ -1,9 +1,12 @@
 -- Why a job stopped, as the code has it. Contracts of private functions alone cite this.
 use Rattle.std.specs.Prelude.{ℕ, List, Option, Some, None, codes}
 use Rattle.capacity_file.specs.Texts.{cap_limit_text}
+use Rattle.fault_causes.specs.declared.cause.Cause.{Cause}
 use Rattle.command_words.specs.Words.{Word}
 use Rattle.slot_program.specs.Reports.{Report, Refusal, refused, unopened, unread, unwritten}
 use Rattle.slot_program.specs.Reports.{missing, large, out_of_form, over_limit, not_valid, no_next}
+use Rattle.slot_program.specs.Reports.{extra_fails}
+use Rattle.slot_program.specs.Reports.{bad_form, past_limit}
 use Rattle.slot_program.specs.Reports.{JournalRefusal, no_journal, other_journal, bad_slot}
 use Rattle.slot_program.specs.Reports.{journal_fault}
 use Rattle.slot_program.specs.Judgements.{NamedBytes, Judgement}
@@ -21,6 +24,7 @@ use Rattle.slot_program.specs.declared.stop.Stop.TheVariants as stops
 abbrev pub limit_text : Limit → List ℕ
 limit_text (limits.Capacity limit) = cap_limit_text limit
 limit_text limits.Units = codes "UNITS"
+limit_text limits.Waiting = codes "WAITING"
 
 abbrev pub journal_refusal : NoJournal → JournalRefusal
 journal_refusal journals.Missing = no_journal
@@ -41,6 +45,11 @@ report_of names (stops.OverLimit limit number) =
 report_of names (stops.NotValid line reason) = Some (refused (not_valid line reason))
 report_of names (stops.Unopened why) = Some (unopened (journal_refusal why))
 report_of names stops.NoNext = Some (refused no_next)
+report_of names (stops.ExtraFails line reason) = Some (refused (extra_fails line reason))
+report_of names (stops.BadForm place line cause) =
+    Some (refused (bad_form (name_at names place) line cause))
+report_of names (stops.PastLimit limit number cause) =
+    Some (refused (past_limit (limit_text limit) number cause))
 report_of names stops.Memory = None
 
 -- the stop is a refusal that the property has, or want of memory
@@ -54,11 +63,22 @@ IsRefusalBy names Has (stops.OverLimit limit number) = Has (over_limit (limit_te
 IsRefusalBy names Has (stops.NotValid line reason) = Has (not_valid line reason)
 IsRefusalBy names Has (stops.Unopened why) = ⊥
 IsRefusalBy names Has stops.NoNext = Has no_next
+IsRefusalBy names Has (stops.ExtraFails line reason) = Has (extra_fails line reason)
+IsRefusalBy names Has (stops.BadForm place line cause) =
+    Has (bad_form (name_at names place) line cause)
+IsRefusalBy names Has (stops.PastLimit limit number cause) =
+    Has (past_limit (limit_text limit) number cause)
 IsRefusalBy names Has stops.Memory = Unit {0}
 
 -- why files that were read are refused, by a judgement
 abbrev pub IsJudged : List Word → Judgement → Word → List NamedBytes → Stop → Type 0
 IsJudged names j name read stop = IsRefusalBy names (RefusesAlone j name read) stop
+
+-- the same with its cause
+abbrev pub caused : Stop → Cause → Stop
+caused (stops.OutOfForm place line) cause = stops.BadForm place line cause
+caused (stops.OverLimit limit number) cause = stops.PastLimit limit number cause
+caused stop cause = stop
 
 -- where a job stopped at one of its steps
 abbrev pub StopLeads : List Word → World → List Step → Stop → World → Type 0
@@ -74,4 +94,10 @@ StopLeads names w all (stops.NotValid line reason) v =
     RefusedLead w all (not_valid line reason) v
 StopLeads names w all (stops.Unopened why) v = ⊥
 StopLeads names w all stops.NoNext v = RefusedLead w all no_next v
+StopLeads names w all (stops.ExtraFails line reason) v =
+    RefusedLead w all (extra_fails line reason) v
+StopLeads names w all (stops.BadForm place line cause) v =
+    RefusedLead w all (bad_form (name_at names place) line cause) v
+StopLeads names w all (stops.PastLimit limit number cause) v =
+    RefusedLead w all (past_limit (limit_text limit) number cause) v
 StopLeads names w all stops.Memory v = MemoryLead w all v

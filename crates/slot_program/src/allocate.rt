@@ -1,7 +1,6 @@
 //! Allotting a season.
 
 ghost use Rattle.std.specs.Prelude.{◌≡◌, ◌≤◌, ◌∷◌, [], IfOk, IfErr};
-ghost use Rattle.std.specs.String.{string_bytes};
 ghost use Rattle.desk_outside.specs.Files.{ChangesOnly};
 ghost use Rattle.command_words.specs.declared.job.Job.TheVariants.{Allocate as AllocateJob};
 ghost use Rattle.slot_program.specs.Jobs.{name_at, IsRunOutput};
@@ -46,7 +45,7 @@ pub(crate) fn allocate<R: Threads + Sync, C: Cabinet, G: Gate>(
     requires nodes { (1 ≤ nodes) × (nodes ≤ 1000000) }
     requires workers { (1 ≤ workers) × (workers ≤ 16) }
     ensures done { IfOk result (λ a. IsDone (AllocateJob names.now nodes workers)
-        (world_of C.files C.fault_count C.log cabinet.old) a.status (string_bytes a.text)
+        (world_of C.files C.fault_count C.log cabinet.old) a.status a.text.items
         (world_of C.files C.fault_count C.log cabinet.new)) }
     ensures stop { IfErr result (λ stop. JobStops names.now (AllocateJob names.now nodes workers)
         (world_of C.files C.fault_count C.log cabinet.old) stop
@@ -73,7 +72,7 @@ fn run_output<R: Threads + Sync, G: Gate>(
     requires nodes { (1 ≤ nodes) × (nodes ≤ 1000000) }
     requires workers { (1 ≤ workers) × (workers ≤ 16) }
     ensures { IfOk result (λ output. IsRunOutput submission.now nodes output.certificate.items
-        output.replies.items output.answer.status (string_bytes output.answer.text)) }
+        output.replies.items output.answer.status output.answer.text.items) }
 {
     settled_run();
     season_bytes();
@@ -85,6 +84,9 @@ fn run_output<R: Threads + Sync, G: Gate>(
     Ok(RunOutput {
         certificate,
         replies,
-        answer: Answer { status, text },
+        answer: Answer {
+            status,
+            text: text.into_bytes(),
+        },
     })
 }

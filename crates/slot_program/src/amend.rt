@@ -41,7 +41,7 @@ pub(crate) fn amend<C: Cabinet>(
     cabinet: &mut C,
 ) -> Result<Answer, Stop>
     ensures done { IfOk result (λ a. IsDone (AmendJob names.now)
-        (world_of C.files C.fault_count C.log cabinet.old) a.status (string_bytes a.text)
+        (world_of C.files C.fault_count C.log cabinet.old) a.status a.text.items
         (world_of C.files C.fault_count C.log cabinet.new)) }
     ensures stop { IfErr result (λ stop. JobStops names.now (AmendJob names.now)
         (world_of C.files C.fault_count C.log cabinet.old) stop
@@ -57,7 +57,7 @@ pub(crate) fn amend<C: Cabinet>(
     write_one(names, 4, &output.answers, cabinet)?;
     Ok(Answer {
         status: 0,
-        text: output.text,
+        text: output.text.into_bytes(),
     })
 }
 
@@ -77,7 +77,7 @@ fn amend_output(
     let _units = submission.units();
     let book = Book::of(alloc, submission, certificate)?;
     let amended = amend_messages(alloc, book, asks)?;
-    let text = entries_line(alloc, amended.entries)?;
+    let text = entries_line(alloc, amended.history.len())?;
     Ok(AmendOutput {
         answers: amended.text,
         text,
@@ -85,7 +85,7 @@ fn amend_output(
 }
 
 /// How many asks were answered.
-fn entries_line(alloc: Global, count: u32) -> Result<String, Memory>
+fn entries_line(alloc: Global, count: usize) -> Result<String, Memory>
     ensures { IfOk result (λ text. string_bytes text ≡ entries_line count) }
 {
     let text = format!(in alloc; "ENTRIES {count}\n")?;

@@ -20,7 +20,7 @@ pub(crate) fn check<C: Cabinet>(
     cabinet: &mut C,
 ) -> Result<Answer, Stop>
     ensures done { IfOk result (λ a. IsDone (CheckJob names.now)
-        (world_of C.files C.fault_count C.log cabinet.old) a.status (string_bytes a.text)
+        (world_of C.files C.fault_count C.log cabinet.old) a.status a.text.items
         (world_of C.files C.fault_count C.log cabinet.new)) }
     ensures stop { IfErr result (λ stop. JobStops names.now (CheckJob names.now)
         (world_of C.files C.fault_count C.log cabinet.old) stop
@@ -30,11 +30,14 @@ pub(crate) fn check<C: Cabinet>(
     let submission = read_season(alloc, names, cabinet)?;
     read_certificate(alloc, names, &submission, cabinet)?;
     let text = yes(alloc)?;
-    Ok(Answer { status: 0, text })
+    Ok(Answer {
+        status: 0,
+        text: text.into_bytes(),
+    })
 }
 
-/// What is said of a valid certificate.
-fn yes(alloc: Global) -> Result<String, Memory>
+/// What is said of a valid certificate, and of a valid stage.
+pub(crate) fn yes(alloc: Global) -> Result<String, Memory>
     ensures { IfOk result (λ text. string_bytes text ≡ codes "YES\n") }
 {
     Ok(String::from_str(alloc, "YES\n")?)

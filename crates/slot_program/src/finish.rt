@@ -1,7 +1,6 @@
 //! What is said at the end of a job.
 
 ghost use Rattle.std.specs.Prelude.{IfOk, IfErr, Some};
-ghost use Rattle.std.specs.String.{string_bytes};
 ghost use Rattle.command_words.specs.declared.job.Job.{Job as JobValue};
 ghost use Rattle.slot_program.specs.Desk.{World, LogGrew, OnlyOfJob};
 ghost use Rattle.slot_program.specs.Outside.{OutsideChange};
@@ -20,11 +19,11 @@ pub(crate) fn finish(
     ended: Result<Answer, Stop>,
 ) -> Result<Answer, Memory>
     ensures answer { (job : JobValue) (w : World) (change : OutsideChange) (v : World) →
-        IfOk ended (λ done. IsDoneBy job w change done.status (string_bytes done.text) v) →
+        IfOk ended (λ done. IsDoneBy job w change done.status done.text.items v) →
         IfErr ended (λ stop. JobStopsBy names.now job w change stop v) →
-        IfOk result (λ a. IsAnswer (Some job) w change a.status (string_bytes a.text) v) }
+        IfOk result (λ a. IsAnswer (Some job) w change a.status a.text.items v) }
     ensures asked { (job : JobValue) (w : World) (change : OutsideChange) (v : World) →
-        IfOk ended (λ done. IsDoneBy job w change done.status (string_bytes done.text) v) →
+        IfOk ended (λ done. IsDoneBy job w change done.status done.text.items v) →
         IfErr ended (λ stop. JobStopsBy names.now job w change stop v) →
         LogGrew w.log (OnlyOfJob (Some job)) v.log }
 {

@@ -1,7 +1,6 @@
 //! Writing a generated season.
 
 ghost use Rattle.std.specs.Prelude.{◌≤◌, ◌∷◌, [], IfOk, IfErr};
-ghost use Rattle.std.specs.String.{string_bytes};
 ghost use Rattle.choice_problem.specs.declared.problems.TheConstants.{MOST_UNITS};
 ghost use Rattle.desk_outside.specs.Files.{ChangesOnly};
 ghost use Rattle.command_words.specs.declared.job.Job.TheVariants.{Make as MakeJob};
@@ -27,7 +26,7 @@ pub(crate) fn make<C: Cabinet>(
 ) -> Result<Answer, Stop>
     requires { units ≤ MOST_UNITS }
     ensures done { IfOk result (λ a. IsDone (MakeJob number units names.now)
-        (world_of C.files C.fault_count C.log cabinet.old) a.status (string_bytes a.text)
+        (world_of C.files C.fault_count C.log cabinet.old) a.status a.text.items
         (world_of C.files C.fault_count C.log cabinet.new)) }
     ensures stop { IfErr result (λ stop. JobStops names.now (MakeJob number units names.now)
         (world_of C.files C.fault_count C.log cabinet.old) stop
@@ -40,6 +39,6 @@ pub(crate) fn make<C: Cabinet>(
     write_two(names, 0, &capacity, &requests, cabinet)?;
     Ok(Answer {
         status: 0,
-        text: String::new(alloc),
+        text: Vec::new(alloc),
     })
 }

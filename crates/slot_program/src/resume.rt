@@ -3,7 +3,6 @@
 
 ghost use Rattle.std.specs.Prelude.{◌≡◌, ◌≤◌, ◌<◌, ◌∷◌, [], ℕ, Some, IfOk, IfErr, length};
 ghost use Rattle.std.specs.Prelude.{option_map};
-ghost use Rattle.std.specs.String.{string_bytes};
 ghost use Rattle.desk_disk.specs.Disks.{DiskView};
 ghost use Rattle.desk_outside.specs.Files.{ChangesOnly};
 ghost use Rattle.wasg_stages.specs.Valid.{IsValid};
@@ -61,7 +60,7 @@ pub(crate) fn resume<R: Threads + Wait + Sync, C: Cabinet, D: Door + Drop, G: Ga
         IsDoneBy (ResumeJob names.now links port workers)
         (world_of C.files C.fault_count C.log cabinet.old)
         (outside_change D.view K.view doors.old.items disk.old doors.new.items disk.new) a.status
-        (string_bytes a.text) (world_of C.files C.fault_count C.log cabinet.new)) }
+        a.text.items (world_of C.files C.fault_count C.log cabinet.new)) }
     ensures stop { IfErr result (λ stop. (port workers : ℕ) →
         JobStopsBy names.now (ResumeJob names.now links port workers)
         (world_of C.files C.fault_count C.log cabinet.old)
@@ -105,7 +104,7 @@ fn resumed_output<R: Threads + Wait + Sync, D: Door + Drop, G: Gate, K: Disk>(
     ensures served { IfOk result (λ output.
         ResumesLegally (start_book submission.now certificate.now) links
         (outside_change D.view K.view doors.old.items disk.old doors.new.items disk.new)
-        output.recorded.items output.answer.status (string_bytes output.answer.text)) }
+        output.recorded.items output.answer.status output.answer.text.items) }
     ensures stop { IfErr result (λ stop.
         JournalStops submission.now.declaration.season
         (outside_change D.view K.view doors.old.items disk.old doors.new.items disk.new) stop) }
@@ -135,7 +134,10 @@ fn resumed_output<R: Threads + Wait + Sync, D: Door + Drop, G: Gate, K: Disk>(
     let text = resumed_lines(alloc, pairs.len(), history.len(), links_total(&works))?;
     Ok(ServiceOutput {
         recorded,
-        answer: Answer { status, text },
+        answer: Answer {
+            status,
+            text: text.into_bytes(),
+        },
     })
 }
 

@@ -26,6 +26,7 @@ ghost use Rattle.slot_program.specs.Steps.{Step};
 ghost use Rattle.slot_program.specs.Jobs.{name_at, season_steps, certificate_steps};
 ghost use Rattle.slot_program.specs.Desk.{World, world_of};
 ghost use Rattle.slot_program.specs.Leads.{Leads, AcceptsAlone};
+ghost use Rattle.slot_program.specs.Waits.{SpellsAlone};
 ghost use Rattle.slot_program.specs.Stops.{IsRefusalBy, IsJudged, StopLeads};
 ghost use Rattle.slot_program.specs.declared.files.TheConstants.{LONGEST_FILE, LONGEST_CERT_FILE};
 
@@ -84,6 +85,15 @@ pub(crate) fn read_certificate<C: Cabinet>(
         × Leads w all (capacity ∷ requests ∷ certificate ∷ []) steps
         (world_of C.files C.fault_count C.log cabinet.new)) }
     ensures valid { IfOk result (IsValid submission.now) }
+    // One text was read, which spells no other certificate.
+    ensures leads { IfOk result (λ c. (certificate : NamedBytes)
+        × SpellsCert certificate.bytes c × SpellsAlone certificate.bytes c
+        × ((w : World) (all : List Step) (steps : List Step) (capacity requests : NamedBytes) →
+        IsSeasonOf capacity.bytes requests.bytes submission.now →
+        Leads w all (capacity ∷ requests ∷ []) (certificate_steps names.now steps)
+        (world_of C.files C.fault_count C.log cabinet.old) →
+        Leads w all (capacity ∷ requests ∷ certificate ∷ []) steps
+        (world_of C.files C.fault_count C.log cabinet.new))) }
     ensures stop { IfErr result (λ stop. (w : World) (all : List Step) (steps : List Step)
         (capacity requests : NamedBytes) →
         IsSeasonOf capacity.bytes requests.bytes submission.now →
@@ -113,7 +123,7 @@ fn count_lines(text: &[u8]) -> u32
 }
 
 /// Why a text is no capacity file.
-fn capacity_stop(place: usize, bytes: &[u8], fault: CapFault) -> Stop
+pub(crate) fn capacity_stop(place: usize, bytes: &[u8], fault: CapFault) -> Stop
     requires { length bytes.now ≤ LONGEST_FILE }
     ensures { (names : List Word) → IsRefusalBy names
         (IsCapacityRefusal (name_at names place) (length (lines_of bytes.now)) fault) result }
@@ -128,7 +138,7 @@ fn capacity_stop(place: usize, bytes: &[u8], fault: CapFault) -> Stop
 }
 
 /// Why a text is no list of messages.
-fn message_stop(place: usize, fault: ScrFault) -> Stop
+pub(crate) fn message_stop(place: usize, fault: ScrFault) -> Stop
     ensures { (names : List Word) → IsRefusalBy names
         (IsMessageRefusal (name_at names place) fault) result }
 {
@@ -142,7 +152,7 @@ fn message_stop(place: usize, fault: ScrFault) -> Stop
 }
 
 /// Why messages make no submission.
-fn submission_stop(place: usize, fault: ModelFault) -> Stop
+pub(crate) fn submission_stop(place: usize, fault: ModelFault) -> Stop
     ensures { (names : List Word) → IsRefusalBy names
         (IsSubmissionRefusal (name_at names place) fault) result }
 {

@@ -2,7 +2,6 @@
 
 ghost use Rattle.std.specs.Prelude.{◌≡◌, ◌≤◌, ◌<◌, ◌+◌, ◌^◌, ◌∷◌, [], ℕ, List, All, Option, true};
 ghost use Rattle.std.specs.Prelude.{IfOk, IfErr, length, map};
-ghost use Rattle.std.specs.String.{string_bytes};
 ghost use Rattle.desk_outside.specs.Files.{ChangesOnly};
 ghost use Rattle.desk_disk.specs.Disks.{DiskView};
 ghost use Rattle.turn_lock.specs.History.{StartsWith};
@@ -70,7 +69,7 @@ pub(crate) fn serve<R: Threads + Wait + Sync, C: Cabinet, D: Door + Drop, G: Gat
     ensures done { IfOk result (λ a. (port workers : ℕ) (disk : Option DiskView) →
         IsDoneBy (ServeJob names.now links port workers)
         (world_of C.files C.fault_count C.log cabinet.old)
-        (doors_change D.view doors.old.items doors.new.items disk) a.status (string_bytes a.text)
+        (doors_change D.view doors.old.items doors.new.items disk) a.status a.text.items
         (world_of C.files C.fault_count C.log cabinet.new)) }
     ensures stop { IfErr result (λ stop. (port workers : ℕ) (disk : Option DiskView) →
         JobStopsBy names.now (ServeJob names.now links port workers)
@@ -104,7 +103,7 @@ fn service_output<R: Threads + Wait + Sync, D: Door + Drop, G: Gate>(
     ensures served { IfOk result (λ output.
         ServesLegally (start_book submission.now certificate.now) links
         (map D.view doors.old.items) (map D.view doors.new.items)
-        output.recorded.items output.answer.status (string_bytes output.answer.text)) }
+        output.recorded.items output.answer.status output.answer.text.items) }
     ensures doors { length doors.new.items ≡ length doors.old.items }
 {
     valid_choices();
@@ -120,7 +119,10 @@ fn service_output<R: Threads + Wait + Sync, D: Door + Drop, G: Gate>(
     let text = served_lines(alloc, history.len(), links_total(&works))?;
     Ok(ServiceOutput {
         recorded,
-        answer: Answer { status, text },
+        answer: Answer {
+            status,
+            text: text.into_bytes(),
+        },
     })
 }
 

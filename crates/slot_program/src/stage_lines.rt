@@ -25,7 +25,7 @@ pub(crate) fn mark_lines(alloc: Global, stages: &[StageCert]) -> Result<String, 
 }
 
 /// The line of a stage.
-fn mark_line(alloc: Global, stage: u64, cert: &StageCert) -> Result<String, Memory>
+pub(crate) fn mark_line(alloc: Global, stage: u64, cert: &StageCert) -> Result<String, Memory>
     ensures { IfOk result (λ text. string_bytes text ≡ mark_line stage cert.now) }
 {
     match cert.mark {

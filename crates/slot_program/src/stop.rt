@@ -3,7 +3,8 @@
 ghost use Rattle.std.specs.Prelude.{◌≡◌, ◌∷◌, [], ◌++◌, IfOk, ℕ, List, codes, Some};
 ghost use Rattle.std.specs.Fmt.{decimal};
 ghost use Rattle.std.specs.String.{string_bytes};
-ghost use Rattle.slot_program.specs.Reports.{Report, status_of, text_of, reason_text, cabinet_line, numbered_line};
+ghost use Rattle.slot_program.specs.Reports.{Report, status_of, text_of, reason_text};
+ghost use Rattle.slot_program.specs.Reports.{cabinet_line, numbered_line, cause_line};
 ghost use Rattle.command_words.specs.Words.{Word};
 ghost use Rattle.slot_program.specs.Jobs.{name_at};
 ghost use Rattle.slot_program.specs.Reports.{journal_status, journal_text};
@@ -12,6 +13,7 @@ ghost use Rattle.slot_program.specs.Stops.{limit_text, report_of, journal_refusa
 use capacity_file::CapLimit;
 use cert_checker::Reason;
 use command_words::NameList;
+use fault_causes::Cause;
 use slot_text::Memory;
 use std::alloc::Global;
 
@@ -22,6 +24,8 @@ pub(crate) enum Limit {
     Capacity(CapLimit),
     /// The number of units.
     Units,
+    /// The number of lines that wait.
+    Waiting,
 }
 
 /// Why a journal was not opened.
@@ -58,6 +62,12 @@ pub(crate) enum Stop {
     Unopened(NoJournal),
     /// No season follows for which lines could be written.
     NoNext,
+    /// The first line of one more stage that fails, and why.
+    ExtraFails(u32, Reason),
+    /// The first line of the file that is not in its form, and why.
+    BadForm(usize, u32, Cause),
+    /// The limit is passed, by this number, and which it is.
+    PastLimit(Limit, u64, Cause),
     /// Memory ran out.
     Memory,
 }
@@ -76,7 +86,7 @@ impl From<Memory> for Stop {
 #[derive(Drop)]
 pub(crate) struct Answer {
     pub status: u8,
-    pub text: String,
+    pub text: Vec<u8>,
 }
 
 /// The name of a file of a job, as the words give it.
@@ -93,12 +103,12 @@ impl Stop {
     /// What is said of it; want of memory is not said.
     pub(crate) fn answer(&self, alloc: Global, names: &NameList) -> Result<Answer, Memory>
         ensures { IfOk result (λ a. (report : Report) × (report_of names.now self.now ≡ Some report)
-            × (a.status ≡ status_of report) × (string_bytes a.text ≡ text_of report)) }
+            × (a.status ≡ status_of report) × (a.text.items ≡ text_of report)) }
     {
         let text = self.text(alloc, names)?;
         Ok(Answer {
             status: self.status(),
-            text,
+            text: text.into_bytes(),
         })
     }
 
@@ -108,9 +118,10 @@ impl Stop {
             → result ≡ status_of report }
     {
         match self {
-            Stop::OutOfForm(_, _) => 3,
-            Stop::OverLimit(_, _) => 4,
+            Stop::OutOfForm(_, _) | Stop::BadForm(_, _, _) => 3,
+            Stop::OverLimit(_, _) | Stop::PastLimit(_, _, _) => 4,
             Stop::NotValid(_, _) => 1,
+            Stop::ExtraFails(_, _) => 1,
             Stop::Unopened(why) => unopened_status(*why),
             Stop::NoNext => 15,
             Stop::Memory => 7,
@@ -139,6 +150,14 @@ impl Stop {
             Stop::NotValid(line, reason) => Ok(verdict_line(alloc, line, reason_name(reason))?),
             Stop::Unopened(why) => Ok(journal_line(alloc, why)?),
             Stop::NoNext => Ok(String::from_str(alloc, "NEXT NONE\n")?),
+            Stop::ExtraFails(line, reason) => Ok(extra_line(alloc, line, reason_name(reason))?),
+            Stop::BadForm(place, line, cause) => {
+                let name = name_at(names, place);
+                Ok(caused_lines(alloc, "FORM", name, u64::from(line), cause)?)
+            }
+            Stop::PastLimit(limit, number, cause) => {
+                Ok(caused_lines(alloc, "LIMIT", limit_name(limit), number, cause)?)
+            }
             Stop::Memory => Err(Memory),
         }
     }
@@ -161,6 +180,7 @@ fn limit_name(limit: Limit) -> &'static str
         Limit::Capacity(CapLimit::Caps) => "CAPS",
         Limit::Capacity(CapLimit::Windows) => "WINDOWS",
         Limit::Units => "UNITS",
+        Limit::Waiting => "WAITING",
     }
 }
 
@@ -199,11 +219,33 @@ fn numbered_line(alloc: Global, first: &str, name: &str, number: u64) -> Result<
     Ok(text)
 }
 
+fn caused_lines(
+    alloc: Global,
+    first: &str,
+    name: &str,
+    number: u64,
+    cause: Cause,
+) -> Result<String, Memory>
+    ensures { IfOk result (λ text. string_bytes text
+        ≡ numbered_line first.now name.now number ++ cause_line cause) }
+{
+    let text = format!(in alloc; "{first} {name} {number}\n{cause}\n")?;
+    Ok(text)
+}
+
 fn verdict_line(alloc: Global, line: u32, reason: &str) -> Result<String, Memory>
     ensures { IfOk result (λ text. string_bytes text
         ≡ codes "NO " ++ (decimal line ++ (32 ∷ (reason.now ++ (10 ∷ []))))) }
 {
     let text = format!(in alloc; "NO {line} {reason}\n")?;
+    Ok(text)
+}
+
+fn extra_line(alloc: Global, line: u32, reason: &str) -> Result<String, Memory>
+    ensures { IfOk result (λ text. string_bytes text
+        ≡ codes "NO EXTRA " ++ (decimal line ++ (32 ∷ (reason.now ++ (10 ∷ []))))) }
+{
+    let text = format!(in alloc; "NO EXTRA {line} {reason}\n")?;
     Ok(text)
 }
 

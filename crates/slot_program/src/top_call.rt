@@ -2,7 +2,6 @@
 
 ghost use Rattle.std.specs.Prelude.{◌≡◌, ◌≢◌, ◌⊎◌, ◌++◌, ◌∷◌, [], ◌≤◌, ℕ, List, Option, Some, None};
 ghost use Rattle.std.specs.Prelude.{IfOk, Contains, map, length, option_map};
-ghost use Rattle.std.specs.String.{string_bytes};
 ghost use Rattle.choice_problem.specs.declared.problems.TheConstants.{MOST_UNITS};
 ghost use Rattle.desk_outside.specs.Cause.{Rose};
 ghost use Rattle.desk_outside.specs.Files.{Files, ChangesOnly};
@@ -15,7 +14,8 @@ ghost use Rattle.slot_program.specs.Reports.{status_of, text_of};
 ghost use Rattle.slot_program.specs.Judgements.{NamedBytes};
 ghost use Rattle.slot_program.specs.Steps.{AllPass, FirstDue, form_steps};
 ghost use Rattle.slot_program.specs.Writing.{read_of, written_of};
-ghost use Rattle.slot_program.specs.Jobs.{AreFilesOf, name_at, steps_of, finishing_of, HeadlineHolds};
+ghost use Rattle.slot_program.specs.Jobs.{AreFilesOf, name_at, steps_of, finishing_of};
+ghost use Rattle.slot_program.specs.Jobs.{HeadlineHolds};
 ghost use Rattle.slot_program.specs.Jobs.{calm_statuses, served_statuses, JournalDue, JournalStands};
 ghost use Rattle.slot_program.specs.Outside.{Outside, still, outside_of, outside_change};
 ghost use Rattle.slot_program.specs.Outside.{doors_change, door_faults, disk_faults, SomeRose};
@@ -32,6 +32,10 @@ ghost use Rattle.command_words.specs.declared.job.Job.TheVariants.{Amend as Amen
 ghost use Rattle.command_words.specs.declared.job.Job.TheVariants.{Serve as ServeJob};
 ghost use Rattle.command_words.specs.declared.job.Job.TheVariants.{Resume as ResumeJob};
 ghost use Rattle.command_words.specs.declared.job.Job.TheVariants.{Usage as UsageJob};
+ghost use Rattle.command_words.specs.declared.job.Job.TheVariants.{Reclear as ReclearJob};
+ghost use Rattle.command_words.specs.declared.job.Job.TheVariants.{Recheck as RecheckJob};
+ghost use Rattle.command_words.specs.declared.job.Job.TheVariants.{Report as ReportJob};
+ghost use Rattle.command_words.specs.declared.job.Job.TheVariants.{Inspect as InspectJob};
 ghost use Rattle.command_words.specs.declared.job.Job.TheVariants.{Make as MakeJob};
 ghost use Rattle.command_words.specs.declared.job.Job.TheVariants.{Trial as TrialJob};
 
@@ -39,7 +43,11 @@ use crate::allocate::allocate;
 use crate::amend::amend;
 use crate::check::check;
 use crate::finish::finish;
+use crate::inspect::inspect;
 use crate::make::make;
+use crate::recheck::recheck;
+use crate::reclear::reclear;
+use crate::report::report;
 use crate::resume::resume;
 use crate::serve::serve;
 use crate::stop::Answer;
@@ -54,6 +62,7 @@ use slot_text::Memory;
 use std::alloc::Global;
 use std::sync::Wait;
 use std::thread::Threads;
+use wait_list::laws::{allotted_fit, waiting_marks};
 use wasg_stages::laws::valid_marks;
 use worker_gate::Gate;
 
@@ -64,16 +73,17 @@ use worker_gate::Gate;
 /// the disk is taken out, and put back but where memory runs out.
 ///
 /// The answer is the status of the program: 0 where the work is done; 1 where the certificate that
-/// was read is not valid; 2 where the words are no command's; 3 where a file is not in its form; 4
-/// where a limit is passed; 5 where the cabinet failed, or has no such file or one of more bytes
-/// than are read; 6 where the sink failed; 7 for want of memory; and where the work is done but not
-/// each stage is settled with an allotment, 8 where a stage is INFEASIBLE, and else 9 where one is
-/// OPEN; where clients were served, 10 where a door failed, and else 11 where a client found the
-/// history full, with the work done as at 0. Where a journal is to be kept, 13 where there is none,
-/// it is another file, or a slot of it is bad; and 14 where its disk failed: when it was opened, or
-/// while clients were served, with the work done up to then. Where lines of the next season are to
-/// be written, 15 where there is none, and nothing is written. The clauses say the same of every
-/// command; what a command's steps, writes and work are stands in `specs/Jobs.antt`.
+/// was read is not valid, or a stage of a waiting list; 2 where the words are no command's; 3 where
+/// a file is not in its form; 4 where a limit is passed; 5 where the cabinet failed, or has no such
+/// file or one of more bytes than are read; 6 where the sink failed; 7 for want of memory; and
+/// where the work is done but not each stage is settled with an allotment, 8 where a stage is
+/// INFEASIBLE, and else 9 where one is OPEN; where clients were served, 10 where a door failed, and
+/// else 11 where a client found the history full, with the work done as at 0. Where a journal is to
+/// be kept, 13 where there is none, it is another file, or a slot of it is bad; and 14 where its
+/// disk failed: when it was opened, or while clients were served, with the work done up to then.
+/// Where lines of the next season are to be written, 15 where there is none, and nothing is
+/// written. The clauses say the same of every command; what a command's steps, writes and work are
+/// stands in `specs/Jobs.antt`.
 pub fn desk<R: Threads + Wait + Sync, C: Cabinet, S: Sink, D: Door + Drop, G: Gate, K: Disk>(
     rt: &R,
     alloc: Global,
@@ -102,9 +112,11 @@ pub fn desk<R: Threads + Wait + Sync, C: Cabinet, S: Sink, D: Door + Drop, G: Ga
     // record is its text, and each worker's sessions are right by the bytes that were taken from
     // and put to each link. With a journal that history follows the pairs which the journal had,
     // answered anew: both are one legal history from the book, and what a stop leaves of the disk
-    // is a journal of the pairs and of all that was asked. Exactly the files of the job, under
-    // their names, were read and written, and exactly its text was put, also over a cabinet, a
-    // sink, doors and a disk that tell nothing.
+    // is a journal of the pairs and of all that was asked. One more stage that was written or read
+    // proves what its mark says of the lines that wait beside the book that the asks left. A report
+    // is the report on the certificate, with the page of that report. Exactly the files of the job,
+    // under their names, were read and written, and exactly its text was put, also over a cabinet,
+    // a sink, doors and a disk that tell nothing.
     ensures headline { (job : JobValue) → job_of (words_of words.now) ≡ Some job →
         Contains (finishing_of job) result → result ≢ 14 →
         (inputs writes : List NamedBytes) × (text : List ℕ)
@@ -198,7 +210,7 @@ pub fn desk<R: Threads + Wait + Sync, C: Cabinet, S: Sink, D: Door + Drop, G: Ga
     // With a command's words, where each of its steps passes in the files and no count of the
     // cabinet and the sink rises, the work is done, or the journal was not opened, or memory ran
     // out. With a budget that is enough for each stage, the status of work that is done is not 9
-    // (`IsRunOutput` and `IsTrial`, of which `handed` speaks).
+    // (`IsRunOutput`, `IsWaitingOutput` and `IsTrial`, of which `handed` speaks).
     ensures complete { (job : JobValue) (held : Files) (inputs : List NamedBytes)
         → job_of (words_of words.now) ≡ Some job → C.files cabinet.old ≡ Some held →
         AllPass (Some held) (steps_of job) inputs →
@@ -233,8 +245,8 @@ pub fn desk<R: Threads + Wait + Sync, C: Cabinet, S: Sink, D: Door + Drop, G: Ga
         JournalStands job inputs (option_map K.view disk.old) →
         Contains served_statuses result ⊎ (result ≡ 7) }
 
-    // Where all files are only in their forms, the one other answer is that the certificate is not
-    // valid.
+    // Where all files are only in their forms, the one other answer is that the certificate, or one
+    // more stage, is not valid.
     ensures in_form { (job : JobValue) (held : Files) (inputs : List NamedBytes)
         → job_of (words_of words.now) ≡ Some job → C.files cabinet.old ≡ Some held →
         AllPass (Some held) (form_steps (steps_of job)) inputs →
@@ -247,9 +259,11 @@ pub fn desk<R: Threads + Wait + Sync, C: Cabinet, S: Sink, D: Door + Drop, G: Ga
         (world_of C.files C.fault_count C.log cabinet.new)) }
 {
     valid_marks();
+    waiting_marks();
+    allotted_fit();
     one_standing();
     match carry_out(rt, alloc, words, cabinet, doors, gate, disk) {
-        Ok(answer) => match out.put(answer.text.as_bytes()) {
+        Ok(answer) => match out.put(&answer.text) {
             Ok(()) => answer.status,
             Err(_) => 6,
         },
@@ -271,7 +285,7 @@ fn carry_out<R: Threads + Wait + Sync, C: Cabinet, D: Door + Drop, G: Gate, K: D
     ensures answer { IfOk result (λ a. IsAnswer (job_of (words_of words.now))
         (world_of C.files C.fault_count C.log cabinet.old)
         (outside_change D.view K.view doors.old.items disk.old doors.new.items disk.new) a.status
-        (string_bytes a.text) (world_of C.files C.fault_count C.log cabinet.new)) }
+        a.text.items (world_of C.files C.fault_count C.log cabinet.new)) }
     ensures others { ChangesOnly (C.files cabinet.old) (names_changed (job_of (words_of words.now)))
         (C.files cabinet.new) }
     ensures asked { LogGrew (C.log cabinet.old) (OnlyOfJob (job_of (words_of words.now)))
@@ -301,6 +315,16 @@ fn carry_out<R: Threads + Wait + Sync, C: Cabinet, D: Door + Drop, G: Gate, K: D
             },
         ) => carry_out_serve(rt, alloc, &names, links, cabinet, doors, gate),
         Ok(Job::Usage { names }) => carry_out_usage(alloc, &names, cabinet),
+        Ok(Job::Report { names }) => carry_out_report(alloc, &names, cabinet),
+        Ok(Job::Inspect { names }) => carry_out_inspect(alloc, &names, cabinet),
+        Ok(
+            Job::Reclear {
+                names,
+                nodes,
+                workers,
+            },
+        ) => carry_out_reclear(rt, alloc, &names, nodes, workers, cabinet, gate),
+        Ok(Job::Recheck { names }) => carry_out_recheck(alloc, &names, cabinet),
         Ok(
             Job::Resume {
                 names,
@@ -319,7 +343,7 @@ fn carry_out<R: Threads + Wait + Sync, C: Cabinet, D: Door + Drop, G: Gate, K: D
         Ok(Job::Trial { number, units }) => carry_out_trial(rt, alloc, number, units, gate),
         Err(WordFault::Words) => Ok(Answer {
             status: 2,
-            text: String::from_str(alloc, "WORDS\n")?,
+            text: String::from_str(alloc, "WORDS\n")?.into_bytes(),
         }),
         Err(WordFault::Memory) => Err(Memory),
     }
@@ -339,7 +363,7 @@ fn carry_out_allocate<R: Threads + Sync, C: Cabinet, G: Gate>(
     requires workers { (1 ≤ workers) × (workers ≤ 16) }
     ensures answer { (o : Outside) → IfOk result (λ a.
         IsAnswer (Some (AllocateJob names.now nodes workers))
-        (world_of C.files C.fault_count C.log cabinet.old) (still o) a.status (string_bytes a.text)
+        (world_of C.files C.fault_count C.log cabinet.old) (still o) a.status a.text.items
         (world_of C.files C.fault_count C.log cabinet.new)) }
     ensures others { ChangesOnly (C.files cabinet.old)
         (name_at names.now 2 ∷ name_at names.now 3 ∷ []) (C.files cabinet.new) }
@@ -358,13 +382,31 @@ fn carry_out_check<C: Cabinet>(
 ) -> Result<Answer, Memory>
     ensures answer { (o : Outside) → IfOk result (λ a.
         IsAnswer (Some (CheckJob names.now))
-        (world_of C.files C.fault_count C.log cabinet.old) (still o) a.status (string_bytes a.text)
+        (world_of C.files C.fault_count C.log cabinet.old) (still o) a.status a.text.items
         (world_of C.files C.fault_count C.log cabinet.new)) }
     ensures unchanged { C.files cabinet.new ≡ C.files cabinet.old }
     ensures asked { LogGrew (C.log cabinet.old) (OnlyOfJob (Some (CheckJob names.now)))
         (C.log cabinet.new) }
 {
     let ended = check(alloc, names, cabinet);
+    finish(alloc, names, ended)
+}
+
+/// Says what a season is, or what is wrong in it, and gives what is to be said.
+fn carry_out_inspect<C: Cabinet>(
+    alloc: Global,
+    names: &NameList,
+    cabinet: &mut C,
+) -> Result<Answer, Memory>
+    ensures answer { (o : Outside) → IfOk result (λ a.
+        IsAnswer (Some (InspectJob names.now))
+        (world_of C.files C.fault_count C.log cabinet.old) (still o) a.status a.text.items
+        (world_of C.files C.fault_count C.log cabinet.new)) }
+    ensures unchanged { C.files cabinet.new ≡ C.files cabinet.old }
+    ensures asked { LogGrew (C.log cabinet.old) (OnlyOfJob (Some (InspectJob names.now)))
+        (C.log cabinet.new) }
+{
+    let ended = inspect(alloc, names, cabinet);
     finish(alloc, names, ended)
 }
 
@@ -376,7 +418,7 @@ fn carry_out_amend<C: Cabinet>(
 ) -> Result<Answer, Memory>
     ensures answer { (o : Outside) → IfOk result (λ a.
         IsAnswer (Some (AmendJob names.now))
-        (world_of C.files C.fault_count C.log cabinet.old) (still o) a.status (string_bytes a.text)
+        (world_of C.files C.fault_count C.log cabinet.old) (still o) a.status a.text.items
         (world_of C.files C.fault_count C.log cabinet.new)) }
     ensures others { ChangesOnly (C.files cabinet.old) (name_at names.now 4 ∷ [])
         (C.files cabinet.new) }
@@ -401,7 +443,7 @@ fn carry_out_serve<R: Threads + Wait + Sync, C: Cabinet, D: Door + Drop, G: Gate
     ensures answer { (port workers : ℕ) (disk : Option DiskView) → IfOk result (λ a.
         IsAnswer (Some (ServeJob names.now links port workers))
         (world_of C.files C.fault_count C.log cabinet.old)
-        (doors_change D.view doors.old.items doors.new.items disk) a.status (string_bytes a.text)
+        (doors_change D.view doors.old.items doors.new.items disk) a.status a.text.items
         (world_of C.files C.fault_count C.log cabinet.new)) }
     ensures others { ChangesOnly (C.files cabinet.old) (name_at names.now 3 ∷ [])
         (C.files cabinet.new) }
@@ -429,7 +471,7 @@ fn carry_out_resume<R: Threads + Wait + Sync, C: Cabinet, D: Door + Drop, G: Gat
         IsAnswer (Some (ResumeJob names.now links port workers))
         (world_of C.files C.fault_count C.log cabinet.old)
         (outside_change D.view K.view doors.old.items disk.old doors.new.items disk.new) a.status
-        (string_bytes a.text) (world_of C.files C.fault_count C.log cabinet.new)) }
+        a.text.items (world_of C.files C.fault_count C.log cabinet.new)) }
     ensures others { ChangesOnly (C.files cabinet.old) (name_at names.now 4 ∷ [])
         (C.files cabinet.new) }
     ensures asked { (port workers : ℕ) → LogGrew (C.log cabinet.old)
@@ -448,7 +490,7 @@ fn carry_out_usage<C: Cabinet>(
 ) -> Result<Answer, Memory>
     ensures answer { (o : Outside) → IfOk result (λ a.
         IsAnswer (Some (UsageJob names.now))
-        (world_of C.files C.fault_count C.log cabinet.old) (still o) a.status (string_bytes a.text)
+        (world_of C.files C.fault_count C.log cabinet.old) (still o) a.status a.text.items
         (world_of C.files C.fault_count C.log cabinet.new)) }
     ensures others { ChangesOnly (C.files cabinet.old) (name_at names.now 4 ∷ [])
         (C.files cabinet.new) }
@@ -456,6 +498,68 @@ fn carry_out_usage<C: Cabinet>(
         (C.log cabinet.new) }
 {
     let ended = usage(alloc, names, cabinet);
+    finish(alloc, names, ended)
+}
+
+/// Clears a waiting list, and gives what is to be said.
+fn carry_out_reclear<R: Threads + Sync, C: Cabinet, G: Gate>(
+    rt: &R,
+    alloc: Global,
+    names: &NameList,
+    nodes: u32,
+    workers: u32,
+    cabinet: &mut C,
+    gate: &G,
+) -> Result<Answer, Memory>
+    requires nodes { (1 ≤ nodes) × (nodes ≤ 1000000) }
+    requires workers { (1 ≤ workers) × (workers ≤ 16) }
+    ensures answer { (o : Outside) → IfOk result (λ a.
+        IsAnswer (Some (ReclearJob names.now nodes workers))
+        (world_of C.files C.fault_count C.log cabinet.old) (still o) a.status a.text.items
+        (world_of C.files C.fault_count C.log cabinet.new)) }
+    ensures others { ChangesOnly (C.files cabinet.old)
+        (name_at names.now 4 ∷ name_at names.now 5 ∷ []) (C.files cabinet.new) }
+    ensures asked { LogGrew (C.log cabinet.old)
+        (OnlyOfJob (Some (ReclearJob names.now nodes workers))) (C.log cabinet.new) }
+{
+    let ended = reclear(rt, alloc, names, nodes, workers, cabinet, gate);
+    finish(alloc, names, ended)
+}
+
+/// Checks the stage of a waiting list, and gives what is to be said.
+fn carry_out_recheck<C: Cabinet>(
+    alloc: Global,
+    names: &NameList,
+    cabinet: &mut C,
+) -> Result<Answer, Memory>
+    ensures answer { (o : Outside) → IfOk result (λ a.
+        IsAnswer (Some (RecheckJob names.now))
+        (world_of C.files C.fault_count C.log cabinet.old) (still o) a.status a.text.items
+        (world_of C.files C.fault_count C.log cabinet.new)) }
+    ensures unchanged { C.files cabinet.new ≡ C.files cabinet.old }
+    ensures asked { LogGrew (C.log cabinet.old) (OnlyOfJob (Some (RecheckJob names.now)))
+        (C.log cabinet.new) }
+{
+    let ended = recheck(alloc, names, cabinet);
+    finish(alloc, names, ended)
+}
+
+/// Tells why each series was given what it was given, and gives what is to be said.
+fn carry_out_report<C: Cabinet>(
+    alloc: Global,
+    names: &NameList,
+    cabinet: &mut C,
+) -> Result<Answer, Memory>
+    ensures answer { (o : Outside) → IfOk result (λ a.
+        IsAnswer (Some (ReportJob names.now))
+        (world_of C.files C.fault_count C.log cabinet.old) (still o) a.status a.text.items
+        (world_of C.files C.fault_count C.log cabinet.new)) }
+    ensures others { ChangesOnly (C.files cabinet.old)
+        (name_at names.now 3 ∷ name_at names.now 4 ∷ []) (C.files cabinet.new) }
+    ensures asked { LogGrew (C.log cabinet.old) (OnlyOfJob (Some (ReportJob names.now)))
+        (C.log cabinet.new) }
+{
+    let ended = report(alloc, names, cabinet);
     finish(alloc, names, ended)
 }
 
@@ -470,7 +574,7 @@ fn carry_out_make<C: Cabinet>(
     requires { units ≤ MOST_UNITS }
     ensures answer { (o : Outside) → IfOk result (λ a.
         IsAnswer (Some (MakeJob number units names.now))
-        (world_of C.files C.fault_count C.log cabinet.old) (still o) a.status (string_bytes a.text)
+        (world_of C.files C.fault_count C.log cabinet.old) (still o) a.status a.text.items
         (world_of C.files C.fault_count C.log cabinet.new)) }
     ensures others { ChangesOnly (C.files cabinet.old)
         (name_at names.now 0 ∷ name_at names.now 1 ∷ []) (C.files cabinet.new) }
@@ -491,7 +595,7 @@ fn carry_out_trial<R: Threads + Sync, G: Gate>(
 ) -> Result<Answer, Memory>
     requires { units ≤ MOST_UNITS }
     ensures { IfOk result (λ a. (w : World) (o : Outside) →
-        IsAnswer (Some (TrialJob number units)) w (still o) a.status (string_bytes a.text) w) }
+        IsAnswer (Some (TrialJob number units)) w (still o) a.status a.text.items w) }
 {
     let answer = trial(rt, alloc, number, units, gate)?;
     Ok(answer)

@@ -39,7 +39,7 @@ pub(crate) fn trial<R: Threads + Sync, G: Gate>(
     gate: &G,
 ) -> Result<Answer, Memory>
     requires { units ≤ MOST_UNITS }
-    ensures { IfOk result (λ a. IsTrial number units [] a.status (string_bytes a.text)) }
+    ensures { IfOk result (λ a. IsTrial number units [] a.status a.text.items) }
 {
     settled_run();
     let submission = generate(alloc, number, units)?;
@@ -49,7 +49,10 @@ pub(crate) fn trial<R: Threads + Sync, G: Gate>(
     }
     let text = trial_text(alloc, &proved)?;
     let status = marks_status(proved.stages.items());
-    Ok(Answer { status, text })
+    Ok(Answer {
+        status,
+        text: text.into_bytes(),
+    })
 }
 
 /// Whether a certificate is valid for a season, by the checker.

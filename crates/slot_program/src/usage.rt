@@ -54,7 +54,7 @@ pub(crate) fn usage<C: Cabinet>(
     cabinet: &mut C,
 ) -> Result<Answer, Stop>
     ensures done { IfOk result (λ a. IsDone (UsageJob names.now)
-        (world_of C.files C.fault_count C.log cabinet.old) a.status (string_bytes a.text)
+        (world_of C.files C.fault_count C.log cabinet.old) a.status a.text.items
         (world_of C.files C.fault_count C.log cabinet.new)) }
     ensures stop { IfErr result (λ stop. JobStops names.now (UsageJob names.now)
         (world_of C.files C.fault_count C.log cabinet.old) stop
@@ -73,7 +73,7 @@ pub(crate) fn usage<C: Cabinet>(
     write_one(names, 4, &output.next, cabinet)?;
     Ok(Answer {
         status: 0,
-        text: output.text,
+        text: output.text.into_bytes(),
     })
 }
 

@@ -54,7 +54,7 @@ pub(crate) fn write_two<C: Cabinet>(
     two: &[u8],
     cabinet: &mut C,
 ) -> Result<(), Stop>
-    requires { place < 4 }
+    requires { place < 5 }
     ensures done { OnOk result ((job : JobValue) (w : World) (change : OutsideChange)
         (inputs : List NamedBytes) (status : ℕ) (text : List ℕ) →
         names_written job ≡ name_at names.now place ∷ name_at names.now (place + 1) ∷ [] →

@@ -2,9 +2,10 @@
 //! files are laid out by hand.
 
 ghost use Rattle.std.specs.Prelude.{◌≡◌, ◌≤◌, IfOk};
+ghost use Rattle.scr_reader.specs.Again.{IsFitItem};
 
 use crate::rows::{Case, say, walk};
-use amend_journal::{Asked, Journal, MOST_PAIRS, OpenFault};
+use amend_journal::{Asked, Journal, MOST_PAIRS, OpenFault, Slot};
 use desk_disk::{Disk, MemoryDisk};
 use desk_outside::Failure;
 use scr_reader::{Item, print_item, read_item};
@@ -29,10 +30,7 @@ impl Case for Openings {
         let disk = MemoryDisk::new(alloc, given, ROOM, 99, Vec::new(alloc))?;
         let disk = match Journal::open(alloc, disk, &self.season) {
             Ok((journal, asks)) => {
-                for asked in asks.as_slice() {
-                    say(alloc, out, format_args!("{} ", asked.caller))?;
-                    put_item(alloc, out, &self.season, &asked.ask)?;
-                }
+                say_asks(alloc, out, &self.season, &asks)?;
                 journal.into_disk()
             }
             Err((fault, disk)) => {
@@ -42,6 +40,14 @@ impl Case for Openings {
         };
         say(alloc, out, disk.bytes().len())
     }
+}
+
+fn say_asks(alloc: Global, out: &mut Vec<u8>, season: &Season, asks: &[Asked]) -> Result<(), Fail> {
+    for asked in asks {
+        say(alloc, out, format_args!("{} ", asked.caller))?;
+        put_item(alloc, out, season, &asked.ask)?;
+    }
+    Ok(())
 }
 
 fn say_fault(alloc: Global, out: &mut Vec<u8>, fault: OpenFault) -> Result<(), Fail> {
@@ -123,15 +129,19 @@ fn journal_of(
             let mut journal = journal;
             let done = put_texts(alloc, &mut journal, season, count)?;
             let disk = journal.into_disk();
-            let bytes = Vec::from_slice(alloc, disk.bytes())?;
-            Ok((done, disk.faults() == 1, bytes))
+            made(alloc, done, &disk)
         }
-        Err((fault, disk)) => {
-            let failed = fault == OpenFault::DiskFault && disk.faults() == 1;
-            let bytes = Vec::from_slice(alloc, disk.bytes())?;
-            Ok((0, failed, bytes))
-        }
+        Err((OpenFault::DiskFault, disk)) => made(alloc, 0, &disk),
+        Err(_) => Err("not opened".into()),
     }
+}
+
+/// How many puts were answered, whether one call of the disk failed, and its bytes.
+fn made(alloc: Global, done: u32, disk: &MemoryDisk) -> Result<(u32, bool, Vec<u8>), Fail>
+    ensures { IfOk result (λ made. made.0 ≡ done) }
+{
+    let bytes = Vec::from_slice(alloc, disk.bytes())?;
+    Ok((done, disk.faults() == 1, bytes))
 }
 
 /// Puts the first so many of the texts, up to a put that fails: how many were answered.
@@ -165,14 +175,33 @@ fn put_text(
     requires { journal.old.season ≡ season.now }
     ensures { journal.new.season ≡ journal.old.season }
 {
-    let Some(ask) = read_item(alloc, season, text_of(number))? else {
-        return Err("no item".into());
-    };
     if journal.count() >= MOST_PAIRS {
         return Err("full".into());
     }
-    let slot = journal.ready(alloc, u8::try_from(number)?, &ask)?;
+    let slot = slot_of(alloc, journal, season, number)?;
     Ok(journal.put(slot).is_ok())
+}
+
+/// The text of this number, laid out for its slot.
+fn slot_of(
+    alloc: Global,
+    journal: &Journal<MemoryDisk>,
+    season: &Season,
+    number: u32,
+) -> Result<Slot, Fail>
+    requires { journal.now.season ≡ season.now }
+{
+    let ask = item_of(alloc, season, number)?;
+    Ok(journal.ready(alloc, u8::try_from(number)?, &ask)?)
+}
+
+fn item_of(alloc: Global, season: &Season, number: u32) -> Result<Item, Fail>
+    ensures { IfOk result (IsFitItem season.now) }
+{
+    match read_item(alloc, season, text_of(number))? {
+        Some(ask) => Ok(ask),
+        None => Err("no item".into()),
+    }
 }
 
 /// How many pairs a file stands for, where they are the first of those above; 9 where it does not
@@ -225,39 +254,53 @@ fn each_call_of_the_disk_fails_once(rt: HostRuntime) -> Result<(), Fail> {
 fn fails_once(alloc: Global, season: &Season, call: u64) -> Result<bool, Fail> {
     for part in [0, 1, 2, 100, 255, 256, 999] {
         let failing = vec![in alloc; Failure::after(call, part)]?;
-        let (done, failed, bytes) = journal_of(alloc, season, 3, failing)?;
-        let count = reopened(alloc, season, &bytes)?;
-        let opening = call >= 5 && (call - 5) % 4 >= 2;
-        if !failed || !(count == done || (opening && count == done + 1)) {
+        if !fails_with(alloc, season, call, failing)? {
             return Ok(false);
         }
     }
     Ok(true)
 }
 
+fn fails_with(
+    alloc: Global,
+    season: &Season,
+    call: u64,
+    failing: Vec<Failure>,
+) -> Result<bool, Fail> {
+    let (done, failed, bytes) = journal_of(alloc, season, 3, failing)?;
+    let count = reopened(alloc, season, &bytes)?;
+    let opening = call >= 5 && (call - 5) % 4 >= 2;
+    Ok(failed && (count == done || opening && count == done + 1))
+}
+
 /// A stop at each moment of three puts: while the slot is written it may hold any bytes, and the
 /// file may have any length from the old one on; while the gate is opened it may have any value.
+/// Of two bytes all values of both are tried, of the others some of one at a time.
 #[test]
 fn a_stop_leaves_the_pairs(rt: HostRuntime) -> Result<(), Fail> {
     let alloc = rt.alloc();
     let season = Season::read(b"S25").ok_or("season")?;
     for done in 0..3 {
-        let (_, _, old) = journal_of(alloc, &season, done, Vec::new(alloc))?;
-        let (_, _, new) = journal_of(alloc, &season, done + 1, Vec::new(alloc))?;
-        let kept = stop_in_slot(alloc, &season, &new, old.len(), done)?;
-        assert!(rt; kept, "slot {done}");
-        let kept = stop_in_gate(alloc, &season, &new, old.len(), done)?;
-        assert!(rt; kept, "gate {done}");
+        assert!(rt; leaves_pairs(alloc, &season, done)?, "slot {done}");
     }
     Ok(())
+}
+
+/// Whether each stop in the put behind so many pairs leaves them.
+fn leaves_pairs(alloc: Global, season: &Season, done: u32) -> Result<bool, Fail> {
+    let (_, _, old) = journal_of(alloc, season, done, Vec::new(alloc))?;
+    let (_, _, new) = journal_of(alloc, season, done.wrapping_add(1), Vec::new(alloc))?;
+    Ok(
+        stop_in_slot(alloc, season, &new, old.len(), done)?
+            && stop_in_two_bytes(alloc, season, &new, old.len(), done)?
+            && stop_in_gate(alloc, season, &new, old.len(), done)?,
+    )
 }
 
 /// A file with this byte at a place.
 fn with_byte(alloc: Global, file: &[u8], place: usize, byte: u8) -> Result<Vec<u8>, Fail> {
     let mut image = Vec::from_slice(alloc, file)?;
-    if let Some(old) = image.get_mut(place) {
-        *old = byte;
-    }
+    put_byte(&mut image, place, byte);
     Ok(image)
 }
 
@@ -301,6 +344,32 @@ fn is_torn(
     Ok(reopened(alloc, season, &laid[..place])? == done)
 }
 
+/// Whether the file stands for the old pairs with each value of the two bytes behind the gate, which
+/// is closed.
+fn stop_in_two_bytes(
+    alloc: Global,
+    season: &Season,
+    new: &[u8],
+    from: usize,
+    done: u32,
+) -> Result<bool, Fail> {
+    let mut image = with_byte(alloc, new, from.saturating_sub(1), 0)?;
+    for value in 0..65_536_u32 {
+        put_byte(&mut image, from, (value / 256) as u8);
+        put_byte(&mut image, from.saturating_add(1), (value % 256) as u8);
+        if reopened(alloc, season, &image)? != done {
+            return Ok(false);
+        }
+    }
+    Ok(true)
+}
+
+fn put_byte(image: &mut Vec<u8>, place: usize, byte: u8) {
+    if let Some(old) = image.get_mut(place) {
+        *old = byte;
+    }
+}
+
 /// Whether each image of a stop while the gate is opened stands for the old pairs, or with gate 1
 /// for one more.
 fn stop_in_gate(
@@ -329,10 +398,25 @@ fn each_byte_of_a_slot_counts(rt: HostRuntime) -> Result<(), Fail> {
     let (_, _, file) = journal_of(alloc, &season, 2, Vec::new(alloc))?;
     assert_eq!(rt; reopened(alloc, &season, &file)?, 2);
     for (place, byte) in file.as_slice().iter().enumerate() {
-        let image = with_byte(alloc, &file, place, byte.wrapping_add(1))?;
-        assert!(rt; reopened(alloc, &season, &image)? != 2, "byte {place}");
+        let next = byte.wrapping_add(1);
+        assert!(rt;
+            !has_two(alloc, &season, &file, place, next)?,
+            "byte {place}"
+        );
     }
     Ok(())
+}
+
+/// Whether the file with this byte at a place stands for the first two pairs.
+fn has_two(
+    alloc: Global,
+    season: &Season,
+    file: &[u8],
+    place: usize,
+    byte: u8,
+) -> Result<bool, Fail> {
+    let image = with_byte(alloc, file, place, byte)?;
+    Ok(reopened(alloc, season, &image)? == 2)
 }
 
 /// A stop at each moment of the opening of a short file leaves a file of at most 17 bytes: any

@@ -17,7 +17,7 @@ pub(crate) trait Case {
 /// Walks the rows, and fails with the first whose finding is not what it wants.
 pub(crate) fn walk<C: Case>(alloc: Global, case: &mut C, table: &[u8]) -> Result<(), Fail> {
     let mut rows = Lines::new(table);
-    for _ in 0..99 {
+    for _ in 0..199 {
         let Some(row) = rows.next_line() else {
             return Ok(());
         };
@@ -28,15 +28,29 @@ pub(crate) fn walk<C: Case>(alloc: Global, case: &mut C, table: &[u8]) -> Result
 
 fn check_row<C: Case>(alloc: Global, case: &mut C, row: &[u8]) -> Result<(), Fail> {
     let (given, wanted) = cut(row, b'|');
+    let found = found(alloc, case, given)?;
+    compare(alloc, &found, wanted, row)
+}
+
+/// What is found for what a row gives.
+fn found<C: Case>(alloc: Global, case: &mut C, given: &[u8]) -> Result<Vec<u8>, Fail> {
     let given = spelled_out(alloc, given)?;
-    let wanted = spelled_out(alloc, wanted)?;
     let mut found = Vec::new(alloc);
     case.find(alloc, &given, &mut found)?;
-    if found.as_slice() == wanted.as_slice() {
+    Ok(found)
+}
+
+fn compare(alloc: Global, found: &[u8], wanted: &[u8], row: &[u8]) -> Result<(), Fail> {
+    let wanted = spelled_out(alloc, wanted)?;
+    if found == wanted.as_slice() {
         return Ok(());
     }
+    differ(alloc, found, row)
+}
+
+fn differ(alloc: Global, found: &[u8], row: &[u8]) -> Result<(), Fail> {
     let row = String::from_utf8_lossy(alloc, row)?;
-    let found = String::from_utf8_lossy(alloc, &found)?;
+    let found = String::from_utf8_lossy(alloc, found)?;
     Err(Fail::new(format!(in alloc; "{row} has {found}")?))
 }
 

@@ -64,6 +64,17 @@ fn say_job(alloc: Global, out: &mut Vec<u8>, job: &Job) -> Result<(), Fail> {
             say(alloc, out, format!(in alloc; " {workers}")?)
         }
         Job::Usage { names } => say_names(alloc, out, "usage", names),
+        Job::Reclear {
+            names,
+            nodes,
+            workers,
+        } => {
+            say_names(alloc, out, "reclear", names)?;
+            say_numbers(alloc, out, *nodes, *workers)
+        }
+        Job::Recheck { names } => say_names(alloc, out, "recheck", names),
+        Job::Report { names } => say_names(alloc, out, "report", names),
+        Job::Inspect { names } => say_names(alloc, out, "inspect", names),
         Job::Make {
             number,
             units,
@@ -214,6 +225,23 @@ usage A B C D E|usage A,B,C,D,E
 usage A B C D|no
 usage A B C D E F|no
 usage A B C D E --workers 1|no
+reclear A B C D E F|reclear A,B,C,D,E,F 100000 4
+reclear A B C D E|no
+reclear A B C D E F G|no
+reclear --nodes 64 A B C D E F --workers=16|reclear A,B,C,D,E,F 64 16
+reclear A B C D E F --nodes 0|no
+reclear A B C D E F --links 1|no
+recheck A B C D E|recheck A,B,C,D,E
+recheck A B C D|no
+recheck A B C D E F|no
+recheck A B C D E --nodes 5|no
+report A B C D E|report A,B,C,D,E
+report A B C D|no
+report A B C D E --nodes 1|no
+inspect A B|inspect A,B
+inspect A|no
+inspect A B C|no
+inspect -- -A B|inspect -A,B
 serve A B C D|serve A,B,C,D 1 7710 4
 serve A B C|no
 serve A B C D E|no

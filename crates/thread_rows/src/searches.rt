@@ -192,39 +192,57 @@ fn searched<R: Threads + Sync>(
     outcome_text(alloc, problem, &outcome, tree)
 }
 
+// The problem of a row.
+fn named(alloc: Global, name: &str) -> Result<Problem, Fail> {
+    match name {
+        "empty" => problem(Vec::new(alloc), Vec::new(alloc)),
+        "crowd" => crowd(alloc, 2, 1, false),
+        "shifted" => shifted(alloc, 210),
+        _ => three(alloc),
+    }
+}
+
 #[test]
 fn worked_rows(rt: HostRuntime) -> Result<(), Fail> {
-    let alloc = rt.alloc();
-    let empty = problem(Vec::new(alloc), Vec::new(alloc))?;
-    let rows = [
-        (empty, 100, 4, "OPTIMAL 0 0 L 0 1 0"),
-        (crowd(alloc, 2, 1, false)?, 100, 4, "INFEASIBLE 0 O 0"),
-        (shifted(alloc, 210)?, 100, 4, "OPTIMAL 6300 1 L 1 1024 6300"),
-        (three(alloc)?, 1, 1, "SPENT 40 1 S 0 1 40 U U"),
-        (three(alloc)?, 0, 1, "SPENT 40 0 U"),
-        (three(alloc)?, 1, 16, "SPENT 40 1 S 0 1 40 U U"),
-    ];
-    for (problem, budget, workers, want) in &rows {
-        let text = searched(&rt, alloc, problem, *budget, *workers, true)?;
-        assert_eq!(rt; text.as_str(), *want);
+    for (name, budget, workers, tree, want) in [
+        ("empty", 100, 4, true, "OPTIMAL 0 0 L 0 1 0"),
+        ("crowd", 100, 4, true, "INFEASIBLE 0 O 0"),
+        ("shifted", 100, 4, true, "OPTIMAL 6300 1 L 1 1024 6300"),
+        ("three", 1, 1, true, "SPENT 40 1 S 0 1 40 U U"),
+        ("three", 0, 1, true, "SPENT 40 0 U"),
+        ("three", 1, 16, true, "SPENT 40 1 S 0 1 40 U U"),
+        ("three", 15, 1, false, "OPTIMAL 40"),
+    ] {
+        let problem = named(rt.alloc(), name)?;
+        let text = searched(&rt, rt.alloc(), &problem, budget, workers, tree)?;
+        assert_eq!(rt; text.as_str(), want);
     }
-    let text = searched(&rt, alloc, &three(alloc)?, 15, 1, false)?;
-    assert_eq!(rt; text.as_str(), "OPTIMAL 40");
     Ok(())
 }
 
 // What is found by several workers is what one finds: the least costs are those of all choices, tried one by one.
 #[test]
 fn any_number_of_workers(rt: HostRuntime) -> Result<(), Fail> {
-    let alloc = rt.alloc();
     for (count, want) in [(5, "OPTIMAL 85"), (8, "OPTIMAL 126"), (12, "OPTIMAL 172")] {
-        let problem = ring(alloc, count)?;
-        for workers in [1, 2, 4, 16] {
-            let text = searched(&rt, alloc, &problem, 100_000, workers, false)?;
-            assert_eq!(rt; text.as_str(), want, "{count} {workers}");
-        }
+        let problem = ring(rt.alloc(), count)?;
+        assert!(rt; all_find(&rt, rt.alloc(), &problem, want)?, "{count}");
     }
     Ok(())
+}
+
+fn all_find<R: Threads + Sync>(
+    rt: &R,
+    alloc: Global,
+    problem: &Problem,
+    want: &str,
+) -> Result<bool, Fail> {
+    for workers in [1, 2, 4, 16] {
+        let text = searched(rt, alloc, problem, 100_000, workers, false)?;
+        if text.as_str() != want {
+            return Ok(false);
+        }
+    }
+    Ok(true)
 }
 
 fn tree_of(outcome: &Outcome) -> &Tree {
@@ -251,44 +269,85 @@ fn visits(outcome: &Outcome) -> u32 {
 fn budgets(rt: HostRuntime) -> Result<(), Fail> {
     let alloc = rt.alloc();
     let problem = ring(alloc, 8)?;
-    let whole = search(&rt, alloc, &problem, 100_000, 1, &RealGate)?;
-    let needed = visits(&whole);
-    let rows = [
+    let needed = visits_of(&rt, alloc, &problem)?;
+    let less = needed.saturating_sub(1);
+    for (budget, count, want) in [
         (0, 0, "SPENT 132"),
         (1, 1, "SPENT 132"),
         (2, 2, "SPENT 132"),
         (3, 3, "SPENT 132"),
-        (
-            needed.saturating_sub(1),
-            needed.saturating_sub(1),
-            "SPENT 126",
-        ),
+        (less, less, "SPENT 126"),
         (needed, needed, "OPTIMAL 126"),
         (u32::MAX, needed, "OPTIMAL 126"),
-    ];
-    for (budget, count, want) in rows {
-        let outcome = search(&rt, alloc, &problem, budget, 1, &RealGate)?;
-        let text = outcome_text(alloc, &problem, &outcome, false)?;
-        assert_eq!(rt; text.as_str(), want, "{budget}");
-        assert_eq!(rt; visits(&outcome), count, "{budget}");
+    ] {
+        assert!(rt;
+            spends(&rt, alloc, &problem, budget, count, want)?,
+            "{budget}"
+        );
     }
     Ok(())
+}
+
+// How many visits a problem needs.
+fn visits_of<R: Threads + Sync>(rt: &R, alloc: Global, problem: &Problem) -> Result<u32, Fail> {
+    let whole = search(rt, alloc, problem, 100_000, 1, &RealGate)?;
+    Ok(visits(&whole))
+}
+
+// Whether a budget ends so, with so many visits.
+fn spends<R: Threads + Sync>(
+    rt: &R,
+    alloc: Global,
+    problem: &Problem,
+    budget: u32,
+    count: u32,
+    want: &str,
+) -> Result<bool, Fail> {
+    let outcome = search(rt, alloc, problem, budget, 1, &RealGate)?;
+    Ok(visits(&outcome) == count && says(alloc, problem, &outcome, want)?)
+}
+
+// Whether an outcome has this text, without its tree.
+fn says(alloc: Global, problem: &Problem, outcome: &Outcome, want: &str) -> Result<bool, Fail> {
+    let text = outcome_text(alloc, problem, outcome, false)?;
+    Ok(text.as_str() == want)
 }
 
 // Three units, each of which takes one of two places.
 fn places(alloc: Global) -> Result<Problem, Fail> {
     let mut units = Vec::new(alloc);
     for _ in 0..3 {
-        let one = Part::new(vec![in alloc; once(0); 1]?);
-        let two = Part::new(vec![in alloc; once(1); 1]?);
-        let parts = vec![in alloc; one, two]?;
-        let alts = vec![in alloc; alt(0, Some(0)), alt(0, Some(1))]?;
-        if !Chooser::allows(&parts, &alts) {
-            return Err("places".into());
-        }
-        units.push(Chooser::new(parts, alts))?;
+        units.push(seat(alloc, &[0, 0])?)?;
     }
     problem(units, vec![in alloc; 1; 2]?)
+}
+
+// A unit that takes one of the first places, at these costs.
+fn seat(alloc: Global, costs: &[u64]) -> Result<Chooser, Fail> {
+    let parts = place_parts(alloc, costs.len())?;
+    let alts = place_alts(alloc, costs)?;
+    if !Chooser::allows(&parts, &alts) {
+        return Err("seats".into());
+    }
+    Ok(Chooser::new(parts, alts))
+}
+
+fn place_parts(alloc: Global, count: usize) -> Result<Vec<Part>, Fail> {
+    let mut parts = Vec::new(alloc);
+    for place in 0..count {
+        let place = u32::try_from(place)?;
+        parts.push(Part::new(vec![in alloc; once(place); 1]?))?;
+    }
+    Ok(parts)
+}
+
+fn place_alts(alloc: Global, costs: &[u64]) -> Result<Vec<Alt>, Fail> {
+    let mut alts = Vec::new(alloc);
+    for (place, cost) in costs.iter().enumerate() {
+        let place = u32::try_from(place)?;
+        alts.push(alt(*cost, Some(place)))?;
+    }
+    Ok(alts)
 }
 
 // The list of one small vector of a problem.
@@ -417,16 +476,7 @@ fn two_workers_meet(rt: HostRuntime) -> Result<(), Fail> {
 fn seated(alloc: Global) -> Result<Problem, Fail> {
     let mut units = Vec::new(alloc);
     for costs in [[0, 10, 7, 4], [1, 10, 6, 2], [2, 10, 5, 0], [3, 10, 4, 11]] {
-        let mut parts = Vec::new(alloc);
-        let mut alts = Vec::new(alloc);
-        for (place, cost) in (0..4u32).zip(costs) {
-            parts.push(Part::new(vec![in alloc; once(place); 1]?))?;
-            alts.push(alt(cost, Some(place)))?;
-        }
-        if !Chooser::allows(&parts, &alts) {
-            return Err("seats".into());
-        }
-        units.push(Chooser::new(parts, alts))?;
+        units.push(seat(alloc, &costs)?)?;
     }
     problem(units, vec![in alloc; 1; 4]?)
 }
@@ -476,15 +526,9 @@ fn recorded(node: &Node) -> i64 {
 fn a_worker_reads_what_another_posted(rt: HostRuntime) -> Result<(), Fail> {
     let alloc = rt.alloc();
     let problem = seated(alloc)?;
-    let opening = search(&rt, alloc, &problem, 13, 2, &RealGate)?;
-    let text = outcome_text(alloc, &problem, &opening, false)?;
-    assert_eq!(rt; text.as_str(), "SPENT 17");
     let gate = Meeting::of(1, 6);
-    let outcome = search(&rt, alloc, &problem, 1_000, 2, &gate)?;
-    let text = outcome_text(alloc, &problem, &outcome, false)?;
-    assert_eq!(rt; text.as_str(), "OPTIMAL 14");
+    let costs = seen_by_two(&rt, alloc, &problem, &gate)?;
     assert_eq!(rt; gate.met.load(Ordering::SeqCst), 2);
-    let costs = seen_at_pieces(alloc, tree_of(&opening).items(), tree_of(&outcome).items())?;
     assert_eq!(rt; costs.len(), 8);
     let (Some(one), Some(other)) = (costs.first(), costs.get(1)) else {
         return Err("pieces".into());
@@ -493,6 +537,23 @@ fn a_worker_reads_what_another_posted(rt: HostRuntime) -> Result<(), Fail> {
     assert!(rt; (14..17).contains(&least), "{least}");
     assert_eq!(rt; most, 17);
     Ok(())
+}
+
+// What two workers that meet so record at the pieces of the opening.
+fn seen_by_two<R: Threads + Sync>(
+    rt: &R,
+    alloc: Global,
+    problem: &Problem,
+    gate: &Meeting,
+) -> Result<Vec<i64>, Fail> {
+    let opening = search(rt, alloc, problem, 13, 2, &RealGate)?;
+    let outcome = search(rt, alloc, problem, 1_000, 2, gate)?;
+    if !says(alloc, problem, &opening, "SPENT 17")?
+        || !says(alloc, problem, &outcome, "OPTIMAL 14")?
+    {
+        return Err("another outcome".into());
+    }
+    seen_at_pieces(alloc, tree_of(&opening).items(), tree_of(&outcome).items())
 }
 
 // More visits than the pieces of one round can make: the four of the first have at most 1,024 each.

@@ -1,5 +1,5 @@
 -- The units of a stage's problem.
-use Rattle.std.proofs.Common.{◌≡◌, ℕ, zero, suc, ◌+◌, ◌<◌, ◌≤◌, Bool, true, false, refl, sym, ap, ◌∙◌, subst, arith, List, [], ◌∷◌, ◌++◌, length, get_or, drop}
+use Rattle.std.proofs.Common.{◌≡◌, ℕ, zero, suc, ◌+◌, ◌<◌, ◌≤◌, Bool, true, false, refl, sym, ap, ◌∙◌, subst, arith, List, [], ◌∷◌, ◌++◌, length, get_or, drop, take}
 use Rattle.std.specs.Prelude.{All, if◌then◌else◌}
 use Rattle.std.specs.List.{AllZip}
 use Rattle.std.proofs.lemmas.List.{append_assoc}
@@ -57,3 +57,13 @@ pub AreChoosers-all : (d : Declaration) (stage : ℕ) (states : List UnitState) 
 AreChoosers-all d stage states choosers i are le =
     let none : AllZip (IsChooserOf d) (stage_units stage (drop i states)) [] = subst (λ (s : List UnitState). AllZip (IsChooserOf d) (stage_units stage s) []) (sym (drop-past states i le)) tt in
     subst (λ (ms : List ChooserView). AllZip (IsChooserOf d) (stage_units stage states) ms) (append_none choosers) (are.whole [] none)
+
+-- ---- all of some units
+
+pub choosers-on : (d : Declaration) (units : List SlotUnit) (choosers : List ChooserView) (i : ℕ) (e : SlotUnit) (m : ChooserView) → i < length units → AllZip (IsChooserOf d) (take i units) choosers →
+    IsChooserOf d (get_or units i e) m → AllZip (IsChooserOf d) (take (suc i) units) (choosers ++ m ∷ [])
+choosers-on d [] choosers i e m lt zip is = absurd (omega arith)
+choosers-on d (unit ∷ units) [] zero e m lt zip is = (is, tt)
+choosers-on d (unit ∷ units) (first ∷ choosers) zero e m lt zip is = absurd zip
+choosers-on d (unit ∷ units) [] (suc i) e m lt zip is = absurd zip
+choosers-on d (unit ∷ units) (first ∷ choosers) (suc i) e m lt zip is = (zip.0, choosers-on d units choosers i e m (omega arith) zip.1 is)

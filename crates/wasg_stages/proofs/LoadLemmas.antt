@@ -1,6 +1,6 @@
 -- The loads of what was given, unit by unit, and limits that are lowered by them.
 use Rattle.std.proofs.Common.{◌≡◌, ℕ, ◌+◌, ◌-◌, ◌<◌, ◌≤◌, ◌∙◌, Bool, refl, ap, arith, List, [], ◌∷◌, length, map, zero, suc, get_or, set, take, sym, subst, pos, ℤ, inl, inr}
-use Rattle.std.specs.Prelude.{slice_get, Some, None, nat_le, ◌&&◌, ◌*◌, if◌then◌else◌}
+use Rattle.std.specs.Prelude.{All, slice_get, Some, None, nat_le, ◌&&◌, ◌*◌, if◌then◌else◌}
 use Rattle.std.proofs.lemmas.Grind.{flat_map-append}
 use Rattle.std.proofs.lemmas.List.{take_more, append-nil, get_or-set_same, get_or-set_other, length-set, length-map}
 use Rattle.std.proofs.lemmas.Option.{get_or_from_slice_get}
@@ -176,3 +176,9 @@ pub signed-limits : (c : Capacity) (numbers : List ℕ) (count : ℕ) → length
 signed-limits c numbers count long each few r lt =
     let there : r < count = omega (arith, lt, long, length-map numbers pos) in
     (get_or-signed numbers r ∙ ap pos (get_or_from_slice_get numbers r (window_limit c r) 0 (each r there)), few r)
+
+-- limits that were given
+pub given-limits : (numbers : List ℕ) → All (λ (n : ℕ). n ≤ HIGHEST_NIGHT_LIMIT) numbers → AreLimitsOf (map pos numbers) (λ r. get_or numbers r 0)
+given-limits numbers low r lt =
+    let there : r < length numbers = omega (arith, lt, length-map numbers pos) in
+    (get_or-signed numbers r, low r 0 there)

@@ -14,4 +14,4 @@ mod parts;
 mod problems;
 
 pub use earlier::Earlier;
-pub use problems::{problem_after, stage_problem, units_of_stage};
+pub use problems::{allotment_problem, problem_after, stage_problem, units_of_stage};

@@ -1,6 +1,6 @@
 //! What the resources may still hold in a stage.
 
-ghost use Rattle.std.specs.Prelude.{◌≡◌, ◌-◌, ◌<◌, ◌≤◌, ◌≤ℤ◌, ℕ, All, length, map, slice_index_or, OnOk, IfOk, pos};
+ghost use Rattle.std.specs.Prelude.{◌≡◌, ◌-◌, ◌<◌, ◌≤◌, ◌≤ℤ◌, ℕ, All, length, map, slice_index, slice_index_or, OnOk, IfOk, pos};
 ghost use Rattle.season_days.specs.Seasons.{date_count};
 ghost use Rattle.season_days.specs.declared.declaration.TheConstants.{HIGHEST_NIGHT_LIMIT, HIGHEST_SHARE};
 ghost use Rattle.capacity_windows.specs.Windows.{capacity_of, declared_resources, window_limit, window_load};
@@ -241,6 +241,17 @@ fn signed(alloc: Global, numbers: &[u32]) -> Result<Vec<i64>, Memory>
     for number in numbers {
         limits.push(i64::from(*number))?;
     }
+    Ok(limits)
+}
+
+/// Limits that were given, as a problem takes them.
+pub(crate) fn given_limits(alloc: Global, numbers: &[u32]) -> Result<Vec<i64>, Memory>
+    requires low { All (λ n. n ≤ HIGHEST_NIGHT_LIMIT) numbers.now }
+    ensures count { IfOk result (λ limits. length limits.items ≡ length numbers.now) }
+    ensures each { IfOk result (λ limits.
+        AreLimitsOf limits.items (λ r. slice_index numbers.now r)) }
+{
+    let limits = signed(alloc, numbers)?;
     Ok(limits)
 }
 

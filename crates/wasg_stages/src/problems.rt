@@ -1,22 +1,24 @@
 //! The problem of a stage.
 
-ghost use Rattle.std.specs.Prelude.{◌≡◌, ◌+◌, ◌<◌, ◌≤◌, ℕ, List, All, length, slice_index_or, IfOk, OnOk, pos};
+ghost use Rattle.std.specs.Prelude.{◌≡◌, ◌+◌, ◌<◌, ◌≤◌, ℕ, List, All, length, slice_index, slice_index_or, IfOk, OnOk, pos};
 ghost use Rattle.std.specs.List.{AllZip};
 ghost use Rattle.season_days.specs.Capacity.{IsDeclaration};
+ghost use Rattle.season_days.specs.declared.declaration.TheConstants.{HIGHEST_NIGHT_LIMIT};
 ghost use Rattle.capacity_windows.specs.Windows.{capacity_of, declared_resources};
+ghost use Rattle.choice_problem.specs.declared.problems.TheConstants.{MOST_UNITS};
 ghost use Rattle.choice_problem.specs.Problems.{ArePartsInRange};
 ghost use Rattle.series_model.specs.Units.{UnitFits};
 ghost use Rattle.series_model.specs.Stages.{AreFitting, AreStates, states_after, stage_units, stage_positions};
-ghost use Rattle.wasg_stages.specs.StageProblems.{IsChooserOf, IsStageProblem};
+ghost use Rattle.wasg_stages.specs.StageProblems.{IsChooserOf, IsAllotmentProblem, IsStageProblem};
 ghost use Rattle.wasg_stages.specs.Steps.{AddsDue, AreChoosers};
 
 use crate::choosers::chooser_of;
 use crate::earlier::Earlier;
-use crate::limits::stage_limits;
+use crate::limits::{given_limits, stage_limits};
 use capacity_windows::Windows;
 use choice_problem::{Chooser, Problem};
 use season_days::Declaration;
-use series_model::{Submission, UnitState, is_due, stage_positions, states_after};
+use series_model::{Submission, Unit, UnitState, is_due, stage_positions, states_after};
 use slot_text::Memory;
 use std::alloc::Global;
 
@@ -72,6 +74,58 @@ fn choosers_of(
         add_due(alloc, windows, declaration, stage, state, &mut choosers)?;
     }
     Ok(choosers)
+}
+
+// These units, in their order.
+fn all_choosers(
+    alloc: Global,
+    windows: &Windows,
+    declaration: &Declaration,
+    units: &[Unit],
+) -> Result<Vec<Chooser>, Memory>
+    requires windows { windows.now ≡ capacity_of declaration.now }
+    requires keeps { IsDeclaration declaration.now }
+    requires units { All (UnitFits declaration.now.season) units.now }
+    ensures units { IfOk result
+        (λ choosers. AllZip (IsChooserOf declaration.now) units.now choosers.items) }
+    ensures range { IfOk result
+        (λ choosers.
+        All (ArePartsInRange (declared_resources (capacity_of declaration.now))) choosers.items) }
+    ensures few { IfOk result (λ choosers. length choosers.items ≤ length units.now) }
+{
+    let mut choosers = Vec::with_capacity(alloc, units.len())?;
+    for unit in units {
+        let chooser = chooser_of(alloc, windows, declaration, unit)?;
+        choosers.push(chooser)?;
+    }
+    Ok(choosers)
+}
+
+/// The problem of some units under a limit for each resource, which need be no stage of a season:
+/// the units in their order, with their alternatives and costs under the declaration.
+///
+/// The time is that of listing the alternatives of the units, and one step for each resource. Of
+/// resources the limits alone are kept, eight bytes each.
+pub fn allotment_problem(
+    alloc: Global,
+    windows: &Windows,
+    declaration: &Declaration,
+    units: &[Unit],
+    limits: &[u32],
+) -> Result<Problem, Memory>
+    requires windows { windows.now ≡ capacity_of declaration.now }
+    requires keeps { IsDeclaration declaration.now }
+    requires units { All (UnitFits declaration.now.season) units.now }
+    requires few { length units.now ≤ MOST_UNITS }
+    requires limits { length limits.now ≡ declared_resources (capacity_of declaration.now) }
+    requires low { All (λ n. n ≤ HIGHEST_NIGHT_LIMIT) limits.now }
+    ensures { IfOk result (λ problem.
+        IsAllotmentProblem declaration.now units.now (λ r. slice_index limits.now r) problem) }
+{
+    let _resources = windows.resources();
+    let choosers = all_choosers(alloc, windows, declaration, units)?;
+    let limits = given_limits(alloc, limits)?;
+    Ok(Problem::new(choosers, limits))
 }
 
 /// The problem of a stage, after what its units were given: its units with their alternatives and

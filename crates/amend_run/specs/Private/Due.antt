@@ -1,13 +1,18 @@
 -- The answers that are due to items one after the other, and what comes of messages.
-use Rattle.std.specs.Prelude.{◌≡◌, ℕ, ◌+◌, List, [], ◌∷◌, ◌++◌, All, length}
+use Rattle.std.specs.Prelude.{◌≡◌, ℕ, ◌+◌, List, [], ◌∷◌, ◌++◌, All, length, Option, Some, None}
 use Rattle.std.specs.List.{concat}
+use Rattle.slot_text.specs.declared.station.Station.{Station}
+use Rattle.season_days.specs.Term.{Term}
+use Rattle.scr_reader.specs.Messages.{header_of}
+use Rattle.scr_reader.specs.declared.header.Header.{Header}
+use Rattle.scr_reader.specs.declared.message.Message.{Message}
 use Rattle.scr_reader.specs.declared.message.Placed.{Placed}
 use Rattle.holding_book.specs.declared.answer.Answer.{Answer}
 use Rattle.holding_book.specs.declared.answer.Entry.{Entry}
 use Rattle.holding_book.specs.Books.{SlotBook}
 use Rattle.holding_book.specs.Asks.{CanAsk, reply, next}
 use Rattle.holding_book.specs.Histories.{replay, IsLegal}
-use Rattle.scr_replies.specs.Received.{IsAnsweredMessage}
+use Rattle.scr_replies.specs.Received.{IsGoodMessage, IsBadAt, IsAnsweredMessage}
 use Rattle.amend_run.specs.Amended.{AreAnsweredMessages}
 
 -- ---- items
@@ -30,9 +35,10 @@ due_entries b (placed ∷ items) = due_entry b placed ∷ due_entries (next b pl
 
 -- ---- messages
 
--- what was written before the message and after it, how many entries it has, and the book after
+-- what was written before the message and after it, the entries before it and with it, and the book
+-- after
 pub record IsMessageStep (b : SlotBook) (lines : List (List ℕ)) (before written : List ℕ)
-    (after : SlotBook) (count : ℕ) : Type 0 where
+    (past history : List Entry) (after : SlotBook) : Type 0 where
   pub own : List Entry
   pub text : List ℕ
   pub legal : IsLegal b own
@@ -40,12 +46,11 @@ pub record IsMessageStep (b : SlotBook) (lines : List (List ℕ)) (before writte
   pub answered : IsAnsweredMessage b.declaration.season b.declaration.airport 0 lines own text
   pub book : after ≡ replay b own
   pub written_is : written ≡ before ++ text
-  pub number : count ≡ length own
+  pub history_is : history ≡ past ++ own
 
--- the text of all replies to messages, how many entries they have, and the book after them
-pub record IsRun (b : SlotBook) (messages : List (List (List ℕ))) (text : List ℕ) (count : ℕ)
-    (after : SlotBook) : Type 0 where
-  pub history : List Entry
+-- the text of all replies to messages, their entries, and the book after them
+pub record IsRun (b : SlotBook) (messages : List (List (List ℕ))) (text : List ℕ)
+    (history : List Entry) (after : SlotBook) : Type 0 where
   pub texts : List (List ℕ)
   pub legal : IsLegal b history
   pub can : All (λ (entry : Entry). CanAsk b.declaration entry.ask) history
@@ -53,9 +58,16 @@ pub record IsRun (b : SlotBook) (messages : List (List (List ℕ))) (text : List
       history texts
   pub book : after ≡ replay b history
   pub text_is : text ≡ concat texts
-  pub number : count ≡ length history
 
 -- how many lines messages have together
 abbrev pub line_total : List (List (List ℕ)) → ℕ
 line_total [] = 0
 line_total (lines ∷ messages) = length lines + line_total messages
+
+-- ---- headers
+
+-- of a good message its header, of any other none
+abbrev pub IsHeaderOf : Term → Station → List (List ℕ) → Option Header → Type 0
+IsHeaderOf season airport lines (Some header) =
+    (message : Message) × IsGoodMessage season airport lines message × (header ≡ header_of message)
+IsHeaderOf season airport lines None = (line : ℕ) × IsBadAt season airport lines line

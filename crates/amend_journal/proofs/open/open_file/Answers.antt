@@ -1,9 +1,13 @@
-use Rattle.std.proofs.Common.{List, ap, subst, inl, inr}
+use Rattle.std.proofs.Common.{◌≡◌, List, ap, subst, inl, inr, rules}
+use Rattle.std.specs.Prelude.{Option, IfOk, IfErr, IfSome, IsErrAnd}
 use Rattle.desk_disk.specs.Stops.{DiskPassage, synced, AtEachMoment}
-use Rattle.amend_journal.specs.Standing.{StandsFor}
+use Rattle.desk_disk.specs.Disks.{ToldDisk}
+use Rattle.amend_journal.specs.Standing.{StandsFor, HasFault}
 use Rattle.amend_journal.specs.Durable.{told_start}
+use Rattle.amend_journal.specs.declared.fault.OpenFault.{OpenFault}
+use Rattle.amend_journal.specs.declared.fault.OpenFault.TheVariants.{DiskFault}
 use Rattle.amend_journal.proofs.MomentLemmas.{later_join}
-use Rattle.amend_journal.proofs.OpenLemmas.{synced_leaves, synced_found, synced_fault, synced_durable, failed_no_worse, synced_no_worse, later_call}
+use Rattle.amend_journal.proofs.OpenLemmas.{synced_leaves, synced_found, synced_fault, synced_durable, failed_no_worse, synced_no_worse, later_call, disk_fault_told}
 use Rattle.amend_journal.proofs.open.open_file.Goals as goal
 
 pub returns-in_err-sync-clause-moments : goal.returns-in_err-sync-clause-moments
@@ -51,3 +55,18 @@ pub returns-clause-later : goal.returns-clause-later
 returns-clause-later g c =
     let first = later_call (g.K.Disk.view c.args.disk.now) (g.K.Disk.view c.sync.new.self) synced c.joined_calls.ensures.read c.in_ok-sync.ensures.log (ap told_start c.in_ok-sync.ensures.told) c.in_ok-sync.ensures.truly in
     later_join _ _ _ first c.open_synced.ensures.later
+
+pub returns-in_err-sync-clause-told_refused : goal.returns-in_err-sync-clause-told_refused
+returns-in_err-sync-clause-told_refused g c =
+    let err : IsErrAnd c.from_residual.result (λ (f : OpenFault). f ≡ DiskFault) = search rules in
+    disk_fault_told c.from_residual.result c.args.season.now (g.K.Disk.view c.args.disk.now).told err
+
+pub returns-clause-told_found : goal.returns-clause-told_found
+returns-clause-told_found g c =
+    subst (λ (o : Option ToldDisk). IfOk c.open_synced.result (λ asks. IfSome o (λ (t : ToldDisk). StandsFor c.args.season.now asks.items t.bytes)))
+    c.in_ok-sync.ensures.told c.open_synced.ensures.told_found
+
+pub returns-clause-told_refused : goal.returns-clause-told_refused
+returns-clause-told_refused g c =
+    subst (λ (o : Option ToldDisk). IfErr c.open_synced.result (λ fault. IfSome o (λ (t : ToldDisk). HasFault c.args.season.now fault t.bytes)))
+    c.in_ok-sync.ensures.told c.open_synced.ensures.told_refused

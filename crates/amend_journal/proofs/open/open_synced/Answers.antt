@@ -1,12 +1,15 @@
-use Rattle.std.proofs.Common.{◌≤◌, ℕ, List, length, refl, sym, ap, subst, inl, arith}
+use Rattle.std.proofs.Common.{◌≡◌, ◌≤◌, ℕ, List, length, refl, sym, ap, subst, inl, arith, ◌∙◌, rules}
 use Rattle.std.proofs.lemmas.List.Elements.{All-nil}
+use Rattle.std.specs.Prelude.{IsErrAnd}
 use Rattle.desk_disk.specs.Stops.{DiskPassage, measured, AtEachMoment}
 use Rattle.amend_journal.specs.Format.{IsFit}
 use Rattle.amend_journal.specs.Standing.{StandsFor}
 use Rattle.amend_journal.specs.Durable.{AreDurable, told_start}
 use Rattle.amend_journal.specs.declared.asked.Asked.{Asked as AskedValue}
+use Rattle.amend_journal.specs.declared.fault.OpenFault.{OpenFault}
+use Rattle.amend_journal.specs.declared.fault.OpenFault.TheVariants.{DiskFault}
 use Rattle.amend_journal.proofs.MomentLemmas.{looks_join, no_moment, later_join}
-use Rattle.amend_journal.proofs.OpenLemmas.{measured_look, measured_length, new_stands, looked_stands, same_no_worse, new_no_worse, looked_no_worse, found_of, fault_of, durable_of, later_call}
+use Rattle.amend_journal.proofs.OpenLemmas.{measured_look, measured_length, new_stands, looked_stands, same_no_worse, new_no_worse, looked_no_worse, found_of, fault_of, durable_of, later_call, disk_fault_told, told_is, told_found_of, told_fault_of}
 use Rattle.amend_journal.proofs.ReadLemmas.{measured_sized}
 use Rattle.amend_journal.proofs.open.open_synced.Goals as goal
 
@@ -127,3 +130,33 @@ pub returns-else-size-le-SHORTEST-clause-later : goal.returns-else-size-le-SHORT
 returns-else-size-le-SHORTEST-clause-later g c =
     let first = later_call (g.K.Disk.view c.args.disk.now) (g.K.Disk.view c.length.new.self) (measured c.in_ok-size.size) c.joined_calls.ensures.read c.in_ok-size.ensures.log (ap told_start c.in_ok-size.ensures.told) c.in_ok-size.ensures.truly in
     later_join _ _ _ first c.read_journal.ensures.later
+
+pub returns-in_err-size-clause-told_refused : goal.returns-in_err-size-clause-told_refused
+returns-in_err-size-clause-told_refused g c =
+    let err : IsErrAnd c.from_residual.result (λ (f : OpenFault). f ≡ DiskFault) = search rules in
+    disk_fault_told c.from_residual.result c.args.season.now (g.K.Disk.view c.args.disk.now).told err
+
+pub returns-in_err-make_new-clause-told_refused : goal.returns-in_err-make_new-clause-told_refused
+returns-in_err-make_new-clause-told_refused g c =
+    let err : IsErrAnd c.from_residual-in_err-make_new.result (λ (f : OpenFault). f ≡ DiskFault) = search rules in
+    disk_fault_told c.from_residual-in_err-make_new.result c.args.season.now (g.K.Disk.view c.args.disk.now).told err
+
+pub returns-in_ok-make_new-clause-told_found : goal.returns-in_ok-make_new-clause-told_found
+returns-in_ok-make_new-clause-told_found g c =
+    let old = g.K.Disk.view c.args.disk.now in
+    let mid = g.K.Disk.view c.length.new.self in
+    let sized = measured_sized old.log mid.log c.in_ok-size.size c.joined_calls.ensures.read c.joined_calls.ensures.shown c.in_ok-size.ensures.log in
+    told_is (λ (f : List ℕ). StandsFor c.args.season.now c.new.result.items f) old mid c.in_ok-size.ensures.truly c.in_ok-size.ensures.told
+    (λ s f h.
+    let short : length f ≤ 17 = omega (arith, sized.sized s f h, c.if-size-le-SHORTEST.true) in
+    subst (λ (l : List AskedValue). StandsFor c.args.season.now l f) (sym c.new.ensures.items) (inl (short, refl)))
+
+pub returns-else-size-le-SHORTEST-clause-told_found : goal.returns-else-size-le-SHORTEST-clause-told_found
+returns-else-size-le-SHORTEST-clause-told_found g c =
+    told_found_of c.read_journal.result (λ v. v.items) c.args.season.now (g.K.Disk.view c.args.disk.now) (g.K.Disk.view c.read_journal.new.disk)
+    (c.read_journal.ensures.later.truly c.in_ok-size.ensures.truly) (c.read_journal.ensures.told ∙ c.in_ok-size.ensures.told) c.read_journal.ensures.found
+
+pub returns-else-size-le-SHORTEST-clause-told_refused : goal.returns-else-size-le-SHORTEST-clause-told_refused
+returns-else-size-le-SHORTEST-clause-told_refused g c =
+    told_fault_of c.read_journal.result c.args.season.now (g.K.Disk.view c.args.disk.now) (g.K.Disk.view c.read_journal.new.disk)
+    (c.read_journal.ensures.later.truly c.in_ok-size.ensures.truly) (c.read_journal.ensures.told ∙ c.in_ok-size.ensures.told) c.read_journal.ensures.refused

@@ -14,5 +14,6 @@ loop-number-preserved g c = record {
   read = c.in_ok-gate.ensures.read;
   count = c.in_ok-gate.ensures.number;
   later = later_join _ _ _ c.loop-number.invariant.later c.push_slot.ensures.later;
+  told = c.push_slot.ensures.told ∙ c.loop-number.invariant.told;
   faults = c.in_ok-gate.ensures.cause.kept ∙ c.loop-number.invariant.faults;
 }

@@ -9,5 +9,6 @@ invariant-loop-number g l = record {
   read : HasRead l.season (g.K.Disk.view l.disk).log l.size l.asks.items l.gate;
   count : length l.asks.items ≡ l.number;
   later : IsLaterDisk (g.K.Disk.view l.fn.disk) (g.K.Disk.view l.disk);
+  told : (g.K.Disk.view l.disk).told ≡ (g.K.Disk.view l.fn.disk).told;
   faults : (g.K.Disk.view l.disk).faults ≡ (g.K.Disk.view l.fn.disk).faults;
 }

@@ -12,6 +12,10 @@ returns-in_default c =
       other_word n (codes "serve") c.in_default.not-serve,
       other_word n (codes "resume") c.in_default.not-resume,
       other_word n (codes "usage") c.in_default.not-usage,
+      other_word n (codes "reclear") c.in_default.not-reclear,
+      other_word n (codes "recheck") c.in_default.not-recheck,
+      other_word n (codes "report") c.in_default.not-report,
+      other_word n (codes "inspect") c.in_default.not-inspect,
       other_word n (codes "make") c.in_default.not-make,
       other_word n (codes "trial") c.in_default.not-trial,
     ) refl

@@ -1,6 +1,5 @@
 use Rattle.std.proofs.Common.{[], ◌∷◌, List, refl}
 use Rattle.std.proofs.lemmas.Result.{err_from_is_err_and}
-use Rattle.std.specs.String.{string_bytes}
 use Rattle.command_words.specs.declared.job.Job.TheVariants.{Allocate}
 use Rattle.command_words.specs.Words.{Word}
 use Rattle.slot_program.specs.Jobs.{name_at, allocate_steps, two_files, IsAllocation}
@@ -44,12 +43,12 @@ returns-in_err-write_two-clause-stop g c =
     let s = c.in_ok-submission.ensures.found in
     let out = c.in_ok-output.output in
     let names = c.args.names.now in
-    let work : IsAllocation names c.args.nodes s.0.bytes s.1.bytes (two_files names 2 out.certificate.items out.replies.items) out.answer.status (string_bytes out.answer.text) =
+    let work : IsAllocation names c.args.nodes s.0.bytes s.1.bytes (two_files names 2 out.certificate.items out.replies.items) out.answer.status out.answer.text.items =
     record { season = c.in_ok-submission.submission; certificate = out.certificate.items; replies = out.replies.items; made = s.2; output = c.in_ok-output.ensures; written = refl } in
     let one = c.deref.ensures.value in
     let two = c.deref-2.ensures.value in
     let p = err_from_is_err_and c.from_residual-in_err-write_two.result c.from_residual-in_err-write_two.ensures.1 in
-    rw (p.1, p.2) (λ o. c.in_err-write_two.ensures.stop (Allocate names c.args.nodes c.args.workers) w (still o) (s.0 ∷ s.1 ∷ []) out.answer.status (string_bytes out.answer.text) refl (s.3 [])
+    rw (p.1, p.2) (λ o. c.in_err-write_two.ensures.stop (Allocate names c.args.nodes c.args.workers) w (still o) (s.0 ∷ s.1 ∷ []) out.answer.status out.answer.text.items refl (s.3 [])
     (refl, rw (one, two) work))
 
 pub returns-in_err-write_two-clause-others : goal.returns-in_err-write_two-clause-others
@@ -65,11 +64,11 @@ returns-clause-done g c =
     let s = c.in_ok-submission.ensures.found in
     let out = c.in_ok-output.output in
     let names = c.args.names.now in
-    let work : IsAllocation names c.args.nodes s.0.bytes s.1.bytes (two_files names 2 out.certificate.items out.replies.items) out.answer.status (string_bytes out.answer.text) =
+    let work : IsAllocation names c.args.nodes s.0.bytes s.1.bytes (two_files names 2 out.certificate.items out.replies.items) out.answer.status out.answer.text.items =
     record { season = c.in_ok-submission.submission; certificate = out.certificate.items; replies = out.replies.items; made = s.2; output = c.in_ok-output.ensures; written = refl } in
     let one = c.deref.ensures.value in
     let two = c.deref-2.ensures.value in
-    λ o. c.in_ok-write_two.ensures.done (Allocate names c.args.nodes c.args.workers) w (still o) (s.0 ∷ s.1 ∷ []) out.answer.status (string_bytes out.answer.text) refl (s.3 [])
+    λ o. c.in_ok-write_two.ensures.done (Allocate names c.args.nodes c.args.workers) w (still o) (s.0 ∷ s.1 ∷ []) out.answer.status out.answer.text.items refl (s.3 [])
     (refl, rw (one, two) work)
 
 pub returns-clause-others : goal.returns-clause-others

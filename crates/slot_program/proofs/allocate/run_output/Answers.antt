@@ -16,7 +16,7 @@ returns g c =
       spelled = record { has_spelling = c.in_ok-certificate.ensures.again; spelled = c.in_ok-certificate.ensures.text };
       short = omega (arith, ap (λ (l : List ℕ). length l) c.in_ok-certificate.ensures.text, c.season_bytes.ensures cert c.in_ok-certificate.ensures.again run.limits);
       replied = c.in_ok-replies.ensures;
-      printed = c.in_ok-text.ensures ∙ ap (mark_lines 1) c.items.ensures;
+      printed = rw c.into_bytes.ensures.value (c.in_ok-text.ensures ∙ ap (mark_lines 1) c.items.ensures);
       status_is = status;
       settled = λ enough. subst (λ (n : ℕ). IsSettledStatus n) (sym status) (settled_marks cert.stages (c.settled_run.ensures c.args.submission.now c.args.nodes cert run enough));
     }

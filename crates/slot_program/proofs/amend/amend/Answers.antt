@@ -151,8 +151,8 @@ returns-clause-done g c =
       written = ap (λ (l : List ℕ). one_file names 4 l) c.deref-2.ensures.value;
       status_is = refl;
     } in
-    λ o. c.in_ok-write_one.ensures.done (Amend names) w (still o) (s.0 ∷ s.1 ∷ f.0 ∷ fourth ∷ []) 0 (string_bytes out.text) refl
-    (c.in_ok-asks.ensures.leads w (amend_steps names) (s.0 ∷ s.1 ∷ f.0 ∷ []) [] f.2) (refl, work)
+    λ o. rw c.into_bytes.ensures.value (c.in_ok-write_one.ensures.done (Amend names) w (still o) (s.0 ∷ s.1 ∷ f.0 ∷ fourth ∷ []) 0 (string_bytes out.text) refl
+    (c.in_ok-asks.ensures.leads w (amend_steps names) (s.0 ∷ s.1 ∷ f.0 ∷ []) [] f.2) (refl, work))
 
 pub returns-clause-others : goal.returns-clause-others
 returns-clause-others g c =

@@ -1,10 +1,12 @@
-use Rattle.std.proofs.Common.{◌≡◌, ◌≤◌, List, length, refl, ap, arith}
+use Rattle.std.proofs.Common.{rules, ◌≡◌, ◌≤◌, List, length, refl, ap, ◌∙◌, arith}
+use Rattle.std.specs.String.{string_bytes}
 use Rattle.choice_problem.specs.declared.problems.TheConstants.{MOST_UNITS}
 use Rattle.series_model.specs.declared.unit.Unit.{Unit as SlotUnit}
 use Rattle.holding_book.specs.Books.{SlotBook}
 use Rattle.holding_book.specs.Starts.{start_book}
+use Rattle.slot_program.specs.Amendments.{entries_line}
 use Rattle.slot_program.specs.declared.files.TheConstants.{LONGEST_FILE}
-use Rattle.slot_program.proofs.AmendLemmas.{start_few}
+use Rattle.slot_program.proofs.AmendLemmas.{start_few, amends}
 use Rattle.slot_program.proofs.amend.amend_output.Goals as goal
 
 pub amend_messages-requires : goal.amend_messages-requires
@@ -17,3 +19,12 @@ amend_messages-requires c =
     let most : MOST_UNITS ≡ 4096 = refl in
     let longest : LONGEST_FILE ≡ 4194304 = refl in
     record { few = omega (arith, held, few, units, most, longest, c.units-units.ensures.few, c.requires.short) }
+
+pub returns : goal.returns
+returns c =
+    let start : SlotBook = start_book c.args.submission.now c.args.certificate.now in
+    let is = c.in_ok-amended.ensures.amended in
+    let history = c.in_ok-amended.amended.history.items in
+    let text = string_bytes c.in_ok-text.text in
+    let count : c.len.result ≡ length history = search rules in
+    amends start c.in_ok-book.book.book c.args.asks.now c.in_ok-amended.amended.text.items text history is.texts c.in_ok-book.ensures is.asked is.fits is.text (c.in_ok-text.ensures ∙ ap entries_line count)

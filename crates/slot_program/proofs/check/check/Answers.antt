@@ -43,4 +43,4 @@ returns-clause-done g c =
     let names = c.args.names.now in
     let s = c.in_ok-submission.ensures.found in
     let f = c.in_ok-read_certificate.ensures.found w (check_steps names) [] s.0 s.1 s.2 (s.3 (certificate_steps names [])) in
-    λ o. read_done (Check names) w u (s.0 ∷ s.1 ∷ f.0 ∷ []) f.2 (still o) 0 _ (refl, (refl, refl, c.in_ok-text.ensures))
+    λ o. read_done (Check names) w u (s.0 ∷ s.1 ∷ f.0 ∷ []) f.2 (still o) 0 _ (refl, (refl, refl, rw c.into_bytes.ensures.value c.in_ok-text.ensures))

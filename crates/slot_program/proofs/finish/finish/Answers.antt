@@ -1,6 +1,5 @@
 use Rattle.std.proofs.Common.{Result, subst}
 use Rattle.std.specs.Prelude.{IfOk, IfErr}
-use Rattle.std.specs.String.{string_bytes}
 use Rattle.slot_program.specs.Ends.{IsDoneBy, JobStopsBy}
 use Rattle.slot_program.specs.declared.stop.Answer.{Answer}
 use Rattle.slot_program.specs.declared.stop.Stop.{Stop}
@@ -9,12 +8,12 @@ use Rattle.slot_program.proofs.finish.finish.Goals as goal
 
 pub returns-in-Ok-clause-answer : goal.returns-in-Ok-clause-answer
 returns-in-Ok-clause-answer c = λ job w change v done stop.
-    done_answer job w change v c.in-Ok.answer.status (string_bytes c.in-Ok.answer.text)
-    (subst (λ (r : Result Answer Stop). IfOk r (λ a. IsDoneBy job w change a.status (string_bytes a.text) v)) c.in-Ok.is done)
+    done_answer job w change v c.in-Ok.answer.status c.in-Ok.answer.text.items
+    (subst (λ (r : Result Answer Stop). IfOk r (λ a. IsDoneBy job w change a.status a.text.items v)) c.in-Ok.is done)
 
 pub returns-in-Ok-clause-asked : goal.returns-in-Ok-clause-asked
 returns-in-Ok-clause-asked c = λ job w change v done stop.
-    let is = subst (λ (r : Result Answer Stop). IfOk r (λ a. IsDoneBy job w change a.status (string_bytes a.text) v)) c.in-Ok.is done in
+    let is = subst (λ (r : Result Answer Stop). IfOk r (λ a. IsDoneBy job w change a.status a.text.items v)) c.in-Ok.is done in
     is.asked
 
 pub returns-in_ok-answer-in-Err-clause-answer : goal.returns-in_ok-answer-in-Err-clause-answer

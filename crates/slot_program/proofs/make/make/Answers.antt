@@ -1,6 +1,5 @@
 use Rattle.std.proofs.Common.{◌≡◌, [], refl, ◌∙◌}
 use Rattle.std.proofs.lemmas.Result.{err_from_is_err_and}
-use Rattle.std.specs.String.{string_bytes}
 use Rattle.season_maker.specs.Texts.{generated_capacity, generated_requests}
 use Rattle.command_words.specs.declared.job.Job.TheVariants.{Make}
 use Rattle.slot_program.specs.Jobs.{two_files, IsMade}
@@ -25,5 +24,5 @@ returns-clause-done g c =
     let names = c.args.names.now in
     let one : c.deref.result.now ≡ generated_capacity c.args.units = c.deref.ensures.value ∙ c.in_ok-capacity.ensures.capacity in
     let two : c.deref-2.result.now ≡ generated_requests c.args.number c.args.units = c.deref-2.ensures.value ∙ c.in_ok-capacity.ensures.requests in
-    let work : IsMade c.args.number c.args.units names (two_files names 0 c.deref.result.now c.deref-2.result.now) 0 (string_bytes c.new.result) = record { written = rw (one, two) refl; status_is = refl; printed = c.new.ensures.bytes } in
-    λ o. c.in_ok-write_two.ensures.done (Make c.args.number c.args.units names) w (still o) [] 0 (string_bytes c.new.result) refl (leads_start w []) (refl, work)
+    let work : IsMade c.args.number c.args.units names (two_files names 0 c.deref.result.now c.deref-2.result.now) 0 c.new.result.items = record { written = rw (one, two) refl; status_is = refl; printed = c.new.ensures.items } in
+    λ o. c.in_ok-write_two.ensures.done (Make c.args.number c.args.units names) w (still o) [] 0 c.new.result.items refl (leads_start w []) (refl, work)

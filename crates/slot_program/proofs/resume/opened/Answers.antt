@@ -16,6 +16,7 @@ returns-in-Ok-clause-opened g c = (
     season_is = c.in-Ok.ensures.journal.0;
     count = c.in-Ok.ensures.journal.1;
     few = omega (arith, c.count-count.ensures.few, c.count-count.ensures.count, c.in-Ok.ensures.journal.1);
+    told = c.in-Ok.ensures.told_found;
     found = c.in-Ok.ensures.found;
     durable = c.in-Ok.ensures.durable;
     images = λ s file reads. rw c.in-Ok.is at (c.open.ensures.unharmed s file reads);
@@ -29,6 +30,7 @@ returns-in-Err-clause-stop g c =
     (subst (λ (o : Option DiskView). DiskStops c.args.season.now o (Some (g.K.Disk.view c.in-Err.held)) (open_stop c.in-Err.fault)) (sym before)
     (open_stops c.args.season.now c.in-Err.fault (g.K.Disk.view c.in-Some.held) (g.K.Disk.view c.in-Err.held) (record {
       later = c.in-Err.ensures.later;
+      told = c.in-Err.ensures.told_refused;
       why = c.in-Err.ensures.refused;
       images = λ s file reads. rw c.in-Err.is at (c.open.ensures.unharmed s file reads);
       cause = c.in-Err.ensures.cause;

@@ -1,6 +1,5 @@
 use Rattle.std.proofs.Common.{[], ◌∷◌, ℕ, List, refl, ap}
 use Rattle.std.proofs.lemmas.Result.{err_from_is_err_and}
-use Rattle.std.specs.String.{string_bytes}
 use Rattle.command_words.specs.Words.{Word}
 use Rattle.command_words.specs.declared.job.Job.TheVariants.{Resume}
 use Rattle.slot_program.specs.Jobs.{name_at, certificate_steps, serve_steps, one_file, IsResumption}
@@ -48,7 +47,7 @@ returns-in_err-write_one-clause-stop g c =
     let s = c.in_ok-submission.ensures.found in
     let f = c.in_ok-certificate.ensures.found w (serve_steps names) [] s.0 s.1 s.2 (s.3 (certificate_steps names [])) in
     let out = c.in_ok-output.output in
-    let work : IsResumption names c.args.links s.0.bytes s.1.bytes f.0.bytes (one_file names 4 c.deref.result.now) (outside_change g.D.Door.view g.K.Disk.view c.args.doors.now.items c.args.disk.now c.resumed_output.new.doors.items c.resumed_output.new.disk) out.answer.status (string_bytes out.answer.text) =
+    let work : IsResumption names c.args.links s.0.bytes s.1.bytes f.0.bytes (one_file names 4 c.deref.result.now) (outside_change g.D.Door.view g.K.Disk.view c.args.doors.now.items c.args.disk.now c.resumed_output.new.doors.items c.resumed_output.new.disk) out.answer.status out.answer.text.items =
     record {
       season = c.in_ok-submission.submission;
       proved = c.in_ok-certificate.certificate;
@@ -61,7 +60,7 @@ returns-in_err-write_one-clause-stop g c =
       written = ap (λ (l : List ℕ). one_file names 4 l) c.deref.ensures.value;
     } in
     let p = err_from_is_err_and c.from_residual-in_err-write_one.result c.from_residual-in_err-write_one.ensures.1 in
-    rw (p.1, p.2) (λ port workers. c.in_err-write_one.ensures.stop (Resume names c.args.links port workers) w (outside_change g.D.Door.view g.K.Disk.view c.args.doors.now.items c.args.disk.now c.resumed_output.new.doors.items c.resumed_output.new.disk) (s.0 ∷ s.1 ∷ f.0 ∷ []) out.answer.status (string_bytes out.answer.text) refl f.2 work)
+    rw (p.1, p.2) (λ port workers. c.in_err-write_one.ensures.stop (Resume names c.args.links port workers) w (outside_change g.D.Door.view g.K.Disk.view c.args.doors.now.items c.args.disk.now c.resumed_output.new.doors.items c.resumed_output.new.disk) (s.0 ∷ s.1 ∷ f.0 ∷ []) out.answer.status out.answer.text.items refl f.2 work)
 
 pub returns-clause-done : goal.returns-clause-done
 returns-clause-done g c =
@@ -70,7 +69,7 @@ returns-clause-done g c =
     let s = c.in_ok-submission.ensures.found in
     let f = c.in_ok-certificate.ensures.found w (serve_steps names) [] s.0 s.1 s.2 (s.3 (certificate_steps names [])) in
     let out = c.in_ok-output.output in
-    let work : IsResumption names c.args.links s.0.bytes s.1.bytes f.0.bytes (one_file names 4 c.deref.result.now) (outside_change g.D.Door.view g.K.Disk.view c.args.doors.now.items c.args.disk.now c.resumed_output.new.doors.items c.resumed_output.new.disk) out.answer.status (string_bytes out.answer.text) =
+    let work : IsResumption names c.args.links s.0.bytes s.1.bytes f.0.bytes (one_file names 4 c.deref.result.now) (outside_change g.D.Door.view g.K.Disk.view c.args.doors.now.items c.args.disk.now c.resumed_output.new.doors.items c.resumed_output.new.disk) out.answer.status out.answer.text.items =
     record {
       season = c.in_ok-submission.submission;
       proved = c.in_ok-certificate.certificate;
@@ -82,7 +81,7 @@ returns-clause-done g c =
       output = c.in_ok-output.ensures.served;
       written = ap (λ (l : List ℕ). one_file names 4 l) c.deref.ensures.value;
     } in
-    λ port workers. c.in_ok-write_one.ensures.done (Resume names c.args.links port workers) w (outside_change g.D.Door.view g.K.Disk.view c.args.doors.now.items c.args.disk.now c.resumed_output.new.doors.items c.resumed_output.new.disk) (s.0 ∷ s.1 ∷ f.0 ∷ []) out.answer.status (string_bytes out.answer.text) refl f.2 work
+    λ port workers. c.in_ok-write_one.ensures.done (Resume names c.args.links port workers) w (outside_change g.D.Door.view g.K.Disk.view c.args.doors.now.items c.args.disk.now c.resumed_output.new.doors.items c.resumed_output.new.disk) (s.0 ∷ s.1 ∷ f.0 ∷ []) out.answer.status out.answer.text.items refl f.2 work
 
 pub returns-in_err-submission-clause-others : goal.returns-in_err-submission-clause-others
 returns-in_err-submission-clause-others g c =

@@ -160,6 +160,6 @@ returns-clause-served g c =
       broken = λ some. let b = c.in_ok-history.ensures.broken some in failed ∙ broken_failed h k.failure b.0 b.2.0 b.1 b.2.1;
       recorded_is = c.in_ok-recorded.ensures ∙ (ap (λ (d : Declaration). history_text d.season c.deref-3.result.now) c.declaration.ensures.value ∙ ap (λ (l : List Entry). history_text s.declaration.season l) c.deref-3.ensures.value);
       status_is = c.in_ok-status.ensures.status ∙ (ap (λ (b : Bool). resumed_status b c.deref-2.result.now) (failure ∙ sym failed) ∙ ap (λ (l : List DoorWork). resumed_status (is_some (failed_ask k (asks_of h) k.failure kept.disk)) l) c.deref-2.ensures.value);
-      printed = c.in_ok-text.ensures
-          ∙ (ap (λ (n : ℕ). resumed_lines n c.len-2.result c.links_total.result) found ∙ (ap (λ (n : ℕ). resumed_lines (length pairs) n c.links_total.result) entries ∙ ap (λ (n : ℕ). resumed_lines (length pairs) (length h) n) links));
+      printed = rw c.into_bytes.ensures.value (c.in_ok-text.ensures
+          ∙ (ap (λ (n : ℕ). resumed_lines n c.len-2.result c.links_total.result) found ∙ (ap (λ (n : ℕ). resumed_lines (length pairs) n c.links_total.result) entries ∙ ap (λ (n : ℕ). resumed_lines (length pairs) (length h) n) links)));
     }

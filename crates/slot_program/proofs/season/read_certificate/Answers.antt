@@ -41,3 +41,18 @@ returns-clause-found g c = λ w all steps capacity requests season lead.
       leads_judge valid_certificate name (capacity ∷ requests ∷ third ∷ [])
           (c.in_ok-judge_validity.ensures.alone name capacity requests third [] season c.in_ok-certificate.ensures.found.0 c.in_ok-certificate.ensures.only) w v all steps two,
     )
+
+pub returns-clause-leads : goal.returns-clause-leads
+returns-clause-leads g c =
+    let v : World = world_of g.C.Cabinet.files g.C.Cabinet.fault_count g.C.Cabinet.log c.read_file.new.cabinet in
+    let name = name_at c.args.names.now 2 in
+    let third : NamedBytes = record { name = name; bytes = c.in_ok-bytes.bytes.items } in (
+      third,
+      c.in_ok-certificate.ensures.found.0,
+      c.in_ok-certificate.ensures.only,
+      λ w all steps capacity requests season lead.
+          let one = c.in_ok-bytes.ensures.leads w all (capacity ∷ requests ∷ []) (judges certificate_form name ∷ judges valid_certificate name ∷ steps) lead in
+          let two = leads_judge certificate_form name (capacity ∷ requests ∷ third ∷ []) (c.in_ok-certificate.ensures.alone name capacity requests []) w v all (judges valid_certificate name ∷ steps) one in
+          leads_judge valid_certificate name (capacity ∷ requests ∷ third ∷ [])
+          (c.in_ok-judge_validity.ensures.alone name capacity requests third [] season c.in_ok-certificate.ensures.found.0 c.in_ok-certificate.ensures.only) w v all steps two,
+    )

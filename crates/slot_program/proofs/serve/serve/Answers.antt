@@ -1,7 +1,6 @@
 use Rattle.std.proofs.Common.{[], ◌∷◌, ℕ, List, Option, refl, ap}
 use Rattle.desk_disk.specs.Disks.{DiskView}
 use Rattle.std.proofs.lemmas.Result.{err_from_is_err_and}
-use Rattle.std.specs.String.{string_bytes}
 use Rattle.command_words.specs.Words.{Word}
 use Rattle.command_words.specs.declared.job.Job.TheVariants.{Serve}
 use Rattle.slot_program.specs.Jobs.{name_at, certificate_steps, serve_steps, one_file, IsService}
@@ -48,7 +47,7 @@ returns-in_err-write_one-clause-stop g c =
     let s = c.in_ok-submission.ensures.found in
     let f = c.in_ok-certificate.ensures.found w (serve_steps names) [] s.0 s.1 s.2 (s.3 (certificate_steps names [])) in
     let out = c.in_ok-output.output in
-    let work : (disk : Option DiskView) → IsService names c.args.links s.0.bytes s.1.bytes f.0.bytes (one_file names 3 c.deref.result.now) (doors_change g.D.Door.view c.args.doors.now.items c.service_output.new.doors.items disk) out.answer.status (string_bytes out.answer.text) =
+    let work : (disk : Option DiskView) → IsService names c.args.links s.0.bytes s.1.bytes f.0.bytes (one_file names 3 c.deref.result.now) (doors_change g.D.Door.view c.args.doors.now.items c.service_output.new.doors.items disk) out.answer.status out.answer.text.items =
     λ disk. record {
       season = c.in_ok-submission.submission;
       proved = c.in_ok-certificate.certificate;
@@ -61,7 +60,7 @@ returns-in_err-write_one-clause-stop g c =
       disk = refl;
     } in
     let p = err_from_is_err_and c.from_residual-in_err-write_one.result c.from_residual-in_err-write_one.ensures.1 in
-    rw (p.1, p.2) (λ port workers disk. c.in_err-write_one.ensures.stop (Serve names c.args.links port workers) w (doors_change g.D.Door.view c.args.doors.now.items c.service_output.new.doors.items disk) (s.0 ∷ s.1 ∷ f.0 ∷ []) out.answer.status (string_bytes out.answer.text) refl f.2 (work disk))
+    rw (p.1, p.2) (λ port workers disk. c.in_err-write_one.ensures.stop (Serve names c.args.links port workers) w (doors_change g.D.Door.view c.args.doors.now.items c.service_output.new.doors.items disk) (s.0 ∷ s.1 ∷ f.0 ∷ []) out.answer.status out.answer.text.items refl f.2 (work disk))
 
 pub returns-clause-done : goal.returns-clause-done
 returns-clause-done g c =
@@ -70,7 +69,7 @@ returns-clause-done g c =
     let s = c.in_ok-submission.ensures.found in
     let f = c.in_ok-certificate.ensures.found w (serve_steps names) [] s.0 s.1 s.2 (s.3 (certificate_steps names [])) in
     let out = c.in_ok-output.output in
-    let work : (disk : Option DiskView) → IsService names c.args.links s.0.bytes s.1.bytes f.0.bytes (one_file names 3 c.deref.result.now) (doors_change g.D.Door.view c.args.doors.now.items c.service_output.new.doors.items disk) out.answer.status (string_bytes out.answer.text) =
+    let work : (disk : Option DiskView) → IsService names c.args.links s.0.bytes s.1.bytes f.0.bytes (one_file names 3 c.deref.result.now) (doors_change g.D.Door.view c.args.doors.now.items c.service_output.new.doors.items disk) out.answer.status out.answer.text.items =
     λ disk. record {
       season = c.in_ok-submission.submission;
       proved = c.in_ok-certificate.certificate;
@@ -82,7 +81,7 @@ returns-clause-done g c =
       written = ap (λ (l : List ℕ). one_file names 3 l) c.deref.ensures.value;
       disk = refl;
     } in
-    λ port workers disk. c.in_ok-write_one.ensures.done (Serve names c.args.links port workers) w (doors_change g.D.Door.view c.args.doors.now.items c.service_output.new.doors.items disk) (s.0 ∷ s.1 ∷ f.0 ∷ []) out.answer.status (string_bytes out.answer.text) refl f.2 (work disk)
+    λ port workers disk. c.in_ok-write_one.ensures.done (Serve names c.args.links port workers) w (doors_change g.D.Door.view c.args.doors.now.items c.service_output.new.doors.items disk) (s.0 ∷ s.1 ∷ f.0 ∷ []) out.answer.status out.answer.text.items refl f.2 (work disk)
 
 pub returns-in_err-submission-clause-others : goal.returns-in_err-submission-clause-others
 returns-in_err-submission-clause-others g c =

@@ -68,5 +68,5 @@ returns-clause-served g c =
       };
       recorded_is = c.in_ok-recorded.ensures ∙ (ap (λ (d : Declaration). history_text d.season c.deref-2.result.now) c.declaration.ensures.value ∙ ap (λ (l : List Entry). history_text s.declaration.season l) c.deref-2.ensures.value);
       status_is = c.in_ok-status.ensures.status ∙ ap (λ (l : List DoorWork). served_status l) c.deref.ensures.value;
-      printed = c.in_ok-text.ensures ∙ (ap (λ (n : ℕ). served_lines n c.links_total.result) entries ∙ ap (λ (n : ℕ). served_lines (length h) n) links);
+      printed = rw c.into_bytes.ensures.value (c.in_ok-text.ensures ∙ (ap (λ (n : ℕ). served_lines n c.links_total.result) entries ∙ ap (λ (n : ℕ). served_lines (length h) n) links));
     }

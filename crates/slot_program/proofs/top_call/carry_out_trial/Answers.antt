@@ -1,5 +1,4 @@
 use Rattle.std.proofs.Common.{[], refl}
-use Rattle.std.specs.String.{string_bytes}
 use Rattle.command_words.specs.declared.job.Job.TheVariants.{Trial}
 use Rattle.slot_program.specs.Outside.{still}
 use Rattle.slot_program.proofs.LeadLemmas.{leads_start}
@@ -11,4 +10,4 @@ pub returns : goal.returns
 returns g c = λ w o.
     let a = c.in_ok-answer.answer in
     let job = Trial c.args.number c.args.units in
-    done_answer job w (still o) w a.status (string_bytes a.text) (read_done job w w [] (leads_start w []) (still o) a.status (string_bytes a.text) (refl, c.in_ok-answer.ensures))
+    done_answer job w (still o) w a.status a.text.items (read_done job w w [] (leads_start w []) (still o) a.status a.text.items (refl, c.in_ok-answer.ensures))

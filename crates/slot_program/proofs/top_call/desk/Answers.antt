@@ -23,7 +23,7 @@ returns-in-Ok-put-clause-headline g c = λ job e one not.
     let v : World = world_of g.C.Cabinet.files g.C.Cabinet.fault_count g.C.Cabinet.log c.carry_out.new.cabinet in
     let change : OutsideChange = outside_change g.D.Door.view g.K.Disk.view c.args.doors.now.items c.args.disk.now c.carry_out.new.doors.items c.carry_out.new.disk in
     let a = c.in-Ok.ensures.answer in
-    let marked = marks_true c.valid_marks.ensures job w change (status_of a.report) (text_of a.report) v
+    let marked = marks_true c.valid_marks.ensures c.waiting_marks.ensures c.allotted_fit.ensures.proved job w change (status_of a.report) (text_of a.report) v
     (is_finished (job_of (words_of c.args.words.now)) job w change a.report v e (subst (λ (n : ℕ). Contains (finishing_of job) n) a.status_is one) (λ bad. not (a.status_is ∙ bad)) a.ends) in
     let logs : g.S.Sink.log c.put.new.self ≡ g.S.Sink.log c.args.out.now ++ put (text_of a.report) ∷ [] = search rules in
     (marked.0, marked.1, text_of a.report, marked.2, logs, marked.3, subst (λ (n : ℕ). HeadlineHolds job marked.0 marked.1 change n (text_of a.report)) (sym a.status_is) marked.4)

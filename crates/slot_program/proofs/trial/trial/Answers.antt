@@ -19,7 +19,7 @@ returns g c =
       run = run;
       valid = run.valid;
       written = refl;
-      printed = c.in_ok-text.ensures;
+      printed = rw c.into_bytes.ensures.value c.in_ok-text.ensures;
       status_is = status;
       settled = λ enough. subst (λ (n : ℕ). IsSettledStatus n) (sym status) (settled_marks cert.stages (c.settled_run.ensures season TRIAL_NODES cert run enough));
     }

@@ -231,7 +231,7 @@ returns-clause-done g c =
       written = ap (λ (l : List ℕ). one_file names 4 l) c.deref-2.ensures.value;
       status_is = refl;
     } in
-    λ o. c.in_ok-write_one.ensures.done (Usage names) w (still o) files 0 (string_bytes out.text) refl three (refl, work)
+    λ o. rw c.into_bytes.ensures.value (c.in_ok-write_one.ensures.done (Usage names) w (still o) files 0 (string_bytes out.text) refl three (refl, work))
 
 pub returns-clause-others : goal.returns-clause-others
 returns-clause-others g c =

@@ -1,9 +1,9 @@
-use Rattle.std.proofs.Common.{codes, refl, ap, ◌∙◌, rules}
+use Rattle.std.proofs.Common.{ℕ, ◌++◌, codes, refl, ap, ◌∙◌, rules}
 use Rattle.command_words.specs.Words.{Word}
-use Rattle.slot_program.specs.Reports.{refused, unopened, unread, unwritten, missing, large, out_of_form, over_limit, not_valid, no_next, cabinet_line, numbered_line}
+use Rattle.slot_program.specs.Reports.{refused, unopened, unread, unwritten, missing, large, out_of_form, over_limit, not_valid, no_next, cabinet_line, numbered_line, extra_fails, bad_form, past_limit, cause_line}
 use Rattle.slot_program.specs.Jobs.{name_at}
 use Rattle.slot_program.specs.Stops.{limit_text, journal_refusal}
-use Rattle.slot_program.proofs.TextLemmas.{verdict_of}
+use Rattle.slot_program.proofs.TextLemmas.{verdict_of, extra_of}
 use Rattle.slot_program.proofs.stop.Stop.text.Goals as goal
 
 pub returns-in_ok-cabinet_line-in-Missing : goal.returns-in_ok-cabinet_line-in-Missing
@@ -51,3 +51,28 @@ returns-in_ok-journal_line-in-Unopened c =
 
 pub returns-in_ok-from_str-in-NoNext : goal.returns-in_ok-from_str-in-NoNext
 returns-in_ok-from_str-in-NoNext c = (refused no_next, rw c.in-NoNext.is refl, search rules)
+
+pub returns-in_ok-extra_line-in-ExtraFails : goal.returns-in_ok-extra_line-in-ExtraFails
+returns-in_ok-extra_line-in-ExtraFails c = (
+  refused (extra_fails c.in-ExtraFails.line c.in-ExtraFails.reason),
+  rw c.in-ExtraFails.is refl,
+  c.in_ok-extra_line-in-ExtraFails.ensures ∙ ap (extra_of c.in-ExtraFails.line) c.reason_name-in-ExtraFails.ensures,
+)
+
+pub returns-in_ok-caused_lines-in-BadForm : goal.returns-in_ok-caused_lines-in-BadForm
+returns-in_ok-caused_lines-in-BadForm c =
+    let name = name_at c.args.names.now c.in-BadForm.place in
+    let more = cause_line c.in-BadForm.cause in (
+      refused (bad_form name c.in-BadForm.line c.in-BadForm.cause),
+      rw c.in-BadForm.is refl,
+      c.in_ok-caused_lines-in-BadForm.ensures
+          ∙ (ap (λ (n : Word). numbered_line (codes "FORM") n c.from-in-BadForm.result ++ more) c.name_at-name-in-BadForm.ensures ∙ ap (λ (n : ℕ). numbered_line (codes "FORM") name n ++ more) c.from-in-BadForm.ensures),
+    )
+
+pub returns-in_ok-caused_lines-in-PastLimit : goal.returns-in_ok-caused_lines-in-PastLimit
+returns-in_ok-caused_lines-in-PastLimit c =
+    let more = cause_line c.in-PastLimit.cause in (
+      refused (past_limit (limit_text c.in-PastLimit.limit) c.in-PastLimit.number c.in-PastLimit.cause),
+      rw c.in-PastLimit.is refl,
+      c.in_ok-caused_lines-in-PastLimit.ensures ∙ ap (λ (n : Word). numbered_line (codes "LIMIT") n c.in-PastLimit.number ++ more) c.limit_name-in-PastLimit.ensures,
+    )

@@ -1,0 +1,14 @@
+mod FormLemmas
+mod FieldLemmas
+mod PlaceLemmas
+mod TrimLemmas
+mod LineLemmas
+mod StandingLemmas
+mod DateLemmas
+mod WordLemmas
+mod OneCapacityLemmas
+mod OneMessageLemmas
+mod ShapeLemmas
+mod SubmissionLemmas
+mod CapacityLemmas
+mod MessageLemmas

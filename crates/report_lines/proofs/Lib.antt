@@ -1,0 +1,7 @@
+mod WindowLemmas
+mod PeakLemmas
+mod RuledOutLemmas
+mod AboveLemmas
+mod LeastLemmas
+mod DemandLemmas
+mod TextLemmas

@@ -1,0 +1,4 @@
+pub mod Words
+pub mod Heads
+pub mod Peaks
+pub mod Private

@@ -1,0 +1,5 @@
+mod TextLemmas
+mod MarkupLemmas
+mod PageLemmas
+mod SizeLemmas
+mod EndLemmas

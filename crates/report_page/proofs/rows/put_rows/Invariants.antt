@@ -1,0 +1,10 @@
+use Rattle.std.proofs.Common.{◌≡◌, ◌++◌, length}
+use Rattle.slot_text.specs.Lines.{lines_of}
+use Rattle.report_page.specs.Rows.{section_rows}
+use Rattle.report_page.proofs.rows.put_rows.Given as goal
+
+abbrev pub invariant-loop-line : goal.invariant-loop-line
+invariant-loop-line l = l.out.items ++ section_rows l.section (lines_of l.lines) ≡ l.initial.out.items ++ section_rows l.section (lines_of l.report)
+
+abbrev pub decreases-loop-line : goal.decreases-loop-line
+decreases-loop-line l = length l.lines

@@ -1,0 +1,4 @@
+pub mod Filled
+pub mod Rows
+pub mod Pages
+pub mod Laws

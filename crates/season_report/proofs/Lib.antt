@@ -1,0 +1,17 @@
+mod StateLemmas
+mod ApartLemmas
+mod RowLemmas
+mod BesideLemmas
+mod LawLemmas
+mod LowestLemmas
+mod MovementLemmas
+mod FoundLemmas
+mod GivenLemmas
+mod TriedLemmas
+mod StageLemmas
+mod AirlineLemmas
+mod TallyLemmas
+mod FilterLemmas
+mod LoadLemmas
+mod ReportLemmas
+mod UnitLemmas

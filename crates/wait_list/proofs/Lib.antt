@@ -1,0 +1,6 @@
+mod WaitLemmas
+mod GivenLemmas
+mod ProblemLemmas
+mod ClaimLemmas
+mod CheckLemmas
+mod ExtraLemmas
