@@ -53,7 +53,8 @@ pub fn put_over(
 ) -> Result<(), Memory>
     requires states { AreStates submission.now states.now }
     requires problem { IsStageProblem submission.now.declaration stage states.now problem.now }
-    requires count { length given.now ≡ declared_resources (capacity_of submission.now.declaration) }
+    requires count { length given.now
+        ≡ declared_resources (capacity_of submission.now.declaration) }
     requires earlier { AreEarlier submission.now.declaration states.now given.now }
     ensures { OnOk result (out.new.items ≡ out.old.items
         ++ over_lines submission.now.declaration stage states.now) }

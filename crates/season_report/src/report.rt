@@ -24,7 +24,8 @@ use std::alloc::Global;
 
 // One empty text for each unit.
 fn no_texts(alloc: Global, units: &[Unit]) -> Result<Vec<Vec<u8>>, Memory>
-    ensures { IfOk result (λ texts. texts_of texts.items ≡ map (λ (unit : SlotUnit). []) units.now) }
+    ensures { IfOk result (λ texts.
+        texts_of texts.items ≡ map (λ (unit : SlotUnit). []) units.now) }
 {
     let mut texts = Vec::with_capacity(alloc, units.len())?;
     for _unit in units {
@@ -49,7 +50,8 @@ fn put_report(
     requires few { length units.now ≤ MOST_UNITS }
     requires all { length units.now ≡ length submission.now.units }
     requires texts { texts_of reasons.old ≡ map (λ (unit : SlotUnit). []) submission.now.units }
-    requires loads { length given.old ≡ declared_resources (capacity_of submission.now.declaration) }
+    requires loads { length given.old
+        ≡ declared_resources (capacity_of submission.now.declaration) }
     requires zeros { AreZero given.old }
     ensures { OnOk result
         (out.new.items ≡ out.old.items ++ report_text submission.now certificate.now) }

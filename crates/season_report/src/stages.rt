@@ -107,7 +107,8 @@ fn put_stage(
         (IsFeasibleChoice submission.now.declaration stage states.now) }
     requires untried { is_tried block.now.mark ≡ false → block.now.choice ≡ None }
     requires count { length reasons.old ≡ length states.now }
-    requires loads { length given.old ≡ declared_resources (capacity_of submission.now.declaration) }
+    requires loads { length given.old
+        ≡ declared_resources (capacity_of submission.now.declaration) }
     requires earlier { AreEarlier submission.now.declaration states.now given.old }
     requires fits { GivenFits submission.now.declaration states.now }
     ensures text { OnOk result (out.new.items ≡ out.old.items
@@ -157,7 +158,8 @@ pub(crate) fn put_stages(
     requires told { All (IsTold submission.now.declaration) units.now }
     requires few { length units.now ≤ MOST_UNITS }
     requires count { length reasons.old ≡ length submission.now.units }
-    requires loads { length given.old ≡ declared_resources (capacity_of submission.now.declaration) }
+    requires loads { length given.old
+        ≡ declared_resources (capacity_of submission.now.declaration) }
     requires zeros { AreZero given.old }
     ensures text { OnOk result (out.new.items
         ≡ out.old.items ++ stages_text submission.now cert.now 1 cert.now.stages) }

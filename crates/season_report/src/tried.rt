@@ -142,7 +142,8 @@ fn put_allotted(
     requires problem { IsStageProblem submission.now.declaration stage states.now problem.now }
     requires choice { IsFeasibleChoice submission.now.declaration stage states.now choice.now }
     requires count { length reasons.old ≡ length states.now }
-    requires loads { length given.old ≡ declared_resources (capacity_of submission.now.declaration) }
+    requires loads { length given.old
+        ≡ declared_resources (capacity_of submission.now.declaration) }
     requires earlier { AreEarlier submission.now.declaration states.now given.old }
     requires fits { GivenFits submission.now.declaration states.now }
     ensures reasons { OnOk result (texts_of reasons.new ≡ with_texts (texts_of reasons.old)
@@ -186,7 +187,8 @@ pub(crate) fn put_tried(
     requires choice { IfSome choice.now
         (IsFeasibleChoice submission.now.declaration stage states.now) }
     requires count { length reasons.old ≡ length states.now }
-    requires loads { length given.old ≡ declared_resources (capacity_of submission.now.declaration) }
+    requires loads { length given.old
+        ≡ declared_resources (capacity_of submission.now.declaration) }
     requires earlier { AreEarlier submission.now.declaration states.now given.old }
     requires fits { GivenFits submission.now.declaration states.now }
     ensures text { OnOk result (out.new.items ≡ out.old.items
