@@ -1,0 +1,223 @@
+//! One case: a command on a drawn world, first where no call fails, and then where one may.
+
+use crate::answers::{amended, are_front_of, recleared, resumed, served, watched};
+use crate::commands::{COMMANDS, Command};
+use crate::compared::broken_beside;
+use crate::draws::Draws;
+use crate::general::broken_law;
+use crate::texts::{first_of, law};
+use crate::works::{allotted, checked, inspected, made, reported, tried};
+use crate::worlds::{damage_world, whole_world};
+use desk_outside::Failure;
+use memory_desk::{Fails, Given, NO_FAILS, Outside, run_desk};
+use slot_text::Memory;
+use std::alloc::Global;
+use std::sync::Wait;
+use std::thread::Threads;
+use worker_gate::RealGate;
+
+/// The statuses of a desk are below this.
+pub const STATUSES: usize = 16;
+
+/// A case: its command with its words, what of its world is damaged, and whether its words are such
+/// that they are refused.
+#[derive(Drop)]
+struct Case {
+    command: Command,
+    words: String,
+    refused: bool,
+    damaged: &'static str,
+}
+
+/// The name of the first law that a case breaks, or nothing. The statuses of its runs are counted.
+pub fn broken_case<R: Threads + Wait + Sync>(
+    rt: &R,
+    alloc: Global,
+    number: u64,
+    counts: &mut [u64],
+) -> Result<&'static str, Memory> {
+    let mut draws = Draws::new(number, 0);
+    let mut case = drawn_case(alloc, &mut draws)?;
+    let mut given = whole_world(rt, alloc, &mut draws, number, case.command)?;
+    if draws.once_in(2) {
+        case.damaged = damage_world(alloc, &mut draws, case.command, &mut given)?;
+    }
+    broken_runs(rt, alloc, &mut draws, &case, &mut given, counts)
+}
+
+fn drawn_case(alloc: Global, draws: &mut Draws) -> Result<Case, Memory> {
+    let place = draws.place(COMMANDS.len());
+    let command = COMMANDS.get(place).copied().unwrap_or(Command::Check);
+    let words = drawn_words(alloc, draws, command)?;
+    if !draws.once_in(25) {
+        return Ok(Case {
+            command,
+            words,
+            refused: false,
+            damaged: "",
+        });
+    }
+    let more = draws.pick(&["MORE", "--nodes 0", "--help", "-x", "--links=1001", "--"]);
+    let words = format!(in alloc; "{words} {more} X")?;
+    Ok(Case {
+        command,
+        words,
+        refused: true,
+        damaged: "",
+    })
+}
+
+fn drawn_words(alloc: Global, draws: &mut Draws, command: Command) -> Result<String, Memory> {
+    let seed = draws.below(65_537);
+    let units = draws.below(6).wrapping_add(1);
+    let words = match command {
+        Command::Make => format!(in alloc; "make {seed} {units} CAP SCR")?,
+        Command::Trial => format!(in alloc; "trial {seed} {units}")?,
+        _ => String::from_str(alloc, command.words())?,
+    };
+    Ok(words)
+}
+
+/// The run where no call fails, and the one where one may.
+fn broken_runs<R: Threads + Wait + Sync>(
+    rt: &R,
+    alloc: Global,
+    draws: &mut Draws,
+    case: &Case,
+    given: &mut Given,
+    counts: &mut [u64],
+) -> Result<&'static str, Memory> {
+    given.fails = NO_FAILS;
+    let calm = run_desk(rt, alloc, case.words.as_str(), given, &RealGate)?;
+    note(counts, case.command, calm.status);
+    let first = broken_calm(rt, alloc, case, given, &calm)?;
+    if !first.is_empty() {
+        return Ok(first);
+    }
+    given.fails = drawn_fails(draws, case.command);
+    let ran = run_desk(rt, alloc, case.words.as_str(), given, &RealGate)?;
+    note(counts, case.command, ran.status);
+    broken_failing(rt, alloc, case, given, &calm, &ran)
+}
+
+/// Counts a status of a command.
+fn note(counts: &mut [u64], command: Command, status: u8) {
+    let place = command.place().saturating_mul(STATUSES);
+    if let Some(count) = counts.get_mut(place.saturating_add(usize::from(status))) {
+        *count = count.saturating_add(1);
+    }
+}
+
+/// A call of one object that is to fail.
+fn drawn_fails(draws: &mut Draws, command: Command) -> Fails {
+    let part = if draws.once_in(2) {
+        None
+    } else {
+        Some(draws.place(40))
+    };
+    let serves = command == Command::Serve || command == Command::Resume;
+    let mut fails = NO_FAILS;
+    match draws.below(5) {
+        0 => fails.sink = Some(Failure {
+            call: draws.below(2),
+            part,
+        }),
+        1 if serves => fails.accept = Some(Failure {
+            call: draws.below(3),
+            part,
+        }),
+        2 if serves => fails.link = Some(Failure {
+            call: draws.below(9),
+            part,
+        }),
+        3 if command == Command::Resume => {
+            fails.disk = Some(Failure {
+                call: draws.below(30),
+                part,
+            });
+        }
+        _ => fails.cabinet = Some(Failure {
+            call: draws.below(8),
+            part,
+        }),
+    }
+    fails
+}
+
+/// The first law that a run breaks where no call fails.
+fn broken_calm<R: Threads + Wait + Sync>(
+    rt: &R,
+    alloc: Global,
+    case: &Case,
+    given: &Given,
+    ran: &Outside,
+) -> Result<&'static str, Memory> {
+    let general = broken_law(alloc, case.command, given, ran)?;
+    if !general.is_empty() {
+        return Ok(general);
+    }
+    if case.refused {
+        return Ok(law(ran.status == 2, "words that are no command's"));
+    }
+    let whole = !case.damaged.is_empty() || case.command.ends(ran.status);
+    let work = broken_work(rt, alloc, case, given, ran)?;
+    Ok(first_of(law(whole, "a refused world that is whole"), work))
+}
+
+/// The first law that work which is done breaks, or a refusal that another command gives too.
+fn broken_work<R: Threads + Wait + Sync>(
+    rt: &R,
+    alloc: Global,
+    case: &Case,
+    given: &Given,
+    ran: &Outside,
+) -> Result<&'static str, Memory> {
+    let command = case.command;
+    if command == Command::Inspect {
+        return inspected(rt, alloc, given, ran);
+    }
+    if !command.ends(ran.status) && ran.status != 13 {
+        return Ok("");
+    }
+    match command {
+        Command::Allocate => allotted(rt, alloc, given, ran),
+        Command::Check => checked(rt, alloc, given),
+        Command::Amend => amended(rt, alloc, given, ran),
+        Command::Serve => served(rt, alloc, given, ran),
+        Command::Resume => resumed(rt, alloc, given, ran, case.damaged),
+        Command::Usage => watched(rt, alloc, given, ran, case.damaged),
+        Command::Reclear => recleared(rt, alloc, given, ran),
+        Command::Report => reported(alloc, ran),
+        Command::Make => made(alloc, case.words.as_str(), ran),
+        Command::Trial => tried(rt, alloc, case.words.as_str(), ran),
+        Command::Recheck | Command::Inspect => Ok(""),
+    }
+}
+
+/// The first law that a run breaks of which calls may fail.
+fn broken_failing<R: Threads + Wait + Sync>(
+    rt: &R,
+    alloc: Global,
+    case: &Case,
+    given: &Given,
+    calm: &Outside,
+    ran: &Outside,
+) -> Result<&'static str, Memory> {
+    let general = broken_law(alloc, case.command, given, ran)?;
+    if !general.is_empty() {
+        return Ok(general);
+    }
+    let fails = given.fails;
+    let is_session = fails.accept.is_some() || fails.link.is_some() || fails.disk.is_some();
+    if !is_session && given.clients.len() < 2 {
+        return broken_beside(alloc, case.command, given, calm, ran);
+    }
+    if case.refused || !case.command.ends(ran.status) {
+        return Ok("");
+    }
+    let sent = law(
+        are_front_of(given, calm, ran),
+        "what a failing link was sent",
+    );
+    Ok(first_of(sent, broken_work(rt, alloc, case, given, ran)?))
+}

@@ -1,0 +1,175 @@
+//! What holds of each run of the desk, whatever it was given: its status is one of the command's,
+//! what was printed is of that status, a fault is answered only where a call failed, and no file but
+//! those that the command writes has other bytes than before.
+
+use crate::commands::{Command, has_name};
+use crate::texts::{are_same, first_of, law, number, text_of, word};
+use desk_disk::Disk;
+use desk_links::Door;
+use desk_outside::{Cabinet, Sink};
+use memory_desk::{Given, Outside};
+use slot_text::Memory;
+use std::alloc::Global;
+
+/// The most bytes of a file that is read, but for a certificate.
+const MOST_BYTES: usize = 4_194_304;
+
+/// The name of the first law that a run breaks, or nothing.
+pub fn broken_law(
+    alloc: Global,
+    command: Command,
+    given: &Given,
+    ran: &Outside,
+) -> Result<&'static str, Memory> {
+    let said = text_of(alloc, ran.sink.bytes())?;
+    let status = ran.status;
+    let first = first_of(
+        law(may_end(command, status), "status"),
+        law(is_text_of(command, status, &said), "text"),
+    );
+    let second = first_of(
+        law(is_named(command, given, status, &said), "name"),
+        law(has_cause(given, ran, &said), "cause"),
+    );
+    let files = law(are_files_left(command, given, ran, &said), "files");
+    Ok(first_of(first, first_of(second, files)))
+}
+
+/// Whether a command may end with a status.
+fn may_end(command: Command, status: u8) -> bool {
+    let reads = command.reads();
+    match status {
+        1 => has_name(reads, "CERT"),
+        2 | 6 => true,
+        3 | 4 => !reads.is_empty(),
+        5 => command != Command::Trial,
+        13 | 14 => command == Command::Resume,
+        15 => command == Command::Usage,
+        _ => command.ends(status),
+    }
+}
+
+/// Whether a text is printed at a status: at a refusal one line, or two where a command says why.
+fn is_text_of(command: Command, status: u8, said: &str) -> bool {
+    let begin = match status {
+        1 => "NO ",
+        2 => "WORDS\n",
+        3 => "FORM ",
+        4 => "LIMIT ",
+        5 => "CABINET ",
+        13 => "JOURNAL ",
+        15 => "NEXT NONE\n",
+        _ => return status == 6 || are_done_lines(command, status, said),
+    };
+    let tells_why = command == Command::Inspect && (status == 3 || status == 4);
+    let lines = if tells_why { 2 } else { 1 };
+    said.starts_with(begin) && said.ends_with('\n') && said.lines().count() == lines
+}
+
+/// Whether a text is one of work that is done.
+fn are_done_lines(command: Command, status: u8, said: &str) -> bool {
+    let begins = match command {
+        Command::Allocate => "STAGE 1 ",
+        Command::Trial => "STAGE 1 ",
+        Command::Check | Command::Recheck => "YES\n",
+        Command::Amend | Command::Serve => "ENTRIES ",
+        Command::Resume if status == 14 && said == "JOURNAL FAULT\n" => "JOURNAL FAULT\n",
+        Command::Resume => "KEPT ",
+        Command::Usage => "SERIES ",
+        Command::Reclear => "WAITING ",
+        Command::Report => "UNITS ",
+        Command::Inspect => "AIRPORT ",
+        Command::Make => "",
+    };
+    let ends = said.ends_with('\n') || command == Command::Make && said.is_empty();
+    said.starts_with(begins) && ends
+}
+
+/// Whether the file that a refusal names is one of the command's, and its reason that of the file.
+fn is_named(command: Command, given: &Given, status: u8, said: &str) -> bool {
+    let name = word(said.lines().next().unwrap_or(""), 1);
+    match status {
+        3 => has_name(command.reads(), name) && is_line_of(given, name, said),
+        5 => is_cabinet_line(command, given, name, said),
+        _ => true,
+    }
+}
+
+/// Whether a refusal names a line of the file, or one behind its last.
+fn is_line_of(given: &Given, name: &str, said: &str) -> bool {
+    let bytes = given.file(name).unwrap_or(b"");
+    let ends = bytes.iter().filter(|byte| **byte == b'\n').count() as u64;
+    match number(said.lines().next().unwrap_or(""), 2) {
+        Some(line) => 1 <= line && line <= ends.saturating_add(2),
+        None => false,
+    }
+}
+
+fn is_cabinet_line(command: Command, given: &Given, name: &str, said: &str) -> bool {
+    let failed = match given.fails.cabinet {
+        Some(failure) => command.file_of(failure.call as usize),
+        None => "",
+    };
+    match word(said.lines().next().unwrap_or(""), 2) {
+        "MISSING" => has_name(command.reads(), name) && given.file(name).is_none(),
+        "LARGE" => given.file(name).unwrap_or(b"").len() > MOST_BYTES,
+        "READ" => has_name(command.reads(), name) && name == failed,
+        "WRITE" => has_name(command.writes(), name) && name == failed,
+        _ => false,
+    }
+}
+
+/// Whether calls failed where the status says so, and none where it says that none did.
+fn has_cause(given: &Given, ran: &Outside, said: &str) -> bool {
+    let cabinet = ran.cabinet.faults() > 0;
+    let sink = ran.sink.faults() > 0;
+    let doors = have_doors_failed(ran);
+    let disk = has_disk_failed(ran);
+    let was_told = said.ends_with("READ\n") || said.ends_with("WRITE\n");
+    let status = ran.status;
+    let is_cut = status == 5 || status == 6;
+    let exact = (status == 6) == sink && (status != 5 || was_told == cabinet);
+    let calm = (is_cut || !cabinet) && (is_cut || status == 10 || status == 14 || !doors);
+    let disks = (is_cut || status == 14 || !disk) && (status != 14 || disk);
+    exact && calm && disks && (status != 10 || doors) && (given.journal.is_some() || !disk)
+}
+
+fn have_doors_failed(ran: &Outside) -> bool {
+    for door in &ran.doors {
+        if door.faults() > 0 {
+            return true;
+        }
+    }
+    false
+}
+
+fn has_disk_failed(ran: &Outside) -> bool {
+    match &ran.disk {
+        Some(disk) => disk.faults() > 0,
+        None => false,
+    }
+}
+
+/// The names that any command gives to a file.
+const NAMES: [&str; 11] = [
+    "CAP", "SCR", "CERT", "REPLIES", "ASKS", "ANSWERS", "OPERATED", "NEXT", "EXTRA", "RECORD",
+    "PAGE",
+];
+
+/// Whether each file is as it was, but for those that the command writes, and these too where it
+/// was refused before its writes.
+fn are_files_left(command: Command, given: &Given, ran: &Outside, said: &str) -> bool {
+    let refused = match ran.status {
+        1 | 2 | 3 | 4 | 13 | 15 => true,
+        5 => !said.ends_with("WRITE\n"),
+        14 => said == "JOURNAL FAULT\n",
+        _ => false,
+    };
+    for name in NAMES {
+        let may_change = !refused && has_name(command.writes(), name);
+        if !may_change && !are_same(given.file(name), ran.cabinet.file(name)) {
+            return false;
+        }
+    }
+    true
+}

@@ -1,0 +1,169 @@
+//! Drawn seasons, asks and reports of what was operated.
+
+use crate::draws::Draws;
+use crate::lines::{line_text, narrowed, pair_text, series_of};
+use slot_text::Memory;
+use std::alloc::Global;
+
+/// The header of each message.
+pub const HEAD: &str = "SCR\nS25\n20NOV\nABC\n";
+
+/// How many series a case draws its lines from.
+pub const MOST_SERIES: u64 = 12;
+
+/// A capacity file of at most three lines.
+pub fn capacity_text(alloc: Global, draws: &mut Draws) -> Result<String, Memory> {
+    let step = draws.pick(&[
+        "STEP 5\nFLEX 30",
+        "STEP 5\nFLEX 0",
+        "STEP 10\nFLEX 60",
+        "STEP 15\nFLEX 45",
+        "STEP 60\nFLEX 120",
+    ]);
+    let share = draws.pick(&["", "", "SHARE 0\n", "SHARE 34\n", "SHARE 100\n"]);
+    let refuse = draws.pick(&["NONE", "10", "1", "9999"]);
+    let night = draws.pick(&["", "", "NIGHT 2300 0500 3\n", "NIGHT 0600 0620 40\n"]);
+    let mut text = format!(in alloc;
+        "AIRPORT ABC\nSEASON S25\n{step}\nGROUND 40\n{share}REFUSE {refuse}\n{night}"
+    )?;
+    for _ in 0..draws.below(4) {
+        put_rule(alloc, draws, &mut text)?;
+    }
+    Ok(text)
+}
+
+fn put_rule(alloc: Global, draws: &mut Draws, text: &mut String) -> Result<(), Memory> {
+    let kind = draws.pick(&["ARR", "ARR", "DEP", "TOT"]);
+    let length = draws.pick(&["60", "30", "20", "180"]);
+    let starts = draws.pick(&["0600 0600", "0600 0630", "0555 0700", "2330 2330"]);
+    let days = draws.pick(&["1234567", "1234567", "67", "1234500", "0000007"]);
+    let limit = draws.below(4);
+    let line = format!(in alloc; "CAP {kind} {length} {starts} {days} {limit}\n")?;
+    text.push_str(&line)?;
+    Ok(())
+}
+
+/// The requests of a season: one message, or two, of the first series of the case.
+pub fn requests_text(alloc: Global, draws: &mut Draws, case: u64) -> Result<String, Memory> {
+    let mut text = String::from_str(alloc, HEAD)?;
+    for number in 0..draws.below(7) {
+        if draws.once_in(12) {
+            text.push('\n')?;
+            text.push_str(HEAD)?;
+        }
+        let lines = request_text(alloc, draws, case, number)?;
+        text.push_str(&lines)?;
+    }
+    Ok(text)
+}
+
+fn request_text(
+    alloc: Global,
+    draws: &mut Draws,
+    case: u64,
+    number: u64,
+) -> Result<String, Memory> {
+    let series = series_of(case, number);
+    match draws.below(8) {
+        0 | 1 => line_text(alloc, "F", &series),
+        2 => pair_text(alloc, draws, "R", &series),
+        3 => pair_text(alloc, draws, "L", &series),
+        4 | 5 => line_text(alloc, "N", &series),
+        _ => line_text(alloc, "B", &series),
+    }
+}
+
+/// A message of at most five asks, with its empty line. Some ask about lines that replies gave.
+pub fn message_text(
+    alloc: Global,
+    draws: &mut Draws,
+    case: u64,
+    held: &str,
+) -> Result<String, Memory> {
+    let mut text = String::from_str(alloc, HEAD)?;
+    for _ in 0..draws.below(6) {
+        let ask = ask_text(alloc, draws, case, held)?;
+        text.push_str(&ask)?;
+    }
+    text.push('\n')?;
+    Ok(text)
+}
+
+fn ask_text(alloc: Global, draws: &mut Draws, case: u64, held: &str) -> Result<String, Memory> {
+    let number = draws.below(MOST_SERIES);
+    let series = series_of(case, number);
+    match draws.below(12) {
+        0..=3 => {
+            let code = draws.pick(&["N", "B", "Y", "V"]);
+            line_text(alloc, code, &series)
+        }
+        4 => {
+            let part = narrowed(draws, series);
+            line_text(alloc, "D", &part)
+        }
+        5 | 6 => {
+            let code = draws.pick(&["R", "L", "I"]);
+            pair_text(alloc, draws, code, &series)
+        }
+        7 => {
+            let code = draws.pick(&["D", "Z", "A", "F"]);
+            line_text(alloc, code, &series)
+        }
+        8 => query_text(alloc, number),
+        _ => held_text(alloc, draws, held, number),
+    }
+}
+
+fn query_text(alloc: Global, number: u64) -> Result<String, Memory> {
+    let flight = number.wrapping_add(100);
+    let text = format!(in alloc; "QBA{flight}\n")?;
+    Ok(text)
+}
+
+/// An ask about one of the lines that replies gave; a query where there is none.
+fn held_text(alloc: Global, draws: &mut Draws, held: &str, number: u64) -> Result<String, Memory> {
+    let code = draws.pick(&["A", "A", "Z", "D"]);
+    let place = draws.place(held.lines().count());
+    match held.lines().nth(place) {
+        Some(line) => {
+            let text = format!(in alloc; "{code}{line}\n")?;
+            Ok(text)
+        }
+        None => query_text(alloc, number),
+    }
+}
+
+/// A message that asks for all flights of a case, with its empty line.
+pub fn queries_text(alloc: Global) -> Result<String, Memory> {
+    let mut text = String::from_str(alloc, HEAD)?;
+    for number in 0..MOST_SERIES {
+        let query = query_text(alloc, number)?;
+        text.push_str(&query)?;
+    }
+    text.push('\n')?;
+    Ok(text)
+}
+
+/// Reports of what was operated of the first series of a case.
+pub fn operated_text(alloc: Global, draws: &mut Draws, case: u64) -> Result<String, Memory> {
+    let mut text = String::new(alloc);
+    for _ in 0..draws.below(12) {
+        let report = report_text(alloc, draws, case)?;
+        text.push_str(&report)?;
+    }
+    Ok(text)
+}
+
+fn report_text(alloc: Global, draws: &mut Draws, case: u64) -> Result<String, Memory> {
+    let series = series_of(case, draws.below(7));
+    let part = if draws.once_in(3) {
+        narrowed(draws, series)
+    } else {
+        series
+    };
+    let (first, last) = (part.first, part.last);
+    let kind = draws.pick(&["ARR", "DEP"]);
+    let flight = part.number.wrapping_add(draws.below(2).wrapping_mul(500));
+    let text = format!(in alloc; "OPER {kind} BA{flight} {first:02}JUN{last:02}JUN 1234567\n")?;
+    Ok(text)
+}

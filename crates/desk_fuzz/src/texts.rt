@@ -1,0 +1,93 @@
+//! Texts of files, and their words.
+
+use slot_text::Memory;
+use std::alloc::Global;
+
+/// The text of bytes, each as the character of its number.
+pub fn text_of(alloc: Global, bytes: &[u8]) -> Result<String, Memory> {
+    let mut text = String::new(alloc);
+    for byte in bytes {
+        text.push(char::from(*byte))?;
+    }
+    Ok(text)
+}
+
+/// The text of a file, empty where it is not there.
+pub fn file_text(alloc: Global, bytes: Option<&[u8]>) -> Result<String, Memory> {
+    match bytes {
+        Some(bytes) => text_of(alloc, bytes),
+        None => Ok(String::new(alloc)),
+    }
+}
+
+/// A word of a line, by its number from 0; empty where there is none.
+pub fn word(line: &str, number: usize) -> &str {
+    line.split(' ').nth(number).unwrap_or("")
+}
+
+/// A word of a line as a number.
+pub fn number(line: &str, place: usize) -> Option<u64> {
+    word(line, place).parse().ok()
+}
+
+/// A field of a line whose fields have any number of blanks between them.
+pub fn field(line: &str, number: usize) -> &str {
+    line.split_whitespace().nth(number).unwrap_or("")
+}
+
+/// Whether two files are the same: both not there, or with the same bytes.
+pub fn are_same(one: Option<&[u8]>, other: Option<&[u8]>) -> bool {
+    match (one, other) {
+        (Some(one), Some(other)) => one == other,
+        (None, None) => true,
+        _ => false,
+    }
+}
+
+/// Whether a file is not there, or its bytes begin the other one's.
+pub fn begins(front: Option<&[u8]>, whole: Option<&[u8]>) -> bool {
+    match (front, whole) {
+        (Some(front), Some(whole)) => whole.starts_with(front),
+        (None, _) => true,
+        _ => false,
+    }
+}
+
+/// How many lines begin with a text.
+pub fn count_of(text: &str, begin: &str) -> usize {
+    text.lines().filter(|line| line.starts_with(begin)).count()
+}
+
+/// The lines that replies hold slots with, without their codes: those of K, H and O.
+pub fn held_lines(alloc: Global, replies: &str) -> Result<String, Memory> {
+    let mut text = String::new(alloc);
+    for line in replies.lines() {
+        if let Some(rest) = held_line(line) {
+            text.push_str(rest)?;
+            text.push('\n')?;
+        }
+    }
+    Ok(text)
+}
+
+fn held_line(line: &str) -> Option<&str> {
+    let rest = line
+        .strip_prefix('K')
+        .or(line.strip_prefix('H'))
+        .or(line.strip_prefix('O'))?;
+    if rest.contains("JUN") {
+        Some(rest)
+    } else {
+        None
+    }
+}
+
+/// The first law that does not hold, of two: none is an empty text.
+pub fn first_of(one: &'static str, other: &'static str) -> &'static str {
+    if one.is_empty() { other } else { one }
+}
+
+/// A law that holds, or its name.
+pub fn law(holds: bool, name: &'static str) -> &'static str {
+    if holds { "" } else { name }
+}

@@ -1,0 +1,216 @@
+//! What holds of the work of the commands that allot, check, tell and make: what was allotted is
+//! within the limits, each unit has one reply, certificates are found valid, and what is told counts
+//! the same units.
+
+use crate::commands::Command;
+use crate::made::{made_capacity, made_requests};
+use crate::plain::{fits, movements_of};
+use crate::records::answers_to;
+use crate::seasons::queries_text;
+use crate::texts::{count_of, file_text, first_of, held_lines, law, number, text_of, word};
+use crate::worlds::{copied, keep_writes};
+use memory_desk::{Given, Outside, run_desk};
+use slot_text::Memory;
+use std::alloc::Global;
+use std::sync::Wait;
+use std::thread::Threads;
+use worker_gate::RealGate;
+
+/// The status of a run, a blank, and what it printed.
+pub fn said_of<R: Threads + Wait + Sync>(
+    rt: &R,
+    alloc: Global,
+    words: &str,
+    given: &Given,
+) -> Result<String, Memory> {
+    let ran = run_desk(rt, alloc, words, given, &RealGate)?;
+    let printed = text_of(alloc, ran.sink.bytes())?;
+    let status = ran.status;
+    let text = format!(in alloc; "{status} {printed}")?;
+    Ok(text)
+}
+
+/// Whether the lines of replies are within the limits of the capacity file that is given.
+pub fn fit_replies(alloc: Global, given: &Given, replies: &str) -> Result<bool, Memory> {
+    let capacity = file_text(alloc, given.file("CAP"))?;
+    let held = held_lines(alloc, replies)?;
+    let list = movements_of(alloc, &held)?;
+    Ok(fits(&capacity, &list))
+}
+
+/// Stages were allotted: the status is that of their lines, the certificate is valid, what was
+/// allotted is within the limits, and each unit has one reply.
+pub fn allotted<R: Threads + Wait + Sync>(
+    rt: &R,
+    alloc: Global,
+    given: &Given,
+    ran: &Outside,
+) -> Result<&'static str, Memory> {
+    let said = text_of(alloc, ran.sink.bytes())?;
+    let mut after = copied(alloc, given)?;
+    keep_writes(alloc, Command::Allocate, ran, &mut after)?;
+    let replies = file_text(alloc, after.file("REPLIES"))?;
+    let first = first_of(
+        law(ran.status == marked_status(&said), "marks"),
+        law(fit_replies(alloc, &after, &replies)?, "loads"),
+    );
+    let second = first_of(
+        law(
+            is_found_valid(rt, alloc, &after)?,
+            "a certificate that was written",
+        ),
+        law(has_each_reply(rt, alloc, given, &replies)?, "replies"),
+    );
+    Ok(first_of(first, second))
+}
+
+/// The status that the lines of stages give.
+fn marked_status(said: &str) -> u8 {
+    if said.contains(" INFEASIBLE") {
+        8
+    } else if said.contains(" OPEN ") {
+        9
+    } else {
+        0
+    }
+}
+
+fn is_found_valid<R: Threads + Wait + Sync>(
+    rt: &R,
+    alloc: Global,
+    after: &Given,
+) -> Result<bool, Memory> {
+    let verdict = said_of(rt, alloc, Command::Check.words(), after)?;
+    Ok(verdict.as_str() == "0 YES\n")
+}
+
+/// Whether there is one K or U for each unit that `inspect` counts.
+fn has_each_reply<R: Threads + Wait + Sync>(
+    rt: &R,
+    alloc: Global,
+    given: &Given,
+    replies: &str,
+) -> Result<bool, Memory> {
+    let told = said_of(rt, alloc, Command::Inspect.words(), given)?;
+    let units = told.lines().find(|line| line.starts_with("UNITS "));
+    let replied = count_of(replies, "K").saturating_add(count_of(replies, "U")) as u64;
+    Ok(number(units.unwrap_or(""), 1) == Some(replied))
+}
+
+/// A certificate was found valid: the book with its slots is within the limits.
+pub fn checked<R: Threads + Wait + Sync>(
+    rt: &R,
+    alloc: Global,
+    given: &Given,
+) -> Result<&'static str, Memory> {
+    let queries = queries_text(alloc)?;
+    let listed = answers_to(rt, alloc, given, &queries)?;
+    Ok(law(fit_replies(alloc, given, &listed)?, "loads of a book"))
+}
+
+/// A season was told of, or refused: as `allocate` does.
+pub fn inspected<R: Threads + Wait + Sync>(
+    rt: &R,
+    alloc: Global,
+    given: &Given,
+    ran: &Outside,
+) -> Result<&'static str, Memory> {
+    let said = text_of(alloc, ran.sink.bytes())?;
+    let allotted = said_of(rt, alloc, Command::Allocate.words(), given)?;
+    let status = ran.status;
+    let line = said.lines().next().unwrap_or("");
+    let due = format!(in alloc; "{status} {line}\n")?;
+    let is_same = if status == 0 {
+        matches!(word(&allotted, 0), "0" | "8" | "9")
+    } else {
+        allotted.as_str() == due.as_str()
+    };
+    Ok(law(is_same, "inspect beside allocate"))
+}
+
+/// A certificate was reported on: the numbers that are printed are those of the units of the report,
+/// and in a stage that is settled nothing cheaper fits.
+pub fn reported(alloc: Global, ran: &Outside) -> Result<&'static str, Memory> {
+    let said = text_of(alloc, ran.sink.bytes())?;
+    let report = file_text(alloc, ran.cabinet.file("REPORT"))?;
+    let page = file_text(alloc, ran.cabinet.file("PAGE"))?;
+    let first = first_of(
+        law(are_numbers_of(&said, &report), "numbers of a report"),
+        law(!has_cheaper(&report), "what fits in a settled stage"),
+    );
+    let is_page = page.starts_with("<!DOCTYPE html>") && page.ends_with("</html>\n");
+    let is_report = report.starts_with("REPORT 1\n") && report.ends_with("\nEND\n");
+    Ok(first_of(first, law(is_page && is_report, "forms of a report")))
+}
+
+/// The words of outcomes, in the order in which they are printed.
+const OUTCOMES: [&str; 5] = ["KEPT", "HISTORIC", "MOVED", "REFUSED", "NONE"];
+
+/// Whether the numbers of outcomes are those of the units, and they add up.
+fn are_numbers_of(said: &str, report: &str) -> bool {
+    let mut sum = 0_u64;
+    for (place, outcome) in OUTCOMES.iter().enumerate() {
+        let told = number(said, place.saturating_mul(2).saturating_add(3));
+        if told != Some(units_with(report, *outcome)) {
+            return false;
+        }
+        sum = sum.saturating_add(told.unwrap_or(0));
+    }
+    number(said, 1) == Some(sum)
+}
+
+fn units_with(report: &str, outcome: &str) -> u64 {
+    let count = report
+        .lines()
+        .filter(|line| line.starts_with("UNIT ") && word(*line, 4) == outcome)
+        .count();
+    count as u64
+}
+
+/// Whether a line says that something cheaper fits in a stage that is settled.
+fn has_cheaper(report: &str) -> bool {
+    has_cheaper_in(report, "STAGE 1 OPTIMAL ", "FITS 1 ")
+        || has_cheaper_in(report, "STAGE 2 OPTIMAL ", "FITS 2 ")
+        || has_cheaper_in(report, "STAGE 3 OPTIMAL ", "FITS 3 ")
+        || has_cheaper_in(report, "STAGE 4 OPTIMAL ", "FITS 4 ")
+}
+
+fn has_cheaper_in(report: &str, stage: &str, line: &str) -> bool {
+    count_of(report, stage) > 0 && count_of(report, line) > 0
+}
+
+/// A season was made: its files are those of the rule.
+pub fn made(alloc: Global, words: &str, ran: &Outside) -> Result<&'static str, Memory> {
+    let seed = number(words, 1).unwrap_or(0);
+    let units = number(words, 2).unwrap_or(0);
+    let capacity = made_capacity(alloc, units)?;
+    let requests = made_requests(alloc, seed, units)?;
+    let found = file_text(alloc, ran.cabinet.file("CAP"))?;
+    let written = file_text(alloc, ran.cabinet.file("SCR"))?;
+    let is_made = found.as_str() == capacity.as_str() && written.as_str() == requests.as_str();
+    Ok(law(is_made, "a made season"))
+}
+
+/// A season was tried: what was printed of its stages is what `allocate` prints of its files.
+pub fn tried<R: Threads + Wait + Sync>(
+    rt: &R,
+    alloc: Global,
+    words: &str,
+    ran: &Outside,
+) -> Result<&'static str, Memory> {
+    let said = text_of(alloc, ran.sink.bytes())?;
+    let mut given = Given::new(alloc, 400_000);
+    let seed = number(words, 1).unwrap_or(0);
+    let units = number(words, 2).unwrap_or(0);
+    given.put(alloc, "CAP", made_capacity(alloc, units)?.into_bytes())?;
+    given.put(
+        alloc,
+        "SCR",
+        made_requests(alloc, seed, units)?.into_bytes(),
+    )?;
+    let allocate = "allocate CAP SCR CERT REPLIES --workers 1 --nodes 10000";
+    let due = said_of(rt, alloc, allocate, &given)?;
+    let stages = due.split_once(' ').unwrap_or(("", "")).1;
+    let is_same = said.starts_with(stages) && said.ends_with("CHECK YES\n");
+    Ok(law(is_same, "a trial"))
+}

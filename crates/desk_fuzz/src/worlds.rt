@@ -1,0 +1,262 @@
+//! What the runs of a case are given: a drawn season, and for each command the files, clients and
+//! journal that it takes, most of them made by other commands.
+
+use crate::commands::{Command, has_name};
+use crate::damage::{damage, damaged_bytes};
+use crate::draws::Draws;
+use crate::seasons::{capacity_text, message_text, operated_text, requests_text};
+use crate::texts::{file_text, held_lines};
+use memory_desk::{Clients, Given, Outside, run_desk};
+use slot_text::Memory;
+use std::alloc::Global;
+use std::sync::Wait;
+use std::thread::Threads;
+use worker_gate::RealGate;
+
+/// Room for each file.
+const ROOM: usize = 400_000;
+
+/// What stood under a name that is written.
+const OLD: &[u8] = b"what stood there\n";
+
+/// What a command is given in a case, without damage: no call fails.
+pub fn whole_world<R: Threads + Wait + Sync>(
+    rt: &R,
+    alloc: Global,
+    draws: &mut Draws,
+    case: u64,
+    command: Command,
+) -> Result<Given, Memory> {
+    let mut given = Given::new(alloc, ROOM);
+    let capacity = capacity_text(alloc, draws)?;
+    given.put(alloc, "CAP", capacity.into_bytes())?;
+    let requests = requests_text(alloc, draws, case)?;
+    given.put(alloc, "SCR", requests.into_bytes())?;
+    put_made_files(rt, alloc, draws, case, command, &mut given)?;
+    put_old_files(alloc, draws, command, &mut given)?;
+    Ok(given)
+}
+
+/// The files that other commands made, and what is asked and reported.
+fn put_made_files<R: Threads + Wait + Sync>(
+    rt: &R,
+    alloc: Global,
+    draws: &mut Draws,
+    case: u64,
+    command: Command,
+    given: &mut Given,
+) -> Result<(), Memory> {
+    if has_name(command.reads(), "CERT") {
+        make(rt, alloc, Command::Allocate, given)?;
+    }
+    match command {
+        Command::Amend | Command::Reclear => put_asks(rt, alloc, draws, case, given),
+        Command::Recheck => {
+            put_asks(rt, alloc, draws, case, given)?;
+            make(rt, alloc, Command::Reclear, given)
+        }
+        Command::Usage => {
+            let text = operated_text(alloc, draws, case)?;
+            given.put(alloc, "OPERATED", text.into_bytes())
+        }
+        Command::Serve => put_clients(rt, alloc, draws, case, given),
+        Command::Resume => put_journal(rt, alloc, draws, case, given),
+        _ => Ok(()),
+    }
+}
+
+/// Runs a command, and keeps what it wrote.
+fn make<R: Threads + Wait + Sync>(
+    rt: &R,
+    alloc: Global,
+    command: Command,
+    given: &mut Given,
+) -> Result<(), Memory> {
+    let ran = run_desk(rt, alloc, command.words(), given, &RealGate)?;
+    keep_writes(alloc, command, &ran, given)
+}
+
+/// Keeps what a run wrote.
+pub fn keep_writes(
+    alloc: Global,
+    command: Command,
+    ran: &Outside,
+    given: &mut Given,
+) -> Result<(), Memory> {
+    for name in command.writes().split_whitespace() {
+        if let Some(bytes) = ran.cabinet.file(name) {
+            given.put(alloc, name, Vec::from_slice(alloc, bytes)?)?;
+        }
+    }
+    Ok(())
+}
+
+/// A copy of the files alone.
+pub fn copied(alloc: Global, given: &Given) -> Result<Given, Memory> {
+    let mut copy = Given::new(alloc, ROOM);
+    for file in &given.files {
+        let bytes = Vec::from_slice(alloc, &file.bytes)?;
+        copy.put(alloc, file.name.as_str(), bytes)?;
+    }
+    Ok(copy)
+}
+
+/// Two messages, the second of which may ask about what the first was answered.
+fn put_asks<R: Threads + Wait + Sync>(
+    rt: &R,
+    alloc: Global,
+    draws: &mut Draws,
+    case: u64,
+    given: &mut Given,
+) -> Result<(), Memory> {
+    let first = drawn_message(alloc, draws, case, given, "REPLIES")?;
+    given.put(alloc, "ASKS", Vec::from_slice(alloc, first.as_bytes())?)?;
+    make(rt, alloc, Command::Amend, given)?;
+    let second = drawn_message(alloc, draws, case, given, "ANSWERS")?;
+    let both = format!(in alloc; "{first}{second}")?;
+    given.put(alloc, "ASKS", both.into_bytes())
+}
+
+/// A message of asks, some about the lines of a file of replies.
+fn drawn_message(
+    alloc: Global,
+    draws: &mut Draws,
+    case: u64,
+    given: &Given,
+    name: &str,
+) -> Result<String, Memory> {
+    let replies = file_text(alloc, given.file(name))?;
+    let held = held_lines(alloc, &replies)?;
+    message_text(alloc, draws, case, &held)
+}
+
+/// One door, or two, the first with one link or two; the asks stand in a file, too.
+fn put_clients<R: Threads + Wait + Sync>(
+    rt: &R,
+    alloc: Global,
+    draws: &mut Draws,
+    case: u64,
+    given: &mut Given,
+) -> Result<(), Memory> {
+    put_asks(rt, alloc, draws, case, given)?;
+    let first = Vec::from_slice(alloc, given.file("ASKS").unwrap_or(b""))?;
+    let second = if draws.once_in(2) {
+        let text = drawn_message(alloc, draws, case, given, "ANSWERS")?;
+        Some(text.into_bytes())
+    } else {
+        None
+    };
+    given.clients.push(Clients { first, second })?;
+    if draws.once_in(3) {
+        let text = drawn_message(alloc, draws, case, given, "REPLIES")?;
+        given.clients.push(Clients {
+            first: text.into_bytes(),
+            second: None,
+        })?;
+    }
+    given.piece = [0, 1, 7, 4096].get(draws.place(4)).copied().unwrap_or(0);
+    Ok(())
+}
+
+/// A journal that an earlier desk kept, with its record, or an empty file; and the clients of the
+/// desk that opens it.
+fn put_journal<R: Threads + Wait + Sync>(
+    rt: &R,
+    alloc: Global,
+    draws: &mut Draws,
+    case: u64,
+    given: &mut Given,
+) -> Result<(), Memory> {
+    put_asks(rt, alloc, draws, case, given)?;
+    given.journal = Some(Vec::new(alloc));
+    let first = Vec::from_slice(alloc, given.file("ASKS").unwrap_or(b""))?;
+    given.clients.push(Clients {
+        first,
+        second: None,
+    })?;
+    if !draws.once_in(4) {
+        keep_journal(rt, alloc, given)?;
+        let text = drawn_message(alloc, draws, case, given, "ANSWERS")?;
+        replace_client(given, text.into_bytes());
+    }
+    given.piece = draws.place(3);
+    Ok(())
+}
+
+/// Runs a desk with a journal, and keeps its record and its journal.
+fn keep_journal<R: Threads + Wait + Sync>(
+    rt: &R,
+    alloc: Global,
+    given: &mut Given,
+) -> Result<(), Memory> {
+    let ran = run_desk(rt, alloc, Command::Resume.words(), given, &RealGate)?;
+    keep_writes(alloc, Command::Resume, &ran, given)?;
+    if let Some(disk) = &ran.disk {
+        given.journal = Some(Vec::from_slice(alloc, disk.bytes())?);
+    }
+    Ok(())
+}
+
+/// The input of the first client.
+pub fn replace_client(given: &mut Given, input: Vec<u8>) {
+    if let Some(clients) = given.clients.first_mut() {
+        clients.first = input;
+    }
+}
+
+/// Half of the files that the command writes have other bytes before.
+fn put_old_files(
+    alloc: Global,
+    draws: &mut Draws,
+    command: Command,
+    given: &mut Given,
+) -> Result<(), Memory> {
+    for name in command.writes().split_whitespace() {
+        if given.file(name).is_none() && draws.once_in(2) {
+            given.put(alloc, name, Vec::from_slice(alloc, OLD)?)?;
+        }
+    }
+    Ok(())
+}
+
+/// Damages one thing that the command takes, and names it: a file that it reads, what a client says,
+/// or its journal.
+pub fn damage_world(
+    alloc: Global,
+    draws: &mut Draws,
+    command: Command,
+    given: &mut Given,
+) -> Result<&'static str, Memory> {
+    let is_client = command == Command::Serve && draws.once_in(2)
+        || command == Command::Resume && draws.once_in(3);
+    if is_client {
+        damage_client(alloc, draws, given)?;
+        return Ok("CLIENT");
+    }
+    if command == Command::Resume && draws.once_in(2) {
+        damage_journal(alloc, draws, given)?;
+        return Ok("JOURNAL");
+    }
+    let place = draws.place(command.reads().split_whitespace().count());
+    let name = command.file_of(place);
+    damage(alloc, draws, given, name)?;
+    Ok(name)
+}
+
+fn damage_client(alloc: Global, draws: &mut Draws, given: &mut Given) -> Result<(), Memory> {
+    let damaged = match given.clients.first() {
+        Some(clients) => damaged_bytes(alloc, draws, &clients.first)?,
+        None => return Ok(()),
+    };
+    replace_client(given, damaged);
+    Ok(())
+}
+
+fn damage_journal(alloc: Global, draws: &mut Draws, given: &mut Given) -> Result<(), Memory> {
+    let damaged = match &given.journal {
+        Some(bytes) => damaged_bytes(alloc, draws, bytes)?,
+        None => return Ok(()),
+    };
+    given.journal = Some(damaged);
+    Ok(())
+}

@@ -1,0 +1,11 @@
+//! Runs of the desk over a cabinet, an output, doors and a disk in memory: what a run is given, and
+//! what it leaves. For tests and drawn cases.
+#![tactic(auto)]
+
+mod clients;
+mod given;
+mod run;
+
+pub use clients::{Clients, door_of};
+pub use given::{Fails, File, Given, NO_FAILS};
+pub use run::{Outside, outside_of, run_desk};
