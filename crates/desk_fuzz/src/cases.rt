@@ -70,7 +70,15 @@ fn drawn_case(alloc: Global, draws: &mut Draws) -> Result<Case, Memory> {
 fn drawn_words(alloc: Global, draws: &mut Draws, command: Command) -> Result<String, Memory> {
     let seed = draws.below(65_537);
     let units = draws.below(6).wrapping_add(1);
+    let nodes = draws.pick(&["1", "2", "200"]);
+    let searches = "--workers 1 --nodes";
     let words = match command {
+        Command::Allocate => {
+            format!(in alloc; "allocate CAP SCR CERT REPLIES {searches} {nodes}")?
+        }
+        Command::Reclear => {
+            format!(in alloc; "reclear CAP SCR CERT ASKS EXTRA REPLIES {searches} {nodes}")?
+        }
         Command::Make => format!(in alloc; "make {seed} {units} CAP SCR")?,
         Command::Trial => format!(in alloc; "trial {seed} {units}")?,
         _ => String::from_str(alloc, command.words())?,

@@ -6,12 +6,14 @@ use slot_text::Memory;
 use std::alloc::Global;
 
 /// The fields that stand in place of others.
-const FIELDS: [&str; 14] = [
+const FIELDS: [&str; 16] = [
     "",
     "0",
     "1",
     "-1",
     "9",
+    "10000",
+    "1440",
     "00",
     "2400",
     "NONE",
@@ -24,7 +26,7 @@ const FIELDS: [&str; 14] = [
 ];
 
 /// The lines that stand among others.
-const LINES: [&str; 10] = [
+const LINES: [&str; 11] = [
     "",
     "SCR",
     "SI",
@@ -32,6 +34,7 @@ const LINES: [&str; 10] = [
     "QBA100",
     "S26",
     "CAP TOT 60 0000 2355 1234567 9999",
+    "FLEX 1440",
     "NBA999 01JUN30JUN 1234567 180320 JFK0600 J",
     "C 0 0",
     "STAGE 4 INFEASIBLE",

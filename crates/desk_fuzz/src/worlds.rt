@@ -219,8 +219,8 @@ fn put_old_files(
     Ok(())
 }
 
-/// Damages one thing that the command takes, and names it: a file that it reads, what a client says,
-/// or its journal.
+/// Damages one thing that the command takes, and names it: a file that it reads, or that is away then;
+/// what a client says; or its journal.
 pub fn damage_world(
     alloc: Global,
     draws: &mut Draws,
@@ -239,7 +239,11 @@ pub fn damage_world(
     }
     let place = draws.place(command.reads().split_whitespace().count());
     let name = command.file_of(place);
-    damage(alloc, draws, given, name)?;
+    if draws.once_in(12) {
+        given.rename(alloc, name, "AWAY")?;
+    } else {
+        damage(alloc, draws, given, name)?;
+    }
     Ok(name)
 }
 

@@ -71,6 +71,16 @@ impl Given {
         Ok(())
     }
 
+    /// Gives a file another name.
+    pub fn rename(&mut self, alloc: Global, name: &str, new: &str) -> Result<(), Memory> {
+        for file in &mut self.files {
+            if file.name.as_str() == name {
+                file.name = String::from_str(alloc, new)?;
+            }
+        }
+        Ok(())
+    }
+
     /// The bytes under a name.
     pub fn file(&self, name: &str) -> Option<&[u8]> {
         for file in &self.files {
