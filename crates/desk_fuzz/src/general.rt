@@ -107,7 +107,7 @@ fn is_line_of(given: &Given, name: &str, said: &str) -> bool {
 
 fn is_cabinet_line(command: Command, given: &Given, name: &str, said: &str) -> bool {
     let failed = match given.fails.cabinet {
-        Some(failure) => command.file_of(failure.call as usize),
+        Some(failure) => command.file_of(usize::try_from(failure.call).unwrap_or(usize::MAX)),
         None => "",
     };
     match word(said.lines().next().unwrap_or(""), 2) {

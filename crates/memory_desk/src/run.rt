@@ -24,9 +24,6 @@ const MOST_STORED: usize = 65_297;
 /// The most calls of a disk.
 const MOST_CALLS: usize = 2_000;
 
-/// The most doors of a desk.
-const MOST_DOORS: usize = 16;
-
 /// What stands outside of a desk, and the status with which it ended: 0 before it was run.
 #[derive(Drop)]
 pub struct Outside {
@@ -116,7 +113,7 @@ fn call_desk<R: Threads + Wait + Sync, G: Gate>(
     outside: &mut Outside,
     gate: &G,
 ) {
-    if outside.doors.len() > MOST_DOORS {
+    if outside.doors.len() > 16 {
         return;
     }
     outside.status = desk(
