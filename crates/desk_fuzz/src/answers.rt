@@ -1,14 +1,14 @@
 //! What holds of the work of the commands that answer asks: replies come one after the other, a
 //! record is one history, what is held fits, and a stage for those that wait is found valid.
 
-use crate::commands::Command;
+use crate::laws::{first_of, law};
 use crate::plain::{Plain, is_on, read_plain};
 use crate::records::{answers_to, history_of, own_lines, reply_lines};
-use crate::seasons::queries_text;
-use crate::texts::{begins, count_of, file_text, first_of, law, number, text_of, word};
 use crate::works::{fit_replies, said_of};
-use crate::worlds::{copied, keep_writes};
 use desk_links::MemoryDoor;
+use drawn_worlds::{
+    Command, begins, copied, count_of, file_text, keep_writes, number, queries_text, text_of, word,
+};
 use memory_desk::{Given, Outside};
 use slot_text::Memory;
 use std::alloc::Global;
@@ -127,8 +127,8 @@ fn sent_text(alloc: Global, door: &MemoryDoor) -> Result<String, Memory> {
     Ok(text)
 }
 
-/// Clients were served with a journal: the record follows the pairs that were found, and a desk that
-/// opens the journal then finds these and each entry; where the disk failed maybe one more.
+/// Clients were served with a journal: the record follows the pairs that were found, and a desk
+/// that opens the journal then finds these and each entry; where the disk failed maybe one more.
 pub fn resumed<R: Threads + Wait + Sync>(
     rt: &R,
     alloc: Global,
@@ -199,8 +199,8 @@ fn follows_kept<R: Threads + Wait + Sync>(
     Ok(answers.ends_with(history.due.as_str()))
 }
 
-/// A waiting list was cleared: its stage is found valid, each line that waits has one reply, and the
-/// book and what was allotted beside it fit together.
+/// A waiting list was cleared: its stage is found valid, each line that waits has one reply, and
+/// the book and what was allotted beside it fit together.
 pub fn recleared<R: Threads + Wait + Sync>(
     rt: &R,
     alloc: Global,
@@ -242,8 +242,8 @@ fn fit_together<R: Threads + Wait + Sync>(
     fit_replies(alloc, given, &both)
 }
 
-/// Usage was watched: the numbers of series, and of those with precedence, are those of a count date
-/// by date.
+/// Usage was watched: the numbers of series, and of those with precedence, are those of a count
+/// date by date.
 pub fn watched<R: Threads + Wait + Sync>(
     rt: &R,
     alloc: Global,

@@ -1,14 +1,12 @@
 //! One case: a command on a drawn world, first where no call fails, and then where one may.
 
 use crate::answers::{amended, are_front_of, recleared, resumed, served, watched};
-use crate::commands::{COMMANDS, Command};
 use crate::compared::broken_beside;
-use crate::draws::Draws;
 use crate::general::broken_law;
-use crate::texts::{first_of, law};
+use crate::laws::{first_of, law};
 use crate::works::{allotted, checked, inspected, made, reported, tried};
-use crate::worlds::{damage_world, whole_world};
 use desk_outside::Failure;
+use drawn_worlds::{COMMANDS, Command, Draws, damage_world, whole_world};
 use memory_desk::{Fails, Given, NO_FAILS, Outside, run_desk};
 use slot_text::Memory;
 use std::alloc::Global;

@@ -1,8 +1,8 @@
 //! A run of which calls fail, beside the same run of which none does.
 
-use crate::commands::Command;
-use crate::texts::{are_same, begins, first_of, law, text_of, word};
+use crate::laws::{first_of, law};
 use desk_outside::{Cabinet, Sink};
+use drawn_worlds::{Command, are_same, begins, text_of, word};
 use memory_desk::{Given, Outside};
 use slot_text::Memory;
 use std::alloc::Global;

@@ -1,12 +1,12 @@
 //! What holds of each run of the desk, whatever it was given: its status is one of the command's,
-//! what was printed is of that status, a fault is answered only where a call failed, and no file but
-//! those that the command writes has other bytes than before.
+//! what was printed is of that status, a fault is answered only where a call failed, and no file
+//! but those that the command writes has other bytes than before.
 
-use crate::commands::{Command, has_name};
-use crate::texts::{are_same, first_of, law, number, text_of, word};
+use crate::laws::{first_of, law};
 use desk_disk::Disk;
 use desk_links::Door;
 use desk_outside::{Cabinet, Sink};
+use drawn_worlds::{Command, are_same, has_name, number, text_of, word};
 use memory_desk::{Given, Outside};
 use slot_text::Memory;
 use std::alloc::Global;

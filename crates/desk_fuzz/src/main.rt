@@ -10,22 +10,16 @@
 
 mod answers;
 mod cases;
-mod commands;
 mod compared;
-mod damage;
-mod draws;
 mod general;
-mod lines;
+mod laws;
 mod made;
 mod plain;
 mod records;
-mod seasons;
-mod texts;
 mod works;
-mod worlds;
 
 use cases::{STATUSES, broken_case};
-use commands::{COMMANDS, Command};
+use drawn_worlds::{COMMANDS, Command};
 use std::alloc::Global;
 use std::env;
 use std::io::Print;

@@ -1,7 +1,7 @@
 //! Printed lines, read in a plain way: on which dates they have movements, and at what minutes. And
 //! a list of movements, counted window by window.
 
-use crate::texts::{field, word};
+use drawn_worlds::{field, word};
 use slot_text::Memory;
 use std::alloc::Global;
 

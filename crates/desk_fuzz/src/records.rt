@@ -1,9 +1,6 @@
 //! Records: their asks and answers, as messages of one ask each, so that `amend` can be asked anew.
 
-use crate::commands::Command;
-use crate::seasons::HEAD;
-use crate::texts::{file_text, number};
-use crate::worlds::copied;
+use drawn_worlds::{Command, HEAD, copied, file_text, number};
 use memory_desk::{Given, run_desk};
 use slot_text::Memory;
 use std::alloc::Global;

@@ -1,14 +1,15 @@
 //! What holds of the work of the commands that allot, check, tell and make: what was allotted is
-//! within the limits, each unit has one reply, certificates are found valid, and what is told counts
-//! the same units.
+//! within the limits, each unit has one reply, certificates are found valid, and what is told
+//! counts the same units.
 
-use crate::commands::Command;
+use crate::laws::{first_of, law};
 use crate::made::{made_capacity, made_requests};
 use crate::plain::{fits, movements_of};
 use crate::records::answers_to;
-use crate::seasons::queries_text;
-use crate::texts::{count_of, file_text, first_of, held_lines, law, number, text_of, word};
-use crate::worlds::{copied, keep_writes};
+use drawn_worlds::{
+    Command, copied, count_of, file_text, held_lines, keep_writes, number, queries_text, text_of,
+    word,
+};
 use memory_desk::{Given, Outside, run_desk};
 use slot_text::Memory;
 use std::alloc::Global;
@@ -128,8 +129,8 @@ pub fn inspected<R: Threads + Wait + Sync>(
     Ok(law(is_same, "inspect beside allocate"))
 }
 
-/// A certificate was reported on: the numbers that are printed are those of the units of the report,
-/// and in a stage that is settled nothing cheaper fits.
+/// A certificate was reported on: the numbers that are printed are those of the units of the
+/// report, and in a stage that is settled nothing cheaper fits.
 pub fn reported(alloc: Global, ran: &Outside) -> Result<&'static str, Memory> {
     let said = text_of(alloc, ran.sink.bytes())?;
     let report = file_text(alloc, ran.cabinet.file("REPORT"))?;

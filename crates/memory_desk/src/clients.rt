@@ -63,8 +63,8 @@ fn push_link(
     Ok(())
 }
 
-/// A link with this input, which is handed out in pieces of so many bytes, or whole where that is 0,
-/// and one call of which is to fail.
+/// A link with this input, which is handed out in pieces of so many bytes, or whole where that is
+/// 0, and one call of which is to fail.
 fn link_of(
     alloc: Global,
     input: &[u8],

@@ -33,8 +33,8 @@ pub const NO_FAILS: Fails = Fails {
 };
 
 /// The files of a run, with room for so many bytes in each; the clients of each door, whose input
-/// comes in pieces of so many bytes, or whole where that is 0; the bytes of a disk, if there is one;
-/// and the calls that fail.
+/// comes in pieces of so many bytes, or whole where that is 0; the bytes of a disk, if there is
+/// one; and the calls that fail.
 #[derive(Drop)]
 pub struct Given {
     pub files: Vec<File>,

@@ -81,13 +81,3 @@ fn held_line(line: &str) -> Option<&str> {
         None
     }
 }
-
-/// The first law that does not hold, of two: none is an empty text.
-pub fn first_of(one: &'static str, other: &'static str) -> &'static str {
-    if one.is_empty() { other } else { one }
-}
-
-/// A law that holds, or its name.
-pub fn law(holds: bool, name: &'static str) -> &'static str {
-    if holds { "" } else { name }
-}

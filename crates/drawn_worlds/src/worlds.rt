@@ -219,8 +219,8 @@ fn put_old_files(
     Ok(())
 }
 
-/// Damages one thing that the command takes, and names it: a file that it reads, or that is away then;
-/// what a client says; or its journal.
+/// Damages one thing that the command takes, and names it: a file that it reads, or that is away
+/// then; what a client says; or its journal.
 pub fn damage_world(
     alloc: Global,
     draws: &mut Draws,

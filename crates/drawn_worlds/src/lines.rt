@@ -38,8 +38,8 @@ fn digit_of(day: u64) -> &'static str {
     }
 }
 
-/// The series of this number of a case: the same each time. Each third one lasts for all of June, so
-/// that it has five dates of a weekday.
+/// The series of this number of a case: the same each time. Each third one lasts for all of June,
+/// so that it has five dates of a weekday.
 pub fn series_of(case: u64, number: u64) -> Series {
     let mut draws = Draws::new(case, number.wrapping_add(1000));
     let is_long = draws.once_in(3);
