@@ -11,8 +11,34 @@ pub const HEAD: &str = "SCR\nS25\n20NOV\nABC\n";
 /// How many series a case draws its lines from.
 pub const MOST_SERIES: u64 = 12;
 
+/// Three windows for one movement each: of the turnarounds of a knot each two share one, so that
+/// one node does not settle them.
+const KNOT_CAPACITY: &str = "AIRPORT ABC\nSEASON S25\nSTEP 5\nFLEX 0\nGROUND 40\nREFUSE 10\n\
+    CAP TOT 10 0600 0600 1234567 1\nCAP TOT 10 0700 0700 1234567 1\n\
+    CAP TOT 10 0800 0800 1234567 1\n";
+
+/// The turnarounds of a knot.
+const KNOT: &str = "NBA200 BA700 01JUN01JUN 7 180320 JFK0600 0700JFK JJ\n\
+    NBA201 BA701 01JUN01JUN 7 180320 JFK0700 0800JFK JJ\n\
+    NBA202 BA702 01JUN01JUN 7 180320 JFK0600 0800JFK JJ\n";
+
+/// The capacity file and the requests of a season.
+pub fn season_texts(
+    alloc: Global,
+    draws: &mut Draws,
+    case: u64,
+) -> Result<(String, String), Memory> {
+    let mut requests = requests_text(alloc, draws, case)?;
+    if draws.once_in(8) {
+        requests.push_str(KNOT)?;
+        return Ok((String::from_str(alloc, KNOT_CAPACITY)?, requests));
+    }
+    let capacity = capacity_text(alloc, draws)?;
+    Ok((capacity, requests))
+}
+
 /// A capacity file of at most three lines.
-pub fn capacity_text(alloc: Global, draws: &mut Draws) -> Result<String, Memory> {
+fn capacity_text(alloc: Global, draws: &mut Draws) -> Result<String, Memory> {
     let step = draws.pick(&[
         "STEP 5\nFLEX 30",
         "STEP 5\nFLEX 0",
@@ -44,7 +70,7 @@ fn put_rule(alloc: Global, draws: &mut Draws, text: &mut String) -> Result<(), M
 }
 
 /// The requests of a season: one message, or two, of the first series of the case.
-pub fn requests_text(alloc: Global, draws: &mut Draws, case: u64) -> Result<String, Memory> {
+fn requests_text(alloc: Global, draws: &mut Draws, case: u64) -> Result<String, Memory> {
     let mut text = String::from_str(alloc, HEAD)?;
     for number in 0..draws.below(7) {
         if draws.once_in(12) {
@@ -140,7 +166,7 @@ pub fn queries_text(alloc: Global) -> Result<String, Memory> {
         let query = query_text(alloc, number)?;
         text.push_str(&query)?;
     }
-    text.push('\n')?;
+    text.push_str("QBA200\nQBA201\nQBA202\n\n")?;
     Ok(text)
 }
 

@@ -4,7 +4,7 @@
 use crate::commands::{Command, has_name};
 use crate::damage::{damage, damaged_bytes};
 use crate::draws::Draws;
-use crate::seasons::{capacity_text, message_text, operated_text, requests_text};
+use crate::seasons::{message_text, operated_text, season_texts};
 use crate::texts::{file_text, held_lines};
 use memory_desk::{Clients, Given, Outside, run_desk};
 use slot_text::Memory;
@@ -28,9 +28,8 @@ pub fn whole_world<R: Threads + Wait + Sync>(
     command: Command,
 ) -> Result<Given, Memory> {
     let mut given = Given::new(alloc, ROOM);
-    let capacity = capacity_text(alloc, draws)?;
+    let (capacity, requests) = season_texts(alloc, draws, case)?;
     given.put(alloc, "CAP", capacity.into_bytes())?;
-    let requests = requests_text(alloc, draws, case)?;
     given.put(alloc, "SCR", requests.into_bytes())?;
     put_made_files(rt, alloc, draws, case, command, &mut given)?;
     put_old_files(alloc, draws, command, &mut given)?;
