@@ -165,7 +165,8 @@ fn broken_calm<R: Threads + Wait + Sync>(
     if case.refused {
         return Ok(law(ran.status == 2, "words that are no command's"));
     }
-    let whole = !case.damaged.is_empty() || case.command.ends(ran.status);
+    let is_done = case.command.ends(ran.status) || ran.status == 15;
+    let whole = !case.damaged.is_empty() || is_done;
     let work = broken_work(rt, alloc, case, given, ran)?;
     Ok(first_of(law(whole, "a refused world that is whole"), work))
 }

@@ -22,12 +22,24 @@ const KNOT: &str = "NBA200 BA700 01JUN01JUN 7 180320 JFK0600 0700JFK JJ\n\
     NBA201 BA701 01JUN01JUN 7 180320 JFK0700 0800JFK JJ\n\
     NBA202 BA702 01JUN01JUN 7 180320 JFK0600 0800JFK JJ\n";
 
+/// A season behind which none follows.
+const LAST_CAPACITY: &str = "AIRPORT ABC\nSEASON S99\nSTEP 5\nFLEX 60\nGROUND 40\nREFUSE NONE\n\
+    CAP ARR 60 0600 0600 1234567 1\n";
+
+/// The requests of that season.
+const LAST_REQUESTS: &str = "SCR\nS99\n20NOV\nABC\n\
+    FBA001 29MAR19APR 7 180320 JFK0610 J\nNBA002 29MAR 7 180320 JFK0630 J\n";
+
 /// The capacity file and the requests of a season.
 pub fn season_texts(
     alloc: Global,
     draws: &mut Draws,
     case: u64,
 ) -> Result<(String, String), Memory> {
+    if draws.once_in(40) {
+        let capacity = String::from_str(alloc, LAST_CAPACITY)?;
+        return Ok((capacity, String::from_str(alloc, LAST_REQUESTS)?));
+    }
     let mut requests = requests_text(alloc, draws, case)?;
     if draws.once_in(8) {
         requests.push_str(KNOT)?;

@@ -240,10 +240,21 @@ pub fn damage_world(
     let name = command.file_of(place);
     if draws.once_in(12) {
         given.rename(alloc, name, "AWAY")?;
+    } else if name == "CAP" && draws.once_in(6) {
+        put_more_lines(alloc, given)?;
     } else {
         damage(alloc, draws, given, name)?;
     }
     Ok(name)
+}
+
+/// One capacity line more than there may be, or more.
+fn put_more_lines(alloc: Global, given: &mut Given) -> Result<(), Memory> {
+    let mut text = file_text(alloc, given.file("CAP"))?;
+    for _ in 0..65 {
+        text.push_str("CAP TOT 60 0600 0600 1234567 9\n")?;
+    }
+    given.put(alloc, "CAP", text.into_bytes())
 }
 
 fn damage_client(alloc: Global, draws: &mut Draws, given: &mut Given) -> Result<(), Memory> {
