@@ -222,6 +222,7 @@ holds REPLIES (none)";
 const WORDS: &str = "\
 words erase
 says 2 WORDS;
+sink 0:3|6 WOR
 words allocate CAP
 says 2 WORDS;
 words allocate CAP SCR CERT REPLIES MORE
@@ -289,6 +290,8 @@ cabinet 1:7|5 CABINET SCR WRITE;
 holds CAP AIRPORT ABC;*CAP ARR 60 0600 2200 1234567 5;
 holds SCR SCR;S25
 cabinet 2|0 
+sink 0|6 
+holds SCR SCR;*JJ;
 words make 1 4 BOTH BOTH
 says 0 
 holds BOTH SCR;*JJ;

@@ -153,7 +153,8 @@ says 5 CABINET SCR LARGE;
 file SCR {0 A}
 says 5 CABINET CERT MISSING;
 file CAP A{524288 AAAAAAAA}
-says 5 CABINET CAP LARGE;";
+says 5 CABINET CAP LARGE;
+sink 0:6|6 CABINE";
 
 #[test]
 fn checks_of_one_window(rt: HostRuntime) -> Result<(), Fail> {

@@ -8,6 +8,8 @@ mod amend_rows;
 #[cfg(test)]
 mod check_rows;
 #[cfg(test)]
+mod damage_rows;
+#[cfg(test)]
 mod desk_calls;
 #[cfg(test)]
 mod play;

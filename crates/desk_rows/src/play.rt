@@ -283,7 +283,7 @@ fn run_desk<R: Threads + Wait + Sync>(
 
 /// A cabinet with the files of a run.
 fn filled_cabinet(alloc: Global, files: &[File], run: &Run<'_>) -> Result<MemoryCabinet, Fail> {
-    let mut cabinet = new_cabinet(alloc, room_for(files), run.cabinet)?;
+    let mut cabinet = new_cabinet(alloc, room_for(files, run), run.cabinet)?;
     for file in files {
         let text = edited(alloc, file.text.as_str(), run.old, run.new)?;
         let bytes = spelled_out(alloc, text.as_str())?;
@@ -295,7 +295,10 @@ fn filled_cabinet(alloc: Global, files: &[File], run: &Run<'_>) -> Result<Memory
 }
 
 /// Room for each file of a run: more where a text repeats a part.
-fn room_for(files: &[File]) -> usize {
+fn room_for(files: &[File], run: &Run<'_>) -> usize {
+    if run.new.contains('{') {
+        return 4_300_000;
+    }
     let mut room = 300_000;
     for file in files {
         if file.text.as_str().contains('{') {

@@ -606,3 +606,32 @@ fn the_journal_stands_where_the_record_fails(rt: HostRuntime) -> Result<(), Fail
     assert!(rt; stands_behind(&rt, alloc, &mut files, None, fails, "6 ")?);
     Ok(())
 }
+
+/// Each read fails: nothing of the journal is asked, and no client is met.
+#[test]
+fn each_read_fails(rt: HostRuntime) -> Result<(), Fail> {
+    let alloc = rt.alloc();
+    let files = served_cabinet(&rt, alloc)?;
+    for (call, due) in ["CAP", "SCR", "CERT"].iter().enumerate() {
+        assert!(rt;
+            is_unread(&rt, alloc, &files, call as u64, *due)?,
+            "call {call}"
+        );
+    }
+    Ok(())
+}
+
+/// Whether the desk says that this read failed, and leaves an empty file and a silent link.
+fn is_unread<R: Threads + Wait + Sync>(
+    rt: &R,
+    alloc: Global,
+    files: &MemoryCabinet,
+    call: u64,
+    name: &str,
+) -> Result<bool, Fail> {
+    let mut cabinet = copied(alloc, files, Some(Failure::at(call)))?;
+    let none = Vec::new(alloc);
+    let ran = run(rt, alloc, &mut cabinet, None, b"", none, &[ASKS], None)?;
+    let due = format!(in alloc; "5 CABINET {name} READ;")?;
+    Ok(ran.said.as_str() == due.as_str() && ran.bytes.is_empty() && ran.sent.is_empty())
+}

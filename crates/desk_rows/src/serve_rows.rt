@@ -382,3 +382,45 @@ fn has_entered(
         said == "0 ENTRIES 0;LINKS 1;" && record.as_str() == ""
     })
 }
+
+// Two messages in pieces of one byte. Where a take of the second one fails, the first has its reply.
+const TWO_MESSAGES: &str = "SCR;S25;20NOV;ABC;NBA002 30MAR25OCT 1234567 180320 JFK0620 J;;\
+    SCR;S25;20NOV;ABC;QBA002;;";
+
+const FIRST_REPLY: &str = "SCR;S25;20NOV;ABC;KBA002 30MAR25OCT 1234567 180320 JFK0620 J;;";
+
+#[test]
+fn a_reply_is_sent_before_more_is_taken(rt: HostRuntime) -> Result<(), Fail> {
+    let alloc = rt.alloc();
+    let mut cabinet = served_cabinet(&rt, alloc)?;
+    let first = spelled_out(
+        alloc,
+        "SCR;S25;20NOV;ABC;NBA002 30MAR25OCT 1234567 180320 JFK0620 J;;",
+    )?;
+    let all = spelled_out(alloc, TWO_MESSAGES)?;
+    // behind the takes of the first message comes one put
+    for call in first.len() + 1..all.len() + 1 {
+        assert!(rt;
+            has_first_reply(&rt, alloc, &mut cabinet, call)?,
+            "call {call}"
+        );
+    }
+    Ok(())
+}
+
+/// Whether the first message has its reply, and the second one no entry, where this call fails.
+fn has_first_reply<R: Threads + Wait + Sync>(
+    rt: &R,
+    alloc: Global,
+    cabinet: &mut MemoryCabinet,
+    call: usize,
+) -> Result<bool, Fail> {
+    let mut doors = Vec::new(alloc);
+    doors.push(door_of(alloc, TWO_MESSAGES, 1, Some(Failure::at(call as u64)), None)?)?;
+    let said = call_desk(rt, alloc, WORDS, cabinet, None, &mut doors, &RealGate)?;
+    let sent = match first_link(doors.as_slice(), 0) {
+        Some(link) => folded(alloc, link.sent())?,
+        None => String::new(alloc),
+    };
+    Ok(said.as_str() == "0 ENTRIES 1;LINKS 1;" && sent.as_str() == FIRST_REPLY)
+}
