@@ -206,9 +206,20 @@ const CAP: &str = "AIRPORT ABC;SEASON S25;STEP 5;FLEX 60;GROUND 40;REFUSE NONE;\
 
 const SCR: &str = "SCR;S25;20NOV;ABC;FBA001 30MAR25OCT 1234567 180320 JFK0610 J;";
 
-const TWO_ENTRIES: &str = "ENTRY 1 CALLER 0;NBA002 30MAR25OCT 1234567 180320 JFK0620 J;\
-    KBA002 30MAR25OCT 1234567 180320 JFK0620 J;ENTRY 2 CALLER 0;QBA002;\
-    HBA002 30MAR25OCT 1234567 180320 JFK0620 J;";
+const SIX_ASKS: &str = "SCR;S25;20NOV;ABC;NBA002 30MAR25OCT 1234567 180320 JFK0620 J;\
+    NBA003 30MAR25OCT 1234567 180320 JFK0630 J;ABA003 30MAR25OCT 1234567 180320 JFK0700 J;\
+    DBA002 01JUN30JUN 1234567 180320 JFK0620 J;QBA002;ZBA009 30MAR25OCT 1234567 180320 JFK0700 J;;";
+
+const SIX_ENTRIES: &str = "ENTRY 1 CALLER 0;NBA002 30MAR25OCT 1234567 180320 JFK0620 J;\
+    KBA002 30MAR25OCT 1234567 180320 JFK0620 J;ENTRY 2 CALLER 0;\
+    NBA003 30MAR25OCT 1234567 180320 JFK0630 J;UBA003 30MAR25OCT 1234567 180320 JFK0630 J;\
+    OBA003 30MAR25OCT 1234567 180320 JFK0700 J;ENTRY 3 CALLER 0;\
+    ABA003 30MAR25OCT 1234567 180320 JFK0700 J;KBA003 30MAR25OCT 1234567 180320 JFK0700 J;\
+    ENTRY 4 CALLER 0;DBA002 01JUN30JUN 1234567 180320 JFK0620 J;\
+    XBA002 01JUN30JUN 1234567 180320 JFK0620 J;ENTRY 5 CALLER 0;QBA002;\
+    HBA002 30MAR31MAY 1234567 180320 JFK0620 J;HBA002 01JUL25OCT 1234567 180320 JFK0620 J;\
+    ENTRY 6 CALLER 0;ZBA009 30MAR25OCT 1234567 180320 JFK0700 J;\
+    WBA009 30MAR25OCT 1234567 180320 JFK0700 J;";
 
 const WORDS: &str = "serve CAP SCR CERT RECORD";
 
@@ -340,7 +351,7 @@ fn sent_length(doors: &[MemoryDoor], door: usize) -> Option<usize> {
 fn each_call_of_a_link_fails(rt: HostRuntime) -> Result<(), Fail> {
     let alloc = rt.alloc();
     let mut cabinet = served_cabinet(&rt, alloc)?;
-    let takes = spelled_out(alloc, TWO_ASKS)?.len();
+    let takes = spelled_out(alloc, SIX_ASKS)?.len();
     for call in 0..takes + 3 {
         assert!(rt;
             goes_on(&rt, alloc, &mut cabinet, takes, call)?,
@@ -359,7 +370,7 @@ fn goes_on<R: Threads + Wait + Sync>(
     call: usize,
 ) -> Result<bool, Fail> {
     let mut doors = Vec::new(alloc);
-    doors.push(door_of(alloc, TWO_ASKS, 1, Some(Failure::at(call as u64)), None)?)?;
+    doors.push(door_of(alloc, SIX_ASKS, 1, Some(Failure::at(call as u64)), None)?)?;
     let said = call_desk(rt, alloc, WORDS, cabinet, None, &mut doors, &RealGate)?;
     let sent = sent_length(doors.as_slice(), 0);
     Ok(
@@ -368,7 +379,7 @@ fn goes_on<R: Threads + Wait + Sync>(
     )
 }
 
-/// Whether the desk said and recorded that both asks were entered, or that none was.
+/// Whether the desk said and recorded that all asks were entered, or that none was.
 fn has_entered(
     alloc: Global,
     cabinet: &MemoryCabinet,
@@ -377,7 +388,7 @@ fn has_entered(
 ) -> Result<bool, Fail> {
     let record = folded(alloc, cabinet.file("RECORD").unwrap_or(b"none"))?;
     Ok(if entered {
-        said == "0 ENTRIES 2;LINKS 1;" && record.as_str() == TWO_ENTRIES
+        said == "0 ENTRIES 6;LINKS 1;" && record.as_str() == SIX_ENTRIES
     } else {
         said == "0 ENTRIES 0;LINKS 1;" && record.as_str() == ""
     })
