@@ -6,11 +6,9 @@ use Rattle.season_days.specs.declared.declaration.Declaration.{Declaration}
 use Rattle.capacity_file.specs.Declares.{IsCapacityFile}
 use Rattle.capacity_file.specs.Faults.{HasCapacityFault}
 use Rattle.capacity_file.specs.declared.fault.CapFault.{CapFault}
-use Rattle.capacity_file.specs.declared.fault.CapFault.TheVariants as capacity_fault
 use Rattle.scr_reader.specs.Messages.{ReadsAll, HasScrFault}
 use Rattle.scr_reader.specs.declared.message.Message.{Message}
 use Rattle.scr_reader.specs.declared.fault.ScrFault.{ScrFault}
-use Rattle.scr_reader.specs.declared.fault.ScrFault.TheVariants as message_fault
 use Rattle.series_model.specs.Submissions.{SubmissionView, submission_answer}
 use Rattle.series_model.specs.declared.fault.ModelFault.{ModelFault}
 use Rattle.series_model.specs.declared.fault.ModelFault.TheVariants as model_fault

@@ -1,5 +1,5 @@
 -- Pieces of a text, appended one after another, and how many movements a unit has.
-use Rattle.std.proofs.Common.{◌≡◌, ◌≤◌, ◌*◌, ℕ, zero, suc, Bool, true, false, List, [], ◌∷◌, ◌++◌, length, append_assoc, ◌∙◌, ap, arith, Option, None, Some, ◌+◌}
+use Rattle.std.proofs.Common.{◌≡◌, ◌≤◌, ◌*◌, ℕ, Bool, true, false, List, [], ◌∷◌, ◌++◌, length, append_assoc, ◌∙◌, ap, arith, Option, None, Some, ◌+◌}
 use Rattle.std.specs.Prelude.{nat_lt, if◌then◌else◌}
 use Rattle.std.specs.List.{flat_map}
 use Rattle.std.specs.Fmt.{decimal}
@@ -12,7 +12,7 @@ use Rattle.season_days.specs.declared.declaration.Kind.TheVariants.{Arr, Dep}
 use Rattle.scr_reader.specs.declared.line.Line.{Line}
 use Rattle.scr_reader.specs.declared.line.Stop.{Stop}
 use Rattle.capacity_windows.specs.declared.movement.Movement.{Movement}
-use Rattle.series_model.specs.Movements.{listed, movement_after, stop_on, movements_on, movements_at}
+use Rattle.series_model.specs.Movements.{movement_after, stop_on, movements_on, movements_at}
 use Rattle.series_model.specs.Options.{line_times}
 
 -- a piece, and what comes behind it

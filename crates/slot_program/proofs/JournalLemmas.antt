@@ -6,10 +6,8 @@ use Rattle.std.proofs.lemmas.Option.{same_Some}
 use Rattle.season_days.specs.Term.{Term}
 use Rattle.desk_outside.specs.Cause.{Rose}
 use Rattle.desk_outside.specs.Files.{Files}
-use Rattle.desk_disk.specs.Stops.{DiskPassage, DiskStart, MayRead, Agrees}
 use Rattle.desk_disk.specs.Disks.{DiskView, ToldDisk}
 use Rattle.amend_journal.specs.Standing.{StandsFor, IsOther, IsBadSlot}
-use Rattle.amend_journal.specs.Durable.{IsLaterDisk, told_start}
 use Rattle.amend_journal.specs.Kept.{asks_of}
 use Rattle.amend_journal.specs.declared.asked.Asked.{Asked}
 use Rattle.holding_book.specs.Starts.{start_book}

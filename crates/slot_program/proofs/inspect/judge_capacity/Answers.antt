@@ -1,4 +1,3 @@
-use Rattle.slot_program.specs.Jobs.{name_at}
 use Rattle.slot_program.proofs.CauseLemmas.{accepts_capacity_cause}
 use Rattle.slot_program.proofs.inspect.judge_capacity.Goals as goal
 

@@ -1,5 +1,3 @@
-use Rattle.std.specs.Prelude.{◌⊎◌}
-use Rattle.std.proofs.Common.{◌≡◌, Err, List, ℕ, inl, inr}
 use Rattle.series_model.specs.Submissions.{submission_answer}
 use Rattle.series_model.specs.declared.fault.ModelFault.TheVariants.{Memory as no_model}
 use Rattle.slot_program.proofs.JudgementLemmas.{answered_err}

@@ -1,4 +1,4 @@
-use Rattle.std.proofs.Common.{◌≡◌, ◌≤◌, ◌*◌, ℕ, List, length, ap, ◌∙◌, arith}
+use Rattle.std.proofs.Common.{◌≡◌, ◌≤◌, ◌*◌, List, length, ap, ◌∙◌, arith}
 use Rattle.capacity_windows.specs.declared.movement.Movement.{Movement}
 use Rattle.series_model.specs.Movements.{movements_of}
 use Rattle.slot_program.specs.Inspections.{movement_count, unit_dates}

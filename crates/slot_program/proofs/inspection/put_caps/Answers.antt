@@ -1,4 +1,4 @@
-use Rattle.std.proofs.Common.{ℕ, ◌++◌, codes, length, refl}
+use Rattle.std.proofs.Common.{◌++◌, codes, refl}
 use Rattle.std.specs.Fmt.{decimal}
 use Rattle.slot_program.proofs.InspectionLemmas.{step_number}
 use Rattle.slot_program.proofs.inspection.put_caps.Goals as goal

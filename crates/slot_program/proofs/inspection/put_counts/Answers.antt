@@ -1,5 +1,5 @@
 use Rattle.std.proofs.Common.{◌≡◌, ◌++◌, ◌∙◌, ℕ, List, ap, length}
-use Rattle.season_days.specs.Capacity.{Capacity, capacity_of, declared_resources}
+use Rattle.season_days.specs.Capacity.{capacity_of, declared_resources}
 use Rattle.season_days.specs.declared.declaration.Declaration.{Declaration}
 use Rattle.season_days.specs.declared.declaration.Rule.{Rule}
 use Rattle.scr_reader.specs.declared.message.Message.{Message}

@@ -1,4 +1,4 @@
-use Rattle.std.proofs.Common.{ℕ, ◌++◌, codes, length, refl}
+use Rattle.std.proofs.Common.{◌++◌, codes}
 use Rattle.std.specs.Fmt.{decimal}
 use Rattle.slot_program.specs.Inspections.{date_total, movement_total}
 use Rattle.slot_program.proofs.InspectionLemmas.{step_number}

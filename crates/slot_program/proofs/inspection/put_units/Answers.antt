@@ -1,4 +1,4 @@
-use Rattle.std.proofs.Common.{ℕ, ◌++◌, codes, length, refl}
+use Rattle.std.proofs.Common.{◌++◌, codes, length, refl}
 use Rattle.std.specs.Fmt.{decimal}
 use Rattle.series_model.specs.declared.group.Group.TheVariants.{F, R, L, B, N}
 use Rattle.slot_program.specs.Inspections.{group_count}

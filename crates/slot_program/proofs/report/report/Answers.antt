@@ -1,4 +1,4 @@
-use Rattle.std.proofs.Common.{[], ◌∷◌, ℕ, List, refl}
+use Rattle.std.proofs.Common.{[], ◌∷◌, List, refl}
 use Rattle.std.proofs.lemmas.Result.{err_from_is_err_and}
 use Rattle.command_words.specs.declared.job.Job.TheVariants.{Report}
 use Rattle.command_words.specs.Words.{Word}

@@ -1,4 +1,4 @@
-use Rattle.std.proofs.Common.{rules, ◌≡◌, ◌≤◌, ◌<◌, ◌+◌, ℕ, Bool, true, false, List, [], Some, length, map, refl, sym, ap, subst, ◌∙◌, arith}
+use Rattle.std.proofs.Common.{rules, ◌≡◌, ◌≤◌, ◌<◌, ◌+◌, ℕ, Bool, false, List, Some, length, map, refl, sym, ap, subst, ◌∙◌, arith}
 use Rattle.std.specs.Prelude.{All, is_some, option_map}
 use Rattle.std.proofs.lemmas.List.{length-map}
 use Rattle.std.proofs.lemmas.Result.{err_from_is_err_and}
@@ -25,7 +25,7 @@ use Rattle.slot_program.specs.Outside.{outside_change}
 use Rattle.session_desk.specs.declared.worker.DoorWork.{DoorWork}
 use Rattle.slot_program.specs.Journals.{KeepsAsks}
 use Rattle.slot_program.specs.Opened.{IsOpened, DiskStops}
-use Rattle.slot_program.specs.Services.{IsWorker, AreWorkers, some_ended, is_memory_end, is_full_end, links_total}
+use Rattle.slot_program.specs.Services.{IsWorker, AreWorkers, some_ended, is_memory_end, links_total}
 use Rattle.slot_program.specs.Resumed.{resumed_status, resumed_lines}
 use Rattle.slot_program.proofs.AmendLemmas.{start_few}
 use Rattle.slot_program.proofs.ServiceLemmas.{CanAskEntry, fits_throughout}
