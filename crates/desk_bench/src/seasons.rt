@@ -1,6 +1,7 @@
 //! Whole runs of seasons: of files, and of generated seasons.
 
 ghost use Rattle.cert_format.specs.Printable.{IsPrintable};
+ghost use Rattle.wasg_stages.specs.Valid.{IsValid};
 
 use crate::report::{Size, print_row, step};
 use crate::texts::{MOST_BYTES, submission_of};
@@ -9,6 +10,7 @@ use cert_format::{Certificate, StageCert};
 use choice_problem::Node;
 use desk_outside::{Cabinet, RealCabinet};
 use season_maker::make_season;
+use season_report::report_text;
 use season_run::run_season;
 use series_model::Submission;
 use slot_text::Memory;
@@ -118,7 +120,8 @@ fn run_and_check<R: Threads + Sync + Print + Clock>(
     judge(rt, alloc, size, name, season, &cert)
 }
 
-// Prints the stages of a season, and the verdict on its certificate.
+// Prints the stages of a season, and the verdict on its certificate; of a valid one the bytes of its
+// report.
 fn judge<R: Print + Clock>(
     rt: &R,
     alloc: Global,
@@ -131,9 +134,30 @@ fn judge<R: Print + Clock>(
 {
     print_stages(rt, cert.stages.items())?;
     let start = Instant::now(rt)?;
-    let valid = check(alloc, season, cert)? == Verdict::Yes;
+    let verdict = check(alloc, season, cert)?;
     step(rt, size, "check", start)?;
-    println!(rt; "{name}: valid {valid}")?;
+    println!(rt; "{name}: valid {}", verdict == Verdict::Yes)?;
+    match verdict {
+        Verdict::Yes => time_report(rt, alloc, size, name, season, cert),
+        Verdict::No { .. } => Ok(()),
+    }
+}
+
+// Prints how many bytes the report on a valid certificate has.
+fn time_report<R: Print + Clock>(
+    rt: &R,
+    alloc: Global,
+    size: Size,
+    name: &str,
+    season: &Submission,
+    cert: &Certificate,
+) -> anyhow::Result<()>
+    requires { IsValid season.now cert.now }
+{
+    let start = Instant::now(rt)?;
+    let text = report_text(alloc, season, cert)?;
+    step(rt, size, "report", start)?;
+    println!(rt; "{name}: report of {} bytes", text.len())?;
     Ok(())
 }
 
