@@ -9,7 +9,7 @@ use Rattle.slot_text.specs.Fields.{is_blank, begins_in_field, fields_of, field_a
 use Rattle.season_days.specs.Term.{Term}
 use Rattle.scr_reader.specs.Rows.{is_question}
 use Rattle.scr_reader.specs.Shapes.{Shape, arrival, departure, turnaround, shape_of, parts_of}
-use Rattle.fault_causes.specs.Requests.{shape_named, first_name, first_of, part_name, part_named, IsQuestionCause, IsPartCause, IsFieldsCause, IsFieldCause}
+use Rattle.fault_causes.specs.Requests.{shape_named, first_name, first_word, part_name, part_named, IsQuestionCause, IsPartCause, IsFieldsCause, IsFieldCause}
 use Rattle.fault_causes.specs.declared.cause.FieldName.{FieldName}
 use Rattle.fault_causes.specs.declared.cause.FieldName.TheVariants as fields
 use Rattle.fault_causes.specs.declared.cause.Cause.{Cause}
@@ -18,16 +18,16 @@ use Rattle.fault_causes.specs.declared.shape.Movements.TheVariants as movements
 
 -- ---- names
 
-named : (words : List (List ℕ)) (shape : Shape) (names : List FieldName) (n place : ℕ) (r : Option FieldName) → shape_of words ≡ shape → names ≡ map (part_name (first_of words)) (parts_of shape) → place ≡ n - 1 → r ≡ slice_get names place → r ≡ part_named words n
+named : (words : List (List ℕ)) (shape : Shape) (names : List FieldName) (n place : ℕ) (r : Option FieldName) → shape_of words ≡ shape → names ≡ map (part_name (first_word words)) (parts_of shape) → place ≡ n - 1 → r ≡ slice_get names place → r ≡ part_named words n
 named words shape names n place r is list at found =
-    found ∙ ap (λ (l : List FieldName). slice_get l place) list ∙ slice_get-map (part_name (first_of words)) (parts_of shape) place
-    ∙ ap (λ (k : ℕ). option_map (part_name (first_of words)) (slice_get (parts_of shape) k)) at
-    ∙ ap (λ (s : Shape). option_map (part_name (first_of words)) (slice_get (parts_of s) (n - 1))) (sym is)
+    found ∙ ap (λ (l : List FieldName). slice_get l place) list ∙ slice_get-map (part_name (first_word words)) (parts_of shape) place
+    ∙ ap (λ (k : ℕ). option_map (part_name (first_word words)) (slice_get (parts_of shape) k)) at
+    ∙ ap (λ (s : Shape). option_map (part_name (first_word words)) (slice_get (parts_of s) (n - 1))) (sym is)
 
 shape_is : (words : List (List ℕ)) (m k : Movements) → shape_named m ≡ shape_of words → m ≡ k → shape_of words ≡ shape_named k
 shape_is words m k e is = sym e ∙ ap shape_named is
 
-pub arrival_named : (words : List (List ℕ)) (m : Movements) (first : FieldName) (n place : ℕ) (r : Option FieldName) → shape_named m ≡ shape_of words → m ≡ movements.Arrival → first ≡ first_name (first_of words) → place ≡ n - 1
+pub arrival_named : (words : List (List ℕ)) (m : Movements) (first : FieldName) (n place : ℕ) (r : Option FieldName) → shape_named m ≡ shape_of words → m ≡ movements.Arrival → first ≡ first_name (first_word words) → place ≡ n - 1
     → r ≡ slice_get (first ∷ fields.Period ∷ fields.Days ∷ fields.Seats ∷ fields.Arrival ∷ fields.Service ∷ []) place → r ≡ part_named words n
 arrival_named words m first n place r e is f at found =
     named words arrival _ n place r (shape_is words m movements.Arrival e is) (ap (λ (x : FieldName). x ∷ fields.Period ∷ fields.Days ∷ fields.Seats ∷ fields.Arrival ∷ fields.Service ∷ []) f) at found
@@ -37,7 +37,7 @@ pub departure_named : (words : List (List ℕ)) (m : Movements) (n place : ℕ) 
 departure_named words m n place r e is at found =
     named words departure _ n place r (shape_is words m movements.Departure e is) refl at found
 
-pub both_named : (words : List (List ℕ)) (m : Movements) (first : FieldName) (n place : ℕ) (r : Option FieldName) → shape_named m ≡ shape_of words → m ≡ movements.Both → first ≡ first_name (first_of words) → place ≡ n - 1
+pub both_named : (words : List (List ℕ)) (m : Movements) (first : FieldName) (n place : ℕ) (r : Option FieldName) → shape_named m ≡ shape_of words → m ≡ movements.Both → first ≡ first_name (first_word words) → place ≡ n - 1
     → r ≡ slice_get (first ∷ fields.Flight ∷ fields.Period ∷ fields.Days ∷ fields.Seats ∷ fields.Arrival ∷ fields.Departure ∷ fields.Service ∷ []) place → r ≡ part_named words n
 both_named words m first n place r e is f at found =
     named words turnaround _ n place r (shape_is words m movements.Both e is) (ap (λ (x : FieldName). x ∷ fields.Flight ∷ fields.Period ∷ fields.Days ∷ fields.Seats ∷ fields.Arrival ∷ fields.Departure ∷ fields.Service ∷ []) f) at found

@@ -94,10 +94,10 @@ needed needs.Flex = words.Flex
 needed needs.Ground = words.Ground
 needed needs.Refuse = words.Refuse
 
-abbrev pub limit_of : CapLimit → ℕ
-limit_of limits.Flex = MOST_FLEX
-limit_of limits.Caps = MOST_RULES
-limit_of limits.Windows = MOST_WINDOWS
+abbrev pub most_of : CapLimit → ℕ
+most_of limits.Flex = MOST_FLEX
+most_of limits.Caps = MOST_RULES
+most_of limits.Windows = MOST_WINDOWS
 
 -- the line of a number, counted from 1
 abbrev pub LineIs : List ℕ → ℕ → (List ℕ → Type 0) → Type 0
@@ -107,5 +107,5 @@ abbrev pub IsCapacityCause : List ℕ → CapFault → Cause → Type 0
 IsCapacityCause text (faults.BadLine line) cause = LineIs text line (λ l. IsBadLineCause l cause)
 IsCapacityCause text (faults.Missing word) cause = cause ≡ causes.NoLine (needed word)
 IsCapacityCause text (faults.Twice line) cause = LineIs text line (λ l. IsTwiceCause l cause)
-IsCapacityCause text (faults.OverLimit limit number) cause = cause ≡ causes.Most (limit_of limit)
+IsCapacityCause text (faults.OverLimit limit number) cause = cause ≡ causes.Most (most_of limit)
 IsCapacityCause text faults.Memory cause = ⊥

@@ -89,14 +89,14 @@ part_name first arrival_service = fields.Service
 part_name first departure_service = fields.Service
 part_name first both_services = fields.Service
 
-abbrev pub first_of : List (List ℕ) → List ℕ
-first_of [] = []
-first_of (first ∷ rest) = first
+abbrev pub first_word : List (List ℕ) → List ℕ
+first_word [] = []
+first_word (first ∷ rest) = first
 
 -- the name of the field of a number, counted from 1; None behind the last
 abbrev pub part_named : List (List ℕ) → ℕ → Option FieldName
 part_named words n =
-    option_map (part_name (first_of words)) (slice_get (parts_of (shape_of words)) (n - 1))
+    option_map (part_name (first_word words)) (slice_get (parts_of (shape_of words)) (n - 1))
 
 -- ---- dates
 

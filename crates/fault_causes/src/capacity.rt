@@ -9,7 +9,7 @@ ghost use Rattle.fault_causes.specs.Capacities.{IsBadLineCause, IsTwiceCause, Is
 
 use crate::cause::{Cause, FieldName, Flaw};
 use crate::fields::field_cause;
-use crate::words::{limit_of, line_word, needed};
+use crate::words::{line_word, most_of, needed};
 use capacity_file::CapFault;
 use slot_text::{LONGEST_LINE, Lines, is_trimmed, split_field};
 
@@ -73,7 +73,7 @@ pub fn capacity_cause(text: &[u8], fault: CapFault) -> Cause
         CapFault::BadLine { line } => bad_line_cause(line_of(text, line)),
         CapFault::Missing { name } => Cause::NoLine(needed(name)),
         CapFault::Twice { line } => twice_cause(line_of(text, line)),
-        CapFault::OverLimit { name, .. } => Cause::Most(limit_of(name)),
+        CapFault::OverLimit { name, .. } => Cause::Most(most_of(name)),
         CapFault::Memory => Cause::Blank,
     }
 }

@@ -4,7 +4,7 @@ ghost use Rattle.std.specs.Prelude.{◌≡◌, ℕ, slice_get};
 ghost use Rattle.slot_text.specs.Fields.{fields_of};
 ghost use Rattle.season_days.specs.Term.{Term};
 ghost use Rattle.scr_reader.specs.Shapes.{shape_of};
-ghost use Rattle.fault_causes.specs.Requests.{shape_named, first_name, first_of, part_named, IsDatesFlaw, IsPeriodFlaw, IsFlawOrForm, NamesWeekdays, IsGroup, IsPartFlaw};
+ghost use Rattle.fault_causes.specs.Requests.{shape_named, first_name, first_word, part_named, IsDatesFlaw, IsPeriodFlaw, IsFlawOrForm, NamesWeekdays, IsGroup, IsPartFlaw};
 ghost use Rattle.fault_causes.specs.Standings.{dated_fault, IsDated, IsDateReading, AreDatesReading};
 
 use crate::cause::{FieldName, Flaw};
@@ -57,7 +57,7 @@ fn first_name(first: &[u8]) -> FieldName
 
 // The name of the first field of a line.
 fn first_name_in(line: &[u8]) -> FieldName
-    ensures { result ≡ first_name (first_of (fields_of line.now)) }
+    ensures { result ≡ first_name (first_word (fields_of line.now)) }
 {
     match field(line, 1) {
         Some(first) => first_name(first),

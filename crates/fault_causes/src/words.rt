@@ -2,7 +2,7 @@
 
 ghost use Rattle.std.specs.Prelude.{◌≡◌, MatchOption};
 ghost use Rattle.fault_causes.specs.Causes.{line_word_text};
-ghost use Rattle.fault_causes.specs.Capacities.{needed, limit_of};
+ghost use Rattle.fault_causes.specs.Capacities.{needed, most_of};
 ghost use Rattle.fault_causes.specs.declared.cause.LineWord.{LineWord as LineWordValue};
 
 use crate::cause::LineWord;
@@ -43,8 +43,8 @@ pub(crate) fn needed(word: CapWord) -> LineWord
 }
 
 /// The limit of a declaration.
-pub(crate) fn limit_of(limit: CapLimit) -> u64
-    ensures { result ≡ limit_of limit }
+pub(crate) fn most_of(limit: CapLimit) -> u64
+    ensures { result ≡ most_of limit }
 {
     match limit {
         CapLimit::Flex => u64::from(MOST_FLEX),

@@ -7,7 +7,7 @@ use Rattle.std.proofs.lemmas.Fmt.{length-decimal-le}
 use Rattle.slot_text.specs.Lines.{lines_of}
 use Rattle.slot_text.specs.Fields.{fields_of}
 use Rattle.report_page.specs.Filled.{shown_byte, escaped, number_of, minute_of, word_at, word_is, word_piece, next_piece, after_next, is_stop, told_words, after_told, is_word_mark, piece, words_left, filled}
-use Rattle.report_page.specs.Rows.{row_of, section_rows, is_told, unit_row, told_row, series_rows, is_profile, load_of, higher, peak_from, peak_row, peak_part, bar, bars, picture, chart, charts}
+use Rattle.report_page.specs.Rows.{row_of, section_rows, is_told, unit_row, told_row, series_rows, is_profile, told_load, higher, peak_from, peak_row, peak_part, bar, bars, picture, chart, charts}
 use Rattle.report_page.specs.Pages.{head_part, table_part, last_part, page_text}
 use Rattle.report_page.specs.Laws.{MOST_TEMPLATE, word_share, words_share, line_share, pass_share, capacity_count, most_page}
 use Rattle.report_page.specs.declared.layout.Section.{Section}
@@ -188,7 +188,7 @@ one_share b best line =
 
 higher_share : (number best line : List ℕ) → line_share (higher number best line) ≤ line_share best + line_share line
 higher_share number best line =
-    one_share (is_profile number (fields_of line) && nat_lt (load_of (fields_of best)) (load_of (fields_of line))) best line
+    one_share (is_profile number (fields_of line) && nat_lt (told_load (fields_of best)) (told_load (fields_of line))) best line
 
 peak_share : (number best : List ℕ) (lines : List (List ℕ)) → line_share (peak_from number best lines) ≤ line_share best + pass_share lines
 peak_share number best [] = omega arith

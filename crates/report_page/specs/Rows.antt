@@ -65,13 +65,13 @@ series_rows told (line ∷ lines) =
 
 -- ---- the pictures of the capacity lines
 
-abbrev pub load_of : List (List ℕ) → ℕ
-load_of words = number_of (word_at 5 words)
+abbrev pub told_load : List (List ℕ) → ℕ
+told_load words = number_of (word_at 5 words)
 
 -- the first line with the greatest load
 abbrev pub higher : List ℕ → List ℕ → List ℕ → List ℕ
 higher number best line =
-    if is_profile number (fields_of line) && nat_lt (load_of (fields_of best)) (load_of (fields_of line))
+    if is_profile number (fields_of line) && nat_lt (told_load (fields_of best)) (told_load (fields_of line))
     then line else best
 
 abbrev pub peak_from : List ℕ → List ℕ → List (List ℕ) → List ℕ

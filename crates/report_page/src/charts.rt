@@ -3,7 +3,7 @@
 ghost use Rattle.std.specs.Prelude.{◌≡◌, ◌++◌, [], OnOk};
 ghost use Rattle.slot_text.specs.Fields.{fields_of};
 ghost use Rattle.slot_text.specs.Lines.{lines_of};
-ghost use Rattle.report_page.specs.Rows.{load_of, higher, peak_from, peak_row, bar, bars, picture, chart, charts};
+ghost use Rattle.report_page.specs.Rows.{told_load, higher, peak_from, peak_row, bar, bars, picture, chart, charts};
 
 use crate::escape::put;
 use crate::fill::put_filled;
@@ -14,8 +14,8 @@ use slot_text::{Lines, Memory};
 use std::alloc::Global;
 
 // The load that a line states.
-fn load_of(line: &[u8]) -> u64
-    ensures { result ≡ load_of (fields_of line.now) }
+fn told_load(line: &[u8]) -> u64
+    ensures { result ≡ told_load (fields_of line.now) }
 {
     number_of(word_at(line, 5))
 }
@@ -25,7 +25,7 @@ fn load_of(line: &[u8]) -> u64
 fn higher<'a>(number: &[u8], best: &'a [u8], line: &'a [u8]) -> &'a [u8]
     ensures { result.now ≡ higher number.now best.now line.now }
 {
-    if is_profile(number, line) && load_of(best) < load_of(line) {
+    if is_profile(number, line) && told_load(best) < told_load(line) {
         line
     } else {
         best

@@ -22,7 +22,7 @@ use Rattle.season_report.specs.declared.barred.Barred.{Barred}
 use Rattle.season_report.specs.declared.barred.Cheaper.{Cheaper}
 use Rattle.season_report.specs.declared.barred.Row.{Row}
 use Rattle.season_report.specs.declared.told.Tried.{Tried}
-use Rattle.season_report.specs.Reasons.{AllottedStage, limit_in, others_load, is_passed, passed_by, barred_by, barred_dates, reason_of, is_cheaper, cheaper_of, cheaper_than}
+use Rattle.season_report.specs.Reasons.{AllottedStage, limit_in, others_load, is_passed, passed_by, barred_by, barred_dates, bar_of, is_cheaper, cheaper_of, cheaper_than}
 use Rattle.season_report.specs.Rows.{rows_of, row_by, row_line, unit_reasons}
 use Rattle.season_report.specs.Private.{IsToldStage, told_stage, is_above_with, found_passed, found_barred, found_reason, found_cheaper, found_from, found_row, found_reasons}
 use Rattle.season_report.proofs.RowLemmas.{KeepsDates, rows_keep, same_lines}
@@ -123,7 +123,7 @@ barred_same t place unit times alt (r ∷ resources) uses =
 
 pub reason_same : (t : Tried) (states : List UnitState) (choice : List ℕ) (place : ℕ) (unit : SlotUnit) (others : List ℕ) (alt : ℕ) (times : Times) →
     IsBeside t states choice place unit others → slice_get (options_of t.declaration.now unit) alt ≡ Some times →
-    found_reason t place unit.request times alt others ≡ reason_of (told_stage t states choice) place unit times
+    found_reason t place unit.request times alt others ≡ bar_of (told_stage t states choice) place unit times
 reason_same t states choice place unit others alt times is at =
     let d = t.declaration.now in
     let alternative = alt_there d (stage_units t.stage states) (stage_limit d t.stage states) t.problem.now place unit alt times is.told.problem is.at at in
@@ -174,7 +174,7 @@ barred_has P d unit times [] all = tt
 barred_has P d unit times (r ∷ resources) all = (All-head P r resources all, refl)
 
 pub reason_has : (P : ℕ → Type 0) (a : AllottedStage) (place : ℕ) (unit : SlotUnit) (times : Times) → All P (passed_by a place unit times) →
-    IfSome (reason_of a place unit times) (λ (b : Barred). P b.resource × (b.uses ≡ unit_load a.declaration unit times b.resource))
+    IfSome (bar_of a place unit times) (λ (b : Barred). P b.resource × (b.uses ≡ unit_load a.declaration unit times b.resource))
 reason_has P a place unit times all = barred_has P a.declaration unit times (passed_by a place unit times) all
 
 pub passed_below : (a : AllottedStage) (place : ℕ) (unit : SlotUnit) (times : Times) → All (λ r. r < declared_resources (capacity_of a.declaration)) (passed_by a place unit times)
@@ -184,13 +184,13 @@ passed_below a place unit times =
 
 -- what holds of each alternative holds of each that costs less
 pub all_cheaper : (Q : Option Barred → Type 0) (a : AllottedStage) (place : ℕ) (unit : SlotUnit) (options : List Times) (p : Times → Bool) →
-    ((times : Times) → Contains options times → p times ≡ true → Q (reason_of a place unit times)) →
+    ((times : Times) → Contains options times → p times ≡ true → Q (bar_of a place unit times)) →
     All (λ (c : Cheaper). Q c.barred) (map (cheaper_of a place unit) (filter p options))
 all_cheaper Q a place unit [] p each = All-nil (λ (c : Cheaper). Q c.barred)
 all_cheaper Q a place unit (times ∷ options) p each =
     let rest = all_cheaper Q a place unit options p (λ its is passes. each its (suc is.0, omega (arith, is.1), is.2) passes) in
-    let own : p times ≡ true → Q (reason_of a place unit times) = each times (0, omega arith, refl) in
-    (elim (p times) as (λ b. (b ≡ true → Q (reason_of a place unit times)) → All (λ (c : Cheaper). Q c.barred) (map (cheaper_of a place unit) (cond b (times ∷ filter p options) (filter p options)))) [
+    let own : p times ≡ true → Q (bar_of a place unit times) = each times (0, omega arith, refl) in
+    (elim (p times) as (λ b. (b ≡ true → Q (bar_of a place unit times)) → All (λ (c : Cheaper). Q c.barred) (map (cheaper_of a place unit) (cond b (times ∷ filter p options) (filter p options)))) [
       | true ↦ λ h. All-cons (λ (c : Cheaper). Q c.barred) (cheaper_of a place unit times) (map (cheaper_of a place unit) (filter p options)) (h refl) rest
       | false ↦ λ h. rest
     ]) own
@@ -213,7 +213,7 @@ rows_there a place unit given =
     let n = declared_resources (capacity_of a.declaration) in
     rows_keep (IsThere n) unit.request (cheaper_than a place unit given) (there_keeps n)
     (all_cheaper (IsThere n) a place unit (options_of a.declaration unit) (is_cheaper a.declaration unit given)
-    (λ times in_list is. there_reason n (reason_of a place unit times) (unit_load a.declaration unit times) (reason_has (λ r. r < n) a place unit times (passed_below a place unit times))))
+    (λ times in_list is. there_reason n (bar_of a place unit times) (unit_load a.declaration unit times) (reason_has (λ r. r < n) a place unit times (passed_below a place unit times))))
 
 -- ---- their text
 

@@ -25,7 +25,7 @@ use Rattle.wasg_stages.specs.Valid.{MarkClaims, StageClaims, AreClaims, MarksHol
 use Rattle.report_lines.specs.Peaks.{unit_load}
 use Rattle.season_report.specs.declared.barred.Barred.{Barred}
 use Rattle.season_report.specs.Decisions.{states_before}
-use Rattle.season_report.specs.Reasons.{AllottedStage, units_in, limit_in, others_load, is_passed, passed_by, barred_by, reason_of, is_cheaper, cheaper_than}
+use Rattle.season_report.specs.Reasons.{AllottedStage, units_in, limit_in, others_load, is_passed, passed_by, barred_by, bar_of, is_cheaper, cheaper_than}
 use Rattle.season_report.specs.Laws.{UsesItsBar, AllRows, NoneFits}
 use Rattle.season_report.proofs.ApartLemmas.{load_apart, cost_apart, load_set, cost_set, alternatives_set}
 use Rattle.season_report.proofs.RowLemmas.{KeepsDates, rows_keep}
@@ -58,7 +58,7 @@ some_reason d unit times (r ∷ resources) some = refl
 
 cheaper_barred : (a : AllottedStage) (place : ℕ) (unit : SlotUnit) (given times : Times) → IsLeastAllotment a.declaration (units_in a) (limit_in a) a.times →
     slice_get (units_in a) place ≡ Some unit → slice_get a.times place ≡ Some given → Contains (options_of a.declaration unit) times →
-    is_cheaper a.declaration unit given times ≡ true → IsSome (reason_of a place unit times)
+    is_cheaper a.declaration unit given times ≡ true → IsSome (bar_of a place unit times)
 cheaper_barred a place unit given times least at was is less =
     let d = a.declaration in
     let n = declared_resources (capacity_of d) in
@@ -118,7 +118,7 @@ pub bars_used : (a : AllottedStage) → IsFeasibleAllotment a.declaration (units
 bars_used a feasible place unit given at was =
     rows_keep IsUsed unit.request (cheaper_than a place unit given) used_keeps
     (all_cheaper IsUsed a place unit (options_of a.declaration unit) (is_cheaper a.declaration unit given)
-    (λ times is less. used_of a place unit given times (reason_of a place unit times) feasible at was
+    (λ times is less. used_of a place unit given times (bar_of a place unit times) feasible at was
     (reason_has (IsPassedAt a place unit times) a place unit times
     (λ k e lt. record {
       there = passed_below a place unit times k e lt;

@@ -86,8 +86,8 @@ barred_by d unit times (r ∷ resources) =
       dates = barred_dates d unit.request times (r ∷ resources);
     })
 
-abbrev pub reason_of : AllottedStage → ℕ → SlotUnit → Times → Option Barred
-reason_of a place unit times =
+abbrev pub bar_of : AllottedStage → ℕ → SlotUnit → Times → Option Barred
+bar_of a place unit times =
     barred_by a.declaration unit times (passed_by a place unit times)
 
 -- ---- the alternatives that cost less than the one that was given, each with its reason
@@ -100,7 +100,7 @@ abbrev pub cheaper_of : AllottedStage → ℕ → SlotUnit → Times → Cheaper
 cheaper_of a place unit times = record {
   times = times;
   cost = displacement_of a.declaration unit times;
-  barred = reason_of a place unit times;
+  barred = bar_of a place unit times;
 }
 
 abbrev pub cheaper_than : AllottedStage → ℕ → SlotUnit → Times → List Cheaper

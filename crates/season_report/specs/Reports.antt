@@ -117,8 +117,8 @@ abbrev pub unit_cost_word : Declaration → SlotUnit → Option Times → List �
 unit_cost_word d unit None = codes "-"
 unit_cost_word d unit (Some times) = decimal (displacement_of d unit times)
 
-abbrev pub unit_line : Declaration → Decided → List ℕ
-unit_line d u =
+abbrev pub decided_line : Declaration → Decided → List ℕ
+decided_line d u =
     codes "UNIT " ++ (decimal u.unit.line
     ++ (codes " STAGE " ++ (decimal u.stage
     ++ (32 ∷ (decision_word (decision u)
@@ -150,7 +150,7 @@ given_line season u (Some times) = slots_line season u.unit times (decision u)
 
 abbrev pub unit_text : Declaration → Decided → List ℕ → List ℕ
 unit_text d u reasons =
-    unit_line d u
+    decided_line d u
     ++ (held_line d.season u.unit.historic
     ++ (asked_line d.season u.unit.request ++ (given_line d.season u u.given ++ reasons)))
 

@@ -218,7 +218,7 @@ fn barred_by(
 }
 
 // What bars an alternative beside the others, of which the counts are, and are so again after it.
-fn reason_of(
+fn bar_of(
     tried: Tried<'_>,
     place: u32,
     line: &Line,
@@ -262,7 +262,7 @@ fn cheaper_of(
     ensures others { others.new ≡ others.old }
 {
     let cost = tried.problem.alt_cost(place, alt);
-    let barred = reason_of(tried, place, line, times, alt, others);
+    let barred = bar_of(tried, place, line, times, alt, others);
     Cheaper {
         times,
         cost,

@@ -5,7 +5,7 @@ ghost use Rattle.series_model.specs.Displacement.{stop_change};
 ghost use Rattle.scr_reader.specs.Printed.{LineFits};
 ghost use Rattle.series_model.specs.Units.{UnitFits};
 ghost use Rattle.series_model.specs.TimedLines.{line_at, IsNear};
-ghost use Rattle.season_report.specs.Reports.{decision_word, shift_word, unit_cost_word, unit_line, held_line, asked_line, slots_line, given_line, unit_text, units_text, historic_line};
+ghost use Rattle.season_report.specs.Reports.{decision_word, shift_word, unit_cost_word, decided_line, held_line, asked_line, slots_line, given_line, unit_text, units_text, historic_line};
 ghost use Rattle.season_report.specs.Private.{IsTold, decided_words, moved_words, texts_of};
 
 use crate::decided::{Decided, Decision};
@@ -110,14 +110,14 @@ fn put_moved(
 }
 
 // Appends the first line of a unit.
-fn put_unit_line(
+fn put_decided_line(
     alloc: Global,
     out: &mut Vec<u8>,
     declaration: &Declaration,
     unit: &Decided,
 ) -> Result<(), Memory>
     requires { UnitFits declaration.now.season unit.now.unit }
-    ensures { OnOk result (out.new.items ≡ out.old.items ++ unit_line declaration.now unit.now) }
+    ensures { OnOk result (out.new.items ≡ out.old.items ++ decided_line declaration.now unit.now) }
 {
     put_decided(alloc, out, unit)?;
     put_moved(alloc, out, declaration, unit)?;
@@ -218,7 +218,7 @@ fn put_unit(
     ensures { OnOk result (out.new.items ≡ out.old.items
         ++ unit_text declaration.now unit.now reasons.now) }
 {
-    put_unit_line(alloc, out, declaration, unit)?;
+    put_decided_line(alloc, out, declaration, unit)?;
     put_asked(alloc, out, &declaration.season, unit)?;
     put(out, reasons)
 }

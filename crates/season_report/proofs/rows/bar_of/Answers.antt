@@ -1,7 +1,7 @@
 use Rattle.std.proofs.Common.{arith}
 use Rattle.choice_problem.specs.Problems.{alt_uses}
 use Rattle.season_report.proofs.FoundLemmas.{has_room, same_again}
-use Rattle.season_report.proofs.rows.reason_of.Goals as goal
+use Rattle.season_report.proofs.rows.bar_of.Goals as goal
 
 pub add_alt-requires-clause-room : goal.add_alt-requires-clause-room
 add_alt-requires-clause-room c = has_room c.args.tried c.args.others.now c.requires.settled c.requires.within
