@@ -7,11 +7,10 @@
 //! at the same time the greatest pivot comes first.
 
 use crate::leaving::Work;
-use crate::programs::Program;
+use crate::programs::{Column, Program};
 use crate::relaxations::Relaxation;
 use crate::slots::{
-    LEAST_PIVOT, NOTHING, PASSED, above_zero, add_multiple, is_set, part_of, place_after,
-    size_of_number, value_at,
+    LEAST_PIVOT, NOTHING, PASSED, above_zero, is_set, place_after, size_of_number, value_at,
 };
 use slot_text::Memory;
 
@@ -76,7 +75,7 @@ impl Entering {
     }
 }
 
-// The reduced cost of a unit's key, and how it moves.
+// The cost of a unit's key with its parts, and how it moves.
 #[derive(Clone, Copy)]
 struct Base {
     cost: f64,
@@ -121,8 +120,8 @@ impl Relaxation {
         first
     }
 
-    // Takes the steps of a unit's alternatives. Where some are basic, the prices end at the first
-    // that comes to its bound.
+    // Looks at a unit's alternatives, where some may become cheaper beside its key. Where some are
+    // basic, the prices end at the first that comes to its bound.
     fn look_at_unit(
         &self,
         program: &Program<'_>,
@@ -130,19 +129,25 @@ impl Relaxation {
         unit: u32,
         last: &mut Entering,
     ) -> Result<(), Memory> {
-        let key = program.column(self.key_place(unit));
-        let base = work.at(key.one, key.two);
-        work.take_steps(program.unit_columns(unit), program.span(unit), base);
-        let none = Base {
-            cost: 0.0,
-            step: 0.0,
-        };
-        let breakpoint = self.first_of(program, work, unit, none, *last);
+        let base = self.base_at(program, work, self.key_place(unit));
+        if !work.may_fall(program, unit, base.step) {
+            return Ok(());
+        }
+        let breakpoint = self.first_of(program, work, unit, base, *last);
         if value_at(&work.counts, unit as usize) > 0.0 {
             *last = breakpoint;
             Ok(())
         } else {
             self.add_breakpoint(program, work, unit, breakpoint)
+        }
+    }
+
+    // The cost of an alternative with its parts, and how it moves.
+    fn base_at(&self, program: &Program<'_>, work: &Work, place: u32) -> Base {
+        let column = program.column(place);
+        Base {
+            cost: self.cost_at(program, &column, place),
+            step: work.at(column.one, column.two),
         }
     }
 
@@ -174,12 +179,11 @@ impl Relaxation {
     ) -> Entering {
         let mut first = other;
         let start = program.first_column(unit);
-        let steps = part_of(&work.steps, program.span(unit));
-        for (number, step) in steps.iter().enumerate() {
-            let fall = base.step - *step;
+        for (number, column) in program.unit_columns(unit).iter().enumerate() {
+            let fall = base.step - work.at(column.one, column.two);
             if fall > LEAST_PIVOT {
                 let at = place_after(start, number);
-                self.offer_alternative(program, at, base, fall, &mut first);
+                self.offer_alternative(program, column, at, base, fall, &mut first);
             }
         }
         first
@@ -189,13 +193,14 @@ impl Relaxation {
     fn offer_alternative(
         &self,
         program: &Program<'_>,
+        column: &Column,
         at: u32,
         base: Base,
         fall: f64,
         first: &mut Entering,
     ) {
-        let cost = above_zero(value_at(&self.reduced, at as usize) - base.cost);
-        if first.wants(cost, fall) && !self.is_out(&program.column(at), at) {
+        let cost = above_zero(self.cost_at(program, column, at) - base.cost);
+        if first.wants(cost, fall) && !self.is_out(column, at) {
             let _is_first = first.offer(Entering {
                 entry: Entry::Alternative(at),
                 length: cost / fall,
@@ -241,10 +246,7 @@ impl Relaxation {
             let _breakpoint = work.breakpoints.swap_remove(at);
         }
         let unit = program.column(place).unit;
-        let base = Base {
-            cost: value_at(&self.reduced, place as usize),
-            step: value_at(&work.steps, place as usize),
-        };
+        let base = self.base_at(program, work, place);
         let next = self.first_of(program, work, unit, base, last);
         self.add_breakpoint(program, work, unit, next)
     }
@@ -253,16 +255,6 @@ impl Relaxation {
     pub(crate) fn take_new_keys(&mut self, program: &Program<'_>, work: &Work) {
         for place in &work.new_keys {
             self.take_key(program, *place);
-        }
-    }
-
-    // Moves the reduced costs of the touched units.
-    pub(crate) fn move_costs(&mut self, program: &Program<'_>, work: &Work, length: f64) {
-        for unit in 0..program.units() {
-            if is_set(&work.touched, unit as usize) {
-                let span = program.span(unit);
-                add_part(&mut self.reduced, span, part_of(&work.steps, span), length);
-            }
         }
     }
 }
@@ -278,12 +270,4 @@ fn first_breakpoint(breakpoints: &[Entering], other: Entering) -> (usize, Enteri
         }
     }
     (found, first)
-}
-
-// Adds a multiple of some numbers to those from one place to another.
-fn add_part(values: &mut [f64], span: (usize, usize), steps: &[f64], by: f64) {
-    let (first, end) = span;
-    if first <= end && end <= values.len() {
-        add_multiple(&mut values[first..end], steps, by);
-    }
 }

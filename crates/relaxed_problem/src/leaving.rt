@@ -2,11 +2,11 @@
 //! of its violation and the square of the length of its direction.
 
 use crate::entering::Entering;
-use crate::programs::{Column, Program};
+use crate::programs::Program;
 use crate::relaxations::Relaxation;
 use crate::slots::{
-    NOTHING, PASSED, add, clear_flags, copy_into, fill, number_or_max, place_after, product, put,
-    put_flag, put_number, size_of_number, value_at,
+    LEAST_PIVOT, NOTHING, PASSED, add, clear_flags, copy_into, fill, least_or_zero, number_or_max,
+    part_of, place_after, product, put, put_flag, put_number, size_of_number, value_at,
 };
 use slot_text::Memory;
 use std::alloc::Global;
@@ -68,8 +68,6 @@ pub struct Work {
     pub(crate) parts: Vec<f64>,
     // Whether a unit has a part with such a number.
     pub(crate) touched: Vec<bool>,
-    // How the reduced costs of the touched units move.
-    pub(crate) steps: Vec<f64>,
     // How often each class is used.
     loads: Vec<f64>,
     // For each unit the sum of the values of its basic alternatives.
@@ -96,7 +94,6 @@ impl Work {
         Ok(Work {
             parts: vec![in alloc; 0.0; program.parts()]?,
             touched: vec![in alloc; false; units]?,
-            steps: vec![in alloc; 0.0; program.columns().len()]?,
             loads: vec![in alloc; 0.0; program.limits().len()]?,
             sums: vec![in alloc; 0.0; units]?,
             counts: vec![in alloc; 0.0; units]?,
@@ -110,17 +107,11 @@ impl Work {
         value_at(&self.parts, one as usize) + value_at(&self.parts, two as usize)
     }
 
-    // Computes how the reduced costs of some alternatives move, beside a key whose parts have this
-    // number.
-    pub(crate) fn take_steps(&mut self, columns: &[Column], span: (usize, usize), base: f64) {
-        let (first, end) = span;
-        if first <= end && end <= self.steps.len() {
-            let parts = &self.parts;
-            for (slot, column) in self.steps[first..end].iter_mut().zip(columns) {
-                let one = value_at(parts, column.one as usize);
-                *slot = one + value_at(parts, column.two as usize) - base;
-            }
-        }
+    // Whether some alternatives of a unit may have parts of a lower number than its key's, which is
+    // this: two of its parts at most, each of at least the lowest of them.
+    pub(crate) fn may_fall(&self, program: &Program<'_>, unit: u32, base: f64) -> bool {
+        let least = least_or_zero(part_of(&self.parts, program.part_span(unit)));
+        base - (least + least) > LEAST_PIVOT
     }
 
     // Sets the prices of the parts to those of one class, and marks the units.

@@ -1,11 +1,14 @@
 //! The alternatives that take part in a relaxation.
 
-use crate::slots::{add, is_set, number_or_max, value_at};
+use crate::slots::{add, is_set, number_or_max, place_after, value_at};
 use choice_problem::{Alt, Problem};
 use reduced_problem::{ClassUse, Reduced};
 use slot_text::Memory;
 use std::alloc::Global;
 use std::num::nearest_i64_to_f64;
+
+// How much the costs are changed at most, so that few are equal.
+const MOST_CHANGE: f64 = 0.0001;
 
 /// The number of no part.
 pub const NO_PART: u32 = u32::MAX;
@@ -38,6 +41,8 @@ pub(crate) struct Barred {
 pub struct Program<'a> {
     reduced: &'a Reduced,
     columns: Vec<Column>,
+    // The changed cost of each alternative.
+    changed: Vec<f64>,
     firsts: Vec<u32>,
     barred: Vec<Barred>,
     limits: Vec<f64>,
@@ -57,6 +62,7 @@ impl<'a> Program<'a> {
         let mut program = Program {
             reduced,
             columns: Vec::new(alloc),
+            changed: Vec::new(alloc),
             firsts: Vec::new(alloc),
             barred: Vec::new(alloc),
             limits: limits_of(alloc, reduced)?,
@@ -100,7 +106,9 @@ impl<'a> Program<'a> {
     // Takes in an alternative, or notes that it is left out.
     fn add_column(&mut self, column: Column, is_excluded: bool) -> Result<(), Memory> {
         if !is_excluded {
+            let place = place_after(0, self.columns.len());
             self.columns.push(column)?;
+            self.changed.push(changed_cost(&column, place))?;
         } else if let Some(class) = self.closed_class(&column) {
             self.barred.push(Barred { column, class })?;
         }
@@ -182,6 +190,18 @@ impl<'a> Program<'a> {
                 two: NO_PART,
             },
         }
+    }
+
+    // The changed cost of an alternative.
+    pub(crate) fn changed_cost(&self, place: u32) -> f64 {
+        value_at(&self.changed, place as usize)
+    }
+
+    // Where a unit's parts begin and end.
+    pub(crate) fn part_span(&self, unit: u32) -> (usize, usize) {
+        let first = self.reduced.first_part(unit);
+        let end = self.reduced.first_part(unit.saturating_add(1));
+        (first as usize, end as usize)
     }
 
     // The resources that matter.
@@ -294,6 +314,16 @@ fn cost_of(cost: u64) -> f64 {
         Ok(cost) => nearest_i64_to_f64(cost),
         Err(_) => 0.0,
     }
+}
+
+// A cost, raised by up to 1/10,000 by the number of the place.
+fn changed_cost(column: &Column, place: u32) -> f64 {
+    let mixed = u64::from(place)
+        .wrapping_add(1)
+        .wrapping_mul(11_400_714_819_323_198_485);
+    let folded = (mixed ^ (mixed >> 29)).wrapping_mul(13_787_848_793_156_543_929);
+    let drawn = (folded >> 40) as u32;
+    column.cost + MOST_CHANGE * f64::from(drawn) / 16_777_216.0
 }
 
 // The limits of the classes.

@@ -4,14 +4,11 @@
 use crate::inverses::Inverse;
 use crate::programs::{Column, Program};
 use crate::slots::{
-    NOTHING, PASSED, add, add_multiple, is_set, number_or_max, place_after, put_flag, put_number,
-    size_of_number, value_at,
+    NOTHING, PASSED, add, add_multiple, has_bit, is_among, number_or_max, place_after, put_bit,
+    put_number, size_of_number, value_at,
 };
 use slot_text::Memory;
 use std::alloc::Global;
-
-// How much the costs are changed at most, so that few are equal.
-const MOST_CHANGE: f64 = 0.0001;
 
 /// What a relaxation takes of an alternative.
 #[derive(Clone, Copy, Debug)]
@@ -24,11 +21,12 @@ pub struct Share {
     pub share: f64,
 }
 
-/// A linear relaxation in the making: a basis, from which `solve` goes on.
+/// A linear relaxation in the making: a basis, from which `solve` goes on. It takes 8 bytes for each
+/// part of the program and for each entry of the inverse, and one bit for each alternative.
 #[derive(Drop)]
 pub struct Relaxation {
-    // Whether an alternative may not be taken.
-    shut: Vec<bool>,
+    // For each alternative, in words of 64 bits, whether it may not be taken.
+    shut: Vec<u64>,
     // The place of each unit's key alternative.
     pub(crate) keys: Vec<u32>,
     // The places of the basic alternatives.
@@ -38,10 +36,8 @@ pub struct Relaxation {
     // The place of each class among those with a price.
     pub(crate) places: Vec<u32>,
     pub(crate) inverse: Inverse,
-    // The reduced cost of each alternative, with changed costs.
-    pub(crate) reduced: Vec<f64>,
-    // Whether an alternative is basic.
-    pub(crate) is_basic: Vec<bool>,
+    // What each part costs at the prices of the classes.
+    pub(crate) parts: Vec<f64>,
     // The price of each class, with changed costs.
     pub(crate) prices: Vec<f64>,
     // How often the keys use each class.
@@ -59,14 +55,13 @@ impl Relaxation {
         let classes = program.limits().len();
         let columns = program.columns().len();
         let mut relaxation = Relaxation {
-            shut: vec![in alloc; false; columns]?,
+            shut: vec![in alloc; 0; columns / 64 + 1]?,
             keys: Vec::new(alloc),
             basics: Vec::new(alloc),
             priced: Vec::new(alloc),
             places: vec![in alloc; u32::MAX; classes]?,
             inverse: Inverse::new(alloc),
-            reduced: Vec::with_capacity(alloc, columns)?,
-            is_basic: vec![in alloc; false; columns]?,
+            parts: vec![in alloc; 0.0; program.parts()]?,
             prices: vec![in alloc; 0.0; classes]?,
             loads: vec![in alloc; 0.0; classes]?,
             values: Vec::new(alloc),
@@ -81,16 +76,10 @@ impl Relaxation {
 
     // Lets a unit take its cheapest alternative.
     fn start_unit(&mut self, program: &Program<'_>, unit: u32) -> Result<(), Memory> {
-        let first = program.first_column(unit);
-        let columns = program.unit_columns(unit);
-        let (place, least) = cheapest(columns, first).unwrap_or((u32::MAX, 0.0));
+        let (place, least) = cheapest(program, unit).unwrap_or((u32::MAX, 0.0));
         self.keys.push(place)?;
         self.value += least;
         program.add_uses(&program.column(place), 1.0, &mut self.loads);
-        for (number, column) in columns.iter().enumerate() {
-            let at = place_after(first, number);
-            self.reduced.push(changed_cost(column, at) - least)?;
-        }
         Ok(())
     }
 
@@ -103,8 +92,7 @@ impl Relaxation {
             priced: Vec::from_slice(alloc, &self.priced)?,
             places: Vec::from_slice(alloc, &self.places)?,
             inverse: self.inverse.copy(alloc)?,
-            reduced: Vec::from_slice(alloc, &self.reduced)?,
-            is_basic: Vec::from_slice(alloc, &self.is_basic)?,
+            parts: Vec::from_slice(alloc, &self.parts)?,
             prices: Vec::from_slice(alloc, &self.prices)?,
             loads: Vec::from_slice(alloc, &self.loads)?,
             values: Vec::from_slice(alloc, &self.values)?,
@@ -121,8 +109,7 @@ impl Relaxation {
         refill(&mut self.priced, &other.priced)?;
         refill(&mut self.places, &other.places)?;
         self.inverse = other.inverse.copy(alloc)?;
-        refill(&mut self.reduced, &other.reduced)?;
-        refill(&mut self.is_basic, &other.is_basic)?;
+        refill(&mut self.parts, &other.parts)?;
         refill(&mut self.prices, &other.prices)?;
         refill(&mut self.loads, &other.loads)?;
         refill(&mut self.values, &other.values)?;
@@ -133,7 +120,7 @@ impl Relaxation {
 
     /// Lets an alternative be taken no more, by its place among the program's columns.
     pub fn shut(&mut self, place: u32) {
-        put_flag(&mut self.shut, place as usize, true);
+        put_bit(&mut self.shut, place);
     }
 
     /// The value with changed costs: where the relaxation is not solved yet, at most the
@@ -156,9 +143,27 @@ impl Relaxation {
         total
     }
 
+    /// The reduced cost of a column of the program, with changed costs, by its place.
+    pub fn reduced_cost(&self, program: &Program<'_>, place: u32) -> f64 {
+        let column = program.column(place);
+        let key = self.key_place(column.unit);
+        self.cost_at(program, &column, place) - self.cost_at(program, &program.column(key), key)
+    }
+
     /// The reduced costs of the program's columns, in their order, with changed costs.
-    pub fn reduced_costs(&self) -> &[f64] {
-        &self.reduced
+    pub fn reduced_costs(&self, alloc: Global, program: &Program<'_>) -> Result<Vec<f64>, Memory> {
+        let mut costs = Vec::with_capacity(alloc, program.columns().len())?;
+        for number in 0..program.columns().len() {
+            costs.push(self.reduced_cost(program, place_after(0, number)))?;
+        }
+        Ok(costs)
+    }
+
+    // The changed cost of an alternative with what its parts cost.
+    pub(crate) fn cost_at(&self, program: &Program<'_>, column: &Column, place: u32) -> f64 {
+        let parts = value_at(&self.parts, column.one as usize)
+            + value_at(&self.parts, column.two as usize);
+        program.changed_cost(place) + parts
     }
 
     /// Whether a class has a place in the basis: only such have prices.
@@ -207,10 +212,7 @@ impl Relaxation {
 
     // Whether an alternative may not be taken. A place past the last may not either.
     pub(crate) fn is_shut(&self, place: u32) -> bool {
-        match self.shut.get(place as usize) {
-            Some(flag) => *flag,
-            None => true,
-        }
+        has_bit(&self.shut, place)
     }
 
     // Makes an alternative the key of its unit.
@@ -236,8 +238,6 @@ impl Relaxation {
         self.inverse.put_row(place, row);
         self.set_key(program, unit, new);
         put_number(&mut self.basics, place, old);
-        put_flag(&mut self.is_basic, new as usize, false);
-        put_flag(&mut self.is_basic, old as usize, true);
         Ok(())
     }
 
@@ -270,20 +270,18 @@ impl Relaxation {
     // Makes an alternative the key of its unit, which has no basic alternatives.
     pub(crate) fn take_key(&mut self, program: &Program<'_>, place: u32) {
         let unit = program.column(place).unit;
-        let cost = value_at(&self.reduced, place as usize);
+        let cost = self.reduced_cost(program, place);
         self.set_key(program, unit, place);
         self.value += cost;
-        let (first, end) = program.span(unit);
-        lower_all(&mut self.reduced, first, end, cost);
     }
 
-    // The place of a unit's first allowed alternative of least reduced cost, and that cost.
+    // The place of a unit's first allowed alternative of least cost with its parts, and that cost.
     fn best_allowed(&self, program: &Program<'_>, unit: u32) -> Option<(u32, f64)> {
         let first = program.first_column(unit);
         let mut best: Option<(u32, f64)> = None;
-        for number in 0..program.unit_columns(unit).len() {
+        for (number, column) in program.unit_columns(unit).iter().enumerate() {
             let at = place_after(first, number);
-            let cost = value_at(&self.reduced, at as usize);
+            let cost = self.cost_at(program, column, at);
             if is_less(cost, best) && !self.is_shut(at) {
                 best = Some((at, cost));
             }
@@ -308,9 +306,7 @@ impl Relaxation {
 
     // Whether an alternative is basic or a key, or not allowed.
     pub(crate) fn is_out(&self, column: &Column, place: u32) -> bool {
-        is_set(&self.is_basic, place as usize)
-            || self.key_place(column.unit) == place
-            || self.is_shut(place)
+        self.key_place(column.unit) == place || self.is_shut(place) || is_among(&self.basics, place)
     }
 }
 
@@ -321,12 +317,13 @@ fn refill<T: Copy + Drop>(list: &mut Vec<T>, entries: &[T]) -> Result<(), Memory
     Ok(())
 }
 
-// The place of the first cheapest alternative with changed costs, and that cost.
-fn cheapest(columns: &[Column], first: u32) -> Option<(u32, f64)> {
+// The place of a unit's first cheapest alternative with changed costs, and that cost.
+fn cheapest(program: &Program<'_>, unit: u32) -> Option<(u32, f64)> {
+    let first = program.first_column(unit);
     let mut best: Option<(u32, f64)> = None;
-    for (number, column) in columns.iter().enumerate() {
+    for number in 0..program.unit_columns(unit).len() {
         let at = place_after(first, number);
-        let cost = changed_cost(column, at);
+        let cost = program.changed_cost(at);
         if is_less(cost, best) {
             best = Some((at, cost));
         }
@@ -342,29 +339,10 @@ fn is_less(cost: f64, best: Option<(u32, f64)>) -> bool {
     }
 }
 
-// A cost, raised by up to 1/10,000 by the number of the place.
-fn changed_cost(column: &Column, place: u32) -> f64 {
-    let mixed = u64::from(place)
-        .wrapping_add(1)
-        .wrapping_mul(11_400_714_819_323_198_485);
-    let folded = (mixed ^ (mixed >> 29)).wrapping_mul(13_787_848_793_156_543_929);
-    let drawn = (folded >> 40) as u32;
-    column.cost + MOST_CHANGE * f64::from(drawn) / 16_777_216.0
-}
-
 // Turns the sign of each number.
 fn negate(values: &mut [f64]) {
     for value in values.iter_mut() {
         *value = -*value;
-    }
-}
-
-// Takes a number from those from one place to another.
-fn lower_all(values: &mut [f64], first: usize, end: usize, by: f64) {
-    if first <= end && end <= values.len() {
-        for value in values[first..end].iter_mut() {
-            *value -= by;
-        }
     }
 }
 

@@ -34,6 +34,47 @@ pub(crate) fn is_set(flags: &[bool], place: usize) -> bool {
     }
 }
 
+// Whether the bit at a place is set, in words of 64 bits. Past the end all are.
+pub(crate) fn has_bit(words: &[u64], place: u32) -> bool {
+    match words.get((place / 64) as usize) {
+        Some(word) => *word & bit_at(place) != 0,
+        None => true,
+    }
+}
+
+// Sets the bit at a place.
+pub(crate) fn put_bit(words: &mut [u64], place: u32) {
+    if let Some(word) = words.get_mut((place / 64) as usize) {
+        *word |= bit_at(place);
+    }
+}
+
+// The bit of a place in its word.
+fn bit_at(place: u32) -> u64 {
+    1 << (place % 64)
+}
+
+// Whether a number is among these.
+pub(crate) fn is_among(numbers: &[u32], number: u32) -> bool {
+    for other in numbers {
+        if *other == number {
+            return true;
+        }
+    }
+    false
+}
+
+// The least of some numbers, or 0 where it is less.
+pub(crate) fn least_or_zero(values: &[f64]) -> f64 {
+    let mut least = 0.0;
+    for value in values {
+        if *value < least {
+            least = *value;
+        }
+    }
+    least
+}
+
 // The place that is so many after another one.
 pub(crate) fn place_after(first: u32, number: usize) -> u32 {
     first.saturating_add(u32::try_from(number).unwrap_or(u32::MAX))

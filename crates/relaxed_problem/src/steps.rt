@@ -7,7 +7,7 @@ use crate::leaving::{Leaving, Place, Work};
 use crate::programs::Program;
 use crate::relaxations::Relaxation;
 use crate::slots::{
-    NOTHING, add, fill, number_or_max, put, put_flag, put_number, size_of_number, value_at,
+    NOTHING, add, add_multiple, fill, number_or_max, put, put_number, size_of_number, value_at,
 };
 use slot_text::Memory;
 use std::alloc::Global;
@@ -39,10 +39,10 @@ pub struct Ended {
 impl Relaxation {
     /// Goes on from the basis that there is, until the relaxation is solved or its value, with
     /// changed costs, is above `stop_above`, by at most so many pivots. A pivot takes a step for
-    /// each part and each alternative of the units whose prices move, each use of the basic
-    /// alternatives, and some ten for each entry of the inverse; and for each change of a key in
-    /// it, a step for each unit with a breakpoint, and for each use and alternative of the unit
-    /// that changes.
+    /// each part, for each alternative of the units of which some may become cheaper beside their
+    /// keys, each use of the basic alternatives, and some ten for each entry of the inverse; and
+    /// for each change of a key in it, a step for each unit with a breakpoint, and for each use and
+    /// alternative of the unit that changes.
     pub fn solve(
         &mut self,
         alloc: Global,
@@ -221,7 +221,7 @@ impl Relaxation {
             _ => {
                 self.value += entering.length * leaving.violation;
                 self.move_prices(&direction, leaving.place, entering.length);
-                self.move_costs(program, work, entering.length);
+                add_multiple(&mut self.parts, &work.parts, entering.length);
                 self.take_new_keys(program, work);
                 None
             }
@@ -353,19 +353,13 @@ impl Relaxation {
 
     // Lets an alternative be basic in the place of another one.
     fn replace_basic(&mut self, at: usize, column: u32) {
-        let old = number_or_max(&self.basics, at);
-        put_flag(&mut self.is_basic, old as usize, false);
-        put_flag(&mut self.is_basic, column as usize, true);
         put_number(&mut self.basics, at, column);
-        put(&mut self.reduced, column as usize, 0.0);
     }
 
     // Adds a basic alternative and a class with a price.
     fn add_basic(&mut self, column: u32, class: u32) -> Result<(), Memory> {
         let place = u32::try_from(self.priced.len()).unwrap_or(u32::MAX);
         put_number(&mut self.places, class as usize, place);
-        put_flag(&mut self.is_basic, column as usize, true);
-        put(&mut self.reduced, column as usize, 0.0);
         self.basics.push(column)?;
         self.priced.push(class)?;
         Ok(())
@@ -374,8 +368,7 @@ impl Relaxation {
     // Takes a basic alternative away; the last one takes its place.
     fn drop_basic(&mut self, at: usize) {
         if at < self.basics.len() {
-            let old = self.basics.swap_remove(at);
-            put_flag(&mut self.is_basic, old as usize, false);
+            let _old = self.basics.swap_remove(at);
         }
     }
 
