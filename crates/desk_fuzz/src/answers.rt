@@ -9,7 +9,7 @@ use desk_links::MemoryDoor;
 use drawn_worlds::{
     Command, begins, copied, count_of, file_text, keep_writes, number, queries_text, text_of, word,
 };
-use memory_desk::{Given, Outside};
+use memory_desk::{Given, RunEnd, RunFault};
 use slot_text::Memory;
 use std::alloc::Global;
 use std::sync::Wait;
@@ -21,8 +21,8 @@ pub fn amended<R: Threads + Wait + Sync>(
     rt: &R,
     alloc: Global,
     given: &Given,
-    ran: &Outside,
-) -> Result<&'static str, Memory> {
+    ran: &RunEnd,
+) -> Result<&'static str, RunFault> {
     let asks = file_text(alloc, given.file("ASKS"))?;
     let answers = file_text(alloc, ran.cabinet.file("ANSWERS"))?;
     if !asks.ends_with('\n') {
@@ -50,7 +50,7 @@ fn answers_to_first<R: Threads + Wait + Sync>(
     alloc: Global,
     given: &Given,
     asks: &str,
-) -> Result<String, Memory> {
+) -> Result<String, RunFault> {
     let front = asks.split_once("\n\n").unwrap_or((asks, "")).0;
     let whole = format!(in alloc; "{front}\n")?;
     answers_to(rt, alloc, given, &whole)
@@ -62,7 +62,7 @@ fn listed_behind<R: Threads + Wait + Sync>(
     alloc: Global,
     given: &Given,
     asks: &str,
-) -> Result<String, Memory> {
+) -> Result<String, RunFault> {
     let queries = queries_text(alloc)?;
     let all = format!(in alloc; "{asks}\n{queries}")?;
     answers_to(rt, alloc, given, &all)
@@ -78,8 +78,8 @@ pub fn served<R: Threads + Wait + Sync>(
     rt: &R,
     alloc: Global,
     given: &Given,
-    ran: &Outside,
-) -> Result<&'static str, Memory> {
+    ran: &RunEnd,
+) -> Result<&'static str, RunFault> {
     let said = text_of(alloc, ran.sink.bytes())?;
     let record = file_text(alloc, ran.cabinet.file("RECORD"))?;
     let history = history_of(alloc, &record, u64::MAX)?;
@@ -100,7 +100,7 @@ fn first_line(text: &str) -> &str {
 fn are_sent(
     alloc: Global,
     given: &Given,
-    ran: &Outside,
+    ran: &RunEnd,
     record: &str,
 ) -> Result<&'static str, Memory> {
     if given.fails.link.is_some() {
@@ -133,9 +133,9 @@ pub fn resumed<R: Threads + Wait + Sync>(
     rt: &R,
     alloc: Global,
     given: &Given,
-    ran: &Outside,
+    ran: &RunEnd,
     damaged: &str,
-) -> Result<&'static str, Memory> {
+) -> Result<&'static str, RunFault> {
     let said = text_of(alloc, ran.sink.bytes())?;
     if said.starts_with("JOURNAL ") {
         return Ok(law(is_journal_left(given, ran), "a journal that was refused"));
@@ -154,7 +154,7 @@ pub fn resumed<R: Threads + Wait + Sync>(
 }
 
 /// Whether a journal that was refused, without a fault of its disk, is as it was.
-fn is_journal_left(given: &Given, ran: &Outside) -> bool {
+fn is_journal_left(given: &Given, ran: &RunEnd) -> bool {
     match (&given.journal, &ran.disk) {
         (Some(before), Some(disk)) => ran.status == 14 || disk.bytes() == before.as_slice(),
         (None, None) => true,
@@ -167,8 +167,8 @@ fn found_again<R: Threads + Wait + Sync>(
     rt: &R,
     alloc: Global,
     given: &Given,
-    ran: &Outside,
-) -> Result<Option<u64>, Memory> {
+    ran: &RunEnd,
+) -> Result<Option<u64>, RunFault> {
     let Some(disk) = &ran.disk else {
         return Ok(None);
     };
@@ -185,7 +185,7 @@ fn follows_kept<R: Threads + Wait + Sync>(
     given: &Given,
     record: &str,
     kept: u64,
-) -> Result<bool, Memory> {
+) -> Result<bool, RunFault> {
     let earlier = file_text(alloc, given.file("RECORD"))?;
     let before = history_of(alloc, &earlier, kept)?;
     let history = history_of(alloc, record, u64::MAX)?;
@@ -205,8 +205,8 @@ pub fn recleared<R: Threads + Wait + Sync>(
     rt: &R,
     alloc: Global,
     given: &Given,
-    ran: &Outside,
-) -> Result<&'static str, Memory> {
+    ran: &RunEnd,
+) -> Result<&'static str, RunFault> {
     let said = text_of(alloc, ran.sink.bytes())?;
     let mut after = copied(alloc, given)?;
     keep_writes(alloc, Command::Reclear, ran, &mut after)?;
@@ -230,7 +230,7 @@ fn fit_together<R: Threads + Wait + Sync>(
     alloc: Global,
     given: &Given,
     replies: &str,
-) -> Result<bool, Memory> {
+) -> Result<bool, RunFault> {
     let asks = file_text(alloc, given.file("ASKS"))?;
     if !asks.ends_with('\n') {
         return Ok(true);
@@ -239,7 +239,7 @@ fn fit_together<R: Threads + Wait + Sync>(
     let listed = listed_behind(rt, alloc, given, &asks)?;
     let held = behind(&listed, &answers);
     let both = format!(in alloc; "{held}{replies}")?;
-    fit_replies(alloc, given, &both)
+    Ok(fit_replies(alloc, given, &both)?)
 }
 
 /// Usage was watched: the numbers of series, and of those with precedence, are those of a count
@@ -248,9 +248,9 @@ pub fn watched<R: Threads + Wait + Sync>(
     rt: &R,
     alloc: Global,
     given: &Given,
-    ran: &Outside,
+    ran: &RunEnd,
     damaged: &str,
-) -> Result<&'static str, Memory> {
+) -> Result<&'static str, RunFault> {
     if !damaged.is_empty() {
         return Ok("");
     }
@@ -323,14 +323,14 @@ fn has_date(period: &str, date: u64) -> bool {
 
 /// Whether the one link of the one door was sent a front of what the other run sent it, where there
 /// is one.
-pub fn are_front_of(given: &Given, calm: &Outside, ran: &Outside) -> bool {
+pub fn are_front_of(given: &Given, calm: &RunEnd, ran: &RunEnd) -> bool {
     match given.clients.as_slice() {
-        [clients] if clients.second.is_none() => { begins(first_sent(ran), first_sent(calm)) }
+        [clients] if clients.inputs.len() == 1 => { begins(first_sent(ran), first_sent(calm)) }
         _ => true,
     }
 }
 
 /// What the first link of the first door was sent.
-fn first_sent(ran: &Outside) -> Option<&[u8]> {
+fn first_sent(ran: &RunEnd) -> Option<&[u8]> {
     Some(ran.doors.first()?.kept().first()?.sent())
 }

@@ -7,7 +7,7 @@ use crate::laws::{first_of, law};
 use crate::works::{allotted, checked, inspected, made, reported, tried};
 use desk_outside::Failure;
 use drawn_worlds::{COMMANDS, Command, Draws, damage_world, whole_world};
-use memory_desk::{Fails, Given, NO_FAILS, Outside, run_desk};
+use memory_desk::{Fails, Given, NO_FAILS, RunEnd, RunFault, run_desk};
 use slot_text::Memory;
 use std::alloc::Global;
 use std::sync::Wait;
@@ -33,7 +33,7 @@ pub fn broken_case<R: Threads + Wait + Sync>(
     alloc: Global,
     number: u64,
     counts: &mut [u64],
-) -> Result<&'static str, Memory> {
+) -> Result<&'static str, RunFault> {
     let mut draws = Draws::new(number, 0);
     let mut case = drawn_case(alloc, &mut draws)?;
     let mut given = whole_world(rt, alloc, &mut draws, number, case.command)?;
@@ -92,7 +92,7 @@ fn broken_runs<R: Threads + Wait + Sync>(
     case: &Case,
     given: &mut Given,
     counts: &mut [u64],
-) -> Result<&'static str, Memory> {
+) -> Result<&'static str, RunFault> {
     given.fails = NO_FAILS;
     let calm = run_desk(rt, alloc, case.words.as_str(), given, &RealGate)?;
     note(counts, case.command, calm.status);
@@ -156,8 +156,8 @@ fn broken_calm<R: Threads + Wait + Sync>(
     alloc: Global,
     case: &Case,
     given: &Given,
-    ran: &Outside,
-) -> Result<&'static str, Memory> {
+    ran: &RunEnd,
+) -> Result<&'static str, RunFault> {
     let general = broken_law(alloc, case.command, given, ran)?;
     if !general.is_empty() {
         return Ok(general);
@@ -177,8 +177,8 @@ fn broken_work<R: Threads + Wait + Sync>(
     alloc: Global,
     case: &Case,
     given: &Given,
-    ran: &Outside,
-) -> Result<&'static str, Memory> {
+    ran: &RunEnd,
+) -> Result<&'static str, RunFault> {
     let command = case.command;
     if command == Command::Inspect {
         return inspected(rt, alloc, given, ran);
@@ -207,9 +207,9 @@ fn broken_failing<R: Threads + Wait + Sync>(
     alloc: Global,
     case: &Case,
     given: &Given,
-    calm: &Outside,
-    ran: &Outside,
-) -> Result<&'static str, Memory> {
+    calm: &RunEnd,
+    ran: &RunEnd,
+) -> Result<&'static str, RunFault> {
     let general = broken_law(alloc, case.command, given, ran)?;
     if !general.is_empty() {
         return Ok(general);
@@ -217,7 +217,7 @@ fn broken_failing<R: Threads + Wait + Sync>(
     let fails = given.fails;
     let is_session = fails.accept.is_some() || fails.link.is_some() || fails.disk.is_some();
     if !is_session && given.clients.len() < 2 {
-        return broken_beside(alloc, case.command, given, calm, ran);
+        return Ok(broken_beside(alloc, case.command, given, calm, ran)?);
     }
     if case.refused || !case.command.ends(ran.status) {
         return Ok("");

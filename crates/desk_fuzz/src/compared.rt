@@ -3,7 +3,7 @@
 use crate::laws::{first_of, law};
 use desk_outside::{Cabinet, Sink};
 use drawn_worlds::{Command, are_same, begins, text_of, word};
-use memory_desk::{Given, Outside};
+use memory_desk::{Given, RunEnd};
 use slot_text::Memory;
 use std::alloc::Global;
 
@@ -15,8 +15,8 @@ pub fn broken_beside(
     alloc: Global,
     command: Command,
     given: &Given,
-    calm: &Outside,
-    ran: &Outside,
+    calm: &RunEnd,
+    ran: &RunEnd,
 ) -> Result<&'static str, Memory> {
     let said = text_of(alloc, ran.sink.bytes())?;
     let failed = word(said.lines().next().unwrap_or(""), 1);
@@ -49,7 +49,7 @@ pub fn broken_beside(
 }
 
 /// Whether both runs left the same files.
-fn are_files_of(command: Command, calm: &Outside, ran: &Outside) -> bool {
+fn are_files_of(command: Command, calm: &RunEnd, ran: &RunEnd) -> bool {
     for name in command.writes().split_whitespace() {
         if !are_same(calm.cabinet.file(name), ran.cabinet.file(name)) {
             return false;
@@ -61,8 +61,8 @@ fn are_files_of(command: Command, calm: &Outside, ran: &Outside) -> bool {
 fn are_written_up_to(
     command: Command,
     given: &Given,
-    calm: &Outside,
-    ran: &Outside,
+    calm: &RunEnd,
+    ran: &RunEnd,
     failed: &str,
 ) -> bool {
     let mut is_behind = false;

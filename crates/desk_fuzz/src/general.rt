@@ -7,7 +7,7 @@ use desk_disk::Disk;
 use desk_links::Door;
 use desk_outside::{Cabinet, Sink};
 use drawn_worlds::{Command, are_same, has_name, number, text_of, word};
-use memory_desk::{Given, Outside};
+use memory_desk::{Given, RunEnd};
 use slot_text::Memory;
 use std::alloc::Global;
 
@@ -19,7 +19,7 @@ pub fn broken_law(
     alloc: Global,
     command: Command,
     given: &Given,
-    ran: &Outside,
+    ran: &RunEnd,
 ) -> Result<&'static str, Memory> {
     let said = text_of(alloc, ran.sink.bytes())?;
     let status = ran.status;
@@ -120,7 +120,7 @@ fn is_cabinet_line(command: Command, given: &Given, name: &str, said: &str) -> b
 }
 
 /// Whether calls failed where the status says so, and none where it says that none did.
-fn has_cause(given: &Given, ran: &Outside, said: &str) -> bool {
+fn has_cause(given: &Given, ran: &RunEnd, said: &str) -> bool {
     let cabinet = ran.cabinet.faults() > 0;
     let sink = ran.sink.faults() > 0;
     let doors = have_doors_failed(ran);
@@ -134,7 +134,7 @@ fn has_cause(given: &Given, ran: &Outside, said: &str) -> bool {
     exact && calm && disks && (status != 10 || doors) && (given.journal.is_some() || !disk)
 }
 
-fn have_doors_failed(ran: &Outside) -> bool {
+fn have_doors_failed(ran: &RunEnd) -> bool {
     for door in &ran.doors {
         if door.faults() > 0 {
             return true;
@@ -143,22 +143,22 @@ fn have_doors_failed(ran: &Outside) -> bool {
     false
 }
 
-fn has_disk_failed(ran: &Outside) -> bool {
+fn has_disk_failed(ran: &RunEnd) -> bool {
     match &ran.disk {
         Some(disk) => disk.faults() > 0,
         None => false,
     }
 }
 
-/// The names that any command gives to a file.
-const NAMES: [&str; 11] = [
+/// The names that any command gives to a file, and the one of a file that is away.
+const NAMES: [&str; 13] = [
     "CAP", "SCR", "CERT", "REPLIES", "ASKS", "ANSWERS", "OPERATED", "NEXT", "EXTRA", "RECORD",
-    "PAGE",
+    "REPORT", "PAGE", "AWAY",
 ];
 
 /// Whether each file is as it was, but for those that the command writes, and these too where it
 /// was refused before its writes.
-fn are_files_left(command: Command, given: &Given, ran: &Outside, said: &str) -> bool {
+fn are_files_left(command: Command, given: &Given, ran: &RunEnd, said: &str) -> bool {
     let refused = match ran.status {
         1 | 2 | 3 | 4 | 13 | 15 => true,
         5 => !said.ends_with("WRITE\n"),

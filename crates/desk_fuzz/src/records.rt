@@ -1,7 +1,7 @@
 //! Records: their asks and answers, as messages of one ask each, so that `amend` can be asked anew.
 
 use drawn_worlds::{Command, HEAD, copied, file_text, number};
-use memory_desk::{Given, run_desk};
+use memory_desk::{Given, RunFault, run_desk};
 use slot_text::Memory;
 use std::alloc::Global;
 use std::sync::Wait;
@@ -84,11 +84,11 @@ pub fn answers_to<R: Threads + Wait + Sync>(
     alloc: Global,
     given: &Given,
     asks: &str,
-) -> Result<String, Memory> {
+) -> Result<String, RunFault> {
     let mut world = copied(alloc, given)?;
     world.put(alloc, "ASKS", Vec::from_slice(alloc, asks.as_bytes())?)?;
     let ran = run_desk(rt, alloc, Command::Amend.words(), &world, &RealGate)?;
-    file_text(alloc, ran.cabinet.file("ANSWERS"))
+    Ok(file_text(alloc, ran.cabinet.file("ANSWERS"))?)
 }
 
 /// The answer lines of one caller of a record, in their order.

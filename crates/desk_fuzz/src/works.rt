@@ -10,7 +10,7 @@ use drawn_worlds::{
     Command, copied, count_of, file_text, held_lines, keep_writes, number, queries_text, text_of,
     word,
 };
-use memory_desk::{Given, Outside, run_desk};
+use memory_desk::{Given, RunEnd, RunFault, run_desk};
 use slot_text::Memory;
 use std::alloc::Global;
 use std::sync::Wait;
@@ -23,7 +23,7 @@ pub fn said_of<R: Threads + Wait + Sync>(
     alloc: Global,
     words: &str,
     given: &Given,
-) -> Result<String, Memory> {
+) -> Result<String, RunFault> {
     let ran = run_desk(rt, alloc, words, given, &RealGate)?;
     let printed = text_of(alloc, ran.sink.bytes())?;
     let status = ran.status;
@@ -45,8 +45,8 @@ pub fn allotted<R: Threads + Wait + Sync>(
     rt: &R,
     alloc: Global,
     given: &Given,
-    ran: &Outside,
-) -> Result<&'static str, Memory> {
+    ran: &RunEnd,
+) -> Result<&'static str, RunFault> {
     let said = text_of(alloc, ran.sink.bytes())?;
     let mut after = copied(alloc, given)?;
     keep_writes(alloc, Command::Allocate, ran, &mut after)?;
@@ -80,7 +80,7 @@ fn is_found_valid<R: Threads + Wait + Sync>(
     rt: &R,
     alloc: Global,
     after: &Given,
-) -> Result<bool, Memory> {
+) -> Result<bool, RunFault> {
     let verdict = said_of(rt, alloc, Command::Check.words(), after)?;
     Ok(verdict.as_str() == "0 YES\n")
 }
@@ -91,7 +91,7 @@ fn has_each_reply<R: Threads + Wait + Sync>(
     alloc: Global,
     given: &Given,
     replies: &str,
-) -> Result<bool, Memory> {
+) -> Result<bool, RunFault> {
     let told = said_of(rt, alloc, Command::Inspect.words(), given)?;
     let units = told.lines().find(|line| line.starts_with("UNITS "));
     let replied = count_of(replies, "K").saturating_add(count_of(replies, "U")) as u64;
@@ -103,7 +103,7 @@ pub fn checked<R: Threads + Wait + Sync>(
     rt: &R,
     alloc: Global,
     given: &Given,
-) -> Result<&'static str, Memory> {
+) -> Result<&'static str, RunFault> {
     let queries = queries_text(alloc)?;
     let listed = answers_to(rt, alloc, given, &queries)?;
     Ok(law(fit_replies(alloc, given, &listed)?, "loads of a book"))
@@ -114,8 +114,8 @@ pub fn inspected<R: Threads + Wait + Sync>(
     rt: &R,
     alloc: Global,
     given: &Given,
-    ran: &Outside,
-) -> Result<&'static str, Memory> {
+    ran: &RunEnd,
+) -> Result<&'static str, RunFault> {
     let said = text_of(alloc, ran.sink.bytes())?;
     let allotted = said_of(rt, alloc, Command::Allocate.words(), given)?;
     let status = ran.status;
@@ -131,7 +131,7 @@ pub fn inspected<R: Threads + Wait + Sync>(
 
 /// A certificate was reported on: the numbers that are printed are those of the units of the
 /// report, and in a stage that is settled nothing cheaper fits.
-pub fn reported(alloc: Global, ran: &Outside) -> Result<&'static str, Memory> {
+pub fn reported(alloc: Global, ran: &RunEnd) -> Result<&'static str, RunFault> {
     let said = text_of(alloc, ran.sink.bytes())?;
     let report = file_text(alloc, ran.cabinet.file("REPORT"))?;
     let page = file_text(alloc, ran.cabinet.file("PAGE"))?;
@@ -181,7 +181,7 @@ fn has_cheaper_in(report: &str, stage: &str, line: &str) -> bool {
 }
 
 /// A season was made: its files are those of the rule.
-pub fn made(alloc: Global, words: &str, ran: &Outside) -> Result<&'static str, Memory> {
+pub fn made(alloc: Global, words: &str, ran: &RunEnd) -> Result<&'static str, RunFault> {
     let seed = number(words, 1).unwrap_or(0);
     let units = number(words, 2).unwrap_or(0);
     let capacity = made_capacity(alloc, units)?;
@@ -197,8 +197,8 @@ pub fn tried<R: Threads + Wait + Sync>(
     rt: &R,
     alloc: Global,
     words: &str,
-    ran: &Outside,
-) -> Result<&'static str, Memory> {
+    ran: &RunEnd,
+) -> Result<&'static str, RunFault> {
     let said = text_of(alloc, ran.sink.bytes())?;
     let mut given = Given::new(alloc, 400_000);
     let seed = number(words, 1).unwrap_or(0);

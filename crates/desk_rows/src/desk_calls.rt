@@ -1,14 +1,12 @@
 //! Calls of the desk over files, an output and doors in memory.
 
-ghost use Rattle.std.specs.Prelude.{All, IfOk, OnOk};
-ghost use Rattle.desk_links.specs.LinksInMemory.{IsUnused};
-
 use crate::texts::{folded, spelled_out};
 use desk_disk::MemoryDisk;
 use desk_links::{MemoryDoor, MemoryLink};
 use desk_outside::{Failure, MemoryCabinet, MemorySink};
+use memory_desk::{Clients, list_of, split_words};
 use slot_program::desk;
-use std::alloc::{AllocError, Global};
+use std::alloc::Global;
 use std::sync::Wait;
 use std::test::Fail;
 use std::thread::Threads;
@@ -21,22 +19,6 @@ pub(crate) fn new_cabinet(
     failing: Option<Failure>,
 ) -> Result<MemoryCabinet, Fail> {
     Ok(MemoryCabinet::new(alloc, 6, room, list_of(alloc, failing)?)?)
-}
-
-fn list_of(alloc: Global, failing: Option<Failure>) -> Result<Vec<Failure>, AllocError> {
-    let mut list = Vec::new(alloc);
-    if let Some(failure) = failing {
-        list.push(failure)?;
-    }
-    Ok(list)
-}
-
-fn split_words(alloc: Global, words: &str) -> Result<Vec<String>, AllocError> {
-    let mut list = Vec::new(alloc);
-    for word in words.split(' ') {
-        list.push(String::from_str(alloc, word)?)?;
-    }
-    Ok(list)
 }
 
 /// Runs the desk without a disk on these words, with a blank between two. Gives the status, a
@@ -91,64 +73,8 @@ pub(crate) fn call_alone<R: Threads + Wait + Sync>(
     call_desk(rt, alloc, words, cabinet, None, &mut none, &RealGate)
 }
 
-/// A link with this input, which is handed out in pieces of so many bytes, or whole where that is 0,
-/// and one call of which is to fail.
-fn link_of(
-    alloc: Global,
-    text: &str,
-    piece: usize,
-    failing: Option<Failure>,
-) -> Result<MemoryLink, Fail>
-    ensures { IfOk result IsUnused }
-{
-    let input = spelled_out(alloc, text)?;
-    let takes = if piece == 0 { 0 } else { input.len() + 1 };
-    let sizes = vec![in alloc; piece; takes]?;
-    let failing = list_of(alloc, failing)?;
-    let room = 300_000 + input.len();
-    Ok(MemoryLink::new(alloc, input, sizes, room, failing)?)
-}
-
-/// The links of a door: their inputs, at most three, stand between bars. A call of the first one is
-/// to fail.
-fn links_of(
-    alloc: Global,
-    texts: &str,
-    piece: usize,
-    failing: Option<Failure>,
-) -> Result<Vec<MemoryLink>, Fail>
-    ensures { IfOk result (λ links. All IsUnused links.items) }
-{
-    let (first, rest) = texts.split_once('|').unwrap_or((texts, ""));
-    let (second, third) = rest.split_once('|').unwrap_or((rest, ""));
-    let mut links = Vec::new(alloc);
-    push_link(alloc, &mut links, first, piece, failing)?;
-    if rest.is_empty() {
-        return Ok(links);
-    }
-    push_link(alloc, &mut links, second, piece, None)?;
-    if third.is_empty() {
-        return Ok(links);
-    }
-    push_link(alloc, &mut links, third, piece, None)?;
-    Ok(links)
-}
-
-fn push_link(
-    alloc: Global,
-    links: &mut Vec<MemoryLink>,
-    text: &str,
-    piece: usize,
-    failing: Option<Failure>,
-) -> Result<(), Fail>
-    requires { All IsUnused links.old.items }
-    ensures { OnOk result (All IsUnused links.new.items) }
-{
-    links.push(link_of(alloc, text, piece, failing)?)?;
-    Ok(())
-}
-
-/// A door with these links, an accept of which is to fail.
+/// A door with links whose inputs stand between bars, handed out in pieces of so many bytes, or
+/// whole where that is 0. An accept is to fail, or a call of the first link.
 pub(crate) fn door_of(
     alloc: Global,
     texts: &str,
@@ -156,9 +82,11 @@ pub(crate) fn door_of(
     call: Option<Failure>,
     accept: Option<Failure>,
 ) -> Result<MemoryDoor, Fail> {
-    let links = links_of(alloc, texts, piece, call)?;
-    let failing = list_of(alloc, accept)?;
-    Ok(MemoryDoor::new(alloc, links, 9, failing)?)
+    let mut inputs = Vec::new(alloc);
+    for text in texts.split('|') {
+        inputs.push(spelled_out(alloc, text)?)?;
+    }
+    Ok(memory_desk::door_of(alloc, &Clients { inputs }, piece, call, accept)?)
 }
 
 /// A door for each text of clients, without pieces. An accept of the first one is to fail.

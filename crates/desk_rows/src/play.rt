@@ -1,20 +1,20 @@
 //! Scripts of runs of the desk.
 //!
-//! A line of a script is a word and what follows it. In a text `;` stands for LF, `~` for CR, `^` for
-//! the byte 255, and `{3 AB}` for `AB` three times.
+//! A line of a script is a word and what follows it. In a text `;` stands for LF, `~` for CR, `^`
+//! for the byte 255, and `{3 AB}` for `AB` three times.
 //! - `file NAME TEXT` puts a file into the cabinet of each run below.
 //! - `words WORDS` sets the words of each run below.
 //! - `says SAID` runs the desk, and wants this status and this printed text.
 //! - `again` runs the desk, and wants what the last run said.
-//! - `line OLD|NEW|SAID` runs it where the lines OLD of each file are NEW; OLD may be the numbers of
-//!   a first and a last line, as `3-5`, and NEW may be `(none)`.
+//! - `line OLD|NEW|SAID` runs it where the lines OLD of each file are NEW; OLD may be the numbers
+//!   of a first and a last line, as `3-5`, and NEW may be `(none)`.
 //! - `cabinet CALL|SAID` and `sink CALL|SAID` run it where this call fails; `2:6` is call 2, which
 //!   takes six bytes.
 //! - `fronts NAME` runs it with each front of this file, which fails at its first line that is not
 //!   whole.
 //! - `holds NAME TEXT` wants this text of a file after the last run, `(none)` where there is none.
 //! - `take NAME` puts this file, as the last run left it, into the cabinet of each run below.
-//! - `door INPUT|INPUT` gives each run below one door more, with links of these inputs, at most three;
+//! - `door INPUT|INPUT` gives each run below one door more, with a link of each of these inputs;
 //!   `shut` takes all doors away; `piece N` lets each take of a link give N bytes at most, 0 all.
 //! - `accept CALL|SAID` and `link CALL|SAID` run it where this accept of the first door fails, or
 //!   this call of that door's first link.

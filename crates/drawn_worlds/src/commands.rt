@@ -53,7 +53,7 @@ impl Command {
         }
     }
 
-    /// The words that ask for it. Those of a made season have its numbers behind them.
+    /// The words that ask for it; for the season of number 1 with four units, where one is made.
     pub fn words(self) -> &'static str {
         match self {
             Command::Allocate => "allocate CAP SCR CERT REPLIES --workers 1 --nodes 200",

@@ -9,7 +9,7 @@ use std::alloc::Global;
 pub const HEAD: &str = "SCR\nS25\n20NOV\nABC\n";
 
 /// How many series a case draws its lines from.
-pub const MOST_SERIES: u64 = 12;
+const MOST_SERIES: u64 = 12;
 
 /// Three windows for one movement each: of the turnarounds of a knot each two share one, so that
 /// one node does not settle them.

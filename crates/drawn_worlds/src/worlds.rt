@@ -6,7 +6,7 @@ use crate::damage::{damage, damaged_bytes};
 use crate::draws::Draws;
 use crate::seasons::{message_text, operated_text, season_texts};
 use crate::texts::{file_text, held_lines};
-use memory_desk::{Clients, Given, Outside, run_desk};
+use memory_desk::{Given, RunEnd, RunFault, run_desk};
 use slot_text::Memory;
 use std::alloc::Global;
 use std::sync::Wait;
@@ -26,7 +26,7 @@ pub fn whole_world<R: Threads + Wait + Sync>(
     draws: &mut Draws,
     case: u64,
     command: Command,
-) -> Result<Given, Memory> {
+) -> Result<Given, RunFault> {
     let mut given = Given::new(alloc, ROOM);
     let (capacity, requests) = season_texts(alloc, draws, case)?;
     given.put(alloc, "CAP", capacity.into_bytes())?;
@@ -44,7 +44,7 @@ fn put_made_files<R: Threads + Wait + Sync>(
     case: u64,
     command: Command,
     given: &mut Given,
-) -> Result<(), Memory> {
+) -> Result<(), RunFault> {
     if has_name(command.reads(), "CERT") {
         make(rt, alloc, Command::Allocate, given)?;
     }
@@ -56,7 +56,8 @@ fn put_made_files<R: Threads + Wait + Sync>(
         }
         Command::Usage => {
             let text = operated_text(alloc, draws, case)?;
-            given.put(alloc, "OPERATED", text.into_bytes())
+            given.put(alloc, "OPERATED", text.into_bytes())?;
+            Ok(())
         }
         Command::Serve => put_clients(rt, alloc, draws, case, given),
         Command::Resume => put_journal(rt, alloc, draws, case, given),
@@ -70,16 +71,17 @@ fn make<R: Threads + Wait + Sync>(
     alloc: Global,
     command: Command,
     given: &mut Given,
-) -> Result<(), Memory> {
+) -> Result<(), RunFault> {
     let ran = run_desk(rt, alloc, command.words(), given, &RealGate)?;
-    keep_writes(alloc, command, &ran, given)
+    keep_writes(alloc, command, &ran, given)?;
+    Ok(())
 }
 
 /// Keeps what a run wrote.
 pub fn keep_writes(
     alloc: Global,
     command: Command,
-    ran: &Outside,
+    ran: &RunEnd,
     given: &mut Given,
 ) -> Result<(), Memory> {
     for name in command.writes().split_whitespace() {
@@ -107,13 +109,14 @@ fn put_asks<R: Threads + Wait + Sync>(
     draws: &mut Draws,
     case: u64,
     given: &mut Given,
-) -> Result<(), Memory> {
+) -> Result<(), RunFault> {
     let first = drawn_message(alloc, draws, case, given, "REPLIES")?;
     given.put(alloc, "ASKS", Vec::from_slice(alloc, first.as_bytes())?)?;
     make(rt, alloc, Command::Amend, given)?;
     let second = drawn_message(alloc, draws, case, given, "ANSWERS")?;
     let both = format!(in alloc; "{first}{second}")?;
-    given.put(alloc, "ASKS", both.into_bytes())
+    given.put(alloc, "ASKS", both.into_bytes())?;
+    Ok(())
 }
 
 /// A message of asks, some about the lines of a file of replies.
@@ -129,35 +132,35 @@ fn drawn_message(
     message_text(alloc, draws, case, &held)
 }
 
-/// One door, or two, the first with one link or two; the asks stand in a file, too.
+/// One door, or two, the first with one client or two; the asks stand in a file, too.
 fn put_clients<R: Threads + Wait + Sync>(
     rt: &R,
     alloc: Global,
     draws: &mut Draws,
     case: u64,
     given: &mut Given,
-) -> Result<(), Memory> {
+) -> Result<(), RunFault> {
     put_asks(rt, alloc, draws, case, given)?;
-    let first = Vec::from_slice(alloc, given.file("ASKS").unwrap_or(b""))?;
-    let second = if draws.once_in(2) {
+    open_door_of_asks(alloc, given)?;
+    if draws.once_in(2) {
         let text = drawn_message(alloc, draws, case, given, "ANSWERS")?;
-        Some(text.into_bytes())
-    } else {
-        None
-    };
-    given.clients.push(Clients { first, second })?;
+        given.add_client(text.into_bytes())?;
+    }
     if draws.once_in(3) {
         let text = drawn_message(alloc, draws, case, given, "REPLIES")?;
-        given.clients.push(Clients {
-            first: text.into_bytes(),
-            second: None,
-        })?;
+        given.open_door(alloc, text.into_bytes())?;
     }
     given.piece = [0, 1, 7, 4096].get(draws.place(4)).copied().unwrap_or(0);
     Ok(())
 }
 
-/// A journal that an earlier desk kept, with its record, or an empty file; and the clients of the
+/// A door with one client, which sends what stands in the file of asks.
+fn open_door_of_asks(alloc: Global, given: &mut Given) -> Result<(), Memory> {
+    let asks = Vec::from_slice(alloc, given.file("ASKS").unwrap_or(b""))?;
+    given.open_door(alloc, asks)
+}
+
+/// A journal that an earlier desk kept, with its record, or an empty file; and the client of the
 /// desk that opens it.
 fn put_journal<R: Threads + Wait + Sync>(
     rt: &R,
@@ -165,18 +168,14 @@ fn put_journal<R: Threads + Wait + Sync>(
     draws: &mut Draws,
     case: u64,
     given: &mut Given,
-) -> Result<(), Memory> {
+) -> Result<(), RunFault> {
     put_asks(rt, alloc, draws, case, given)?;
     given.journal = Some(Vec::new(alloc));
-    let first = Vec::from_slice(alloc, given.file("ASKS").unwrap_or(b""))?;
-    given.clients.push(Clients {
-        first,
-        second: None,
-    })?;
+    open_door_of_asks(alloc, given)?;
     if !draws.once_in(4) {
         keep_journal(rt, alloc, given)?;
         let text = drawn_message(alloc, draws, case, given, "ANSWERS")?;
-        replace_client(given, text.into_bytes());
+        given.replace_client(text.into_bytes());
     }
     given.piece = draws.place(3);
     Ok(())
@@ -187,20 +186,13 @@ fn keep_journal<R: Threads + Wait + Sync>(
     rt: &R,
     alloc: Global,
     given: &mut Given,
-) -> Result<(), Memory> {
+) -> Result<(), RunFault> {
     let ran = run_desk(rt, alloc, Command::Resume.words(), given, &RealGate)?;
     keep_writes(alloc, Command::Resume, &ran, given)?;
     if let Some(disk) = &ran.disk {
         given.journal = Some(Vec::from_slice(alloc, disk.bytes())?);
     }
     Ok(())
-}
-
-/// The input of the first client.
-pub fn replace_client(given: &mut Given, input: Vec<u8>) {
-    if let Some(clients) = given.clients.first_mut() {
-        clients.first = input;
-    }
 }
 
 /// Half of the files that the command writes have other bytes before.
@@ -258,11 +250,11 @@ fn put_more_lines(alloc: Global, given: &mut Given) -> Result<(), Memory> {
 }
 
 fn damage_client(alloc: Global, draws: &mut Draws, given: &mut Given) -> Result<(), Memory> {
-    let damaged = match given.clients.first() {
-        Some(clients) => damaged_bytes(alloc, draws, &clients.first)?,
+    let damaged = match given.client() {
+        Some(input) => damaged_bytes(alloc, draws, input)?,
         None => return Ok(()),
     };
-    replace_client(given, damaged);
+    given.replace_client(damaged);
     Ok(())
 }
 

@@ -1,6 +1,6 @@
 //! Doors in memory, by the inputs of their links.
 
-ghost use Rattle.std.specs.Prelude.{All, IfOk, OnOk};
+ghost use Rattle.std.specs.Prelude.{All, IfOk};
 ghost use Rattle.desk_links.specs.LinksInMemory.{IsUnused};
 
 use desk_links::{MemoryDoor, MemoryLink};
@@ -11,15 +11,17 @@ use std::alloc::{AllocError, Global};
 /// How many bytes a link may be sent, beside as many as its input has.
 const ROOM: usize = 300_000;
 
-/// The inputs of a door's links: one or two.
+/// How many links a door keeps.
+const MOST_LINKS: usize = 9;
+
+/// The clients of a door, one after the other: what the link of each hands out.
 #[derive(Drop)]
 pub struct Clients {
-    pub first: Vec<u8>,
-    pub second: Option<Vec<u8>>,
+    pub inputs: Vec<Vec<u8>>,
 }
 
-/// A door with the links of these clients, an accept of which is to fail, or a call of its first
-/// link.
+/// A door with a link for each of these clients, which hands its input out in pieces of so many
+/// bytes, or whole where that is 0. An accept is to fail, or a call of the first link.
 pub fn door_of(
     alloc: Global,
     clients: &Clients,
@@ -27,44 +29,27 @@ pub fn door_of(
     call: Option<Failure>,
     accept: Option<Failure>,
 ) -> Result<MemoryDoor, Memory> {
-    let links = links_of(alloc, clients, piece, call)?;
+    let links = links_of(alloc, &clients.inputs, piece, call)?;
     let failing = list_of(alloc, accept)?;
-    MemoryDoor::new(alloc, links, 9, failing)
+    MemoryDoor::new(alloc, links, MOST_LINKS, failing)
 }
 
 fn links_of(
     alloc: Global,
-    clients: &Clients,
+    inputs: &[Vec<u8>],
     piece: usize,
     call: Option<Failure>,
 ) -> Result<Vec<MemoryLink>, Memory>
     ensures { IfOk result (λ links. All IsUnused links.items) }
 {
     let mut links = Vec::new(alloc);
-    push_link(alloc, &mut links, &clients.first, piece, call)?;
-    match &clients.second {
-        Some(input) => push_link(alloc, &mut links, input, piece, None)?,
-        None => {}
+    for input in inputs {
+        let failing = if links.is_empty() { call } else { None };
+        links.push(link_of(alloc, input, piece, failing)?)?;
     }
     Ok(links)
 }
 
-fn push_link(
-    alloc: Global,
-    links: &mut Vec<MemoryLink>,
-    input: &[u8],
-    piece: usize,
-    call: Option<Failure>,
-) -> Result<(), Memory>
-    requires { All IsUnused links.old.items }
-    ensures { OnOk result (All IsUnused links.new.items) }
-{
-    links.push(link_of(alloc, input, piece, call)?)?;
-    Ok(())
-}
-
-/// A link with this input, which is handed out in pieces of so many bytes, or whole where that is
-/// 0, and one call of which is to fail.
 fn link_of(
     alloc: Global,
     input: &[u8],
@@ -86,7 +71,7 @@ fn link_of(
 }
 
 /// The list of one call that is to fail, or of none.
-pub(crate) fn list_of(alloc: Global, failing: Option<Failure>) -> Result<Vec<Failure>, AllocError> {
+pub fn list_of(alloc: Global, failing: Option<Failure>) -> Result<Vec<Failure>, AllocError> {
     let mut list = Vec::new(alloc);
     if let Some(failure) = failing {
         list.push(failure)?;

@@ -34,7 +34,7 @@ pub const NO_FAILS: Fails = Fails {
 
 /// The files of a run, with room for so many bytes in each; the clients of each door, whose input
 /// comes in pieces of so many bytes, or whole where that is 0; the bytes of a disk, if there is
-/// one; and the calls that fail.
+/// one; and the calls that are to fail.
 #[derive(Drop)]
 pub struct Given {
     pub files: Vec<File>,
@@ -89,5 +89,36 @@ impl Given {
             }
         }
         None
+    }
+
+    /// One door more, with one client, which sends this input.
+    pub fn open_door(&mut self, alloc: Global, input: Vec<u8>) -> Result<(), Memory> {
+        let mut inputs = Vec::new(alloc);
+        inputs.push(input)?;
+        self.clients.push(Clients { inputs })?;
+        Ok(())
+    }
+
+    /// One client more at the first door, if there is one.
+    pub fn add_client(&mut self, input: Vec<u8>) -> Result<(), Memory> {
+        if let Some(clients) = self.clients.first_mut() {
+            clients.inputs.push(input)?;
+        }
+        Ok(())
+    }
+
+    /// The input of the first client.
+    pub fn client(&self) -> Option<&[u8]> {
+        let input = self.clients.first()?.inputs.first()?;
+        Some(input.as_slice())
+    }
+
+    /// Lets the first client send other input.
+    pub fn replace_client(&mut self, input: Vec<u8>) {
+        if let Some(clients) = self.clients.first_mut() {
+            if let Some(first) = clients.inputs.first_mut() {
+                *first = input;
+            }
+        }
     }
 }

@@ -3,9 +3,11 @@
 #![tactic(auto)]
 
 mod clients;
+mod fault;
 mod given;
 mod run;
 
-pub use clients::{Clients, door_of};
+pub use clients::{Clients, door_of, list_of};
+pub use fault::RunFault;
 pub use given::{Fails, File, Given, NO_FAILS};
-pub use run::{Outside, outside_of, run_desk};
+pub use run::{RunEnd, run_desk, split_words};

@@ -1,12 +1,12 @@
-//! One run of the desk, and what it leaves.
+//! One run of the desk, and what it left.
 
 use crate::clients::{door_of, list_of};
+use crate::fault::RunFault;
 use crate::given::Given;
 use desk_disk::MemoryDisk;
 use desk_links::MemoryDoor;
 use desk_outside::{MemoryCabinet, MemorySink};
 use slot_program::desk;
-use slot_text::Memory;
 use std::alloc::{AllocError, Global};
 use std::sync::Wait;
 use std::thread::Threads;
@@ -14,6 +14,9 @@ use worker_gate::Gate;
 
 /// The most files of a cabinet.
 const MOST_FILES: usize = 16;
+
+/// The most doors of a desk.
+const MOST_DOORS: usize = 16;
 
 /// The most bytes that are printed.
 const MOST_PRINTED: usize = 60_000;
@@ -24,9 +27,9 @@ const MOST_STORED: usize = 65_297;
 /// The most calls of a disk.
 const MOST_CALLS: usize = 2_000;
 
-/// What stands outside of a desk, and the status with which it ended: 0 before it was run.
+/// The status with which a run ended, and what it left outside of the desk.
 #[derive(Drop)]
-pub struct Outside {
+pub struct RunEnd {
     pub status: u8,
     pub cabinet: MemoryCabinet,
     pub sink: MemorySink,
@@ -34,13 +37,48 @@ pub struct Outside {
     pub disk: Option<MemoryDisk>,
 }
 
-/// What stands outside by what a run is given. `Memory` also where a file has no room, or the disk.
-pub fn outside_of(alloc: Global, given: &Given) -> Result<Outside, Memory> {
+/// Runs the desk on these words, with a blank between two, over what it is given.
+pub fn run_desk<R: Threads + Wait + Sync, G: Gate>(
+    rt: &R,
+    alloc: Global,
+    words: &str,
+    given: &Given,
+    gate: &G,
+) -> Result<RunEnd, RunFault> {
+    let words = split_words(alloc, words)?;
+    let mut end = unrun(alloc, given)?;
+    if end.doors.len() > MOST_DOORS {
+        return Err(RunFault::NoRoom);
+    }
+    end.status = desk(
+        rt,
+        alloc,
+        &words,
+        &mut end.cabinet,
+        &mut end.sink,
+        &mut end.doors,
+        gate,
+        &mut end.disk,
+    );
+    Ok(end)
+}
+
+/// The words of a text, with a blank between two.
+pub fn split_words(alloc: Global, words: &str) -> Result<Vec<String>, AllocError> {
+    let mut list = Vec::new(alloc);
+    for word in words.split(' ') {
+        list.push(String::from_str(alloc, word)?)?;
+    }
+    Ok(list)
+}
+
+/// What stands outside before a run, which has no status yet.
+fn unrun(alloc: Global, given: &Given) -> Result<RunEnd, RunFault> {
     let cabinet = cabinet_of(alloc, given)?;
     let sink = MemorySink::new(alloc, MOST_PRINTED, list_of(alloc, given.fails.sink)?)?;
     let doors = doors_of(alloc, given)?;
     let disk = disk_of(alloc, given)?;
-    Ok(Outside {
+    Ok(RunEnd {
         status: 0,
         cabinet,
         sink,
@@ -49,18 +87,18 @@ pub fn outside_of(alloc: Global, given: &Given) -> Result<Outside, Memory> {
     })
 }
 
-fn cabinet_of(alloc: Global, given: &Given) -> Result<MemoryCabinet, Memory> {
+fn cabinet_of(alloc: Global, given: &Given) -> Result<MemoryCabinet, RunFault> {
     let failing = list_of(alloc, given.fails.cabinet)?;
     let mut cabinet = MemoryCabinet::new(alloc, MOST_FILES, given.room, failing)?;
     for file in &given.files {
         if !cabinet.load(file.name.as_str(), &file.bytes) {
-            return Err(Memory);
+            return Err(RunFault::NoRoom);
         }
     }
     Ok(cabinet)
 }
 
-fn doors_of(alloc: Global, given: &Given) -> Result<Vec<MemoryDoor>, Memory> {
+fn doors_of(alloc: Global, given: &Given) -> Result<Vec<MemoryDoor>, RunFault> {
     let mut doors = Vec::new(alloc);
     for clients in &given.clients {
         let is_first = doors.is_empty();
@@ -71,59 +109,14 @@ fn doors_of(alloc: Global, given: &Given) -> Result<Vec<MemoryDoor>, Memory> {
     Ok(doors)
 }
 
-fn disk_of(alloc: Global, given: &Given) -> Result<Option<MemoryDisk>, Memory> {
+fn disk_of(alloc: Global, given: &Given) -> Result<Option<MemoryDisk>, RunFault> {
     let Some(bytes) = &given.journal else {
         return Ok(None);
     };
     if bytes.len() > MOST_STORED {
-        return Err(Memory);
+        return Err(RunFault::NoRoom);
     }
     let failing = list_of(alloc, given.fails.disk)?;
     let disk = MemoryDisk::new(alloc, bytes, MOST_STORED, MOST_CALLS, failing)?;
     Ok(Some(disk))
-}
-
-/// Runs the desk on these words, with a blank between two, over what it is given.
-pub fn run_desk<R: Threads + Wait + Sync, G: Gate>(
-    rt: &R,
-    alloc: Global,
-    words: &str,
-    given: &Given,
-    gate: &G,
-) -> Result<Outside, Memory> {
-    let mut outside = outside_of(alloc, given)?;
-    let list = split_words(alloc, words)?;
-    call_desk(rt, alloc, &list, &mut outside, gate);
-    Ok(outside)
-}
-
-fn split_words(alloc: Global, words: &str) -> Result<Vec<String>, AllocError> {
-    let mut list = Vec::new(alloc);
-    for word in words.split(' ') {
-        list.push(String::from_str(alloc, word)?)?;
-    }
-    Ok(list)
-}
-
-/// Runs the desk over what stands outside, unless there are too many doors.
-fn call_desk<R: Threads + Wait + Sync, G: Gate>(
-    rt: &R,
-    alloc: Global,
-    words: &[String],
-    outside: &mut Outside,
-    gate: &G,
-) {
-    if outside.doors.len() > 16 {
-        return;
-    }
-    outside.status = desk(
-        rt,
-        alloc,
-        words,
-        &mut outside.cabinet,
-        &mut outside.sink,
-        &mut outside.doors,
-        gate,
-        &mut outside.disk,
-    );
 }
