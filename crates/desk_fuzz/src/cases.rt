@@ -94,16 +94,39 @@ fn broken_runs<R: Threads + Wait + Sync>(
     counts: &mut [u64],
 ) -> Result<&'static str, RunFault> {
     given.fails = NO_FAILS;
-    let calm = run_desk(rt, alloc, case.words.as_str(), given, &RealGate)?;
-    note(counts, case.command, calm.status);
+    let calm = counted_run(rt, alloc, case, given, counts)?;
     let first = broken_calm(rt, alloc, case, given, &calm)?;
     if !first.is_empty() {
         return Ok(first);
     }
     given.fails = drawn_fails(draws, case.command);
+    broken_second(rt, alloc, case, given, &calm, counts)
+}
+
+/// The run where one call may fail, beside the one where none does.
+fn broken_second<R: Threads + Wait + Sync>(
+    rt: &R,
+    alloc: Global,
+    case: &Case,
+    given: &Given,
+    calm: &RunEnd,
+    counts: &mut [u64],
+) -> Result<&'static str, RunFault> {
+    let ran = counted_run(rt, alloc, case, given, counts)?;
+    broken_failing(rt, alloc, case, given, calm, &ran)
+}
+
+/// Runs the desk, and counts the status.
+fn counted_run<R: Threads + Wait + Sync>(
+    rt: &R,
+    alloc: Global,
+    case: &Case,
+    given: &Given,
+    counts: &mut [u64],
+) -> Result<RunEnd, RunFault> {
     let ran = run_desk(rt, alloc, case.words.as_str(), given, &RealGate)?;
     note(counts, case.command, ran.status);
-    broken_failing(rt, alloc, case, given, &calm, &ran)
+    Ok(ran)
 }
 
 /// Counts a status of a command.

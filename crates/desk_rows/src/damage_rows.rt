@@ -58,6 +58,21 @@ reclear CAP SCR CERT ASKS EXTRA REPLIES
 recheck CAP SCR CERT ASKS EXTRA
 report CAP SCR CERT REPORT PAGE";
 
+/// What is refused of the files that are read behind a certificate.
+const BEHIND: &str = "\
+words amend CAP SCR CERT ASKS ANSWERS
+line ^|{524288 AAAAAAAA}|5 CABINET ASKS LARGE;
+words reclear CAP SCR CERT ASKS EXTRA REPLIES
+line ^|{524288 AAAAAAAA}|5 CABINET ASKS LARGE;
+words recheck CAP SCR CERT ASKS EXTRA
+line ^|{524288 AAAAAAAA}|5 CABINET ASKS LARGE;
+words usage CAP SCR CERT OPERATED NEXT
+line ^|{524288 AAAAAAAA}|5 CABINET OPERATED LARGE;
+says 3 FORM OPERATED 1;
+words recheck CAP SCR CERT ASKS EXTRA
+says 3 FORM EXTRA 1;
+";
+
 /// The script of a command, and of what it refuses.
 fn script_of(alloc: Global, words: &str, rows: &str) -> Result<String, Fail> {
     Ok(format!(in alloc; "{WORLD}words {words}\n{SEASON}{rows}")?)
@@ -78,4 +93,11 @@ fn damaged_certificates_are_refused(rt: HostRuntime) -> Result<(), Fail> {
         play_script(&rt, alloc, &script)?;
     }
     Ok(())
+}
+
+#[test]
+fn files_behind_a_certificate_are_refused(rt: HostRuntime) -> Result<(), Fail> {
+    let alloc = rt.alloc();
+    let script = format!(in alloc; "{WORLD}{BEHIND}")?;
+    play_script(&rt, alloc, &script)
 }

@@ -28,12 +28,22 @@ pub fn whole_world<R: Threads + Wait + Sync>(
     command: Command,
 ) -> Result<Given, RunFault> {
     let mut given = Given::new(alloc, ROOM);
-    let (capacity, requests) = season_texts(alloc, draws, case)?;
-    given.put(alloc, "CAP", capacity.into_bytes())?;
-    given.put(alloc, "SCR", requests.into_bytes())?;
+    put_season(alloc, draws, case, &mut given)?;
     put_made_files(rt, alloc, draws, case, command, &mut given)?;
     put_old_files(alloc, draws, command, &mut given)?;
     Ok(given)
+}
+
+/// The capacity file and the requests.
+fn put_season(
+    alloc: Global,
+    draws: &mut Draws,
+    case: u64,
+    given: &mut Given,
+) -> Result<(), Memory> {
+    let (capacity, requests) = season_texts(alloc, draws, case)?;
+    given.put(alloc, "CAP", capacity.into_bytes())?;
+    given.put(alloc, "SCR", requests.into_bytes())
 }
 
 /// The files that other commands made, and what is asked and reported.
