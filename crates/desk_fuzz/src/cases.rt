@@ -2,11 +2,11 @@
 
 use crate::answers::{amended, are_front_of, recleared, resumed, served, watched};
 use crate::compared::broken_beside;
-use crate::general::broken_law;
+use crate::general::{broken_law, is_refused_behind};
 use crate::laws::{first_of, law};
 use crate::works::{allotted, checked, inspected, made, reported, tried};
 use desk_outside::Failure;
-use drawn_worlds::{COMMANDS, Command, Draws, damage_world, whole_world};
+use drawn_worlds::{COMMANDS, Command, Draws, damage_world, text_of, whole_world};
 use memory_desk::{Fails, Given, NO_FAILS, RunEnd, RunFault, run_desk};
 use slot_text::Memory;
 use std::alloc::Global;
@@ -188,10 +188,23 @@ fn broken_calm<R: Threads + Wait + Sync>(
     if case.refused {
         return Ok(law(ran.status == 2, "words that are no command's"));
     }
-    let is_done = case.command.ends(ran.status) || ran.status == 15;
-    let whole = !case.damaged.is_empty() || is_done;
+    let refusal = broken_refusal(alloc, case, ran)?;
     let work = broken_work(rt, alloc, case, given, ran)?;
-    Ok(first_of(law(whole, "a refused world that is whole"), work))
+    Ok(first_of(refusal, work))
+}
+
+/// The first law that a refusal breaks where no call fails.
+fn broken_refusal(alloc: Global, case: &Case, ran: &RunEnd) -> Result<&'static str, Memory> {
+    let said = text_of(alloc, ran.sink.bytes())?;
+    let is_done = case.command.ends(ran.status) || ran.status == 15;
+    let is_behind = is_refused_behind(case.command, case.damaged, ran.status, &said);
+    Ok(first_of(
+        law(
+            is_done || !case.damaged.is_empty(),
+            "a refused world that is whole",
+        ),
+        law(is_behind, "a refused file that is whole"),
+    ))
 }
 
 /// The first law that work which is done breaks, or a refusal that another command gives too.

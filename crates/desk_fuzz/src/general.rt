@@ -119,6 +119,39 @@ fn is_cabinet_line(command: Command, given: &Given, name: &str, said: &str) -> b
     }
 }
 
+/// Whether what was refused where no call failed is the file that was damaged, or one behind it, by
+/// the order in which the command reads. What a client says and a journal stand behind all files.
+pub fn is_refused_behind(command: Command, damaged: &str, status: u8, said: &str) -> bool {
+    let second = word(said.lines().next().unwrap_or(""), 1);
+    let refused = match status {
+        1 if second == "EXTRA" => "EXTRA",
+        1 => "CERT",
+        3 | 5 => second,
+        4 => limited_file(second),
+        _ => return true,
+    };
+    place_in(command.reads(), damaged) <= place_in(command.reads(), refused)
+}
+
+/// The file that passes a limit.
+fn limited_file(limit: &str) -> &'static str {
+    match limit {
+        "UNITS" => "SCR",
+        "WAITING" => "ASKS",
+        _ => "CAP",
+    }
+}
+
+/// The place of a name among names; behind them all where it is none of them.
+fn place_in(names: &str, name: &str) -> usize {
+    for (place, one) in names.split_whitespace().enumerate() {
+        if one == name {
+            return place;
+        }
+    }
+    names.len()
+}
+
 /// Whether calls failed where the status says so, and none where it says that none did.
 fn has_cause(given: &Given, ran: &RunEnd, said: &str) -> bool {
     let cabinet = ran.cabinet.faults() > 0;

@@ -599,9 +599,10 @@ fn stands_behind<R: Threads + Wait + Sync>(
 fn the_journal_stands_where_the_record_fails(rt: HostRuntime) -> Result<(), Fail> {
     let alloc = rt.alloc();
     let mut files = served_cabinet(&rt, alloc)?;
-    let fails = Some(Failure::at(3));
     let due = "5 CABINET RECORD WRITE;";
-    assert!(rt; stands_behind(&rt, alloc, &mut files, fails, None, due)?);
+    for fails in [Failure::at(3), Failure::after(3, 8)] {
+        assert!(rt; stands_behind(&rt, alloc, &mut files, Some(fails), None, due)?);
+    }
     let fails = Some(Failure::at(0));
     assert!(rt; stands_behind(&rt, alloc, &mut files, None, fails, "6 ")?);
     Ok(())
