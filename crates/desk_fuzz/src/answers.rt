@@ -3,11 +3,11 @@
 
 use crate::laws::{first_of, law};
 use crate::plain::{Plain, is_on, read_plain};
-use crate::records::{answers_to, history_of, own_lines, reply_lines};
-use crate::works::{fit_replies, said_of};
+use crate::records::{History, answers_to, history_of, own_lines, reply_lines};
+use crate::works::{fit_replies, held_slots, is_found_valid, said_of};
 use desk_links::MemoryDoor;
 use drawn_worlds::{
-    Command, begins, copied, count_of, file_text, keep_writes, number, queries_text, text_of, word,
+    Command, begins, copied, count_of, file_text, number, queries_text, text_of, word,
 };
 use memory_desk::{Given, RunEnd, RunFault};
 use slot_text::Memory;
@@ -24,24 +24,51 @@ pub fn amended<R: Threads + Wait + Sync>(
     ran: &RunEnd,
 ) -> Result<&'static str, RunFault> {
     let asks = file_text(alloc, given.file("ASKS"))?;
-    let answers = file_text(alloc, ran.cabinet.file("ANSWERS"))?;
     if !asks.ends_with('\n') {
         return Ok("");
     }
-    let first = answers_to_first(rt, alloc, given, &asks)?;
-    let listed = listed_behind(rt, alloc, given, &asks)?;
-    let places = first_of(
-        law(
-            answers.starts_with(first.as_str()),
-            "replies by their places",
-        ),
-        law(
-            listed.starts_with(answers.as_str()),
-            "replies before later asks",
-        ),
-    );
-    let fit = fit_replies(alloc, given, behind(&listed, &answers))?;
-    Ok(first_of(places, law(fit, "loads behind asks")))
+    broken_replies(rt, alloc, given, ran, &asks)
+}
+
+fn broken_replies<R: Threads + Wait + Sync>(
+    rt: &R,
+    alloc: Global,
+    given: &Given,
+    ran: &RunEnd,
+    asks: &str,
+) -> Result<&'static str, RunFault> {
+    let answers = file_text(alloc, ran.cabinet.file("ANSWERS"))?;
+    let is_first = begin_with_first(rt, alloc, given, asks, &answers)?;
+    let later = broken_behind(rt, alloc, given, asks, &answers)?;
+    Ok(first_of(law(is_first, "replies by their places"), later))
+}
+
+/// Whether replies begin with those to the first message alone.
+fn begin_with_first<R: Threads + Wait + Sync>(
+    rt: &R,
+    alloc: Global,
+    given: &Given,
+    asks: &str,
+    answers: &str,
+) -> Result<bool, RunFault> {
+    let first = answers_to_first(rt, alloc, given, asks)?;
+    Ok(answers.starts_with(first.as_str()))
+}
+
+/// The first law that is broken where all flights are asked for behind the asks.
+fn broken_behind<R: Threads + Wait + Sync>(
+    rt: &R,
+    alloc: Global,
+    given: &Given,
+    asks: &str,
+    answers: &str,
+) -> Result<&'static str, RunFault> {
+    let listed = listed_behind(rt, alloc, given, asks)?;
+    let fit = fit_replies(alloc, given, behind(&listed, answers))?;
+    Ok(first_of(
+        law(listed.starts_with(answers), "replies before later asks"),
+        law(fit, "loads behind asks"),
+    ))
 }
 
 /// The replies to the first message alone.
@@ -51,9 +78,17 @@ fn answers_to_first<R: Threads + Wait + Sync>(
     given: &Given,
     asks: &str,
 ) -> Result<String, RunFault> {
-    let front = asks.split_once("\n\n").unwrap_or((asks, "")).0;
+    let front = first_message(asks);
     let whole = format!(in alloc; "{front}\n")?;
     answers_to(rt, alloc, given, &whole)
+}
+
+/// What stands before the first empty line.
+fn first_message(asks: &str) -> &str {
+    match asks.split_once("\n\n") {
+        Some((front, _)) => front,
+        None => asks,
+    }
 }
 
 /// The replies to asks, and behind them what all flights hold then.
@@ -82,14 +117,25 @@ pub fn served<R: Threads + Wait + Sync>(
 ) -> Result<&'static str, RunFault> {
     let said = text_of(alloc, ran.sink.bytes())?;
     let record = file_text(alloc, ran.cabinet.file("RECORD"))?;
-    let history = history_of(alloc, &record, u64::MAX)?;
-    let answers = answers_to(rt, alloc, given, &history.asks)?;
     let entries = count_of(&record, "ENTRY ") as u64;
+    let is_history = is_one_history(rt, alloc, given, &record)?;
     let first = first_of(
         law(number(first_line(&said), 1) == Some(entries), "entries"),
-        law(answers.as_str() == history.due.as_str(), "a record"),
+        law(is_history, "a record"),
     );
     Ok(first_of(first, are_sent(alloc, given, ran, &record)?))
+}
+
+/// Whether the asks of a record have its answers where `amend` is asked.
+fn is_one_history<R: Threads + Wait + Sync>(
+    rt: &R,
+    alloc: Global,
+    given: &Given,
+    record: &str,
+) -> Result<bool, RunFault> {
+    let history = history_of(alloc, record, u64::MAX)?;
+    let answers = answers_to(rt, alloc, given, &history.asks)?;
+    Ok(answers.as_str() == history.due.as_str())
 }
 
 fn first_line(text: &str) -> &str {
@@ -107,14 +153,19 @@ fn are_sent(
         return Ok("");
     }
     for (place, door) in ran.doors.iter().enumerate() {
-        let own = own_lines(alloc, record, place as u64)?;
-        let sent = sent_text(alloc, door)?;
-        let lines = reply_lines(alloc, &sent)?;
-        if lines.as_str() != own.as_str() {
+        if !is_sent(alloc, record, place as u64, door)? {
             return Ok("what was sent");
         }
     }
     Ok("")
+}
+
+/// Whether the links of a door were sent the answers of this caller.
+fn is_sent(alloc: Global, record: &str, caller: u64, door: &MemoryDoor) -> Result<bool, Memory> {
+    let own = own_lines(alloc, record, caller)?;
+    let sent = sent_text(alloc, door)?;
+    let lines = reply_lines(alloc, &sent)?;
+    Ok(lines.as_str() == own.as_str())
 }
 
 /// What all links of a door were sent.
@@ -140,13 +191,25 @@ pub fn resumed<R: Threads + Wait + Sync>(
     if said.starts_with("JOURNAL ") {
         return Ok(law(is_journal_left(given, ran), "a journal that was refused"));
     }
-    let record = file_text(alloc, ran.cabinet.file("RECORD"))?;
     let kept = number(first_line(&said), 1).unwrap_or(u64::MAX);
+    broken_record(rt, alloc, given, ran, kept, damaged == "JOURNAL")
+}
+
+/// The first law that a record breaks, and the journal beside it, in which so many pairs were found.
+fn broken_record<R: Threads + Wait + Sync>(
+    rt: &R,
+    alloc: Global,
+    given: &Given,
+    ran: &RunEnd,
+    kept: u64,
+    damaged: bool,
+) -> Result<&'static str, RunFault> {
+    let record = file_text(alloc, ran.cabinet.file("RECORD"))?;
     let entries = count_of(&record, "ENTRY ") as u64;
     let found = found_again(rt, alloc, given, ran)?;
     let all = kept.saturating_add(entries);
     let stands = found == Some(all) || ran.status == 14 && found == Some(all.saturating_add(1));
-    let follows = damaged == "JOURNAL" || follows_kept(rt, alloc, given, &record, kept)?;
+    let follows = damaged || follows_kept(rt, alloc, given, &record, kept)?;
     Ok(first_of(
         law(stands, "a journal opened again"),
         law(follows, "a record behind a journal"),
@@ -172,10 +235,16 @@ fn found_again<R: Threads + Wait + Sync>(
     let Some(disk) = &ran.disk else {
         return Ok(None);
     };
-    let mut world = copied(alloc, given)?;
-    world.journal = Some(Vec::from_slice(alloc, disk.bytes())?);
+    let world = with_journal(alloc, given, disk.bytes())?;
     let said = said_of(rt, alloc, Command::Resume.words(), &world)?;
     Ok(number(first_line(&said), 2))
+}
+
+/// The files that are given, and a journal.
+fn with_journal(alloc: Global, given: &Given, bytes: &[u8]) -> Result<Given, Memory> {
+    let mut world = copied(alloc, given)?;
+    world.journal = Some(Vec::from_slice(alloc, bytes)?);
+    Ok(world)
 }
 
 /// Whether the answers of a record are those behind the first entries of the record before it.
@@ -189,14 +258,20 @@ fn follows_kept<R: Threads + Wait + Sync>(
     let earlier = file_text(alloc, given.file("RECORD"))?;
     let before = history_of(alloc, &earlier, kept)?;
     let history = history_of(alloc, record, u64::MAX)?;
-    let (first, second) = (&before.asks, &history.asks);
+    let asks = joined(alloc, &before, &history, kept)?;
+    let answers = answers_to(rt, alloc, given, &asks)?;
+    Ok(answers.ends_with(history.due.as_str()))
+}
+
+/// The asks of both histories, of the first only where pairs were kept.
+fn joined(alloc: Global, before: &History, after: &History, kept: u64) -> Result<String, Memory> {
+    let (first, second) = (&before.asks, &after.asks);
     let asks = if kept == 0 {
         format!(in alloc; "{second}")?
     } else {
         format!(in alloc; "{first}{second}")?
     };
-    let answers = answers_to(rt, alloc, given, &asks)?;
-    Ok(answers.ends_with(history.due.as_str()))
+    Ok(asks)
 }
 
 /// A waiting list was cleared: its stage is found valid, each line that waits has one reply, and
@@ -208,20 +283,18 @@ pub fn recleared<R: Threads + Wait + Sync>(
     ran: &RunEnd,
 ) -> Result<&'static str, RunFault> {
     let said = text_of(alloc, ran.sink.bytes())?;
-    let mut after = copied(alloc, given)?;
-    keep_writes(alloc, Command::Reclear, ran, &mut after)?;
-    let replies = file_text(alloc, after.file("REPLIES"))?;
-    let verdict = said_of(rt, alloc, Command::Recheck.words(), &after)?;
+    let replies = file_text(alloc, ran.cabinet.file("REPLIES"))?;
     let replied = count_of(&replies, "K").saturating_add(count_of(&replies, "U")) as u64;
-    let first = first_of(
-        law(verdict.as_str() == "0 YES\n", "a stage that was written"),
-        law(
-            number(first_line(&said), 1) == Some(replied),
-            "replies to those that wait",
-        ),
-    );
+    let is_whole = number(first_line(&said), 1) == Some(replied);
+    let is_valid = is_found_valid(rt, alloc, given, ran, Command::Reclear, Command::Recheck)?;
     let fit = fit_together(rt, alloc, given, &replies)?;
-    Ok(first_of(first, law(fit, "loads beside a book")))
+    Ok(first_of(
+        law(is_valid, "a stage that was written"),
+        first_of(
+            law(is_whole, "replies to those that wait"),
+            law(fit, "loads beside a book"),
+        ),
+    ))
 }
 
 /// Whether what the book holds behind the asks fits beside the slots of replies.
@@ -235,11 +308,21 @@ fn fit_together<R: Threads + Wait + Sync>(
     if !asks.ends_with('\n') {
         return Ok(true);
     }
-    let answers = answers_to(rt, alloc, given, &asks)?;
-    let listed = listed_behind(rt, alloc, given, &asks)?;
-    let held = behind(&listed, &answers);
+    let held = held_behind(rt, alloc, given, &asks)?;
     let both = format!(in alloc; "{held}{replies}")?;
     Ok(fit_replies(alloc, given, &both)?)
+}
+
+/// What all flights hold behind asks.
+fn held_behind<R: Threads + Wait + Sync>(
+    rt: &R,
+    alloc: Global,
+    given: &Given,
+    asks: &str,
+) -> Result<String, RunFault> {
+    let answers = answers_to(rt, alloc, given, asks)?;
+    let listed = listed_behind(rt, alloc, given, asks)?;
+    Ok(String::from_str(alloc, behind(&listed, &answers))?)
 }
 
 /// Usage was watched: the numbers of series, and of those with precedence, are those of a count
@@ -255,12 +338,20 @@ pub fn watched<R: Threads + Wait + Sync>(
         return Ok("");
     }
     let said = text_of(alloc, ran.sink.bytes())?;
-    let operated = file_text(alloc, given.file("OPERATED"))?;
-    let queries = queries_text(alloc)?;
-    let held = answers_to(rt, alloc, given, &queries)?;
-    let (series, kept) = counted(&held, &operated);
-    let due = format!(in alloc; "SERIES {series} KEPT {kept}\n")?;
+    let due = due_numbers(rt, alloc, given)?;
     Ok(law(said.as_str() == due.as_str(), "numbers of series"))
+}
+
+/// The line of the numbers of series that a book has, and of those that keep precedence.
+fn due_numbers<R: Threads + Wait + Sync>(
+    rt: &R,
+    alloc: Global,
+    given: &Given,
+) -> Result<String, RunFault> {
+    let operated = file_text(alloc, given.file("OPERATED"))?;
+    let held = held_slots(rt, alloc, given)?;
+    let (series, kept) = counted(&held, &operated);
+    Ok(format!(in alloc; "SERIES {series} KEPT {kept}\n")?)
 }
 
 /// How many series the confirmed holdings of a listing have, and how many keep precedence.

@@ -95,12 +95,25 @@ fn broken_runs<R: Threads + Wait + Sync>(
 ) -> Result<&'static str, RunFault> {
     given.fails = NO_FAILS;
     let calm = counted_run(rt, alloc, case, given, counts)?;
-    let first = broken_calm(rt, alloc, case, given, &calm)?;
+    broken_beside_calm(rt, alloc, draws, case, given, &calm, counts)
+}
+
+/// The first law that the run without failing calls breaks, or else the one with them.
+fn broken_beside_calm<R: Threads + Wait + Sync>(
+    rt: &R,
+    alloc: Global,
+    draws: &mut Draws,
+    case: &Case,
+    given: &mut Given,
+    calm: &RunEnd,
+    counts: &mut [u64],
+) -> Result<&'static str, RunFault> {
+    let first = broken_calm(rt, alloc, case, given, calm)?;
     if !first.is_empty() {
         return Ok(first);
     }
     given.fails = drawn_fails(draws, case.command);
-    broken_second(rt, alloc, case, given, &calm, counts)
+    broken_second(rt, alloc, case, given, calm, counts)
 }
 
 /// The run where one call may fail, beside the one where none does.

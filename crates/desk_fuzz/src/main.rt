@@ -19,7 +19,7 @@ mod records;
 mod works;
 
 use cases::{STATUSES, broken_case};
-use drawn_worlds::{COMMANDS, Command};
+use drawn_worlds::{COMMANDS, Command, word};
 use std::alloc::Global;
 use std::env;
 use std::io::Print;
@@ -68,8 +68,7 @@ fn run_cases<R: Threads + Wait + Sync + Print>(
 
 /// How often a command ended with each status.
 fn print_counts<R: Print>(rt: &R, command: Command, counts: &[u64]) -> anyhow::Result<()> {
-    let words = command.words();
-    let name = words.split_once(' ').unwrap_or((words, "")).0;
+    let name = word(command.words(), 0);
     print!(rt; "{name}")?;
     let begin = command.place().saturating_mul(STATUSES);
     for (status, count) in counts.iter().skip(begin).take(STATUSES).enumerate() {

@@ -85,9 +85,23 @@ pub fn answers_to<R: Threads + Wait + Sync>(
     given: &Given,
     asks: &str,
 ) -> Result<String, RunFault> {
+    let world = with_asks(alloc, given, asks)?;
+    answers_in(rt, alloc, &world)
+}
+
+/// The files that are given, with these asks.
+fn with_asks(alloc: Global, given: &Given, asks: &str) -> Result<Given, Memory> {
     let mut world = copied(alloc, given)?;
     world.put(alloc, "ASKS", Vec::from_slice(alloc, asks.as_bytes())?)?;
-    let ran = run_desk(rt, alloc, Command::Amend.words(), &world, &RealGate)?;
+    Ok(world)
+}
+
+fn answers_in<R: Threads + Wait + Sync>(
+    rt: &R,
+    alloc: Global,
+    world: &Given,
+) -> Result<String, RunFault> {
+    let ran = run_desk(rt, alloc, Command::Amend.words(), world, &RealGate)?;
     Ok(file_text(alloc, ran.cabinet.file("ANSWERS"))?)
 }
 

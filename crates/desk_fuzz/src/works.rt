@@ -25,6 +25,10 @@ pub fn said_of<R: Threads + Wait + Sync>(
     given: &Given,
 ) -> Result<String, RunFault> {
     let ran = run_desk(rt, alloc, words, given, &RealGate)?;
+    Ok(said_text(alloc, &ran)?)
+}
+
+fn said_text(alloc: Global, ran: &RunEnd) -> Result<String, Memory> {
     let printed = text_of(alloc, ran.sink.bytes())?;
     let status = ran.status;
     let text = format!(in alloc; "{status} {printed}")?;
@@ -48,19 +52,17 @@ pub fn allotted<R: Threads + Wait + Sync>(
     ran: &RunEnd,
 ) -> Result<&'static str, RunFault> {
     let said = text_of(alloc, ran.sink.bytes())?;
-    let mut after = copied(alloc, given)?;
-    keep_writes(alloc, Command::Allocate, ran, &mut after)?;
-    let replies = file_text(alloc, after.file("REPLIES"))?;
+    let replies = file_text(alloc, ran.cabinet.file("REPLIES"))?;
+    let fit = fit_replies(alloc, given, &replies)?;
+    let is_valid = is_found_valid(rt, alloc, given, ran, Command::Allocate, Command::Check)?;
+    let is_whole = has_each_reply(rt, alloc, given, &replies)?;
     let first = first_of(
         law(ran.status == marked_status(&said), "marks"),
-        law(fit_replies(alloc, &after, &replies)?, "loads"),
+        law(fit, "loads"),
     );
     let second = first_of(
-        law(
-            is_found_valid(rt, alloc, &after)?,
-            "a certificate that was written",
-        ),
-        law(has_each_reply(rt, alloc, given, &replies)?, "replies"),
+        law(is_valid, "a certificate that was written"),
+        law(is_whole, "replies"),
     );
     Ok(first_of(first, second))
 }
@@ -76,13 +78,30 @@ fn marked_status(said: &str) -> u8 {
     }
 }
 
-fn is_found_valid<R: Threads + Wait + Sync>(
+/// Whether another command finds valid what a run of this one wrote.
+pub fn is_found_valid<R: Threads + Wait + Sync>(
     rt: &R,
     alloc: Global,
-    after: &Given,
+    given: &Given,
+    ran: &RunEnd,
+    command: Command,
+    checker: Command,
 ) -> Result<bool, RunFault> {
-    let verdict = said_of(rt, alloc, Command::Check.words(), after)?;
+    let after = after_run(alloc, given, ran, command)?;
+    let verdict = said_of(rt, alloc, checker.words(), &after)?;
     Ok(verdict.as_str() == "0 YES\n")
+}
+
+/// The files that are given, and those that a run wrote.
+fn after_run(
+    alloc: Global,
+    given: &Given,
+    ran: &RunEnd,
+    command: Command,
+) -> Result<Given, Memory> {
+    let mut after = copied(alloc, given)?;
+    keep_writes(alloc, command, ran, &mut after)?;
+    Ok(after)
 }
 
 /// Whether there is one K or U for each unit that `inspect` counts.
@@ -104,9 +123,18 @@ pub fn checked<R: Threads + Wait + Sync>(
     alloc: Global,
     given: &Given,
 ) -> Result<&'static str, RunFault> {
+    let held = held_slots(rt, alloc, given)?;
+    Ok(law(fit_replies(alloc, given, &held)?, "loads of a book"))
+}
+
+/// What all flights hold in the book of the certificate that is given.
+pub fn held_slots<R: Threads + Wait + Sync>(
+    rt: &R,
+    alloc: Global,
+    given: &Given,
+) -> Result<String, RunFault> {
     let queries = queries_text(alloc)?;
-    let listed = answers_to(rt, alloc, given, &queries)?;
-    Ok(law(fit_replies(alloc, given, &listed)?, "loads of a book"))
+    answers_to(rt, alloc, given, &queries)
 }
 
 /// A season was told of, or refused: as `allocate` does.
@@ -200,6 +228,17 @@ pub fn tried<R: Threads + Wait + Sync>(
     ran: &RunEnd,
 ) -> Result<&'static str, RunFault> {
     let said = text_of(alloc, ran.sink.bytes())?;
+    let given = made_world(alloc, words)?;
+    let due = said_of(rt, alloc, TRIED, &given)?;
+    let is_same = said.starts_with(behind_status(&due)) && said.ends_with("CHECK YES\n");
+    Ok(law(is_same, "a trial"))
+}
+
+/// The words of `allocate` with the budget of a trial.
+const TRIED: &str = "allocate CAP SCR CERT REPLIES --workers 1 --nodes 10000";
+
+/// The files of the season that words name.
+fn made_world(alloc: Global, words: &str) -> Result<Given, Memory> {
     let mut given = Given::new(alloc, 400_000);
     let seed = number(words, 1).unwrap_or(0);
     let units = number(words, 2).unwrap_or(0);
@@ -209,9 +248,12 @@ pub fn tried<R: Threads + Wait + Sync>(
         "SCR",
         made_requests(alloc, seed, units)?.into_bytes(),
     )?;
-    let allocate = "allocate CAP SCR CERT REPLIES --workers 1 --nodes 10000";
-    let due = said_of(rt, alloc, allocate, &given)?;
-    let stages = due.split_once(' ').unwrap_or(("", "")).1;
-    let is_same = said.starts_with(stages) && said.ends_with("CHECK YES\n");
-    Ok(law(is_same, "a trial"))
+    Ok(given)
+}
+
+fn behind_status(said: &str) -> &str {
+    match said.split_once(' ') {
+        Some((_, printed)) => printed,
+        None => "",
+    }
 }
