@@ -17,6 +17,16 @@ pub(crate) struct Allowed {
 impl Allowed {
     // All alternatives.
     pub(crate) fn all(alloc: Global, problem: &Problem) -> Result<Allowed, Memory> {
+        Allowed::each(alloc, problem, true)
+    }
+
+    // No alternatives.
+    pub(crate) fn none(alloc: Global, problem: &Problem) -> Result<Allowed, Memory> {
+        Allowed::each(alloc, problem, false)
+    }
+
+    // The same for each alternative.
+    fn each(alloc: Global, problem: &Problem, flag: bool) -> Result<Allowed, Memory> {
         let mut allowed = Allowed {
             firsts: Vec::new(alloc),
             flags: Vec::new(alloc),
@@ -24,7 +34,7 @@ impl Allowed {
         for unit in 0..problem.units() {
             allowed.firsts.push(allowed.flags.len())?;
             for _ in 0..problem.alts(unit) {
-                allowed.flags.push(true)?;
+                allowed.flags.push(flag)?;
             }
         }
         allowed.firsts.push(allowed.flags.len())?;
@@ -37,6 +47,25 @@ impl Allowed {
             firsts: Vec::from_slice(alloc, &self.firsts)?,
             flags: Vec::from_slice(alloc, &self.flags)?,
         })
+    }
+
+    // Lets a unit take an alternative.
+    pub(crate) fn allow(&mut self, unit: u32, number: u32) {
+        if let Some(first) = self.firsts.get(unit as usize) {
+            let place = first.saturating_add(number as usize);
+            if let Some(flag) = self.flags.get_mut(place) {
+                *flag = true;
+            }
+        }
+    }
+
+    // Of each alternative, unit after unit, whether it may not be taken.
+    pub(crate) fn shut_flags(&self, alloc: Global) -> Result<Vec<bool>, Memory> {
+        let mut shut = Vec::with_capacity(alloc, self.flags.len())?;
+        for flag in &self.flags {
+            shut.push(!*flag)?;
+        }
+        Ok(shut)
     }
 
     // The flags of a unit's alternatives.

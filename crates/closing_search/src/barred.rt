@@ -1,5 +1,6 @@
 //! Alternatives that no feasible choice takes.
 
+use crate::loads::limit_at;
 use choice_problem::{Alt, Problem};
 use reduced_problem::Reduced;
 use slot_text::Memory;
@@ -49,12 +50,4 @@ fn is_closed(reduced: &Reduced, first: u32, part: Option<u32>) -> bool {
         }
     }
     false
-}
-
-// The limit of a class.
-fn limit_at(reduced: &Reduced, class: u32) -> i64 {
-    match reduced.classes().get(class as usize) {
-        Some(class) => class.limit,
-        None => i64::MAX,
-    }
 }

@@ -1,6 +1,7 @@
 //! Where a search splits a node: at a unit of whose alternatives the relaxation takes shares, so that both parts have a
 //! greater bound.
 
+use crate::narrowed::costs_from;
 use crate::rules::{Rule, uses_of_part};
 use crate::states::{NEVER, Open, State, Task};
 use relaxed_problem::{End, Relaxation, Share};
@@ -243,15 +244,6 @@ fn cut_between(task: &Task<'_>, relaxation: &Relaxation, from: &Share, to: &Shar
         before = *cost;
     }
     cut
-}
-
-// The costs from a place on.
-fn costs_from(costs: &[f64], first: usize) -> &[f64] {
-    if first <= costs.len() {
-        &costs[first..]
-    } else {
-        &[]
-    }
 }
 
 // What the value of the relaxation gains in the low and in the high part, as far as some pivots show it.

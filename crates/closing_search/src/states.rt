@@ -71,11 +71,12 @@ pub(crate) struct State {
 }
 
 impl State {
-    // One open node on all alternatives, which goes on from a relaxation.
+    // One open node on these alternatives, which goes on from a relaxation.
     pub(crate) fn new(
         alloc: Global,
         task: &Task<'_>,
         root: &Relaxation,
+        allowed: Allowed,
         steps: u64,
     ) -> Result<State, Memory> {
         let mut state = State {
@@ -95,7 +96,7 @@ impl State {
         state.entries.push(Entry::Open)?;
         state.open.push(Open {
             entry: 0,
-            allowed: Allowed::all(alloc, task.problem)?,
+            allowed,
             values: Vec::new(alloc),
             relaxation: root.copy(alloc)?,
         })?;
@@ -109,7 +110,8 @@ impl State {
         task: &Task<'_>,
         root: &Relaxation,
     ) -> Result<State, Memory> {
-        let mut state = State::new(alloc, task, root, self.steps)?;
+        let allowed = Allowed::all(alloc, task.problem)?;
+        let mut state = State::new(alloc, task, root, allowed, self.steps)?;
         state.best = copy_if_any(alloc, &self.best)?;
         state.cost = self.cost;
         Ok(state)

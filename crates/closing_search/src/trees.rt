@@ -1,7 +1,9 @@
 //! Trees that may close a problem, and the choices for them.
 
 use crate::accepted::{Found, are_listable};
+use crate::allowed::Allowed;
 use crate::growing::grow;
+use crate::improving::improve;
 use crate::pieces::{bit_of, nodes_of};
 use crate::states::{State, Task, copy_if_any, copy_of};
 use choice_problem::{Choice, Node, Vector, VectorList};
@@ -12,8 +14,10 @@ use std::alloc::Global;
 /// The most nodes of a tree.
 pub(crate) const MOST_NODES: u32 = 20_000;
 
-// The most steps of the relaxations of all trees; how many trees are tried.
+// The most steps of the relaxations of all trees, and of the first one; how many trees are tried.
 const TREE_STEPS: u64 = 2_000_000_000;
+
+const FIRST_STEPS: u64 = 150_000_000;
 
 const MOST_TREES: u32 = 4;
 
@@ -29,12 +33,39 @@ pub(crate) fn search_tree(
     if end == End::Above || end == End::Spent {
         return Ok((None, None));
     }
-    let mut first = State::new(alloc, task, root, TREE_STEPS)?;
+    let allowed = Allowed::all(alloc, task.problem)?;
+    let mut first = State::new(alloc, task, root, allowed, FIRST_STEPS)?;
     if let Some(start) = start {
         let copy = copy_of(alloc, start)?;
         first.take(alloc, task.problem, copy)?;
     }
-    grow_trees(alloc, task, first, root, most)
+    grow(alloc, task, &mut first, most)?;
+    if let Some(found) = found_in(alloc, task, &first, most)? {
+        let State { best, .. } = first;
+        return Ok((Some(found), best));
+    }
+    go_on(alloc, task, first, root, end, most)
+}
+
+// Looks for better choices, and then for other trees.
+fn go_on(
+    alloc: Global,
+    task: &Task<'_>,
+    first: State,
+    root: &Relaxation,
+    end: End,
+    most: u32,
+) -> Result<(Option<Found>, Option<Choice>), Memory> {
+    let known = first.cost;
+    let mut state = first.with_best(alloc, task, root)?;
+    let left = first.steps;
+    state.steps = TREE_STEPS - FIRST_STEPS + left.min(FIRST_STEPS);
+    if end == End::Solved {
+        improve(alloc, task, &mut state, root)?;
+    }
+    let is_by_quotas = first.is_by_quotas && (left == 0 || state.cost != known);
+    state.is_by_quotas = is_by_quotas;
+    grow_trees(alloc, task, state, root, most)
 }
 
 // A tree and the best choice. Where a tree does not close, the next one is grown with the best choice that was found; and
@@ -47,7 +78,7 @@ fn grow_trees(
     most: u32,
 ) -> Result<(Option<Found>, Option<Choice>), Memory> {
     let mut state = first;
-    for _ in 0..MOST_TREES {
+    for _ in 1..MOST_TREES {
         let known = state.cost;
         grow(alloc, task, &mut state, most)?;
         if let Some(found) = found_in(alloc, task, &state, most)? {

@@ -1,0 +1,140 @@
+//! Choices that a relaxation leads to, where some of its units after the other keep the alternative of which it takes most.
+
+use crate::rounding::rounded;
+use crate::states::{State, Task};
+use relaxed_problem::{End, Relaxation, Share};
+use slot_text::Memory;
+use std::alloc::Global;
+use std::num::saturating_f64_to_i64;
+
+// How many times units are given their alternatives; one unit of how many of those with shares at a time; and the pivots of
+// each time.
+const ROUNDS: u32 = 400;
+
+const PART: usize = 8;
+
+const PIVOTS: u32 = 4_000;
+
+/// Looks for a choice from a relaxation that is solved.
+pub(crate) fn dive(
+    alloc: Global,
+    task: &Task<'_>,
+    state: &mut State,
+    relaxation: &Relaxation,
+) -> Result<(), Memory> {
+    let mut now = relaxation.copy(alloc)?;
+    let mut next = relaxation.copy(alloc)?;
+    for _ in 0..ROUNDS {
+        let shares = now.shares(alloc, task.program)?;
+        let leaders = leaders_of(alloc, &shares)?;
+        if leaders.is_empty() {
+            let choice = rounded(alloc, task, &now, &shares)?;
+            return state.take(alloc, task.problem, choice);
+        }
+        if !go_on(alloc, task, state, &leaders, &mut now, &mut next)? {
+            return Ok(());
+        }
+    }
+    Ok(())
+}
+
+// Gives the first units their alternatives, or the first one alone, or takes this alternative away from it. Answers whether
+// a relaxation is solved then.
+fn go_on(
+    alloc: Global,
+    task: &Task<'_>,
+    state: &mut State,
+    leaders: &[Leader],
+    now: &mut Relaxation,
+    next: &mut Relaxation,
+) -> Result<bool, Memory> {
+    for count in [leaders.len() / PART + 1, 1, 0] {
+        next.copy_from(alloc, now)?;
+        for leader in leaders.iter().take(count) {
+            keep_alone(task, next, leader.unit, leader.alt);
+        }
+        if count == 0 {
+            shut_first(task, next, leaders);
+        }
+        let enough = state.enough();
+        let work = &mut state.work;
+        let ended = next.solve_by(alloc, task.program, work, PIVOTS, enough)?;
+        state.spend(task.program, ended);
+        if ended.end == End::Solved {
+            now.copy_from(alloc, next)?;
+            return Ok(true);
+        }
+    }
+    Ok(false)
+}
+
+// The alternative of a unit of which most is taken, where others are too.
+#[derive(Clone, Copy)]
+struct Leader {
+    rank: i64,
+    unit: u32,
+    alt: u32,
+}
+
+// Of each unit of which several alternatives are taken, the one of which most is: those of the greatest shares first.
+fn leaders_of(alloc: Global, shares: &[Share]) -> Result<Vec<Leader>, Memory> {
+    let mut leaders = Vec::new(alloc);
+    let mut last: Option<Share> = None;
+    for share in shares {
+        last = match last {
+            Some(other) if other.unit == share.unit => Some(greater(other, *share)),
+            other => {
+                add_leader(&mut leaders, other)?;
+                Some(*share)
+            }
+        };
+    }
+    add_leader(&mut leaders, last)?;
+    leaders.sort_unstable_by_key(|leader| (leader.rank, leader.unit));
+    Ok(leaders)
+}
+
+// The greater one of two shares.
+fn greater(one: Share, other: Share) -> Share {
+    if other.share > one.share { other } else { one }
+}
+
+// Adds a leader, where it is not the whole.
+fn add_leader(leaders: &mut Vec<Leader>, share: Option<Share>) -> Result<(), Memory> {
+    if let Some(share) = share {
+        if share.share < WHOLE {
+            leaders.push(Leader {
+                rank: saturating_f64_to_i64(share.share * -1000000.0),
+                unit: share.unit,
+                alt: share.alt,
+            })?;
+        }
+    }
+    Ok(())
+}
+
+// A share that counts as the whole.
+const WHOLE: f64 = 0.999999;
+
+// Lets a unit take one alternative alone.
+fn keep_alone(task: &Task<'_>, relaxation: &mut Relaxation, unit: u32, alt: u32) {
+    let first = task.program.first_column(unit);
+    for (number, column) in (0..).zip(task.program.unit_columns(unit)) {
+        if column.number != alt {
+            relaxation.shut(first.saturating_add(number));
+        }
+    }
+}
+
+// Takes the alternative of the first leader away from its unit.
+fn shut_first(task: &Task<'_>, relaxation: &mut Relaxation, leaders: &[Leader]) {
+    let Some(leader) = leaders.get(0) else {
+        return;
+    };
+    let first = task.program.first_column(leader.unit);
+    for (number, column) in (0..).zip(task.program.unit_columns(leader.unit)) {
+        if column.number == leader.alt {
+            relaxation.shut(first.saturating_add(number));
+        }
+    }
+}
