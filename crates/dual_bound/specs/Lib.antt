@@ -5,3 +5,4 @@ pub mod Same
 pub mod Ends
 pub mod Covers
 pub mod Classes
+pub mod KeptFloors

@@ -62,7 +62,7 @@ fn priced_floor(problem: &Problem, ranges: &Ranges, table: &PriceTable) -> u64
 
 // The least whole number that is at least a bound at scale 1024 divided by 1024, within 64 bits, or
 // 0 below 0.
-fn rounded_up(bound: i128) -> u64
+pub(crate) fn rounded_up(bound: i128) -> u64
     ensures { result ≡ rounded_up bound }
 {
     if bound <= 0 {
@@ -87,7 +87,7 @@ fn least_costs(problem: &Problem, ranges: &Ranges) -> u64
 
 // The least cost of a unit's alternatives from one to another.
 #[tactic(auto, using(crate::proofs::FloorLemmas::least_steps))]
-fn least_cost(problem: &Problem, unit: u32, low: u32, high: u32) -> u64
+pub(crate) fn least_cost(problem: &Problem, unit: u32, low: u32, high: u32) -> u64
     requires unit { unit < unit_count problem.now }
     requires ordered { low ≤ high }
     requires there { high < alt_count problem.now unit }

@@ -5,7 +5,7 @@
 //! The root vector and the vector of ranges are the results of a subgradient run that the problem
 //! determines. Its prices move on classes of equal resources, but for very great ones, and where
 //! few resources can be passed, on these alone. The floor of ranges is the best that the bounds of
-//! some vectors say.
+//! some vectors say; where ranges change unit by unit, it is read from what is kept of them.
 #![tactic(auto)]
 
 mod classes;
@@ -13,6 +13,7 @@ mod counts;
 mod covers;
 mod floors;
 mod kept;
+mod kept_floors;
 mod loads;
 mod passable;
 mod points;
@@ -21,5 +22,6 @@ mod roots;
 mod same;
 
 pub use floors::{StatedFloor, floor_of};
+pub use kept_floors::KeptFloors;
 pub use passable::passable_resources;
 pub use roots::{node_vector, root_vector};
