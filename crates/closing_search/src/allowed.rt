@@ -12,6 +12,8 @@ pub(crate) struct Allowed {
     // The place of each unit's first alternative, and past the last one.
     firsts: Vec<usize>,
     flags: Vec<bool>,
+    // Of each unit, whether a split took alternatives away.
+    cut: Vec<bool>,
 }
 
 impl Allowed {
@@ -30,6 +32,7 @@ impl Allowed {
         let mut allowed = Allowed {
             firsts: Vec::new(alloc),
             flags: Vec::new(alloc),
+            cut: vec![in alloc; false; problem.units() as usize]?,
         };
         for unit in 0..problem.units() {
             allowed.firsts.push(allowed.flags.len())?;
@@ -46,6 +49,7 @@ impl Allowed {
         Ok(Allowed {
             firsts: Vec::from_slice(alloc, &self.firsts)?,
             flags: Vec::from_slice(alloc, &self.flags)?,
+            cut: Vec::from_slice(alloc, &self.cut)?,
         })
     }
 
@@ -82,6 +86,14 @@ impl Allowed {
         }
     }
 
+    // Whether a split took alternatives of a unit away.
+    pub(crate) fn is_cut(&self, unit: u32) -> bool {
+        match self.cut.get(unit as usize) {
+            Some(is_cut) => *is_cut,
+            None => true,
+        }
+    }
+
     // Lets a unit take the alternatives of one part of a split alone.
     pub(crate) fn keep(
         &mut self,
@@ -95,6 +107,9 @@ impl Allowed {
             return;
         };
         let first = *first;
+        if let Some(is_cut) = self.cut.get_mut(unit as usize) {
+            *is_cut = true;
+        }
         for number in 0..count(self.of(unit)) {
             if rule.is_high(problem, reduced, unit, number) != is_high {
                 if let Some(flag) = self.flags.get_mut(first.saturating_add(number as usize)) {

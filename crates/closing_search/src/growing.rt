@@ -47,7 +47,7 @@ fn visit(
         End::Solved => bound_or_split(alloc, task, state, open),
         End::Infeasible => close_empty(alloc, task, state, &open),
         End::Above => {
-            let pricing = prices_of(alloc, task, &open)?;
+            let pricing = prices_of(alloc, task, state, &open)?;
             if state.is_closed_by(task, &open, &pricing) {
                 state.close_by(&open, pricing)?;
                 return Ok(true);
@@ -105,7 +105,7 @@ fn close_empty(
     for greatest in [1, 1_024, 1_048_576] {
         let relaxation = &open.relaxation;
         let vector = relaxation.ray(alloc, task.problem, task.program, greatest)?;
-        let pricing = Pricing::new(alloc, task.reduced, vector, 0)?;
+        let pricing = Pricing::new(alloc, task, &state.base, vector, 0)?;
         if state.is_closed_by(task, open, &pricing) {
             state.close_by(open, pricing)?;
             return Ok(true);
@@ -115,9 +115,14 @@ fn close_empty(
 }
 
 // The prices of a node's relaxation.
-fn prices_of(alloc: Global, task: &Task<'_>, open: &Open) -> Result<Pricing, Memory> {
+fn prices_of(
+    alloc: Global,
+    task: &Task<'_>,
+    state: &State,
+    open: &Open,
+) -> Result<Pricing, Memory> {
     let vector = open.relaxation.vector(alloc, task.problem, task.program)?;
-    Pricing::new(alloc, task.reduced, vector, 1_024)
+    Pricing::new(alloc, task, &state.base, vector, 1_024)
 }
 
 // Closes or splits a node whose relaxation is solved.
@@ -127,10 +132,14 @@ fn bound_or_split(
     state: &mut State,
     open: Open,
 ) -> Result<bool, Memory> {
-    let pricing = prices_of(alloc, task, &open)?;
-    if state.is_closed_by(task, &open, &pricing) {
-        state.close_by(&open, pricing)?;
-        return Ok(true);
+    let mut pricing = None;
+    if state.wants_prices(open.relaxation.value()) {
+        let found = prices_of(alloc, task, state, &open)?;
+        if state.is_closed_by(task, &open, &found) {
+            state.close_by(&open, found)?;
+            return Ok(true);
+        }
+        pricing = Some(found);
     }
     let shares = open.relaxation.shares(alloc, task.program)?;
     if let Some(split) = best_split(alloc, task, state, &open, &shares)? {
@@ -139,9 +148,20 @@ fn bound_or_split(
     }
     let choice = rounded(alloc, task, &open.relaxation, &shares)?;
     state.take(alloc, task.problem, choice)?;
-    let is_closed = state.is_closed_by(task, &open, &pricing);
+    close_whole(alloc, task, state, &open)
+}
+
+// Closes a node whose relaxation is a choice, now that this is known.
+fn close_whole(
+    alloc: Global,
+    task: &Task<'_>,
+    state: &mut State,
+    open: &Open,
+) -> Result<bool, Memory> {
+    let pricing = prices_of(alloc, task, state, open)?;
+    let is_closed = state.is_closed_by(task, open, &pricing);
     if is_closed {
-        state.close_by(&open, pricing)?;
+        state.close_by(open, pricing)?;
     }
     Ok(is_closed)
 }
@@ -163,22 +183,28 @@ fn divide(
         high,
     };
     state.close(open.entry, parts);
-    if split.is_low_first {
-        push_part(alloc, task, state, &open, split, (high, true))?;
-        push_part(alloc, task, state, &open, split, (low, false))?;
+    let (last, first) = if split.is_low_first {
+        ((low, false), (high, true))
     } else {
-        push_part(alloc, task, state, &open, split, (low, false))?;
-        push_part(alloc, task, state, &open, split, (high, true))?;
-    }
+        ((high, true), (low, false))
+    };
+    let other = Open {
+        entry: open.entry,
+        allowed: open.allowed.copy(alloc)?,
+        values: Vec::from_slice(alloc, &open.values)?,
+        relaxation: open.relaxation.copy(alloc)?,
+    };
+    push_part(alloc, task, state, other, split, first)?;
+    push_part(alloc, task, state, open, split, last)?;
     Ok(true)
 }
 
-// Adds a part of a node: its entry, and whether it is the high one.
+// Makes a node one of its parts, and adds it: its entry, and whether it is the high one.
 fn push_part(
     alloc: Global,
     task: &Task<'_>,
     state: &mut State,
-    open: &Open,
+    open: Open,
     split: Split,
     part: (u32, bool),
 ) -> Result<(), Memory> {
@@ -189,10 +215,10 @@ fn push_part(
     allowed.keep(problem, reduced, unit, rule, is_high);
     let mut values = Vec::with_capacity(alloc, open.values.len())?;
     for (pricing, value) in state.pricings.iter().zip(&open.values) {
-        let rise = pricing.rise(problem, reduced, unit, &open.allowed, &allowed);
-        values.push(value.saturating_add(rise))?;
+        let moved = pricing.moved(*value, problem, reduced, unit, (&open.allowed, &allowed));
+        values.push(moved)?;
     }
-    let mut relaxation = open.relaxation.copy(alloc)?;
+    let Open { mut relaxation, .. } = open;
     task.keep(&mut relaxation, unit, rule, is_high);
     state.open.push(Open {
         entry,

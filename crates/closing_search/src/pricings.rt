@@ -3,33 +3,39 @@
 use crate::allowed::Allowed;
 use crate::rules::unit_alts;
 use crate::spans::{Spans, within};
+use crate::states::Task;
 use choice_problem::{Alt, Price, Problem, Vector};
 use reduced_problem::{Class, Reduced};
 use slot_text::Memory;
 use std::alloc::Global;
 
-/// A vector and the scale of its bound, with what the parts of all units and the limits cost at its prices.
+/// A vector and the scale of its bound, with what the parts of all units and the limits cost at its prices, and for each unit
+/// the least priced cost of its alternatives that the search may take.
 #[derive(Drop)]
 pub(crate) struct Pricing {
     pub(crate) vector: Vector,
     pub(crate) scale: u32,
     parts: Vec<i64>,
     limits: i64,
+    leasts: Vec<i64>,
 }
 
 impl Pricing {
-    // The costs at a vector's prices. It names resources of classes alone.
+    // The costs at a vector's prices, where these alternatives may be taken. It names resources of classes alone.
     pub(crate) fn new(
         alloc: Global,
-        reduced: &Reduced,
+        task: &Task<'_>,
+        base: &Allowed,
         vector: Vector,
         scale: u32,
     ) -> Result<Pricing, Memory> {
+        let reduced = task.reduced;
         let mut pricing = Pricing {
             vector,
             scale,
             parts: vec![in alloc; 0; reduced.parts() as usize]?,
             limits: 0,
+            leasts: Vec::with_capacity(alloc, task.problem.units() as usize)?,
         };
         let mut next: usize = 0;
         for (number, class) in (0..).zip(reduced.classes()) {
@@ -38,7 +44,22 @@ impl Pricing {
                 next = next.saturating_add(1);
             }
         }
+        pricing.add_leasts(task.problem, reduced, base)?;
         Ok(pricing)
+    }
+
+    // Notes the least priced cost of each unit.
+    fn add_leasts(
+        &mut self,
+        problem: &Problem,
+        reduced: &Reduced,
+        base: &Allowed,
+    ) -> Result<(), Memory> {
+        for unit in 0..problem.units() {
+            let least = self.least_of(problem, reduced, unit, base.of(unit));
+            self.leasts.push(least)?;
+        }
+        Ok(())
     }
 
     // The vector's price at a place, where it is the class's.
@@ -76,8 +97,17 @@ impl Pricing {
         }
     }
 
-    // The least priced cost of a unit's alternatives that may be taken.
-    fn least(&self, problem: &Problem, reduced: &Reduced, unit: u32, flags: &[bool]) -> i64 {
+    // The least priced cost of a unit's alternatives that may be taken: that of all that the search may take, where no split
+    // took some away.
+    fn least(&self, problem: &Problem, reduced: &Reduced, unit: u32, allowed: &Allowed) -> i64 {
+        match self.leasts.get(unit as usize) {
+            Some(least) if !allowed.is_cut(unit) => *least,
+            _ => self.least_of(problem, reduced, unit, allowed.of(unit)),
+        }
+    }
+
+    // The least priced cost of a unit's alternatives with a flag.
+    fn least_of(&self, problem: &Problem, reduced: &Reduced, unit: u32, flags: &[bool]) -> i64 {
         let first = reduced.first_part(unit);
         let mut least = i64::MAX;
         for (alt, flag) in unit_alts(problem, unit).iter().zip(flags) {
@@ -92,23 +122,24 @@ impl Pricing {
     pub(crate) fn value(&self, problem: &Problem, reduced: &Reduced, allowed: &Allowed) -> i64 {
         let mut total: i64 = 0;
         for unit in 0..problem.units() {
-            let least = self.least(problem, reduced, unit, allowed.of(unit));
+            let least = self.least(problem, reduced, unit, allowed);
             total = total.saturating_add(least);
         }
         total.saturating_sub(self.limits)
     }
 
-    /// How much the bound rises where a unit may take others than before.
-    pub(crate) fn rise(
+    /// The bound after a split of a unit, where it was this before with the unit's alternatives from another set.
+    pub(crate) fn moved(
         &self,
+        value: i64,
         problem: &Problem,
         reduced: &Reduced,
         unit: u32,
-        old: &Allowed,
-        new: &Allowed,
+        sets: (&Allowed, &Allowed),
     ) -> i64 {
-        let after = self.least(problem, reduced, unit, new.of(unit));
-        after.saturating_sub(self.least(problem, reduced, unit, old.of(unit)))
+        let after = self.least(problem, reduced, unit, sets.1);
+        let before = self.least(problem, reduced, unit, sets.0);
+        value.saturating_add(after.saturating_sub(before))
     }
 
     /// The least priced cost of a unit's alternatives from one to another.

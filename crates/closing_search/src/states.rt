@@ -68,6 +68,8 @@ pub(crate) struct State {
     pub(crate) steps: u64,
     pub(crate) work: Work,
     pub(crate) is_by_quotas: bool,
+    // The alternatives that may be taken before any split.
+    pub(crate) base: Allowed,
 }
 
 impl State {
@@ -88,11 +90,11 @@ impl State {
             steps,
             work: Work::new(alloc, task.program)?,
             is_by_quotas: !task.quotas.is_empty(),
+            base: allowed.copy(alloc)?,
         };
         let none = Vector::new(Vec::new(alloc));
-        state
-            .pricings
-            .push(Pricing::new(alloc, task.reduced, none, 1)?)?;
+        let unpriced = Pricing::new(alloc, task, &state.base, none, 1)?;
+        state.pricings.push(unpriced)?;
         state.entries.push(Entry::Open)?;
         state.open.push(Open {
             entry: 0,
@@ -164,12 +166,20 @@ impl State {
         }
     }
 
-    // Takes in the vector of a node that is split: it may close ranges that the node becomes in the end.
-    pub(crate) fn take_pricing(&mut self, pricing: Pricing) -> Result<(), Memory> {
-        if self.pricings.len() < MOST_TAKEN {
-            self.pricings.push(pricing)?;
+    // Takes in the vector of a node that is split, if there is one: it may close ranges that the node becomes in the end.
+    pub(crate) fn take_pricing(&mut self, pricing: Option<Pricing>) -> Result<(), Memory> {
+        match pricing {
+            Some(pricing) if self.pricings.len() < MOST_TAKEN => {
+                self.pricings.push(pricing)?;
+                Ok(())
+            }
+            _ => Ok(()),
         }
-        Ok(())
+    }
+
+    // Whether the prices of a solved relaxation can be of use: they may close its node, or there is room for them.
+    pub(crate) fn wants_prices(&self, value: f64) -> bool {
+        value > self.enough() - 1.0 || self.pricings.len() < MOST_TAKEN
     }
 
     // Whether a vector closes a node.
