@@ -22,21 +22,11 @@ pub(crate) fn near_alts(
 
 // Lets a unit take its alternatives of reduced costs of at most so much.
 fn allow_near(task: &Task<'_>, root: &Relaxation, unit: u32, most: f64, allowed: &mut Allowed) {
-    let first = task.program.first_column(unit) as usize;
-    let costs = costs_from(root.reduced_costs(), first);
-    for (column, cost) in task.program.unit_columns(unit).iter().zip(costs) {
-        if *cost <= most {
+    let first = task.program.first_column(unit);
+    for (number, column) in (0..).zip(task.program.unit_columns(unit)) {
+        if root.reduced_cost(task.program, first.saturating_add(number)) <= most {
             allowed.allow(unit, column.number);
         }
-    }
-}
-
-/// The costs from a place on.
-pub(crate) fn costs_from(costs: &[f64], first: usize) -> &[f64] {
-    if first <= costs.len() {
-        &costs[first..]
-    } else {
-        &[]
     }
 }
 

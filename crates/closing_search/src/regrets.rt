@@ -1,6 +1,5 @@
 //! Choices by the reduced costs of a relaxation.
 
-use crate::narrowed::costs_from;
 use crate::placings::Placing;
 use crate::states::{NEVER, State, Task};
 use relaxed_problem::Relaxation;
@@ -22,11 +21,11 @@ pub(crate) fn place_by(
     state: &mut State,
     relaxation: &Relaxation,
 ) -> Result<(), Memory> {
-    let weights = relaxation.reduced_costs();
-    let mut order = by_regret(alloc, task, weights)?;
+    let weights = relaxation.reduced_costs(alloc, task.program)?;
+    let mut order = by_regret(alloc, task, &weights)?;
     for _ in 0..ATTEMPTS {
         let mut placing = Placing::none(alloc, task)?;
-        match placing.place_all(task, &order, weights)? {
+        match placing.place_all(task, &order, &weights)? {
             None => return take_placing(alloc, task, state, placing),
             Some(at) => to_front(&mut order, at),
         }
@@ -77,6 +76,15 @@ fn by_regret(alloc: Global, task: &Task<'_>, weights: &[f64]) -> Result<Vec<u32>
         order.push(*unit)?;
     }
     Ok(order)
+}
+
+// The costs from a place on.
+fn costs_from(costs: &[f64], first: usize) -> &[f64] {
+    if first <= costs.len() {
+        &costs[first..]
+    } else {
+        &[]
+    }
 }
 
 // The difference of the two least of the first weights.

@@ -1,7 +1,6 @@
 //! Where a search splits a node: at a unit of whose alternatives the relaxation takes shares, so that both parts have a
 //! greater bound.
 
-use crate::narrowed::costs_from;
 use crate::rules::{Rule, uses_of_part};
 use crate::states::{NEVER, Open, State, Task};
 use relaxed_problem::{End, Relaxation, Share};
@@ -230,18 +229,18 @@ fn split_by_number(task: &Task<'_>, relaxation: &Relaxation, group: &[Share]) ->
 
 // The place between two alternatives of a unit whose neighbours have the greatest reduced costs.
 fn cut_between(task: &Task<'_>, relaxation: &Relaxation, from: &Share, to: &Share) -> u32 {
-    let first = task.program.first_column(from.unit) as usize;
-    let costs = costs_from(relaxation.reduced_costs(), first);
+    let first = task.program.first_column(from.unit);
     let mut cut = from.alt.saturating_add(1);
     let mut most = -1.0;
     let mut before = 0.0;
-    for (column, cost) in task.program.unit_columns(from.unit).iter().zip(costs) {
-        let least = if *cost < before { *cost } else { before };
+    for (number, column) in (0..).zip(task.program.unit_columns(from.unit)) {
+        let cost = relaxation.reduced_cost(task.program, first.saturating_add(number));
+        let least = if cost < before { cost } else { before };
         if column.number > from.alt && column.number <= to.alt && least > most {
             most = least;
             cut = column.number;
         }
-        before = *cost;
+        before = cost;
     }
     cut
 }
