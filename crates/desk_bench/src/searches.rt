@@ -1,9 +1,9 @@
 //! Searches by workers: of a ring of units that exclude each other, by one and by four workers, and
-//! of two seasons, for the time of a visit.
+//! of three seasons, for the time of a visit.
 
 ghost use Rattle.std.specs.Prelude.{◌≤◌};
 
-use crate::report::{Size, millis_since, print_row, step};
+use crate::report::{Size, millis_since, print_row, rate, step};
 use crate::seasons::count_visited;
 use crate::stages::last_problem;
 use crate::texts::submission_of;
@@ -20,10 +20,10 @@ use std::time::{Clock, Instant};
 use wasg_stages::problem_after;
 use worker_gate::RealGate;
 
-/// Searches a ring of 100 units with a budget of 120,000 visits by one and by four workers; and a
-/// season of 138 daily turnarounds, and the 138 units of stage 4 of a generated one, with a budget of
-/// 20,000 by one. Prints how many nodes were visited, and at full size the times, and that of the
-/// root vector, which each search makes.
+/// Searches a ring of 100 units with a budget of 120,000 visits by one and by four workers; and
+/// seasons of 138 and of 1,000 daily turnarounds, and the 138 units of stage 4 of a generated one,
+/// with a budget of 20,000 by one. Prints how many nodes were visited, and at full size the times,
+/// the visits a second, and the time of the root vector, which each search makes.
 pub fn run<R: Threads + Sync + Print + Clock>(
     rt: &R,
     alloc: Global,
@@ -31,6 +31,7 @@ pub fn run<R: Threads + Sync + Print + Clock>(
 ) -> anyhow::Result<()> {
     search_ring(rt, alloc, size)?;
     search_daily(rt, alloc, size)?;
+    search_large(rt, alloc, size)?;
     search_generated(rt, alloc, size)
 }
 
@@ -75,6 +76,20 @@ fn search_daily<R: Threads + Sync + Print + Clock>(
     };
     let daily = last_problem(alloc, units, *b"NNNN", 5, window)?;
     search_season(rt, alloc, size, &daily)
+}
+
+// The same of a season whose turnarounds are all due in one stage.
+fn search_large<R: Threads + Sync + Print + Clock>(
+    rt: &R,
+    alloc: Global,
+    size: Size,
+) -> anyhow::Result<()> {
+    let (units, window) = match size {
+        Size::Short => (24, b"CAP TOT 60 0000 2355 1234567 3\n".as_slice()),
+        Size::Full => (1_000, b"CAP TOT 60 0000 2355 1234567 123\n".as_slice()),
+    };
+    let large = last_problem(alloc, units, *b"NNNN", 5, window)?;
+    search_season(rt, alloc, size, &large)
 }
 
 fn search_generated<R: Threads + Sync + Print + Clock>(
@@ -153,8 +168,10 @@ fn searched<R: Threads + Sync + Print + Clock>(
     let start = Instant::now(rt)?;
     let outcome = search(rt, alloc, problem, budget, workers, &RealGate)?;
     let millis = millis_since(rt, start)?;
+    let visited = count_visited(nodes_of(&outcome));
     step(rt, size, "search", start)?;
-    Ok((millis, count_visited(nodes_of(&outcome))))
+    rate(rt, size, "visits", visited, start)?;
+    Ok((millis, visited))
 }
 
 // The nodes of the tree of a search.
