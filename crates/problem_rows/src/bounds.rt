@@ -1,12 +1,14 @@
 //! Vectors, their bounds, and floors.
 
+ghost use Rattle.std.specs.Prelude.{◌≤◌, All, length};
+ghost use Rattle.choice_problem.specs.declared.vectors.TheConstants.{MOST_VECTORS};
 ghost use Rattle.choice_problem.specs.Bounds.{AreRanges};
 ghost use Rattle.price_table.specs.Tables.{IsTableFor};
 
 use crate::problems::{problem, ranges, table_of, vector};
 use crate::texts::{Case, piece, seen, walk};
 use choice_problem::{PRICED_SCALE, Problem, Ranges, SCALE_BOUND, Vector, leaf_closes};
-use dual_bound::{floor_of, node_vector, root_vector};
+use dual_bound::{KeptFloors, StatedFloor, floor_of, node_vector, root_vector};
 use price_table::{PriceTable, Totals, bound, closes};
 use std::alloc::Global;
 use std::test::Fail;
@@ -35,6 +37,23 @@ fn is_even(vector: &Vector) -> bool {
     true
 }
 
+// The floor that is kept of ranges, after going there from all alternatives.
+fn kept_floor(
+    alloc: Global,
+    problem: &Problem,
+    ranges: &Ranges,
+    tables: &[PriceTable],
+) -> Result<StatedFloor, Fail>
+    requires ranges { AreRanges problem.now ranges.now }
+    requires tables { All (IsTableFor problem.now) tables.now }
+    requires few { length tables.now ≤ MOST_VECTORS }
+{
+    let whole = Ranges::whole(alloc, problem)?;
+    let mut kept = KeptFloors::of(alloc, problem, tables, &whole)?;
+    kept.go(ranges);
+    Ok(kept.floor())
+}
+
 // Adds the bound at a vector, and the floor with the number of the vector that gives it.
 fn add_bound(
     alloc: Global,
@@ -47,6 +66,9 @@ fn add_bound(
 {
     let tables = [table_of(alloc, problem, vector)?];
     let floor = floor_of(problem, ranges, &tables);
+    if kept_floor(alloc, problem, ranges, &tables)? != floor {
+        return Err("kept floors".into());
+    }
     let scaled = bound(problem, ranges, &tables[0], PRICED_SCALE);
     let totals = Totals::of(alloc, problem, ranges, &tables[0], PRICED_SCALE)?;
     if totals.bound() != scaled {

@@ -11,7 +11,7 @@ ghost use Rattle.season_run.specs.Steps.{AreFound, undone_at, least_with};
 
 use cert_format::Floor;
 use choice_problem::{Node, PRICED_SCALE, Problem, RangeWalk, Ranges};
-use dual_bound::floor_of;
+use dual_bound::KeptFloors;
 use price_table::PriceTable;
 use slot_text::Memory;
 use std::alloc::Global;
@@ -24,6 +24,7 @@ pub(crate) struct Stated {
 }
 
 // The floors of a tree's undone nodes, in preorder, and the least of a cost and of what they give.
+// What they are read from is kept while the tree is walked.
 pub(crate) fn stated_floors(
     alloc: Global,
     problem: &Problem,
@@ -38,6 +39,7 @@ pub(crate) fn stated_floors(
         (undone_ranges problem.now tree.now) stated) }
 {
     let whole = Ranges::whole(alloc, problem)?;
+    let mut kept = KeptFloors::of(alloc, problem, tables, &whole)?;
     let mut walk = RangeWalk::new(alloc, whole);
     let mut changed = Vec::new(alloc);
     let mut stated = Stated {
@@ -45,7 +47,7 @@ pub(crate) fn stated_floors(
         bound: cost,
     };
     for node in tree {
-        add_floor(problem, tables, walk.ranges(), *node, &mut stated)?;
+        add_floor(&mut kept, walk.ranges(), *node, &mut stated)?;
         changed.clear();
         walk.advance(*node, &mut changed)?;
     }
@@ -54,22 +56,21 @@ pub(crate) fn stated_floors(
 
 // Adds the floor of a node's ranges, where it is undone.
 fn add_floor(
-    problem: &Problem,
-    tables: &[PriceTable],
+    kept: &mut KeptFloors<'_>,
     ranges: &Ranges,
     node: Node,
     stated: &mut Stated,
 ) -> Result<(), Memory>
-    requires tables { All (IsTableFor problem.now) tables.now }
-    requires few { length tables.now ≤ MOST_VECTORS }
-    requires ranges { AreRanges problem.now ranges.now }
-    ensures { OnOk result ((cost : Option ℕ) (pieces : List (List (ℕ × ℕ))) →
-        AreFound problem.now (vectors_of tables.now) cost pieces stated.old →
-        AreFound problem.now (vectors_of tables.now) cost
+    requires { AreRanges kept.old.problem ranges.now }
+    ensures problem { kept.new.problem ≡ kept.old.problem }
+    ensures vectors { kept.new.vectors ≡ kept.old.vectors }
+    ensures found { OnOk result ((cost : Option ℕ) (pieces : List (List (ℕ × ℕ))) →
+        AreFound kept.old.problem kept.old.vectors cost pieces stated.old →
+        AreFound kept.old.problem kept.old.vectors cost
         (pieces ++ undone_at ranges.now node) stated.new) }
 {
     match node {
-        Node::Undone => push_floor(problem, tables, ranges, stated),
+        Node::Undone => push_floor(kept, ranges, stated),
         Node::Split { .. } => Ok(()),
         Node::Leaf { .. } => Ok(()),
         Node::Over { .. } => Ok(()),
@@ -77,20 +78,16 @@ fn add_floor(
 }
 
 // Adds the floor of ranges.
-fn push_floor(
-    problem: &Problem,
-    tables: &[PriceTable],
-    ranges: &Ranges,
-    stated: &mut Stated,
-) -> Result<(), Memory>
-    requires tables { All (IsTableFor problem.now) tables.now }
-    requires few { length tables.now ≤ MOST_VECTORS }
-    requires ranges { AreRanges problem.now ranges.now }
-    ensures { OnOk result ((cost : Option ℕ) (pieces : List (List (ℕ × ℕ))) →
-        AreFound problem.now (vectors_of tables.now) cost pieces stated.old →
-        AreFound problem.now (vectors_of tables.now) cost (pieces ++ ranges.now ∷ []) stated.new) }
+fn push_floor(kept: &mut KeptFloors<'_>, ranges: &Ranges, stated: &mut Stated) -> Result<(), Memory>
+    requires { AreRanges kept.old.problem ranges.now }
+    ensures problem { kept.new.problem ≡ kept.old.problem }
+    ensures vectors { kept.new.vectors ≡ kept.old.vectors }
+    ensures found { OnOk result ((cost : Option ℕ) (pieces : List (List (ℕ × ℕ))) →
+        AreFound kept.old.problem kept.old.vectors cost pieces stated.old →
+        AreFound kept.old.problem kept.old.vectors cost (pieces ++ ranges.now ∷ []) stated.new) }
 {
-    let found = floor_of(problem, ranges, tables);
+    kept.go(ranges);
+    let found = kept.floor();
     stated.floors.push(Floor {
         vector: found.vector,
         scale: scale_of(found.vector),

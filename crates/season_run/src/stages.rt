@@ -23,9 +23,10 @@ use std::alloc::Global;
 /// up to the last one that a leaf or a floor names, and where nodes are undone the floor of each and
 /// the stated bound, by all vectors of the search.
 ///
-/// One step a node and what its ranges change. Each undone node is priced at each vector: one step
-/// an alternative in its ranges. Beside what the outcome has it takes a price table for each vector
-/// where nodes are undone, one copy of the ranges, and 16 bytes an undone node.
+/// One step a node and what its ranges change; for each undone node one a unit and a vector, and for
+/// each unit whose range has changed since the one before, one an alternative in it for each vector.
+/// Beside what the outcome has it takes, where nodes are undone, a price table and 32 bytes a unit
+/// for each vector, 24 bytes a unit, and 16 an undone node.
 pub fn stage_cert(alloc: Global, problem: &Problem, outcome: Outcome) -> Result<StageCert, Memory>
     requires { IsStageEnd problem.now outcome }
     ensures stage { IfOk result (λ c. MakesStage problem.now outcome c) }

@@ -1,4 +1,4 @@
-use Rattle.std.proofs.Common.{◌+◌, ◌++◌, [], List, refl, drop, get_or, subst}
+use Rattle.std.proofs.Common.{◌∙◌, ◌+◌, ◌++◌, [], List, refl, drop, get_or, subst}
 use Rattle.std.specs.Prelude.{All, IsTrue}
 use Rattle.std.proofs.lemmas.List.{at_drop_all}
 use Rattle.std.proofs.lemmas.List.Elements.{All-cons, All-nil, All-head}
@@ -19,6 +19,8 @@ loop-node-init c =
     record {
       walk = rw (c.new-walk.ensures, c.in_ok-whole.ensures.value) c.requires.tree;
       ranges = rw c.new-walk.ensures (All-cons (AreRanges p) c.in_ok-whole.whole [] c.in_ok-whole.ensures.there (All-nil (AreRanges p)));
+      kept_problem = c.in_ok-kept.ensures.problem;
+      kept_vectors = c.in_ok-kept.ensures.vectors;
       found = (
         [],
         rw (c.new-walk.ensures, c.in_ok-whole.ensures.value) refl,
@@ -29,10 +31,10 @@ loop-node-init c =
 pub ranges-requires : goal.ranges-requires
 ranges-requires c = walkable_some c.args.tree.now c.loop-node.node-index c.loop-node-test.true c.loop-node.walk c.loop-node.invariant.walk
 
-pub add_floor-requires-clause-ranges : goal.add_floor-requires-clause-ranges
-add_floor-requires-clause-ranges c =
+pub add_floor-requires : goal.add_floor-requires
+add_floor-requires c =
     let p = c.args.problem.now in
-    All-head (AreRanges p) c.ranges-in-loop-node.result.now (drop 1 c.loop-node.walk) (subst (All (AreRanges p)) c.ranges-in-loop-node.ensures c.loop-node.invariant.ranges)
+    rw c.loop-node.invariant.kept_problem (All-head (AreRanges p) c.ranges-in-loop-node.result.now (drop 1 c.loop-node.walk) (subst (All (AreRanges p)) c.ranges-in-loop-node.ensures c.loop-node.invariant.ranges))
 
 pub loop-node-preserved : goal.loop-node-preserved
 loop-node-preserved c =
@@ -45,15 +47,18 @@ loop-node-preserved c =
     let inv = c.loop-node.invariant in
     let yes : IsTrue c.in_ok-advance.field-0 = c.in_ok-advance.ensures.stop (walkable_step nodes i there old inv.walk) in
     let step : IsStep old (get_or nodes i no_node) new = c.in_ok-advance.ensures.step yes in
+    let found = rw (inv.kept_problem, inv.kept_vectors) at c.in_ok-add_floor.ensures.found in
     let now = undone_at c.ranges-in-loop-node.result.now (get_or nodes i no_node) in
     record {
       walk = walkable_on nodes i there old new step inv.walk;
       ranges = c.in_ok-advance.ensures.valid p inv.ranges;
+      kept_problem = c.in_ok-add_floor.ensures.problem ∙ inv.kept_problem;
+      kept_vectors = c.in_ok-add_floor.ensures.vectors ∙ inv.kept_vectors;
       found = (
         inv.found.0 ++ now,
         pieces_on inv.found.0 now (open_ranges new (drop (i + 1) nodes)) (undone_ranges p nodes) (open_ranges old (drop i nodes)) inv.found.1
             (open_on nodes i old new c.ranges-in-loop-node.result.now there c.ranges-in-loop-node.ensures step),
-        c.in_ok-add_floor.ensures c.args.cost inv.found.0 inv.found.2,
+        found c.args.cost inv.found.0 inv.found.2,
       );
     }
 

@@ -12,6 +12,8 @@ abbrev pub invariant-loop-node : goal.invariant-loop-node
 invariant-loop-node l = record {
   walk : AreWalkable l.walk (drop l.node-index l.tree);
   ranges : All (AreRanges l.problem) l.walk;
+  kept_problem : l.kept.problem ≡ l.problem;
+  kept_vectors : l.kept.vectors ≡ vectors_of l.tables;
   found : (pieces : List (List (ℕ × ℕ))) × (pieces ++ open_ranges l.walk (drop l.node-index l.tree) ≡ undone_ranges l.problem l.tree)
       × AreFound l.problem (vectors_of l.tables) l.fn.cost pieces l.stated;
 }
