@@ -111,8 +111,8 @@ fn cost_at(alloc: Global, problem: &Problem, number: u32) -> Result<Option<u64>,
     }
 }
 
-// The least cost of a feasible choice, of all that there are.
-fn least_cost(alloc: Global, problem: &Problem) -> Result<Option<u64>, Fail> {
+/// The least cost of a feasible choice, of all that there are.
+pub(crate) fn least_cost(alloc: Global, problem: &Problem) -> Result<Option<u64>, Fail> {
     let mut least: Option<u64> = None;
     for number in 0..CHOICES {
         if let Some(cost) = cost_at(alloc, problem, number)? {

@@ -14,6 +14,8 @@ mod draws;
 #[cfg(test)]
 mod leaves;
 #[cfg(test)]
+mod open;
+#[cfg(test)]
 mod problems;
 #[cfg(test)]
 mod reduced;

@@ -1,0 +1,52 @@
+//! What is known of problems that stay open.
+
+use crate::closed::least_cost;
+use crate::draws::{Draws, drawn};
+use choice_problem::{Choice, Problem, cost_of, fits};
+use closing_search::{Ending, closing_search};
+use std::alloc::Global;
+use std::test::Fail;
+
+// Of how many of the drawn problems the choice that is known may cost more than the least.
+const DEARER: u32 = 5;
+
+#[test]
+fn open_problems_have_good_choices(rt: HostRuntime) -> Result<(), Fail> {
+    let alloc = rt.alloc();
+    let mut draws = Draws { last: 6 };
+    let mut dearer: u32 = 0;
+    for number in 0..500 {
+        let problem = drawn(alloc, &mut draws)?;
+        let want = least_cost(alloc, &problem)?;
+        let found = known_cost(alloc, &problem)?;
+        assert!(rt; found.is_some() == want.is_some(), "{number}");
+        if found != want {
+            dearer = dearer.saturating_add(1);
+        }
+    }
+    assert!(rt; dearer <= DEARER, "{dearer}");
+    Ok(())
+}
+
+// The cost of the choice that is known where a tree may have no node, if there is one that is feasible.
+fn known_cost(alloc: Global, problem: &Problem) -> Result<Option<u64>, Fail> {
+    match closing_search(alloc, problem, None, 0)? {
+        Ending::Closed(_) => Ok(None),
+        Ending::Open { best, .. } => feasible_cost(alloc, problem, best),
+    }
+}
+
+fn feasible_cost(
+    alloc: Global,
+    problem: &Problem,
+    best: Option<Choice>,
+) -> Result<Option<u64>, Fail> {
+    let Some(best) = best else {
+        return Ok(None);
+    };
+    if best.is_for(problem) && fits(alloc, problem, &best)? {
+        Ok(Some(cost_of(problem, &best)))
+    } else {
+        Ok(None)
+    }
+}
