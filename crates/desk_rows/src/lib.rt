@@ -22,6 +22,8 @@ mod serve_rows;
 #[cfg(test)]
 mod texts;
 #[cfg(test)]
+mod tie_rows;
+#[cfg(test)]
 mod usage_rows;
 #[cfg(test)]
 mod waiting_rows;

@@ -24,4 +24,6 @@ mod relaxed;
 #[cfg(test)]
 mod texts;
 #[cfg(test)]
+mod ties;
+#[cfg(test)]
 mod visits;

@@ -5,3 +5,4 @@ mod StageLemmas
 mod TrialLemmas
 mod RunLemmas
 mod SeasonLemmas
+mod TieLemmas

@@ -18,7 +18,8 @@ use Rattle.series_model.specs.Stages.{first_states, after_stage, states_after, m
 use Rattle.series_model.specs.Submissions.{SubmissionView}
 use Rattle.wasg_stages.specs.Valid.{IsStageAs, AreStages}
 use Rattle.season_run.specs.Runs.{IsTriedRun, IsRunAs, AreStageRuns, IsRun, AreEnough}
-use Rattle.season_run.specs.Steps.{FitsSeason, AreRunSoFar, IsNextStage}
+use Rattle.season_run.specs.declared.ties.LastStages.{LastStages}
+use Rattle.season_run.specs.Steps.{FitsSeason, AreLastStages, AreRunSoFar, IsNextStage}
 
 -- ---- the stages so far
 
@@ -88,23 +89,75 @@ limits : (certs : List StageCert) → AllByRecursion FitsSeason certs → AllByR
 limits [] h = tt
 limits (c ∷ certs) h = (h.0.limits, limits certs h.1)
 
--- all four
-pub so_far_finish : ((c : Certificate) → length c.stages ≡ 4 → AllByRecursion IsWithinLimits c.stages → length (cert_lines c) ≤ MOST_LINES) →
-    (s : SubmissionView) (budget : ℕ) (states : List UnitState) (follows : Bool) (c : Certificate) → c.version ≡ 2 → AreRunSoFar s budget 5 states follows c.stages → IsRun s budget c
-so_far_finish few s budget states follows c version on =
-    let count : length c.stages ≡ 4 = omega (arith, on.count) in
-    let form : IsPrintable c = record {
-      version = (omega (arith, version), omega (arith, version));
-      count = count;
-      stages = subst (λ (v : ℕ). AllByRecursion (IsPrintableStage v) c.stages) (sym version) (printables c.stages on.fit_certs);
-      few = few c count (limits c.stages on.fit_certs);
-    } in
-    record {
-      version = version;
-      valid = record { form = form; stages = subst (λ (l : List StageCert). AreStages s.declaration s.units [] l) (append-nil c.stages) (on.valid [] tt) };
-      stages = subst (λ (l : List StageCert). AreStageRuns s.declaration s.units budget [] l) (append-nil c.stages) (on.runs [] tt);
-      limits = limits c.stages on.fit_certs;
-    }
+fits-two : (certs : List StageCert) (c b : StageCert) → AllByRecursion FitsSeason certs → FitsSeason c → FitsSeason b → AllByRecursion FitsSeason (certs ++ c ∷ b ∷ [])
+fits-two [] c b all f g = (f, g, tt)
+fits-two (one ∷ certs) c b all f g = (all.0, fits-two certs c b all.1 f g)
+
+-- stages 3 and 4 after the first two
+module _ (one_more : (d : Declaration) (units : List SlotUnit) (choices : List (Option (List ℕ))) (choice : Option (List ℕ)) →
+    states_after d units (choices ++ choice ∷ []) ≡ after_stage d (length choices + 1) (states_after d units choices) choice)
+    (s : SubmissionView) (budget : ℕ) (states : List UnitState) (follows : Bool) (certs : List StageCert) (last : LastStages)
+    (on : AreRunSoFar s budget 3 states follows certs) (two : AreLastStages s.declaration states budget follows last) where
+  abbrev d-here : Declaration
+  d-here = s.declaration
+
+  abbrev more : List (Option (List ℕ))
+  more = on.earlier ++ last.third.choice ∷ []
+
+  abbrev rest : List StageCert
+  rest = last.third ∷ last.fourth ∷ []
+
+  third-here : IsNextStage d-here (length on.earlier + 1) (states_after d-here s.units on.earlier) budget last.third follows
+  third-here =
+      let one = subst (λ (k : ℕ). IsNextStage d-here k states budget last.third follows) on.stage_is two.third in
+      subst (λ (st : List UnitState). IsNextStage d-here (length on.earlier + 1) st budget last.third follows) on.states_are one
+
+  after-third : after_stage d-here 3 states last.third.choice ≡ states_after d-here s.units more
+  after-third = ap (λ (st : List UnitState). after_stage d-here 3 st last.third.choice) on.states_are
+      ∙ ap (λ (k : ℕ). after_stage d-here k (states_after d-here s.units on.earlier) last.third.choice) on.stage_is
+      ∙ sym (one_more d-here s.units on.earlier last.third.choice)
+
+  fourth-here : IsNextStage d-here (length more + 1) (states_after d-here s.units more) budget last.fourth (may_follow more)
+  fourth-here =
+      let four : 4 ≡ length more + 1 = omega (arith, on.stage_is, length-append on.earlier (last.third.choice ∷ [])) in
+      let one = two.fourth on.earlier (omega (arith, on.stage_is)) on.follows_is in
+      let later = subst (λ (k : ℕ). IsNextStage d-here k (after_stage d-here 3 states last.third.choice) budget last.fourth (may_follow more)) four one in
+      subst (λ (st : List UnitState). IsNextStage d-here (length more + 1) st budget last.fourth (may_follow more)) after-third later
+
+  all-valid : AreStages d-here s.units [] (certs ++ rest)
+  all-valid = on.valid rest (
+    next-valid d-here s.units on.earlier budget last.third (is_tried last.third.mark) follows refl on.follows_is third-here,
+    next-valid d-here s.units more budget last.fourth (is_tried last.fourth.mark) (may_follow more) refl refl fourth-here,
+    tt,
+  )
+
+  all-runs : AreStageRuns d-here s.units budget [] (certs ++ rest)
+  all-runs = on.runs rest (
+    next-run d-here (length on.earlier + 1) (states_after d-here s.units on.earlier) budget last.third (is_tried last.third.mark) follows refl third-here,
+    next-run d-here (length more + 1) (states_after d-here s.units more) budget last.fourth (is_tried last.fourth.mark) (may_follow more) refl fourth-here,
+    tt,
+  )
+
+  -- all four
+  pub so_far_finish : ((c : Certificate) → length c.stages ≡ 4 → AllByRecursion IsWithinLimits c.stages → length (cert_lines c) ≤ MOST_LINES) →
+      (c : Certificate) → c.version ≡ 2 → c.stages ≡ certs ++ last.third ∷ last.fourth ∷ [] → IsRun s budget c
+  so_far_finish few c version is =
+      let fits = fits-two certs last.third last.fourth on.fit_certs two.third_fits two.fourth_fits in
+      let count : length c.stages ≡ 4 = omega (arith, on.count, ap (λ (l : List StageCert). length l) is, length-append certs rest) in
+      let within : AllByRecursion IsWithinLimits c.stages = subst (λ (l : List StageCert). AllByRecursion IsWithinLimits l) (sym is) (limits (certs ++ rest) fits) in
+      let printable : AllByRecursion (IsPrintableStage 2) c.stages = subst (λ (l : List StageCert). AllByRecursion (IsPrintableStage 2) l) (sym is) (printables (certs ++ rest) fits) in
+      let form : IsPrintable c = record {
+        version = (omega (arith, version), omega (arith, version));
+        count = count;
+        stages = subst (λ (v : ℕ). AllByRecursion (IsPrintableStage v) c.stages) (sym version) printable;
+        few = few c count within;
+      } in
+      record {
+        version = version;
+        valid = record { form = form; stages = subst (λ (l : List StageCert). AreStages s.declaration s.units [] l) (sym is) all-valid };
+        stages = subst (λ (l : List StageCert). AreStageRuns s.declaration s.units budget [] l) (sym is) all-runs;
+        limits = within;
+      }
 
 -- ---- a stage that is not tried
 

@@ -1,5 +1,5 @@
 -- Steps of a run. Contracts of private functions alone cite them.
-use Rattle.std.specs.Prelude.{◌≡◌, ◌⊎◌, ℕ, ◌+◌, ◌*◌, ◌<◌, ◌≤◌, min, Bool, true, false, List, [], ◌∷◌, ◌++◌, length, All, Contains, Option, Some, None}
+use Rattle.std.specs.Prelude.{◌≡◌, ◌⊎◌, ℕ, ◌+◌, ◌*◌, ◌<◌, ◌≤◌, min, Bool, true, false, List, [], ◌∷◌, ◌++◌, length, All, Contains, Option, Some, None, IsSomeAnd}
 use Rattle.std.specs.List.{AllZip, AllByRecursion}
 use Rattle.std.specs.Option.{option_map}
 use Rattle.choice_problem.specs.declared.vectors.Price.{Price}
@@ -21,10 +21,12 @@ use Rattle.cert_format.specs.Spelling.{is_tried}
 use Rattle.cert_format.specs.Printable.{IsPrintableStage, IsWithinLimits}
 use Rattle.season_days.specs.declared.declaration.Declaration.{Declaration}
 use Rattle.series_model.specs.declared.state.UnitState.{UnitState}
-use Rattle.series_model.specs.Stages.{states_after, may_follow, AreStates}
+use Rattle.series_model.specs.Allotments.{total_displacement}
+use Rattle.series_model.specs.Stages.{states_after, after_stage, may_follow, stage_units, stage_times, AreStates, IsFeasibleChoice}
 use Rattle.series_model.specs.Submissions.{SubmissionView}
 use Rattle.wasg_stages.specs.Valid.{AreStages}
 use Rattle.season_run.specs.declared.floors.Stated.{Stated}
+use Rattle.season_run.specs.declared.ties.LastStages.{LastStages}
 use Rattle.season_run.specs.Ends.{IsGreatestFloor, IsLeastOf, IsStageEnd, floor_cost, floor_costs}
 use Rattle.season_run.specs.Runs.{IsTriedRun, AreStageRuns}
 use Rattle.season_run.specs.Searches.{IsEndOfSearches}
@@ -134,3 +136,40 @@ abbrev pub IsNextStage : Declaration → ℕ → List UnitState → ℕ → Stag
 IsNextStage d stage states budget c true = (is_tried c.mark ≡ true)
     × IsTriedRun d stage states budget c
 IsNextStage d stage states budget c false = (is_tried c.mark ≡ false)
+
+-- ---- stages 3 and 4
+
+-- stage 4 after a choice of stage 3, if that has one
+abbrev pub FollowsThird : Declaration → List UnitState → ℕ → Bool → Option (List ℕ) → StageCert →
+    Type 0
+FollowsThird d states budget follows choice c = (earlier : List (Option (List ℕ))) →
+    length earlier ≡ 2 → follows ≡ may_follow earlier →
+    IsNextStage d 4 (after_stage d 3 states choice) budget c (may_follow (earlier ++ choice ∷ []))
+
+-- stages 3 and 4 of a run, the second after the choice of the first
+pub record AreLastStages (d : Declaration) (states : List UnitState) (budget : ℕ) (follows : Bool)
+    (last : LastStages) : Type 0 where
+  pub third : IsNextStage d 3 states budget last.third follows
+  pub third_fits : FitsSeason last.third
+  pub fourth : FollowsThird d states budget follows last.third.choice last.fourth
+  pub fourth_fits : FitsSeason last.fourth
+
+-- another feasible choice of a stage, which displaces as much
+pub record IsStageTie (d : Declaration) (stage : ℕ) (states : List UnitState)
+    (x z : List ℕ) : Type 0 where
+  pub feasible : IsFeasibleChoice d stage states z
+  pub cost : total_displacement d (stage_units stage states) (stage_times d stage states z)
+      ≡ total_displacement d (stage_units stage states) (stage_times d stage states x)
+
+-- the same of an OPTIMAL stage of a certificate
+pub record IsTieOf (d : Declaration) (stage : ℕ) (states : List UnitState) (c : StageCert)
+    (z : List ℕ) : Type 0 where
+  pub mark : c.mark ≡ marks.Optimal
+  pub choice : List ℕ
+  pub choice_is : c.choice ≡ Some choice
+  pub tie : IsStageTie d stage states choice z
+
+-- an OPTIMAL stage that costs less than another one
+abbrev pub IsCheaperStage : StageCert → StageCert → Type 0
+IsCheaperStage c other = (c.mark ≡ marks.Optimal)
+    × IsSomeAnd c.cost (λ cost. IsSomeAnd other.cost (λ most. cost < most))

@@ -7,6 +7,7 @@ mod laws;
 mod names;
 mod seasons;
 mod stages;
+mod ties;
 mod trials;
 
 pub use laws::settled_run;

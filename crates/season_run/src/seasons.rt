@@ -10,6 +10,7 @@ ghost use Rattle.season_run.specs.Runs.{IsRun, IsStageRun, IsTriedRun};
 ghost use Rattle.season_run.specs.Steps.{FitsSeason, IsNextStage};
 
 use crate::stages::stage_cert;
+use crate::ties::last_stages;
 use crate::trials::settle_stage;
 use cert_format::{Certificate, StageCert, StageList, line_counts};
 use choice_problem::{Problem, fewer_vectors};
@@ -23,6 +24,10 @@ use worker_gate::Gate;
 
 /// The certificate of a season: each stage is allotted after those before it, by a search of at
 /// most `budget` nodes with so many workers, each of which passes the gate before a visit.
+///
+/// Where stages 3 and 4 are OPTIMAL and stage 4 costs something, and the budget is above 64, another
+/// choice of stage 3 of the same cost is looked for (`tied_choice`), and taken where stage 4 after it is
+/// OPTIMAL and costs less; which of the best choices a stage has is in no clause.
 ///
 /// The certificate is valid and of version 2. A stage may stay OPEN where its search spends the
 /// budget: it then states a bound, and `settled_run` says with which budget none does. A budget of
@@ -45,7 +50,7 @@ pub fn run_season<R: Threads + Sync, G: Gate>(
     let mut states = states_of(alloc, submission)?;
     let mut follows = true;
     let mut stages = Vec::new(alloc);
-    for stage in 1..5 {
+    for stage in 1..3 {
         let cert = next_stage(
             rt, alloc, submission, stage, &states, follows, budget, workers, gate,
         )?;
@@ -53,6 +58,11 @@ pub fn run_season<R: Threads + Sync, G: Gate>(
         follows = next_may_follow(follows, stage, &cert.choice);
         stages.push(cert)?;
     }
+    let last = last_stages(
+        rt, alloc, submission, &states, follows, budget, workers, gate,
+    )?;
+    stages.push(last.third)?;
+    stages.push(last.fourth)?;
     Ok(Certificate {
         version: 2,
         stages: StageList::new(stages),
@@ -60,7 +70,7 @@ pub fn run_season<R: Threads + Sync, G: Gate>(
 }
 
 // A stage, where it may follow the earlier ones.
-fn next_stage<R: Threads + Sync, G: Gate>(
+pub(crate) fn next_stage<R: Threads + Sync, G: Gate>(
     rt: &R,
     alloc: Global,
     submission: &Submission,

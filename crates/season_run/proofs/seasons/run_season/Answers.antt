@@ -1,7 +1,7 @@
-use Rattle.std.proofs.Common.{◌≡◌, ◌+◌, ◌++◌, ◌∷◌, [], ℕ, subst, arith, List, sym, refl, true}
+use Rattle.std.proofs.Common.{◌≡◌, ◌+◌, ◌++◌, ◌∷◌, [], ℕ, subst, arith, List, sym, refl, ◌∙◌, ap, append_assoc, true}
 use Rattle.cert_format.specs.declared.cert.StageCert.{StageCert}
 use Rattle.series_model.specs.declared.state.UnitState.{UnitState}
-use Rattle.season_run.specs.Steps.{AreRunSoFar, IsNextStage}
+use Rattle.season_run.specs.Steps.{AreLastStages, AreRunSoFar, IsNextStage}
 use Rattle.season_run.proofs.SeasonLemmas.{so_far_start, so_far_next, so_far_finish}
 use Rattle.season_run.proofs.seasons.run_season.Goals as goal
 
@@ -25,7 +25,10 @@ pub returns : goal.returns
 returns g c =
     let s = c.args.submission.now in
     let l = c.loop-stage in
-    let all : l.stage ≡ 5 = omega (arith, c.loop-stage-test.false, l.auto.stage-end) in
+    let all : l.stage ≡ 3 = omega (arith, c.loop-stage-test.false, l.auto.stage-end) in
     let on = subst (λ (k : ℕ). AreRunSoFar s c.args.budget k l.states.items l.follows l.stages.items) all l.invariant in
-    let here = subst (λ (certs : List StageCert). AreRunSoFar s c.args.budget 5 l.states.items l.follows certs) (sym c.new.ensures) on in
-    record { run = so_far_finish c.line_counts.ensures.cert s c.args.budget l.states.items l.follows (record { version = 2; stages = c.new.result }) refl here }
+    let last = c.in_ok-last.last in
+    let two = subst (λ (st : List UnitState). AreLastStages s.declaration st c.args.budget l.follows last) c.deref-2.ensures.value c.in_ok-last.ensures in
+    let stages : c.new.result ≡ l.stages.items ++ last.third ∷ last.fourth ∷ [] =
+    c.new.ensures ∙ c.in_ok-push-3.ensures.items ∙ ap (λ (k : List StageCert). k ++ last.fourth ∷ []) c.in_ok-push-2.ensures.items ∙ append_assoc l.stages.items (last.third ∷ []) (last.fourth ∷ []) in
+    record { run = so_far_finish c.one_more_stage.ensures s c.args.budget l.states.items l.follows l.stages.items last on two c.line_counts.ensures.cert (record { version = 2; stages = c.new.result }) refl stages }

@@ -1,0 +1,240 @@
+//! Ties of drawn problems, of which one is met after the other, beside all ties that there are.
+
+use crate::draws::{Draws, drawn};
+use choice_problem::{Alt, Choice, Chooser, Part, Problem, cost_of, fits};
+use std::alloc::Global;
+use std::test::Fail;
+use tied_choice::tied_choice;
+
+// The units of the first problem come first.
+const FIRST_UNITS: u32 = 2;
+
+// The choice of a number: a digit to the base 4 for each unit.
+fn digits(alloc: Global, problem: &Problem, number: u32) -> Result<Choice, Fail> {
+    let mut items = Vec::new(alloc);
+    let mut rest = number;
+    for _ in 0..problem.units() {
+        items.push(rest % 4)?;
+        rest /= 4;
+    }
+    Ok(Choice::new(items))
+}
+
+// How many numbers there are for a problem of up to four units.
+fn numbers_of(problem: &Problem) -> u32 {
+    match problem.units() {
+        0 => 1,
+        1 => 4,
+        2 => 16,
+        3 => 64,
+        _ => 256,
+    }
+}
+
+// The cost of the choice of a number, if it is feasible.
+fn cost_at(alloc: Global, problem: &Problem, number: u32) -> Result<Option<u64>, Fail> {
+    let choice = digits(alloc, problem, number)?;
+    if choice.is_for(problem) && fits(alloc, problem, &choice)? {
+        Ok(Some(cost_of(problem, &choice)))
+    } else {
+        Ok(None)
+    }
+}
+
+// The lowest number of a choice that costs least, and what it costs, if there is one.
+fn least_of(alloc: Global, problem: &Problem) -> Result<Option<(u32, u64)>, Fail> {
+    let mut least: Option<(u32, u64)> = None;
+    for number in 0..numbers_of(problem) {
+        if let Some(cost) = cost_at(alloc, problem, number)? {
+            if least.is_none_or(|(_, other)| cost < other) {
+                least = Some((number, cost));
+            }
+        }
+    }
+    Ok(least)
+}
+
+// A copy of a unit.
+fn unit_of(alloc: Global, problem: &Problem, unit: u32) -> Result<Chooser, Fail> {
+    if unit >= problem.units() {
+        return Err("unit".into());
+    }
+    let mut parts = Vec::new(alloc);
+    for part in problem.unit_parts(unit) {
+        parts.push(Part::new(Vec::from_slice(alloc, part.strips())?))?;
+    }
+    let alts = Vec::from_slice(alloc, problem.unit_alts(unit))?;
+    if !Chooser::allows(&parts, &alts) {
+        return Err("alternatives".into());
+    }
+    Ok(Chooser::new(parts, alts))
+}
+
+// The problem of these units under these limits.
+fn with_units(
+    alloc: Global,
+    both: &Problem,
+    numbers: &[u32],
+    limits: Vec<i64>,
+) -> Result<Problem, Fail> {
+    let mut units = Vec::new(alloc);
+    for unit in numbers {
+        units.push(unit_of(alloc, both, *unit)?)?;
+    }
+    if !Problem::allows(&units, &limits) {
+        return Err("problem".into());
+    }
+    Ok(Problem::new(units, limits))
+}
+
+// The first problem: its units, under half of each limit, rounded up.
+fn first_of(alloc: Global, both: &Problem) -> Result<Problem, Fail> {
+    let mut limits = Vec::new(alloc);
+    for limit in both.limits() {
+        limits.push(limit / 2 + limit % 2)?;
+    }
+    with_units(alloc, both, &[0, 1], limits)
+}
+
+// The alternative that a choice takes of a unit.
+fn alt_of(both: &Problem, choice: &Choice, unit: u32) -> Option<Alt> {
+    let number = *choice.items().get(unit as usize)?;
+    if unit < both.units() && number < both.alts(unit) {
+        Some(both.alt(unit, number))
+    } else {
+        None
+    }
+}
+
+// How often a choice of the first problem uses a resource.
+fn uses_of(both: &Problem, choice: &Choice, resource: u32) -> i64 {
+    let mut uses: i64 = 0;
+    for (unit, number) in (0..).zip(choice.items()) {
+        if unit < both.units() && *number < both.alts(unit) {
+            uses = uses.saturating_add(i64::from(both.uses(unit, *number, resource)));
+        }
+    }
+    uses
+}
+
+// The next problem after a choice of the first one: the other units and those that take no part,
+// under what is left.
+fn next_after(alloc: Global, both: &Problem, choice: &Choice) -> Result<Problem, Fail> {
+    let mut numbers = Vec::new(alloc);
+    for unit in 0..both.units() {
+        let alt = alt_of(both, choice, unit);
+        if alt.is_none_or(|alt| alt.one.is_none() && alt.two.is_none()) {
+            numbers.push(unit)?;
+        }
+    }
+    let mut limits = Vec::new(alloc);
+    for (resource, limit) in (0..).zip(both.limits()) {
+        let left = limit.saturating_sub(uses_of(both, choice, resource));
+        limits.push(left.max(0))?;
+    }
+    with_units(alloc, both, &numbers, limits)
+}
+
+// The least cost of the next problem after a choice of the first one.
+fn cost_after(alloc: Global, both: &Problem, choice: &Choice) -> Result<Option<u64>, Fail> {
+    let next = next_after(alloc, both, choice)?;
+    let least = least_of(alloc, &next)?;
+    Ok(least.map(|(_, cost)| cost))
+}
+
+// The least cost of the next problem after any choice of the first one that costs so much.
+fn best_after(
+    alloc: Global,
+    both: &Problem,
+    first: &Problem,
+    cost: u64,
+) -> Result<Option<u64>, Fail> {
+    let mut best: Option<u64> = None;
+    for number in 0..numbers_of(first) {
+        if cost_at(alloc, first, number)? == Some(cost) {
+            let choice = digits(alloc, first, number)?;
+            best = lesser(best, cost_after(alloc, both, &choice)?);
+        }
+    }
+    Ok(best)
+}
+
+// The lesser of two costs that may be there.
+fn lesser(one: Option<u64>, other: Option<u64>) -> Option<u64> {
+    match (one, other) {
+        (Some(one), Some(other)) => Some(one.min(other)),
+        (None, other) => other,
+        (one, None) => one,
+    }
+}
+
+// What the next problem costs after the first choice, after the tie that is found, if one is, and
+// after the best of all ties.
+struct Gain {
+    before: u64,
+    after: u64,
+    best: u64,
+}
+
+// Meets both problems, if that can be.
+fn gain(alloc: Global, both: &Problem) -> Result<Option<Gain>, Fail> {
+    let first = first_of(alloc, both)?;
+    let Some((number, cost)) = least_of(alloc, &first)? else {
+        return Ok(None);
+    };
+    let chosen = digits(alloc, &first, number)?;
+    let next = next_after(alloc, both, &chosen)?;
+    let Some((number, before)) = least_of(alloc, &next)? else {
+        return Ok(None);
+    };
+    let next_chosen = digits(alloc, &next, number)?;
+    let best = best_after(alloc, both, &first, cost)?;
+    let after = tied_cost(alloc, both, &first, &chosen, &next, &next_chosen)?;
+    Ok(Some(Gain {
+        before,
+        after: after.unwrap_or(before),
+        best: best.unwrap_or(before),
+    }))
+}
+
+// What the next problem costs after the tie that is found, if one is.
+fn tied_cost(
+    alloc: Global,
+    both: &Problem,
+    first: &Problem,
+    chosen: &Choice,
+    next: &Problem,
+    next_chosen: &Choice,
+) -> Result<Option<u64>, Fail> {
+    let mut is_first = Vec::new(alloc);
+    for unit in 0..both.units() {
+        is_first.push(unit < FIRST_UNITS)?;
+    }
+    if !chosen.is_for(first) || !fits(alloc, first, chosen)? {
+        return Ok(None);
+    }
+    match tied_choice(alloc, first, chosen, next, next_chosen, both, &is_first)? {
+        Some(tie) => cost_after(alloc, both, &tie),
+        None => Ok(None),
+    }
+}
+
+// Each next problem costs after the tie that is found what it costs after the best of all ties; and
+// for some that is less than after the first choice.
+#[test]
+fn ties_of_drawn_problems(rt: HostRuntime) -> Result<(), Fail> {
+    let alloc = rt.alloc();
+    let mut draws = Draws { last: 7 };
+    let mut gains: u32 = 0;
+    for number in 0..2_000 {
+        let both = drawn(alloc, &mut draws)?;
+        if let Some(gain) = gain(alloc, &both)? {
+            assert!(rt; gain.after == gain.best, "{number}");
+            if gain.after < gain.before {
+                gains = gains.saturating_add(1);
+            }
+        }
+    }
+    assert!(rt; gains > 5, "{gains}");
+    Ok(())
+}
