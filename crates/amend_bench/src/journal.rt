@@ -8,7 +8,7 @@ ghost use Rattle.amend_bench.specs.declared.journal.TheConstants.{MOST_BYTES};
 
 use crate::asks::{Airline, NEW_AIRLINE};
 use crate::report::{NO_CALLS, Size, Tally, calls_since, print_tally};
-use crate::sessions::{LINKS, doors_of};
+use crate::sessions::{MANY_LINKS, doors_of, print_links, rounds_of};
 use amend_journal::{Asked, Journal, JournalKept, MOST_PAIRS, replayed};
 use desk_disk::{Disk, MemoryDisk};
 use holding_book::Book;
@@ -30,29 +30,45 @@ const PAIR_CALLS: usize = 4;
 // Room for a journal of the most pairs.
 const MOST_BYTES: usize = 17 + 256 * MOST_PAIRS as usize;
 
-/// Serves drawn asks over one link, and as many over eight links at once, by a ledger with a
-/// journal in memory. Then fills a journal with pairs, by four calls of its disk for each, opens
-/// it, and answers its pairs anew. Prints counts, and at full size how many that is in a second.
+/// Serves drawn asks over one link, then as many over eight links at once, and so on in rounds, by
+/// ledgers with a journal in memory. Then fills a journal with pairs, by four calls of its disk for
+/// each, opens it, and answers its pairs anew. Prints counts, and at full size how many that is in a
+/// second.
 pub fn run<R: Threads + Wait + Sync + Print + Clock>(
     rt: &R,
     alloc: Global,
     size: Size,
     book: &Book,
 ) -> anyhow::Result<()> {
-    let (asks, pairs) = match size {
-        Size::Short => (80, 40),
-        Size::Full => (2_000, MOST_PAIRS),
-    };
     println!(rt; "a journal of a book of {} holdings", book.count())?;
-    for links in LINKS {
-        let disk = disk_of(alloc, b"", usize::MAX)?;
-        let tally = kept_over(rt, alloc, book, disk, links, asks)?;
-        print!(rt; "links {links}, ")?;
-        print_tally(rt, size, "entries", tally)?;
-    }
+    print_kept(rt, alloc, size, book)?;
+    let pairs = match size {
+        Size::Short => 40,
+        Size::Full => MOST_PAIRS,
+    };
     let bytes = filled(alloc, book, pairs)?;
     println!(rt; "bytes {}", bytes.len())?;
     print_opened(rt, alloc, size, book, &bytes)
+}
+
+// Serves drawn asks in rounds, by ledgers with a journal.
+fn print_kept<R: Threads + Wait + Sync + Print + Clock>(
+    rt: &R,
+    alloc: Global,
+    size: Size,
+    book: &Book,
+) -> anyhow::Result<()> {
+    let (rounds, asks) = rounds_of(size);
+    let mut one = NO_CALLS;
+    let mut many = NO_CALLS;
+    for _ in 0..rounds {
+        let disk = disk_of(alloc, b"", usize::MAX)?;
+        one.add(kept_over(rt, alloc, book, disk, 1, asks)?);
+        let disk = disk_of(alloc, b"", usize::MAX)?;
+        many.add(kept_over(rt, alloc, book, disk, MANY_LINKS, asks)?);
+    }
+    print_links(rt, size, 1, "entries", one)?;
+    print_links(rt, size, MANY_LINKS, "entries", many)
 }
 
 // The entries of a ledger with a journal on this disk over so many links, each its part of the

@@ -17,8 +17,8 @@ use std::thread::Threads;
 use std::time::{Clock, Instant};
 use worker_gate::RealGate;
 
-/// The numbers of links that are tried, each served by a worker of its own.
-pub const LINKS: [u32; 2] = [1, 8];
+/// How many links are served at once beside one alone, each by a worker of its own.
+pub const MANY_LINKS: u32 = 8;
 
 // How many asks a message has.
 const MESSAGE_ASKS: u32 = 10;
@@ -26,25 +26,45 @@ const MESSAGE_ASKS: u32 = 10;
 // How many bytes of replies a link has room for.
 const MOST_SENT: usize = 1_000_000;
 
-/// Serves messages of ten drawn asks over one link, and as many asks over eight links at once.
-/// Prints how many asks were answered, and at full size how many that is in a second.
+/// Serves messages of ten drawn asks over one link, then as many asks over eight links at once, and
+/// so on in rounds. Prints how many asks were answered, and at full size how many that is in a
+/// second.
 pub fn run<R: Threads + Wait + Sync + Print + Clock>(
     rt: &R,
     alloc: Global,
     size: Size,
     book: &Book,
 ) -> anyhow::Result<()> {
-    let asks = match size {
-        Size::Short => 80,
-        Size::Full => 2_000,
-    };
+    let (rounds, asks) = rounds_of(size);
     println!(rt; "sessions of a book of {} holdings", book.count())?;
-    for links in LINKS {
-        let tally = asks_over(rt, alloc, book, links, asks)?;
-        print!(rt; "links {links}, ")?;
-        print_tally(rt, size, "asks", tally)?;
+    let mut one = NO_CALLS;
+    let mut many = NO_CALLS;
+    for _ in 0..rounds {
+        one.add(asks_over(rt, alloc, book, 1, asks)?);
+        many.add(asks_over(rt, alloc, book, MANY_LINKS, asks)?);
     }
-    Ok(())
+    print_links(rt, size, 1, "asks", one)?;
+    print_links(rt, size, MANY_LINKS, "asks", many)
+}
+
+/// How many rounds there are, and how many asks a round has over one link, and over many together.
+pub fn rounds_of(size: Size) -> (u32, u32) {
+    match size {
+        Size::Short => (1, 640),
+        Size::Full => (5, 2_000),
+    }
+}
+
+/// Prints what was done over so many links.
+pub fn print_links<R: Print>(
+    rt: &R,
+    size: Size,
+    links: u32,
+    about: &str,
+    tally: Tally,
+) -> anyhow::Result<()> {
+    print!(rt; "links {links}, ")?;
+    print_tally(rt, size, about, tally)
 }
 
 // The asks that were answered over so many links, each its part, and how long that took.

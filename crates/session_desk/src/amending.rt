@@ -12,6 +12,7 @@ ghost use Rattle.session_desk.specs.Seen.{SeenGoesOn, IsLedgerHistory};
 ghost use Rattle.session_desk.specs.Private.Amended.{HasAnswers, HasOneAnswer, HasLeft};
 ghost use Rattle.session_desk.specs.Private.Amended.{StopsAnswer};
 
+use crate::busy::BusyPlace;
 use crate::responder::{AnswerFault, Responder};
 use holding_book::laws::answer_lines;
 use holding_book::{Answer, Entry};
@@ -56,16 +57,17 @@ impl<'a, G: Gate> LineGate for AtGate<'a, G> {
 
 /// Who answers the messages of one caller: each item is an ask of the ledger.
 #[derive(Drop)]
-pub(crate) struct Amending<'a, R: Wait, G: LineGate, B: Beside> {
+pub(crate) struct Amending<'a, 'b, R: Wait, G: LineGate, B: Beside> {
     pub rt: &'a R,
     pub gate: &'a G,
     pub ledger: &'a SharedLedger<B>,
     pub season: Season,
     pub airport: Station,
     pub caller: u32,
+    pub place: BusyPlace<'b>,
 }
 
-impl<'a, R: Wait, G: LineGate, B: Beside> Responder for Amending<'a, R, G, B> {
+impl<'a, 'b, R: Wait, G: LineGate, B: Beside> Responder for Amending<'a, 'b, R, G, B> {
     ghost use Rattle.session_desk.specs.Begun.{IsAnsweredBy, IsBegunBy, HasBroken, TakesFit};
     ghost use Rattle.session_desk.specs.Begun.{ledger_caller};
     ghost use Rattle.session_desk.specs.Stopped.{StopsAt};
@@ -98,6 +100,18 @@ impl<'a, R: Wait, G: LineGate, B: Beside> Responder for Amending<'a, R, G, B> {
     ghost stopped = { λ a pass fault.
         StopsAt B.read B.broken a.ledger.now.origin.start.most pass.seen fault };
 
+    fn before_piece(&self, full: bool) {
+        if full {
+            self.place.enter(self.rt);
+        }
+    }
+
+    fn after_piece(&self, full: bool) {
+        if !full {
+            self.place.leave();
+        }
+    }
+
     fn answer(
         &self,
         pass: &mut SharedPass<B>,
@@ -107,6 +121,7 @@ impl<'a, R: Wait, G: LineGate, B: Beside> Responder for Amending<'a, R, G, B> {
         one_run();
         read_lines_fit();
         read_items_can_be_asked();
+        self.place.stay(self.rt);
         match receive(alloc, self.season, self.airport, lines) {
             Ok(Received::Good(message)) => self.reply(pass, alloc, &message),
             Ok(Received::Bad { line }) => bad_reply(alloc, line),
@@ -127,7 +142,7 @@ fn bad_reply(alloc: Global, line: u32) -> Result<Vec<u8>, AnswerFault>
     }
 }
 
-impl<'a, R: Wait, G: LineGate, B: Beside> Amending<'a, R, G, B> {
+impl<'a, 'b, R: Wait, G: LineGate, B: Beside> Amending<'a, 'b, R, G, B> {
     /// Answers a good message.
     fn reply(
         &self,

@@ -3,6 +3,7 @@
 #![tactic(auto)]
 
 mod amending;
+mod busy;
 mod doors;
 mod pending;
 mod responder;

@@ -80,8 +80,9 @@ pub(crate) fn serve<R: Wait, A: Responder, L: Link>(
             Ok(0) => return end_of(&pending),
             Ok(n) => {
                 let (bytes, _) = piece.split_at(n);
+                responder.before_piece(n == LONGEST_PIECE);
                 match read_piece(alloc, responder, pass, link, &mut pending, bytes) {
-                    Ok(()) => {}
+                    Ok(()) => responder.after_piece(n == LONGEST_PIECE),
                     Err(fault) => return Err(fault),
                 }
             }
