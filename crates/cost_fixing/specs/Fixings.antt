@@ -1,0 +1,77 @@
+-- Reduced-cost fixing: alternatives that no choice below a cost takes, and the problem that is left without them.
+use Rattle.std.specs.Prelude.{ℕ, ◌<◌, ◌≤◌, Bool, not, List, [], length, map, slice_index, slice_index_or, slice_set, Option, Some, None, IsSomeAnd, pos, ◌-ℤ◌, ◌*ℤ◌, int_lt}
+use Rattle.std.specs.List.{filter, range_with_len}
+use Rattle.choice_problem.specs.declared.vectors.Price.{Price}
+use Rattle.choice_problem.specs.declared.closing.TheConstants.{SCALE_BOUND}
+use Rattle.choice_problem.specs.Problems.{ProblemView, ChooserView, unit_count, alt_count, chooser_at, alt_at}
+use Rattle.choice_problem.specs.Bounds.{whole_of, bound_of}
+use Rattle.choice_problem.specs.Trees.{vector_at}
+use Rattle.cost_fixing.specs.declared.fixings.Fixing.{Fixing}
+
+-- all alternatives of each unit, but of unit u alternative a alone
+abbrev pub fixed_at : ProblemView → ℕ → ℕ → List (ℕ × ℕ)
+fixed_at p u a = slice_set (whole_of p) u (a, a)
+
+-- whether the bound with this alternative reaches the cost: then no feasible choice with it costs less
+abbrev pub is_out : ProblemView → List Price → ℕ → ℕ → ℕ → ℕ → Bool
+is_out p prices scale cost u a =
+    int_lt (pos scale *ℤ (pos cost -ℤ pos 1)) (bound_of p (fixed_at p u a) prices scale)
+
+-- the unit's other alternatives, by rising number
+abbrev pub left_alts : ProblemView → List Price → ℕ → ℕ → ℕ → List ℕ
+left_alts p prices scale cost u =
+    filter (λ a. not (is_out p prices scale cost u a)) (range_with_len 0 (alt_count p u))
+
+-- these alternatives of a unit alone, in this order; its parts are all kept
+abbrev pub unit_with : ChooserView → List ℕ → ChooserView
+unit_with m alts = record { parts = m.parts; alts = map (λ a. alt_at m a) alts }
+
+abbrev pub left_unit : ProblemView → List Price → ℕ → ℕ → ℕ → ChooserView
+left_unit p prices scale cost u =
+    unit_with (chooser_at p u) (left_alts p prices scale cost u)
+
+-- the problem with these alternatives alone, under the same limits
+abbrev pub left_problem : ProblemView → List Price → ℕ → ℕ → ProblemView
+left_problem p prices scale cost = record {
+  units = map (λ u. left_unit p prices scale cost u) (range_with_len 0 (unit_count p));
+  limits = p.limits;
+}
+
+-- each unit has an alternative left
+abbrev pub HasLeft : ProblemView → List Price → ℕ → ℕ → Type 0
+HasLeft p prices scale cost = (u : ℕ) → u < unit_count p →
+    0 < length (left_alts p prices scale cost u)
+
+-- a problem, and for each of its units the numbers that its alternatives have in a whole problem
+pub record LeftView : Type 0 where
+  pub problem : ProblemView
+  pub alts : List (List ℕ)
+
+abbrev pub left_view : ProblemView → List Price → ℕ → ℕ → LeftView
+left_view p prices scale cost = record {
+  problem = left_problem p prices scale cost;
+  alts = map (λ u. left_alts p prices scale cost u) (range_with_len 0 (unit_count p));
+}
+
+-- the number in the whole problem of what a choice takes of a unit
+abbrev pub number_of : List (List ℕ) → List ℕ → ℕ → ℕ
+number_of alts x u = slice_index (slice_index_or alts u []) (slice_index x u)
+
+-- the choice of the whole problem that a choice of what is left is
+abbrev pub whole_choice : List (List ℕ) → List ℕ → List ℕ
+whole_choice alts x = map (λ u. number_of alts x u) (range_with_len 0 (length alts))
+
+-- a fixing of a stage names a vector that is there and a scale in its limit; the stage has a cost, of at most the
+-- fixing's; and each unit has an alternative left
+pub record FixingHolds (p : ProblemView) (vectors : List (List Price)) (cost : Option ℕ)
+    (f : Fixing) : Type 0 where
+  pub there : f.vector ≤ length vectors
+  pub small : f.scale < SCALE_BOUND
+  pub within : IsSomeAnd cost (λ n. n ≤ f.cost)
+  pub left : HasLeft p (vector_at vectors f.vector) f.scale f.cost
+
+-- the problem that the tree of a stage is on
+abbrev pub tree_problem : ProblemView → List (List Price) → Option Fixing → ProblemView
+tree_problem p vectors None = p
+tree_problem p vectors (Some f) =
+    left_problem p (vector_at vectors f.vector) f.scale f.cost
