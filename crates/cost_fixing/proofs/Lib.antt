@@ -1,0 +1,5 @@
+mod ListLemmas
+mod WithLemmas
+mod FixLemmas
+mod LimitLemmas
+mod StepLemmas

@@ -26,16 +26,16 @@ left_alts p prices scale cost u =
 abbrev pub unit_with : ChooserView → List ℕ → ChooserView
 unit_with m alts = record { parts = m.parts; alts = map (λ a. alt_at m a) alts }
 
-abbrev pub left_unit : ProblemView → List Price → ℕ → ℕ → ℕ → ChooserView
-left_unit p prices scale cost u =
-    unit_with (chooser_at p u) (left_alts p prices scale cost u)
-
--- the problem with these alternatives alone, under the same limits
-abbrev pub left_problem : ProblemView → List Price → ℕ → ℕ → ProblemView
-left_problem p prices scale cost = record {
-  units = map (λ u. left_unit p prices scale cost u) (range_with_len 0 (unit_count p));
+-- the problem with these alternatives of each unit alone, under the same limits
+abbrev pub problem_with : ProblemView → (ℕ → List ℕ) → ProblemView
+problem_with p alts = record {
+  units = map (λ u. unit_with (chooser_at p u) (alts u)) (range_with_len 0 (unit_count p));
   limits = p.limits;
 }
+
+-- the problem that is left
+abbrev pub left_problem : ProblemView → List Price → ℕ → ℕ → ProblemView
+left_problem p prices scale cost = problem_with p (λ u. left_alts p prices scale cost u)
 
 -- each unit has an alternative left
 abbrev pub HasLeft : ProblemView → List Price → ℕ → ℕ → Type 0

@@ -1,1 +1,2 @@
 pub mod Fixings
+pub mod Loops

@@ -5,5 +5,11 @@
 #![tactic(auto)]
 
 mod fixings;
+mod laws;
+mod left;
+mod numbers;
+mod units;
 
-pub use fixings::Fixing;
+pub use fixings::{Fixing, fixing_problem};
+pub use laws::{fixed_best, fixed_choices, left_problems, out_alternatives};
+pub use left::{Left, left_of};

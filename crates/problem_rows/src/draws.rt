@@ -14,7 +14,7 @@ impl Draws {
     ghost use Rattle.std.specs.Prelude.{◌<◌};
 
     // The next number below another one.
-    fn below(&mut self, end: u64) -> u64
+    pub(crate) fn below(&mut self, end: u64) -> u64
         requires { 0 < end }
         ensures { result < end }
     {

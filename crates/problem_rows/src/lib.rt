@@ -12,6 +12,8 @@ mod counts;
 #[cfg(test)]
 mod draws;
 #[cfg(test)]
+mod fixings;
+#[cfg(test)]
 mod leaves;
 #[cfg(test)]
 mod open;
