@@ -12,10 +12,12 @@ use Rattle.choice_problem.specs.Choices.{IsFeasible as IsFeasibleFor, choice_cos
 use Rattle.choice_problem.specs.Bounds.{IsVector, whole_of}
 use Rattle.choice_problem.specs.Trees.{AreSound}
 use Rattle.choice_problem.specs.Floors.{AreFloors}
+use Rattle.cost_fixing.specs.declared.fixings.Fixing.{Fixing}
+use Rattle.cost_fixing.specs.Fixings.{FixingHolds}
 use Rattle.cert_format.specs.declared.cert.Mark.{Mark}
 use Rattle.cert_format.specs.declared.cert.Mark.TheVariants.{Optimal, Infeasible, Unsettled, NotTried}
 use Rattle.cert_format.specs.declared.cert.StageCert.{StageCert}
-use Rattle.cert_format.specs.Proofs.{IsProof, FitsMark, IsStatedBound, floor_pairs}
+use Rattle.cert_format.specs.Proofs.{IsProof, IsStageFixing, problem_of_tree, FitsMark, IsStatedBound, floor_pairs}
 use Rattle.series_model.specs.declared.unit.Unit.{Unit as SlotUnit}
 use Rattle.series_model.specs.declared.times.Times.{Times}
 use Rattle.series_model.specs.Options.{options_of}
@@ -122,14 +124,16 @@ mark-alike p q c Unsettled floors h =
 mark-alike p q c NotTried floors h = h
 
 -- a proof is one on each problem that is alike
-pub proof-alike : (p q : ProblemView) (c : StageCert) → (whole_of p ≡ whole_of q) → ((x : List ℕ) → choice_cost p x ≡ choice_cost q x) → ((x : List ℕ) → IsFeasibleFor p x → IsFeasibleFor q x) →
+pub proof-alike : (p q : ProblemView) (c : StageCert) → (whole_of (problem_of_tree p c) ≡ whole_of (problem_of_tree q c)) → ((x : List ℕ) → choice_cost p x ≡ choice_cost q x) → ((x : List ℕ) → IsFeasibleFor p x → IsFeasibleFor q x) →
     ((prices : List Price) → IsVector p prices → IsVector q prices) →
-    ((pending : List (List (ℕ × ℕ))) (nodes : List Node) → AreSound p c.vectors c.cost pending nodes → AreSound q c.vectors c.cost pending nodes) →
-    ((bound : ℕ) → AreFloors p c.vectors bound c.tree (floor_pairs c.floors) → AreFloors q c.vectors bound c.tree (floor_pairs c.floors)) → IsProof p c → IsProof q c
-proof-alike p q c whole cost feasible vector sound floors proof = record {
+    ((pending : List (List (ℕ × ℕ))) (nodes : List Node) → AreSound (problem_of_tree p c) c.vectors c.cost pending nodes → AreSound (problem_of_tree q c) c.vectors c.cost pending nodes) →
+    ((bound : ℕ) → AreFloors p c.vectors bound c.tree (floor_pairs c.floors) → AreFloors q c.vectors bound c.tree (floor_pairs c.floors)) →
+    ((f : Fixing) → FixingHolds p c.vectors c.cost f → FixingHolds q c.vectors c.cost f) → IsProof p c → IsProof q c
+proof-alike p q c whole cost feasible vector sound floors holds proof = record {
   feasible = if-some (IsFeasibleFor p) (IsFeasibleFor q) c.choice feasible proof.feasible;
   cost = proof.cost ∙ cost-alike p q c.choice cost;
   vectors = λ k d lt. vector (get_or c.vectors k d) (proof.vectors k d lt);
-  sound = subst (λ (ranges : List (ℕ × ℕ)). AreSound q c.vectors c.cost (ranges ∷ []) c.tree) whole (sound (whole_of p ∷ []) c.tree proof.sound);
+  fixing = if-some (IsStageFixing p c) (IsStageFixing q c) c.fixing (λ f fixed. record { optimal = fixed.optimal; holds = holds f fixed.holds }) proof.fixing;
+  sound = subst (λ (ranges : List (ℕ × ℕ)). AreSound (problem_of_tree q c) c.vectors c.cost (ranges ∷ []) c.tree) whole (sound (whole_of (problem_of_tree p c) ∷ []) c.tree proof.sound);
   marked = mark-alike p q c c.mark floors proof.marked;
 }

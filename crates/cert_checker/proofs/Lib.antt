@@ -11,3 +11,4 @@ mod MarkedLemmas
 mod KeptLoadLemmas
 mod LoadLemmas
 mod StateLemmas
+mod FixedLemmas

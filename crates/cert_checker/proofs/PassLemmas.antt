@@ -12,14 +12,16 @@ use Rattle.choice_problem.specs.Bounds.{IsPrice, IsVector, whole_of}
 use Rattle.choice_problem.specs.Trees.{AreTrees, AreSound, NodeHolds, LeafHolds, IsSound, IsTree, IsWhole, parts_of}
 use Rattle.choice_problem.specs.Grafts.{open_ranges}
 use Rattle.choice_problem.specs.Floors.{IsAtMost}
+use Rattle.cost_fixing.specs.declared.fixings.Fixing.{Fixing}
+use Rattle.cost_fixing.specs.Fixings.{tree_problem}
 use Rattle.cert_format.specs.declared.cert.Floor.{Floor}
 use Rattle.cert_format.specs.declared.cert.Mark.{Mark}
 use Rattle.cert_format.specs.declared.cert.Mark.TheVariants.{Optimal, Infeasible, Unsettled, NotTried}
 use Rattle.cert_format.specs.declared.cert.StageCert.{StageCert}
 use Rattle.cert_format.specs.Printable.{IsPrintableProof, IsPrintableExtra}
-use Rattle.cert_format.specs.Spelling.{is_tried, has_bound, undone_count, floor_count}
-use Rattle.cert_format.specs.Proofs.{IsProof, FitsMark, IsStatedBound, floor_pairs}
-use Rattle.cert_checker.specs.Tests.{Test, Passes, HasChoice, HasUndone, MayBeUndone, IsAbove, alternative_tests, choice_tests, cost_tests, bound_tests, price_tests, vector_tests, node_line, node_tests, rest, floors_after, proof_tests}
+use Rattle.cert_format.specs.Spelling.{is_tried, has_floors, has_bound, undone_count, floor_count}
+use Rattle.cert_format.specs.Proofs.{IsProof, IsStageFixing, problem_of_tree, FitsMark, IsStatedBound, floor_pairs}
+use Rattle.cert_checker.specs.Tests.{Test, Passes, HasChoice, HasUndone, MayBeUndone, IsAbove, alternative_tests, choice_tests, cost_tests, bound_tests, price_tests, vector_tests, fixing_tests, node_line, node_tests, rest, floors_after, proof_tests}
 use Rattle.cert_checker.specs.declared.verdict.Verdict.{Verdict}
 use Rattle.cert_checker.specs.declared.verdict.Verdict.TheVariants.{Yes, No}
 use Rattle.cert_checker.specs.Verdicts.{NoneFails, IsStageVerdict}
@@ -132,14 +134,14 @@ parts-length one other (Leaf vector scale seen) pending shapes same = same
 parts-length one other (Over resource) pending shapes same = same
 parts-length one other Undone pending shapes same = same
 
-node-holds : (p : ProblemView) (c : StageCert) (ranges : Ranges) (node : Node) (floors : List Floor) → AllByRecursion (Passes p c) (node_line ranges node floors) → NodeHolds p c.vectors c.cost ranges node
+node-holds : (p : ProblemView) (c : StageCert) (ranges : Ranges) (node : Node) (floors : List Floor) → AllByRecursion (Passes p c) (node_line ranges node floors) → NodeHolds (problem_of_tree p c) c.vectors c.cost ranges node
 node-holds p c ranges (Split unit cut seen) floors all = all.0
 node-holds p c ranges (Leaf vector scale seen) floors all = all.0
 node-holds p c ranges (Over resource) floors all = all.0
 node-holds p c ranges Undone floors all = tt
 
 passing-sound : (p : ProblemView) (c : StageCert) (nodes : List Node) (pending shapes : List Ranges) (floors : List Floor) → length pending ≡ length shapes →
-    AreShaped shapes nodes → NoneFails (Passes p c) (node_tests pending nodes floors) → AreSound p c.vectors c.cost pending nodes
+    AreShaped shapes nodes → NoneFails (Passes p c) (node_tests pending nodes floors) → AreSound (problem_of_tree p c) c.vectors c.cost pending nodes
 passing-sound p c [] [] shapes floors same shaped none = tt
 passing-sound p c [] (ranges ∷ pending) [] floors same shaped none = absurd (omega arith)
 passing-sound p c [] (ranges ∷ pending) (shape ∷ shapes) floors same shaped none = absurd shaped
@@ -174,7 +176,7 @@ passing-whole p c (Undone ∷ nodes) (ranges ∷ pending) (shape ∷ shapes) flo
 
 -- one floor for each undone node, and each closes
 abbrev Floored : ProblemView → StageCert → ℕ → Ranges → ℕ × ℕ → Type 0
-Floored p c b ranges named = LeafHolds p c.vectors (Some b) ranges named.0 named.1
+Floored p c b ranges named = LeafHolds (problem_of_tree p c) c.vectors (Some b) ranges named.0 named.1
 
 passing-floors : (p : ProblemView) (c : StageCert) (b : ℕ) (nodes : List Node) (pending shapes : List Ranges) (floors : List Floor) → c.bound ≡ Some b → length pending ≡ length shapes →
     length floors ≡ undone_count nodes → AreShaped shapes nodes → NoneFails (Passes p c) (node_tests pending nodes floors) →
@@ -193,36 +195,53 @@ passing-floors p c b (Over resource ∷ nodes) (ranges ∷ pending) (shape ∷ s
     passing-floors p c b nodes pending shapes floors bound_is (omega arith) counted shaped.1 none.1
 passing-floors p c b (Undone ∷ nodes) (ranges ∷ pending) (shape ∷ shapes) [] bound_is same counted shaped none = absurd (omega arith)
 passing-floors p c b (Undone ∷ nodes) (ranges ∷ pending) (shape ∷ shapes) (floor ∷ floors) bound_is same counted shaped none = (
-  subst (λ (o : Option ℕ). IfSome o (λ b. LeafHolds p c.vectors (Some b) ranges floor.vector floor.scale)) bound_is none.0.1.0,
+  subst (λ (o : Option ℕ). IfSome o (λ b. LeafHolds (problem_of_tree p c) c.vectors (Some b) ranges floor.vector floor.scale)) bound_is none.0.1.0,
   passing-floors p c b nodes pending shapes floors bound_is (omega arith) (omega arith) shaped.1 none.1,
 )
+
+-- ---- the fixing
+
+passing-fixing : (p : ProblemView) (c : StageCert) (fixing : Option Fixing) → NoneFails (Passes p c) (fixing_tests fixing) → IfSome fixing (IsStageFixing p c)
+passing-fixing p c None none = tt
+passing-fixing p c (Some f) none = none.0.0
+
+-- under OPEN there is none
+unsettled-unfixed : (p : ProblemView) (c : StageCert) (fixing : Option Fixing) → IfSome fixing (IsStageFixing p c) → c.mark ≡ Unsettled → fixing ≡ None
+unsettled-unfixed p c None fixed unsettled = refl
+unsettled-unfixed p c (Some f) fixed unsettled =
+    let both : ◌≡◌ {A = Mark} Unsettled Optimal = sym unsettled ∙ fixed.optimal in
+    let no : ⊥ = cc in absurd no
+
+-- so the tree is one of the stage's problem
+plain-tree : (p : ProblemView) (c : StageCert) → IfSome c.fixing (IsStageFixing p c) → c.mark ≡ Unsettled → problem_of_tree p c ≡ p
+plain-tree p c fixed unsettled = ap (λ (o : Option Fixing). tree_problem p c.vectors o) (unsettled-unfixed p c c.fixing fixed unsettled)
 
 -- ---- the mark
 
 passing-mark : (p : ProblemView) (c : StageCert) (mark : Mark) → c.mark ≡ mark → is_tried mark ≡ true → HasChoice mark c.choice → HasUndone mark c.tree →
-    ((MayBeUndone c.mark → ⊥) → IsWhole c.tree) → IfSome c.bound (IsStatedBound p c) → FitsMark p c mark
-passing-mark p c Optimal mark_is tried choice undone whole floor = (choice, whole (λ may. subst MayBeUndone mark_is may))
-passing-mark p c Infeasible mark_is tried choice undone whole floor = (choice, whole (λ may. subst MayBeUndone mark_is may))
-passing-mark p c Unsettled mark_is tried choice undone whole floor = (undone, floor)
-passing-mark p c NotTried mark_is tried choice undone whole floor = let no : ⊥ = cc in absurd no
+    ((MayBeUndone c.mark → ⊥) → IsWhole c.tree) → (c.mark ≡ Unsettled → problem_of_tree p c ≡ p) → IfSome c.bound (IsStatedBound (problem_of_tree p c) c) → FitsMark p c mark
+passing-mark p c Optimal mark_is tried choice undone whole plain floor = (choice, whole (λ may. subst MayBeUndone mark_is may))
+passing-mark p c Infeasible mark_is tried choice undone whole plain floor = (choice, whole (λ may. subst MayBeUndone mark_is may))
+passing-mark p c Unsettled mark_is tried choice undone whole plain floor = (undone, subst (λ (q : ProblemView). IfSome c.bound (IsStatedBound q c)) (plain mark_is) floor)
+passing-mark p c NotTried mark_is tried choice undone whole plain floor = let no : ⊥ = cc in absurd no
 
--- in version 2 a stage with a bound has one floor for each undone node
+-- a stage with a bound has one floor for each undone node
 floors-counted : (version : ℕ) (mark : Mark) (bound : Option ℕ) (b : ℕ) (nodes : List Node) → bound ≡ Some b → is_some bound ≡ has_bound version mark → floor_count version nodes ≡ undone_count nodes
 floors-counted version Optimal bound b nodes bound_is some = let yes : is_some bound ≡ true = ap is_some bound_is in let no : ⊥ = cc in absurd no
 floors-counted version Infeasible bound b nodes bound_is some = let yes : is_some bound ≡ true = ap is_some bound_is in let no : ⊥ = cc in absurd no
 floors-counted version NotTried bound b nodes bound_is some = let yes : is_some bound ≡ true = ap is_some bound_is in let no : ⊥ = cc in absurd no
 floors-counted version Unsettled bound b nodes bound_is some =
-    let two : version == 2 ≡ true = sym some ∙ ap is_some bound_is in
+    let two : has_floors version ≡ true = sym some ∙ ap is_some bound_is in
     ap (λ (v : Bool). if v then undone_count nodes else 0) two
 
 passing-floor : (p : ProblemView) (version : ℕ) (c : StageCert) (bound : Option ℕ) → c.bound ≡ bound → IsPrintableProof version c → NoneFails (Passes p c) (bound_tests bound) →
-    IsTree c.tree → NoneFails (Passes p c) (node_tests (whole_of p ∷ []) c.tree c.floors) → IfSome bound (IsStatedBound p c)
+    IsTree c.tree → NoneFails (Passes p c) (node_tests (whole_of (problem_of_tree p c) ∷ []) c.tree c.floors) → IfSome bound (IsStatedBound (problem_of_tree p c) c)
 passing-floor p version c None bound_is printable none shaped nodes = tt
 passing-floor p version c (Some b) bound_is printable none shaped nodes =
     let counted : length c.floors ≡ undone_count c.tree = printable.floor_count ∙ floors-counted version c.mark c.bound b c.tree bound_is printable.has_bound in
     record {
       within = subst (λ (o : Option ℕ). IfSome o (λ n. IsAtMost n c.cost)) bound_is none.0.0;
-      floors = passing-floors p c b c.tree (whole_of p ∷ []) ([] ∷ []) c.floors bound_is refl counted shaped nodes;
+      floors = passing-floors p c b c.tree (whole_of (problem_of_tree p c) ∷ []) ([] ∷ []) c.floors bound_is refl counted shaped nodes;
     }
 
 first-marked : (p : ProblemView) (c : StageCert) (choice : Option (List ℕ)) → NoneFails (Passes p c) (choice_tests choice) → HasChoice c.mark c.choice
@@ -238,15 +257,19 @@ passing-proof p version c tried printable none =
     let after_cost = NoneFails-back Holds (cost_tests c.cost) _ after_choice in
     let after_bound = NoneFails-back Holds (bound_tests c.bound) _ after_cost in
     let after_vectors = NoneFails-back Holds (flat_map vector_tests c.vectors) _ after_bound.1 in
+    let after_fixing = NoneFails-back Holds (fixing_tests c.fixing) _ after_vectors in
+    let fixed : IfSome c.fixing (IsStageFixing p c) = passing-fixing p c c.fixing (NoneFails-front Holds (fixing_tests c.fixing) _ after_vectors) in
     let chosen = passing-choice p c c.choice c.cost refl refl printable.has_cost choice (NoneFails-front Holds (cost_tests c.cost) _ after_choice) in
     record {
       feasible = chosen.0;
       cost = chosen.1;
       vectors = passing-vectors p c c.vectors (NoneFails-front Holds (flat_map vector_tests c.vectors) _ after_bound.1);
-      sound = passing-sound p c c.tree (whole_of p ∷ []) ([] ∷ []) c.floors refl after_vectors.0.0 after_vectors.1;
-      marked = passing-mark p c c.mark refl tried (first-marked p c c.choice choice) after_vectors.0.1.0
-          (λ refused. passing-whole p c c.tree (whole_of p ∷ []) ([] ∷ []) c.floors refused refl after_vectors.0.0 after_vectors.1)
-          (passing-floor p version c c.bound refl printable (NoneFails-front Holds (bound_tests c.bound) _ after_cost) after_vectors.0.0 after_vectors.1);
+      fixing = fixed;
+      sound = passing-sound p c c.tree (whole_of (problem_of_tree p c) ∷ []) ([] ∷ []) c.floors refl after_fixing.0.0 after_fixing.1;
+      marked = passing-mark p c c.mark refl tried (first-marked p c c.choice choice) after_fixing.0.1.0
+          (λ refused. passing-whole p c c.tree (whole_of (problem_of_tree p c) ∷ []) ([] ∷ []) c.floors refused refl after_fixing.0.0 after_fixing.1)
+          (plain-tree p c fixed)
+          (passing-floor p version c c.bound refl printable (NoneFails-front Holds (bound_tests c.bound) _ after_cost) after_fixing.0.0 after_fixing.1);
     }
 
 -- ---- and where it is a proof, no line fails
@@ -324,8 +347,12 @@ vectors-pass p c (prices ∷ vectors) all =
     (tt, prices-pass p c None prices (λ k d lt. tt) (all 0 prices (omega arith)))
     (vectors-pass p c vectors (λ k d lt. all (suc k) d (omega arith)))
 
+fixing-passes : (p : ProblemView) (c : StageCert) (fixing : Option Fixing) → IfSome fixing (IsStageFixing p c) → NoneFails (Passes p c) (fixing_tests fixing)
+fixing-passes p c None fixed = tt
+fixing-passes p c (Some f) fixed = ((fixed, tt), tt)
+
 -- a node's tests pass where it holds, and where an undone node is allowed and closes for the bound
-whole-nodes-pass : (p : ProblemView) (c : StageCert) (nodes : List Node) (pending : List Ranges) (floors : List Floor) → IsWhole nodes → AreSound p c.vectors c.cost pending nodes →
+whole-nodes-pass : (p : ProblemView) (c : StageCert) (nodes : List Node) (pending : List Ranges) (floors : List Floor) → IsWhole nodes → AreSound (problem_of_tree p c) c.vectors c.cost pending nodes →
     NoneFails (Passes p c) (node_tests pending nodes floors)
 whole-nodes-pass p c [] pending floors whole sound = tt
 whole-nodes-pass p c (node ∷ nodes) [] floors whole sound = absurd sound
@@ -337,9 +364,9 @@ whole-nodes-pass p c (Undone ∷ nodes) (ranges ∷ pending) floors whole sound 
 undone-line : (p : ProblemView) (c : StageCert) (ranges : Ranges) (floors : List Floor) → MayBeUndone c.mark → c.bound ≡ None → AllByRecursion (Passes p c) (node_line ranges Undone floors)
 undone-line p c ranges [] may none = (may, tt)
 undone-line p c ranges (floor ∷ floors) may none =
-    (may, (subst (λ (o : Option ℕ). IfSome o (λ b. LeafHolds p c.vectors (Some b) ranges floor.vector floor.scale)) (sym none) tt, tt))
+    (may, (subst (λ (o : Option ℕ). IfSome o (λ b. LeafHolds (problem_of_tree p c) c.vectors (Some b) ranges floor.vector floor.scale)) (sym none) tt, tt))
 
-unbounded-nodes-pass : (p : ProblemView) (c : StageCert) (nodes : List Node) (pending : List Ranges) (floors : List Floor) → MayBeUndone c.mark → c.bound ≡ None → AreSound p c.vectors c.cost pending nodes →
+unbounded-nodes-pass : (p : ProblemView) (c : StageCert) (nodes : List Node) (pending : List Ranges) (floors : List Floor) → MayBeUndone c.mark → c.bound ≡ None → AreSound (problem_of_tree p c) c.vectors c.cost pending nodes →
     NoneFails (Passes p c) (node_tests pending nodes floors)
 unbounded-nodes-pass p c [] pending floors may none sound = tt
 unbounded-nodes-pass p c (node ∷ nodes) [] floors may none sound = absurd sound
@@ -348,7 +375,7 @@ unbounded-nodes-pass p c (Leaf vector scale seen ∷ nodes) (ranges ∷ pending)
 unbounded-nodes-pass p c (Over resource ∷ nodes) (ranges ∷ pending) floors may none sound = ((sound.0, tt), unbounded-nodes-pass p c nodes pending floors may none sound.1)
 unbounded-nodes-pass p c (Undone ∷ nodes) (ranges ∷ pending) floors may none sound = (undone-line p c ranges floors may none, unbounded-nodes-pass p c nodes pending (rest floors) may none sound.1)
 
-bounded-nodes-pass : (p : ProblemView) (c : StageCert) (b : ℕ) (nodes : List Node) (pending : List Ranges) (floors : List Floor) → MayBeUndone c.mark → c.bound ≡ Some b → AreSound p c.vectors c.cost pending nodes →
+bounded-nodes-pass : (p : ProblemView) (c : StageCert) (b : ℕ) (nodes : List Node) (pending : List Ranges) (floors : List Floor) → MayBeUndone c.mark → c.bound ≡ Some b → AreSound (problem_of_tree p c) c.vectors c.cost pending nodes →
     AllZip (λ ranges named. Floored p c b ranges named) (open_ranges pending nodes) (floor_pairs floors) → NoneFails (Passes p c) (node_tests pending nodes floors)
 bounded-nodes-pass p c b [] pending floors may bound_is sound closed = tt
 bounded-nodes-pass p c b (node ∷ nodes) [] floors may bound_is sound closed = absurd sound
@@ -358,21 +385,22 @@ bounded-nodes-pass p c b (Leaf vector scale seen ∷ nodes) (ranges ∷ pending)
 bounded-nodes-pass p c b (Over resource ∷ nodes) (ranges ∷ pending) floors may bound_is sound closed = ((sound.0, tt), bounded-nodes-pass p c b nodes pending floors may bound_is sound.1 closed)
 bounded-nodes-pass p c b (Undone ∷ nodes) (ranges ∷ pending) [] may bound_is sound closed = absurd closed
 bounded-nodes-pass p c b (Undone ∷ nodes) (ranges ∷ pending) (floor ∷ floors) may bound_is sound closed = (
-  (may, (subst (λ (o : Option ℕ). IfSome o (λ b. LeafHolds p c.vectors (Some b) ranges floor.vector floor.scale)) (sym bound_is) closed.0, tt)),
+  (may, (subst (λ (o : Option ℕ). IfSome o (λ b. LeafHolds (problem_of_tree p c) c.vectors (Some b) ranges floor.vector floor.scale)) (sym bound_is) closed.0, tt)),
   bounded-nodes-pass p c b nodes pending floors may bound_is sound.1 closed.1,
 )
 
-open-nodes-pass : (p : ProblemView) (c : StageCert) (bound : Option ℕ) → c.bound ≡ bound → MayBeUndone c.mark → AreSound p c.vectors c.cost (whole_of p ∷ []) c.tree → IfSome bound (IsStatedBound p c) →
-    NoneFails (Passes p c) (node_tests (whole_of p ∷ []) c.tree c.floors)
-open-nodes-pass p c None bound_is may sound floor = unbounded-nodes-pass p c c.tree (whole_of p ∷ []) c.floors may bound_is sound
-open-nodes-pass p c (Some b) bound_is may sound floor = bounded-nodes-pass p c b c.tree (whole_of p ∷ []) c.floors may bound_is sound floor.floors
+open-nodes-pass : (p : ProblemView) (c : StageCert) (bound : Option ℕ) → c.bound ≡ bound → MayBeUndone c.mark → AreSound (problem_of_tree p c) c.vectors c.cost (whole_of (problem_of_tree p c) ∷ []) c.tree → IfSome bound (IsStatedBound (problem_of_tree p c) c) →
+    NoneFails (Passes p c) (node_tests (whole_of (problem_of_tree p c) ∷ []) c.tree c.floors)
+open-nodes-pass p c None bound_is may sound floor = unbounded-nodes-pass p c c.tree (whole_of (problem_of_tree p c) ∷ []) c.floors may bound_is sound
+open-nodes-pass p c (Some b) bound_is may sound floor = bounded-nodes-pass p c b c.tree (whole_of (problem_of_tree p c) ∷ []) c.floors may bound_is sound floor.floors
 
-nodes-pass : (p : ProblemView) (c : StageCert) (mark : Mark) → c.mark ≡ mark → IsSound p c.vectors c.cost (whole_of p) c.tree → FitsMark p c mark →
-    NoneFails (Passes p c) (node_tests (whole_of p ∷ []) c.tree c.floors)
-nodes-pass p c Optimal mark_is sound marked = whole-nodes-pass p c c.tree (whole_of p ∷ []) c.floors marked.1 sound
-nodes-pass p c Infeasible mark_is sound marked = whole-nodes-pass p c c.tree (whole_of p ∷ []) c.floors marked.1 sound
-nodes-pass p c Unsettled mark_is sound marked = open-nodes-pass p c c.bound refl (subst MayBeUndone (sym mark_is) tt) sound marked.1
-nodes-pass p c NotTried mark_is sound marked = absurd marked
+nodes-pass : (p : ProblemView) (c : StageCert) (mark : Mark) → c.mark ≡ mark → (c.mark ≡ Unsettled → problem_of_tree p c ≡ p) → IsSound (problem_of_tree p c) c.vectors c.cost (whole_of (problem_of_tree p c)) c.tree → FitsMark p c mark →
+    NoneFails (Passes p c) (node_tests (whole_of (problem_of_tree p c) ∷ []) c.tree c.floors)
+nodes-pass p c Optimal mark_is plain sound marked = whole-nodes-pass p c c.tree (whole_of (problem_of_tree p c) ∷ []) c.floors marked.1 sound
+nodes-pass p c Infeasible mark_is plain sound marked = whole-nodes-pass p c c.tree (whole_of (problem_of_tree p c) ∷ []) c.floors marked.1 sound
+nodes-pass p c Unsettled mark_is plain sound marked =
+    open-nodes-pass p c c.bound refl (subst MayBeUndone (sym mark_is) tt) sound (subst (λ (q : ProblemView). IfSome c.bound (IsStatedBound q c)) (sym (plain mark_is)) marked.1)
+nodes-pass p c NotTried mark_is plain sound marked = absurd marked
 
 abbrev pub ShapeLaw : Type 0
 ShapeLaw = (p : ProblemView) (vectors : List (List Price)) (cost : Option ℕ) (ranges : List (ℕ × ℕ)) (nodes : List Node) → IsSound p vectors cost ranges nodes → IsTree nodes
@@ -381,13 +409,14 @@ pub proof-passes : ShapeLaw → (p : ProblemView) (version : ℕ) (c : StageCert
 proof-passes shape p version c printable proof =
     let Holds : Test → Type 0 = Passes p c in
     let fits : IfSome c.choice (Fits p) = if-some (IsFeasibleFor p) (Fits p) c.choice (λ x feasible. feasible.fits) proof.feasible in
-    let shaped : IsTree c.tree = shape p c.vectors c.cost (whole_of p) c.tree proof.sound in
+    let shaped : IsTree c.tree = shape (problem_of_tree p c) c.vectors c.cost (whole_of (problem_of_tree p c)) c.tree proof.sound in
     NoneFails-append Holds (choice_tests c.choice) _ (choice-passes p c c.choice refl (choice-marked p c c.mark proof.marked) proof.feasible)
     (NoneFails-append Holds (cost_tests c.cost) _ (cost-passes p c c.cost proof.cost fits)
     (NoneFails-append Holds (bound_tests c.bound) _ (bound-passes p c c.bound (bound-within p version c c.mark printable.has_bound proof.marked)) (
       tt,
       NoneFails-append Holds (flat_map vector_tests c.vectors) _ (vectors-pass p c c.vectors proof.vectors)
-          ((shaped, (tree-marked p c c.mark proof.marked, tt)), nodes-pass p c c.mark refl proof.sound proof.marked),
+          (NoneFails-append Holds (fixing_tests c.fixing) _ (fixing-passes p c c.fixing proof.fixing)
+          ((shaped, (tree-marked p c c.mark proof.marked, tt)), nodes-pass p c c.mark refl (plain-tree p c proof.fixing) proof.sound proof.marked)),
     )))
 
 -- ---- by verdicts
@@ -399,5 +428,5 @@ vectors-tested p c number next (No line reason) part is = let no : ⊥ = cc in a
 
 -- a stage with a verdict of Yes is a proof
 pub stage-proven : (p : ProblemView) (c : StageCert) (number : ℕ) (verdict : Verdict) → IsPrintableExtra c → IsStageVerdict p c number verdict → verdict ≡ Yes → IsProof p c
-stage-proven p c number Yes printable none is = passing-proof p 2 c printable.tried printable.fits none
+stage-proven p c number Yes printable none is = passing-proof p 3 c printable.tried printable.fits none
 stage-proven p c number (No line reason) printable none is = let no : ⊥ = cc in absurd no

@@ -13,14 +13,17 @@ use Rattle.choice_problem.specs.Choices.{Fits, choice_cost, load_of}
 use Rattle.choice_problem.specs.Bounds.{whole_of}
 use Rattle.choice_problem.specs.Trees.{NodeHolds, LeafHolds}
 use Rattle.choice_problem.specs.Alike.{AreAlike}
+use Rattle.cost_fixing.specs.declared.fixings.Fixing.{Fixing}
+use Rattle.cost_fixing.specs.Fixings.{FixingHolds, tree_problem}
 use Rattle.cert_format.specs.declared.cert.StageCert.{StageCert}
+use Rattle.cert_format.specs.Proofs.{problem_of_tree}
 use Rattle.cert_format.specs.Spelling.{is_tried, stage_lines}
 use Rattle.series_model.specs.declared.unit.Unit.{Unit as SlotUnit}
 use Rattle.series_model.specs.declared.state.UnitState.{UnitState}
 use Rattle.series_model.specs.Stages.{states_after, may_follow, stage_units, stage_limit}
 use Rattle.wasg_stages.specs.StageProblems.{IsAllotmentProblem, IsStageProblem}
 use Rattle.cert_checker.specs.declared.verdict.Reason.{Reason}
-use Rattle.cert_checker.specs.Tests.{Test, choice_marked, units_counted, alternative_there, cost_exact, choice_fits, bound_within, price_allowed, tree_shaped, tree_open, split_allowed, leaf_closes, over_closes, undone_allowed, floor_closes, Passes, proof_tests, choice_tests, cost_tests, bound_tests, vector_tests, node_tests}
+use Rattle.cert_checker.specs.Tests.{Test, choice_marked, units_counted, alternative_there, cost_exact, choice_fits, bound_within, price_allowed, fixing_holds, tree_shaped, tree_open, split_allowed, leaf_closes, over_closes, undone_allowed, floor_closes, Passes, proof_tests, choice_tests, cost_tests, bound_tests, vector_tests, fixing_tests, node_tests}
 use Rattle.cert_checker.specs.Verdicts.{FailsFirst, NoneFails, IsFirstFailing}
 use Rattle.cert_checker.specs.Certificates.{Choices, FailsBelow, PassesBelow, StageFails, StagePasses, StagesFail}
 use Rattle.cert_checker.proofs.AlikeLemmas.{problems-alike, problems-uses, problems-alts, if-some, cost-alike}
@@ -34,8 +37,10 @@ pub record AreSame (p q : ProblemView) : Type 0 where
   pub alts : (u : ℕ) → alt_count p u ≡ alt_count q u
   pub uses : (u a r : ℕ) → alt_uses p u a r ≡ alt_uses q u a r
   pub cost : (x : List ℕ) → choice_cost p x ≡ choice_cost q x
-  pub whole : whole_of p ≡ whole_of q
-  pub node : (vectors : List (List Price)) (cost : Option ℕ) (ranges : List (ℕ × ℕ)) (node : Node) → NodeHolds p vectors cost ranges node → NodeHolds q vectors cost ranges node
+  pub holds : (vectors : List (List Price)) (cost : Option ℕ) (f : Fixing) → FixingHolds p vectors cost f → FixingHolds q vectors cost f
+  pub whole : (vectors : List (List Price)) (fixing : Option Fixing) → whole_of (tree_problem p vectors fixing) ≡ whole_of (tree_problem q vectors fixing)
+  pub node : (vectors : List (List Price)) (fixing : Option Fixing) (cost : Option ℕ) (ranges : List (ℕ × ℕ)) (node : Node) →
+      NodeHolds (tree_problem p vectors fixing) vectors cost ranges node → NodeHolds (tree_problem q vectors fixing) vectors cost ranges node
 
 fits-same : (p q : ProblemView) (x : List ℕ) → AreSame p q → Fits p x → Fits q x
 fits-same p q x same fits r lt =
@@ -54,15 +59,16 @@ passes-same p q c same choice_fits h = if-some (Fits p) (Fits q) c.choice (λ x 
 passes-same p q c same bound_within h = h
 passes-same p q c same (price_allowed before price) h =
     (h.0, record { there = subst (λ (n : ℕ). price.resource < n) same.alike.resources h.1.there; positive = h.1.positive; small = h.1.small })
+passes-same p q c same (fixing_holds f) h = record { optimal = h.optimal; holds = same.holds c.vectors c.cost f h.holds }
 passes-same p q c same tree_shaped h = h
 passes-same p q c same tree_open h = h
 passes-same p q c same (split_allowed ranges unit cut) h = h
-passes-same p q c same (leaf_closes ranges vector scale) h = same.node c.vectors c.cost ranges (Leaf vector scale None) h
-passes-same p q c same (over_closes ranges resource) h = same.node c.vectors c.cost ranges (Over resource) h
+passes-same p q c same (leaf_closes ranges vector scale) h = same.node c.vectors c.fixing c.cost ranges (Leaf vector scale None) h
+passes-same p q c same (over_closes ranges resource) h = same.node c.vectors c.fixing c.cost ranges (Over resource) h
 passes-same p q c same undone_allowed h = h
 passes-same p q c same (floor_closes ranges vector scale) h =
-    if-some (λ b. LeafHolds p c.vectors (Some b) ranges vector scale) (λ b. LeafHolds q c.vectors (Some b) ranges vector scale) c.bound
-    (λ b holds. same.node c.vectors (Some b) ranges (Leaf vector scale None) holds) h
+    if-some (λ b. LeafHolds (problem_of_tree p c) c.vectors (Some b) ranges vector scale) (λ b. LeafHolds (problem_of_tree q c) c.vectors (Some b) ranges vector scale) c.bound
+    (λ b holds. same.node c.vectors c.fixing (Some b) ranges (Leaf vector scale None) holds) h
 
 -- ---- so the same line fails first
 
@@ -89,10 +95,10 @@ line-same P Q number (tests ∷ lines) line reason f g h =
     ]
 
 -- the tests of a stage are those of any of its problems
-lines-same : (p q : ProblemView) (c : StageCert) → whole_of p ≡ whole_of q → proof_tests p c ≡ proof_tests q c
+lines-same : (p q : ProblemView) (c : StageCert) → whole_of (problem_of_tree p c) ≡ whole_of (problem_of_tree q c) → proof_tests p c ≡ proof_tests q c
 lines-same p q c whole =
-    ap (λ (ranges : List (ℕ × ℕ)). choice_tests c.choice ++ (cost_tests c.cost ++ (bound_tests c.bound ++ ([] ∷ (flat_map vector_tests c.vectors
-    ++ ((tree_shaped ∷ tree_open ∷ []) ∷ node_tests (ranges ∷ []) c.tree c.floors)))))) whole
+    ap (λ (ranges : List (ℕ × ℕ)). choice_tests c.choice ++ (cost_tests c.cost ++ (bound_tests c.bound ++ ([] ∷ (flat_map vector_tests c.vectors ++ (fixing_tests c.fixing
+    ++ ((tree_shaped ∷ tree_open ∷ []) ∷ node_tests (ranges ∷ []) c.tree c.floors))))))) whole
 
 -- ---- one stage
 
@@ -100,14 +106,14 @@ pub first-one : (p q : ProblemView) (c : StageCert) (number line other : ℕ) (r
     IsFirstFailing (Passes p c) number (proof_tests p c) line reason → IsFirstFailing (Passes q c) number (proof_tests q c) other why → (line ≡ other) × (reason ≡ why)
 first-one p q c number line other reason why there back one two =
     let moved : IsFirstFailing (Passes q c) number (proof_tests q c) line reason =
-    subst (λ (lines : List (List Test)). IsFirstFailing (Passes q c) number lines line reason) (lines-same p q c there.whole)
+    subst (λ (lines : List (List Test)). IsFirstFailing (Passes q c) number lines line reason) (lines-same p q c (there.whole c.vectors c.fixing))
     (line-same (Passes p c) (Passes q c) number (proof_tests p c) line reason (passes-same p q c there) (passes-same q p c back) one) in
     IsFirstFailing-one (Passes q c) number (proof_tests q c) line other reason why moved two
 
 pub none-not_first : (p q : ProblemView) (c : StageCert) (number line : ℕ) (reason : Reason) → AreSame p q → NoneFails (Passes p c) (proof_tests p c) →
     IsFirstFailing (Passes q c) number (proof_tests q c) line reason → ⊥
 none-not_first p q c number line reason there one two =
-    let moved : NoneFails (Passes q c) (proof_tests q c) = subst (λ (lines : List (List Test)). NoneFails (Passes q c) lines) (lines-same p q c there.whole)
+    let moved : NoneFails (Passes q c) (proof_tests q c) = subst (λ (lines : List (List Test)). NoneFails (Passes q c) lines) (lines-same p q c (there.whole c.vectors c.fixing))
     (none-same (Passes p c) (Passes q c) (proof_tests p c) (passes-same p q c there) one) in
     IsFirstFailing-not_none (Passes q c) number (proof_tests q c) line reason moved two
 
@@ -157,22 +163,28 @@ stages-one all d units earlier number (c ∷ certs) line other reason why one tw
       ]
     ]
 
--- two problems of some units under the same limits, by what is said of problems that are alike
-pub allotment-same : ((p q : ProblemView) (x : List ℕ) → AreAlike p q → choice_cost p x ≡ choice_cost q x) → ((p q : ProblemView) → AreAlike p q → whole_of p ≡ whole_of q) →
-    ((p q : ProblemView) (vectors : List (List Price)) (cost : Option ℕ) (ranges : List (ℕ × ℕ)) (node : Node) → AreAlike p q → NodeHolds p vectors cost ranges node → NodeHolds q vectors cost ranges node) →
-    (d : Declaration) (units : List SlotUnit) (limit : ℕ → ℕ) (p q : ProblemView) → IsAllotmentProblem d units limit p → IsAllotmentProblem d units limit q → AreSame p q
-allotment-same cost whole node d units limit p q one two =
+-- what is said of problems that are alike
+pub record AlikeLaws : Type 0 where
+  pub cost : (p q : ProblemView) (x : List ℕ) → AreAlike p q → choice_cost p x ≡ choice_cost q x
+  pub whole : (p q : ProblemView) → AreAlike p q → whole_of p ≡ whole_of q
+  pub node : (p q : ProblemView) (vectors : List (List Price)) (cost : Option ℕ) (ranges : List (ℕ × ℕ)) (node : Node) → AreAlike p q → NodeHolds p vectors cost ranges node → NodeHolds q vectors cost ranges node
+  pub tree : (p q : ProblemView) (vectors : List (List Price)) (fixing : Option Fixing) → AreAlike p q → AreAlike (tree_problem p vectors fixing) (tree_problem q vectors fixing)
+  pub holds : (p q : ProblemView) (vectors : List (List Price)) (cost : Option ℕ) (f : Fixing) → AreAlike p q → FixingHolds p vectors cost f → FixingHolds q vectors cost f
+
+-- two problems of some units under the same limits
+pub allotment-same : AlikeLaws → (d : Declaration) (units : List SlotUnit) (limit : ℕ → ℕ) (p q : ProblemView) → IsAllotmentProblem d units limit p → IsAllotmentProblem d units limit q → AreSame p q
+allotment-same law d units limit p q one two =
     let alike = problems-alike d units limit p q one two in
     record {
       alike = alike;
       alts = λ u. problems-alts d units limit p q one two u;
       uses = λ u a r. problems-uses d units limit p q one two u a r;
-      cost = λ x. cost p q x alike;
-      whole = whole p q alike;
-      node = λ vectors c ranges n. node p q vectors c ranges n alike;
+      cost = λ x. law.cost p q x alike;
+      holds = λ vectors cost f. law.holds p q vectors cost f alike;
+      whole = λ vectors fixing. law.whole (tree_problem p vectors fixing) (tree_problem q vectors fixing) (law.tree p q vectors fixing alike);
+      node = λ vectors fixing cost ranges n. law.node (tree_problem p vectors fixing) (tree_problem q vectors fixing) vectors cost ranges n (law.tree p q vectors fixing alike);
     }
 
 -- and two problems of one stage
-pub stage-same : ((p q : ProblemView) (x : List ℕ) → AreAlike p q → choice_cost p x ≡ choice_cost q x) → ((p q : ProblemView) → AreAlike p q → whole_of p ≡ whole_of q) →
-    ((p q : ProblemView) (vectors : List (List Price)) (cost : Option ℕ) (ranges : List (ℕ × ℕ)) (node : Node) → AreAlike p q → NodeHolds p vectors cost ranges node → NodeHolds q vectors cost ranges node) → AllSame
-stage-same cost whole node d stage states p q one two = allotment-same cost whole node d (stage_units stage states) (stage_limit d stage states) p q one two
+pub stage-same : AlikeLaws → AllSame
+stage-same law d stage states p q one two = allotment-same law d (stage_units stage states) (stage_limit d stage states) p q one two

@@ -244,7 +244,7 @@ pub Completes-start : (p : ProblemView) (c : StageCert) (number : ℕ) (lines : 
 Completes-start p c number lines verdict next part = part
 
 -- one line passes
-line-passed : (p : ProblemView) (c : StageCert) (number : ℕ) (test : Test) (left : List (List Test)) (verdict : Verdict) (next : ℕ) → Passes p c test → IsPart p c (number + 1) left verdict next →
+pub line-passed : (p : ProblemView) (c : StageCert) (number : ℕ) (test : Test) (left : List (List Test)) (verdict : Verdict) (next : ℕ) → Passes p c test → IsPart p c (number + 1) left verdict next →
     IsPart p c number ((test ∷ []) ∷ left) verdict next
 line-passed p c number test left Yes next passes part = record { verdict_is = ((passes, tt), part.verdict_is); counted = λ _. omega (arith, part.counted refl) }
 line-passed p c number test left (No line reason) next passes part =
@@ -254,7 +254,7 @@ line-passed p c number test left (No line reason) next passes part =
       counted = λ e. let no : ⊥ = cc in absurd no;
     }
 
-line-refused : (p : ProblemView) (c : StageCert) (number next : ℕ) (test : Test) (left : List (List Test)) → (Passes p c test → ⊥) → IsPart p c number ((test ∷ []) ∷ left) (No number (reason_of test)) next
+pub line-refused : (p : ProblemView) (c : StageCert) (number next : ℕ) (test : Test) (left : List (List Test)) → (Passes p c test → ⊥) → IsPart p c number ((test ∷ []) ∷ left) (No number (reason_of test)) next
 line-refused p c number next test left refused = record { verdict_is = inl (refl, inl (refused, refl)); counted = λ e. let no : ⊥ = cc in absurd no }
 
 -- prices

@@ -7,9 +7,10 @@ use Rattle.cert_checker.specs.declared.verdict.Reason.{Reason}
 use Rattle.choice_problem.specs.Problems.{ProblemView}
 use Rattle.choice_problem.specs.Bounds.{whole_of}
 use Rattle.cert_format.specs.declared.cert.StageCert.{StageCert}
+use Rattle.cert_format.specs.Proofs.{problem_of_tree}
 use Rattle.cert_checker.specs.declared.verdict.Verdict.{Verdict}
 use Rattle.cert_checker.specs.declared.verdict.Verdict.TheVariants.{Yes, No}
-use Rattle.cert_checker.specs.Tests.{Test, tree_shaped, tree_open, Passes, cost_tests, bound_tests, vector_tests, node_tests, floors_after}
+use Rattle.cert_checker.specs.Tests.{Test, tree_shaped, tree_open, Passes, cost_tests, bound_tests, vector_tests, fixing_tests, node_tests, floors_after}
 use Rattle.cert_checker.specs.Verdicts.{FailsFirst, IsVerdict}
 
 -- the verdict on lines, and where it is Yes the number of the line after them
@@ -20,16 +21,26 @@ pub record IsPart (p : ProblemView) (c : StageCert) (number : ℕ) (lines : List
 
 -- the lines from the cost on, from the bound on, and so forth
 abbrev pub tree_part : ProblemView → StageCert → List (List Test)
-tree_part p c = (tree_shaped ∷ tree_open ∷ []) ∷ node_tests (whole_of p ∷ []) c.tree c.floors
+tree_part p c =
+    (tree_shaped ∷ tree_open ∷ [])
+    ∷ node_tests (whole_of (problem_of_tree p c) ∷ []) c.tree c.floors
+
+abbrev pub fixing_part : ProblemView → StageCert → List (List Test)
+fixing_part p c = fixing_tests c.fixing ++ tree_part p c
 
 abbrev pub vectors_part : ProblemView → StageCert → List (List Test)
-vectors_part p c = [] ∷ (flat_map vector_tests c.vectors ++ tree_part p c)
+vectors_part p c = [] ∷ (flat_map vector_tests c.vectors ++ fixing_part p c)
 
 abbrev pub bound_part : ProblemView → StageCert → List (List Test)
 bound_part p c = bound_tests c.bound ++ vectors_part p c
 
 abbrev pub cost_part : ProblemView → StageCert → List (List Test)
 cost_part p c = cost_tests c.cost ++ bound_part p c
+
+-- a stage without its fixing: the tests of its tree on the problem that the fixing leaves are those of
+-- this one
+abbrev pub unfixed : StageCert → StageCert
+unfixed c = record c { fixing = None }
 
 -- what is still to come decides the whole: a verdict on the lines that are left is one on all lines
 abbrev pub Completes : ProblemView → StageCert → ℕ → List (List Test) → ℕ → List (List Test) →

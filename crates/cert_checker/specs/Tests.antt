@@ -8,10 +8,12 @@ use Rattle.choice_problem.specs.Choices.{Fits, choice_cost}
 use Rattle.choice_problem.specs.Bounds.{IsPrice, whole_of}
 use Rattle.choice_problem.specs.Trees.{CanSplit, LeafHolds, OverHolds, IsTree, IsWhole, parts_of}
 use Rattle.choice_problem.specs.Floors.{IsAtMost}
+use Rattle.cost_fixing.specs.declared.fixings.Fixing.{Fixing}
 use Rattle.cert_format.specs.declared.cert.Floor.{Floor}
 use Rattle.cert_format.specs.declared.cert.Mark.{Mark}
 use Rattle.cert_format.specs.declared.cert.Mark.TheVariants.{Optimal, Infeasible, Unsettled, NotTried}
 use Rattle.cert_format.specs.declared.cert.StageCert.{StageCert}
+use Rattle.cert_format.specs.Proofs.{IsStageFixing, problem_of_tree}
 use Rattle.cert_checker.specs.declared.verdict.Reason.{Reason}
 use Rattle.cert_checker.specs.declared.verdict.Reason.TheVariants as because
 
@@ -25,6 +27,7 @@ pub data Test : Type 0 where
   choice_fits : Test
   bound_within : Test
   price_allowed : Option ℕ → Price → Test
+  fixing_holds : Fixing → Test
   tree_shaped : Test
   tree_open : Test
   split_allowed : List (ℕ × ℕ) → ℕ → ℕ → Test
@@ -42,6 +45,7 @@ reason_of cost_exact = because.Cost
 reason_of choice_fits = because.Fit
 reason_of bound_within = because.Bound
 reason_of (price_allowed before price) = because.Price
+reason_of (fixing_holds f) = because.Fixing
 reason_of tree_shaped = because.Shape
 reason_of tree_open = because.Closed
 reason_of (split_allowed ranges unit cut) = because.Split
@@ -77,6 +81,7 @@ MayBeUndone NotTried = ⊥
 abbrev pub IsAbove : Option ℕ → ℕ → Type 0
 IsAbove before resource = IfSome before (λ r. r < resource)
 
+-- the nodes are tested on the problem that the fixing leaves, if there is one
 abbrev pub Passes : ProblemView → StageCert → Test → Type 0
 Passes p c choice_marked = HasChoice c.mark c.choice
 Passes p c units_counted = IfSome c.choice (λ x. length x ≡ unit_count p)
@@ -85,14 +90,16 @@ Passes p c cost_exact = c.cost ≡ option_map (choice_cost p) c.choice
 Passes p c choice_fits = IfSome c.choice (Fits p)
 Passes p c bound_within = IfSome c.bound (λ b. IsAtMost b c.cost)
 Passes p c (price_allowed before price) = IsAbove before price.resource × IsPrice p price
+Passes p c (fixing_holds f) = IsStageFixing p c f
 Passes p c tree_shaped = IsTree c.tree
 Passes p c tree_open = HasUndone c.mark c.tree
 Passes p c (split_allowed ranges unit cut) = CanSplit ranges unit cut
-Passes p c (leaf_closes ranges vector scale) = LeafHolds p c.vectors c.cost ranges vector scale
-Passes p c (over_closes ranges resource) = OverHolds p ranges resource
+Passes p c (leaf_closes ranges vector scale) =
+    LeafHolds (problem_of_tree p c) c.vectors c.cost ranges vector scale
+Passes p c (over_closes ranges resource) = OverHolds (problem_of_tree p c) ranges resource
 Passes p c undone_allowed = MayBeUndone c.mark
 Passes p c (floor_closes ranges vector scale) =
-    IfSome c.bound (λ b. LeafHolds p c.vectors (Some b) ranges vector scale)
+    IfSome c.bound (λ b. LeafHolds (problem_of_tree p c) c.vectors (Some b) ranges vector scale)
 
 -- ---- the tests of each line below the line of the mark, in the order in which a stage is spelled
 
@@ -121,6 +128,10 @@ price_tests before (price ∷ prices) =
 -- the line that counts them is not tested
 abbrev pub vector_tests : List Price → List (List Test)
 vector_tests prices = [] ∷ price_tests None prices
+
+abbrev pub fixing_tests : Option Fixing → List (List Test)
+fixing_tests None = []
+fixing_tests (Some f) = (fixing_holds f ∷ []) ∷ []
 
 abbrev pub undone_tests : List (ℕ × ℕ) → List Floor → List Test
 undone_tests ranges [] = undone_allowed ∷ []
@@ -156,5 +167,6 @@ node_tests (ranges ∷ pending) (node ∷ nodes) floors =
 abbrev pub proof_tests : ProblemView → StageCert → List (List Test)
 proof_tests p c =
     choice_tests c.choice ++ (cost_tests c.cost ++ (bound_tests c.bound
-    ++ ([] ∷ (flat_map vector_tests c.vectors
-    ++ ((tree_shaped ∷ tree_open ∷ []) ∷ node_tests (whole_of p ∷ []) c.tree c.floors)))))
+    ++ ([] ∷ (flat_map vector_tests c.vectors ++ (fixing_tests c.fixing
+    ++ ((tree_shaped ∷ tree_open ∷ [])
+    ∷ node_tests (whole_of (problem_of_tree p c) ∷ []) c.tree c.floors))))))

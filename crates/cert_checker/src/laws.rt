@@ -19,6 +19,7 @@ ghost use Rattle.cert_checker.specs.Verdicts.{NoneFails, IsFirstFailing};
 ghost use Rattle.cert_checker.specs.Certificates.{FailsAt};
 
 use choice_problem::{alike_problems, split_trees};
+use cost_fixing::alike_fixings;
 
 /// Each line of a stage's proof has its tests, in the order in which the stage is spelled.
 pub fn tested_lines()
@@ -42,6 +43,7 @@ pub fn alike_proofs()
         AreAlike p q → IsProof p c → IsProof q c }
 {
     alike_problems();
+    alike_fixings();
 }
 
 /// On each problem of some units under the same limits, parts and strips may differ, but the same
@@ -69,6 +71,7 @@ pub fn same_tests()
     passing_lines();
     alike_proofs();
     alike_problems();
+    alike_fixings();
 }
 
 /// A valid certificate has no failing line.
@@ -87,4 +90,5 @@ pub fn one_failing_line()
         FailsAt s c line reason → FailsAt s c other why → (line ≡ other) × (reason ≡ why) }
 {
     alike_problems();
+    alike_fixings();
 }

@@ -1,20 +1,21 @@
 //! The lines of a stage, part by part.
 
-ghost use Rattle.std.specs.Prelude.{◌≡◌, ◌+◌, ◌<◌, ◌≤◌, ◌^◌, ◌++◌, ℕ, IfOk, IfSome, length, is_some, flat_map, Some, None, IsTrue, ◌↔◌};
-ghost use Rattle.choice_problem.specs.Bounds.{IsPrice};
+ghost use Rattle.std.specs.Prelude.{◌≡◌, ◌+◌, ◌<◌, ◌≤◌, ◌^◌, ◌++◌, ℕ, All, IfOk, IfSome, length, is_some, flat_map, Some, None, IsTrue, ◌↔◌};
+ghost use Rattle.choice_problem.specs.Bounds.{IsPrice, IsVector};
 ghost use Rattle.choice_problem.specs.Problems.{unit_count};
 ghost use Rattle.choice_problem.specs.Choices.{IsChoice};
 ghost use Rattle.cert_format.specs.Printable.{IsPrintableProof};
 ghost use Rattle.cert_format.specs.Spelling.{proof_lines};
 ghost use Rattle.cert_checker.specs.Tests.{IsAbove, alternative_tests, choice_tests, price_tests, cost_tests, bound_tests, vector_tests, proof_tests};
 ghost use Rattle.cert_checker.specs.Verdicts.{IsStageVerdict};
-ghost use Rattle.cert_checker.specs.Parts.{IsPart, cost_part, bound_part, vectors_part, tree_part};
+ghost use Rattle.cert_checker.specs.Parts.{IsPart, cost_part, bound_part, vectors_part, fixing_part};
 ghost use Rattle.cert_checker.specs.declared.verdict.Verdict.TheVariants.{Yes};
 
 use crate::nodes::check_tree;
 use crate::verdict::{Reason, Verdict};
 use cert_format::{Mark, StageCert};
 use choice_problem::{Choice, HIGHEST_PRICE, Price, Problem, Vector, cost_of, fits};
+use cost_fixing::{Fixing, fixing_problem};
 use slot_text::Memory;
 use std::alloc::Global;
 
@@ -128,6 +129,53 @@ fn check_vectors(problem: &Problem, cert: &StageCert, line: u32) -> Judged
     Judged::passed(at)
 }
 
+// The line of a fixing that is there, and from it on.
+fn from_some_fixing(
+    alloc: Global,
+    problem: &Problem,
+    cert: &StageCert,
+    fixing: &Fixing,
+    line: u32,
+) -> Result<Judged, Memory>
+    requires vectors { All (IsVector problem.now) cert.now.vectors }
+    requires fixing { cert.now.fixing ≡ Some fixing.now }
+    requires room { line + length (fixing_part problem.now cert.now) < 2 ^ 32 }
+    ensures { IfOk result (λ judged. IsPart problem.now cert.now line
+        (fixing_part problem.now cert.now) judged.verdict judged.next) }
+{
+    if cert.mark != Mark::Optimal {
+        return Ok(Judged::refused(line, Reason::Fixing));
+    }
+    match fixing_problem(alloc, problem, &cert.vectors, cert.cost, fixing)? {
+        None => Ok(Judged::refused(line, Reason::Fixing)),
+        Some(left) => {
+            let last = check_tree(alloc, &left, cert, line + 1)?;
+            Ok(last)
+        }
+    }
+}
+
+// From the line of the fixing on, if there is one.
+fn from_fixing(
+    alloc: Global,
+    problem: &Problem,
+    cert: &StageCert,
+    line: u32,
+) -> Result<Judged, Memory>
+    requires vectors { All (IsVector problem.now) cert.now.vectors }
+    requires room { line + length (fixing_part problem.now cert.now) < 2 ^ 32 }
+    ensures { IfOk result (λ judged. IsPart problem.now cert.now line
+        (fixing_part problem.now cert.now) judged.verdict judged.next) }
+{
+    match &cert.fixing {
+        None => {
+            let last = check_tree(alloc, problem, cert, line)?;
+            Ok(last)
+        }
+        Some(fixing) => from_some_fixing(alloc, problem, cert, fixing, line),
+    }
+}
+
 // From the line that counts the vectors on.
 fn from_vectors(
     alloc: Global,
@@ -143,7 +191,7 @@ fn from_vectors(
     if !judged.is_passed() {
         return Ok(judged);
     }
-    let last = check_tree(alloc, problem, cert, judged.next)?;
+    let last = from_fixing(alloc, problem, cert, judged.next)?;
     Ok(last)
 }
 

@@ -1,4 +1,4 @@
-//! The line of a stage's tree, and the lines of its nodes.
+//! The line of a stage's tree, and the lines of its nodes, on the problem that the tree is a tree of.
 
 ghost use Rattle.std.specs.Prelude.{◌≡◌, ◌↔◌, ◌+◌, ◌<◌, ◌≤◌, ◌^◌, [], ◌∷◌, true, false, None, Some, All, IsTrue, IfOk, MatchOption, length};
 ghost use Rattle.std.specs.List.{AllByRecursion};
@@ -7,7 +7,7 @@ ghost use Rattle.choice_problem.specs.Bounds.{AreRanges, IsVector, whole_of};
 ghost use Rattle.choice_problem.specs.Trees.{CanSplit, IsWhole};
 ghost use Rattle.cert_checker.specs.Tests.{MayBeUndone, Passes, undone_tests, node_line, node_tests, floors_after};
 ghost use Rattle.cert_checker.specs.States.{IsState, IsStateFirst};
-ghost use Rattle.cert_checker.specs.Parts.{IsLineFault, GoesOnBy, IsPart, tree_part};
+ghost use Rattle.cert_checker.specs.Parts.{IsLineFault, GoesOnBy, IsPart, tree_part, unfixed};
 
 use crate::kept::Named;
 use crate::lines::Judged;
@@ -57,7 +57,7 @@ fn undone_fault(
     requires state { IsState problem.now cert.now.vectors ranges.now state.old }
     ensures state { IfOk result
         (λ fault. IsState problem.now cert.now.vectors ranges.now state.new) }
-    ensures fault { IfOk result (λ fault. IsLineFault (Passes problem.now cert.now)
+    ensures fault { IfOk result (λ fault. IsLineFault (Passes problem.now (unfixed cert.now))
         (undone_tests ranges.now floors.now) fault) }
 {
     if !may_be_undone(cert.mark) {
@@ -93,7 +93,7 @@ fn node_fault(
     requires state { IsState problem.now cert.now.vectors ranges.now state.old }
     ensures state { IfOk result
         (λ fault. IsState problem.now cert.now.vectors ranges.now state.new) }
-    ensures fault { IfOk result (λ fault. IsLineFault (Passes problem.now cert.now)
+    ensures fault { IfOk result (λ fault. IsLineFault (Passes problem.now (unfixed cert.now))
         (node_line ranges.now node floors.now) fault) }
 {
     match node {
@@ -145,7 +145,7 @@ fn check_node(
         IsStateFirst problem.now cert.now.vectors walk.new state.new) }
     ensures ranges { IfOk result (λ fault. fault ≡ None → All (AreRanges problem.now) walk.new) }
     ensures fault { IfOk result (λ fault.
-        GoesOnBy problem.now cert.now walk.old node floors.now walk.new fault) }
+        GoesOnBy problem.now (unfixed cert.now) walk.old node floors.now walk.new fault) }
 {
     let fault = node_fault(alloc, problem, cert, state, walk.ranges(), node, floors)?;
     if fault.is_some() {
@@ -167,7 +167,7 @@ fn check_nodes(
 ) -> Result<Judged, Memory>
     requires vectors { All (IsVector problem.now) cert.now.vectors }
     requires room { line + length cert.now.tree < 2 ^ 32 }
-    ensures { IfOk result (λ judged. IsPart problem.now cert.now line
+    ensures { IfOk result (λ judged. IsPart problem.now (unfixed cert.now) line
         (node_tests (whole_of problem.now ∷ []) cert.now.tree cert.now.floors)
         judged.verdict judged.next) }
 {
@@ -199,9 +199,9 @@ pub(crate) fn check_tree(
     line: u32,
 ) -> Result<Judged, Memory>
     requires vectors { All (IsVector problem.now) cert.now.vectors }
-    requires room { line + length (tree_part problem.now cert.now) < 2 ^ 32 }
-    ensures { IfOk result (λ judged. IsPart problem.now cert.now line
-        (tree_part problem.now cert.now) judged.verdict judged.next) }
+    requires room { line + length (tree_part problem.now (unfixed cert.now)) < 2 ^ 32 }
+    ensures { IfOk result (λ judged. IsPart problem.now (unfixed cert.now) line
+        (tree_part problem.now (unfixed cert.now)) judged.verdict judged.next) }
 {
     if !is_tree(cert.tree.items()) {
         return Ok(Judged::refused(line, Reason::Shape));

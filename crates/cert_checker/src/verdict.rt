@@ -19,6 +19,9 @@ pub enum Reason {
     /// The resource is not there or not above the one before, or the price is not from 1 to 2^40 -
     /// 1.
     Price,
+    /// The stage is not OPTIMAL, there is no such vector, the scale is 2^20 or more, the cost is
+    /// below the stage's, or a unit has no alternative left.
+    Fixing,
     /// The nodes are not one tree.
     Shape,
     /// Under OPEN no node is undone.

@@ -5,11 +5,12 @@ use Rattle.std.specs.Option.{option_map_or}
 use Rattle.std.specs.List.{AllByRecursion}
 use Rattle.std.proofs.lemmas.List.Sums.{sum_by-cons}
 use Rattle.choice_problem.specs.declared.vectors.Price.{Price}
+use Rattle.cost_fixing.specs.declared.fixings.Fixing.{Fixing}
 use Rattle.cert_format.specs.declared.cert.StageCert.{StageCert}
 use Rattle.cert_format.specs.declared.cert.Certificate.{Certificate}
 use Rattle.cert_format.specs.declared.cert.TheConstants.{MOST_LINES}
 use Rattle.cert_format.specs.Lines.{Word}
-use Rattle.cert_format.specs.Spelling.{numbered, count_words, alternative_lines, price_lines, vector_lines, node_lines, optional_lines, choice_lines, is_tried, proof_lines, stage_lines, cert_lines, extra_lines}
+use Rattle.cert_format.specs.Spelling.{numbered, count_words, alternative_lines, price_lines, vector_lines, node_lines, fixing_lines, optional_lines, choice_lines, is_tried, proof_lines, stage_lines, cert_lines, extra_lines}
 use Rattle.cert_format.specs.Printable.{IsWithinLimits, proof_line_count}
 use Rattle.cert_format.specs.Private.Ranges.{stage_line_count}
 use Rattle.cert_format.proofs.RangeLemmas.{Line, nodes_length}
@@ -31,10 +32,15 @@ optional_length : (tag : Word) (number : Option ℕ) → length (optional_lines 
 optional_length tag None = refl
 optional_length tag (Some n) = refl
 
+fixing_length : (fixing : Option Fixing) → length (fixing_lines fixing) ≡ option_map_or (λ (f : Fixing). 1) fixing 0
+fixing_length None = refl
+fixing_length (Some f) = refl
+
 -- how many lines a stage has below its mark
 pub proof_length : (s : StageCert) → length (proof_lines s) ≡ proof_line_count s
 proof_length s =
-    let nodes : List Line = count_words (codes "TREE") (length s.tree) ∷ node_lines s.tree s.floors in
+    let trees : List Line = count_words (codes "TREE") (length s.tree) ∷ node_lines s.tree s.floors in
+    let nodes : List Line = fixing_lines s.fixing ++ trees in
     let tail : List Line = count_words (codes "VECTORS") (length s.vectors) ∷ (numbered vector_lines 0 s.vectors ++ nodes) in
     let bounds : List Line = optional_lines (codes "BOUND") s.bound ++ tail in
     let costs : List Line = optional_lines (codes "COST") s.cost ++ bounds in
@@ -47,7 +53,9 @@ proof_length s =
     let h = choice_length s.choice in
     let i = optional_length (codes "COST") s.cost in
     let j = optional_length (codes "BOUND") s.bound in
-    omega (arith, a, b, d, e, f, g, h, i, j)
+    let k = fixing_length s.fixing in
+    let l = length-append (fixing_lines s.fixing) trees in
+    omega (arith, a, b, d, e, f, g, h, i, j, k, l)
 
 tried_length : (tried : Bool) (s : StageCert) → length (cond tried (proof_lines s) []) ≡ cond tried (proof_line_count s) 0
 tried_length true s = proof_length s
@@ -84,9 +92,13 @@ optional_most : (number : Option ℕ) → option_map_or (λ (n : ℕ). 1) number
 optional_most None = omega arith
 optional_most (Some n) = omega arith
 
+fixing_most : (fixing : Option Fixing) → option_map_or (λ (f : Fixing). 1) fixing 0 ≤ 1
+fixing_most None = omega arith
+fixing_most (Some f) = omega arith
+
 proof_most : (s : StageCert) → IsWithinLimits s → proof_line_count s ≤ 4100000
 proof_most s w =
-    omega (arith, choice_most s.choice w.units, optional_most s.cost, optional_most s.bound, vectors_counted s.vectors, w.vectors, w.prices, w.nodes)
+    omega (arith, choice_most s.choice w.units, optional_most s.cost, optional_most s.bound, fixing_most s.fixing, vectors_counted s.vectors, w.vectors, w.prices, w.nodes)
 
 tried_most : (tried : Bool) (s : StageCert) → IsWithinLimits s → cond tried (proof_line_count s) 0 ≤ 4100000
 tried_most true s w = proof_most s w

@@ -12,6 +12,7 @@ use Rattle.choice_problem.specs.declared.vectors.Price.{Price}
 use Rattle.choice_problem.specs.declared.nodes.Node.{Node}
 use Rattle.choice_problem.specs.declared.nodes.Node.TheVariants.{Split, Leaf, Over, Undone}
 use Rattle.choice_problem.specs.Trees.{node_count}
+use Rattle.cost_fixing.specs.declared.fixings.Fixing.{Fixing}
 use Rattle.cert_format.specs.declared.cert.Floor.{Floor}
 use Rattle.cert_format.specs.declared.cert.Mark.{Mark}
 use Rattle.cert_format.specs.declared.cert.Mark.TheVariants.{Optimal, Infeasible, Unsettled, NotTried}
@@ -19,8 +20,8 @@ use Rattle.cert_format.specs.declared.cert.StageCert.{StageCert}
 use Rattle.cert_format.specs.declared.cert.Certificate.{Certificate}
 use Rattle.cert_format.specs.declared.cert.TheConstants.{MOST_SEASON_BYTES}
 use Rattle.cert_format.specs.Lines.{Word, spelled_line, text_of}
-use Rattle.cert_format.specs.Spelling.{numbered, count_words, alternative_lines, alternative_words, price_lines, price_words, vector_lines, seen_word, node_words, is_undone, node_lines, optional_lines, choices_words, choice_lines, stage_words, is_tried, proof_lines, stage_lines, spelling}
-use Rattle.cert_format.specs.Spelling.{SeenFits, NodeFits, IsLong, PriceFits, VectorFits, ProofFits, StageFitsAs, StageFits, IsCert}
+use Rattle.cert_format.specs.Spelling.{numbered, count_words, alternative_lines, alternative_words, price_lines, price_words, vector_lines, seen_word, node_words, is_undone, node_lines, fixing_words, fixing_lines, optional_lines, choices_words, choice_lines, stage_words, is_tried, proof_lines, stage_lines, spelling}
+use Rattle.cert_format.specs.Spelling.{SeenFits, NodeFits, FixingFits, IsLong, PriceFits, VectorFits, ProofFits, StageFitsAs, StageFits, IsCert}
 use Rattle.cert_format.specs.Printable.{IsShortFloor, IsWithinLimits}
 use Rattle.cert_format.proofs.RangeLemmas.{Line}
 
@@ -98,6 +99,18 @@ optional-bytes : (tag : Word) (number : Option ℕ) → SeenFits number → leng
 optional-bytes tag None fits = omega arith
 optional-bytes tag (Some n) fits = omega (arith, size-cons (count_words tag n) [], two-words tag (decimal n), digits-20 n fits)
 
+fixing-bytes : (fixing : Option Fixing) → IfSome fixing FixingFits → length (text_of (fixing_lines fixing)) ≤ 57
+fixing-bytes None fits = omega arith
+fixing-bytes (Some f) fits =
+    omega (
+      arith,
+      size-cons (fixing_words f) [],
+      four-words (codes "FIX") (decimal f.vector) (decimal f.scale) (decimal f.cost),
+      digits-10 f.vector fits.0,
+      digits-20 f.scale fits.1,
+      digits-20 f.cost fits.2,
+    )
+
 prices-bytes : (prices : List Price) (i : ℕ) → AllByRecursion PriceFits prices → length (text_of (numbered price_lines i prices)) ≤ 34 * length prices
 prices-bytes [] i fits = omega arith
 prices-bytes (e ∷ prices) i fits =
@@ -171,10 +184,11 @@ mark-bytes stage Infeasible lt = omega (arith, three-words (codes "STAGE") (deci
 mark-bytes stage Unsettled lt = omega (arith, three-words (codes "STAGE") (decimal stage) (codes "OPEN"), digits-10 stage lt)
 mark-bytes stage NotTried lt = omega (arith, four-words (codes "STAGE") (decimal stage) (codes "NOT") (codes "TRIED"), digits-10 stage lt)
 
-proof-bytes : (version : ℕ) (s : StageCert) → ProofFits version s → IsWithinLimits s → length (text_of (proof_lines s)) ≤ 133099573
+proof-bytes : (version : ℕ) (s : StageCert) → ProofFits version s → IsWithinLimits s → length (text_of (proof_lines s)) ≤ 133099630
 proof-bytes version s fits w =
     let nodes : List Line = node_lines s.tree s.floors in
-    let trees : List Line = count_words (codes "TREE") (length s.tree) ∷ nodes in
+    let counted_nodes : List Line = count_words (codes "TREE") (length s.tree) ∷ nodes in
+    let trees : List Line = fixing_lines s.fixing ++ counted_nodes in
     let listed : List Line = numbered vector_lines 0 s.vectors ++ trees in
     let tail : List Line = count_words (codes "VECTORS") (length s.vectors) ∷ listed in
     let bounds : List Line = optional_lines (codes "BOUND") s.bound ++ tail in
@@ -185,6 +199,8 @@ proof-bytes version s fits w =
     let e = size-cons (count_words (codes "VECTORS") (length s.vectors)) listed in
     let f = size-append (numbered vector_lines 0 s.vectors) trees in
     let g = size-cons (count_words (codes "TREE") (length s.tree)) nodes in
+    let h = size-append (fixing_lines s.fixing) counted_nodes in
+    let fixing = fixing-bytes s.fixing fits.fixing in
     let choices = choice-bytes s.choice w.units fits.choice in
     let cost = optional-bytes (codes "COST") s.cost fits.cost in
     let bound = optional-bytes (codes "BOUND") s.bound fits.bound in
@@ -192,18 +208,18 @@ proof-bytes version s fits w =
     let vectors = vectors-bytes s.vectors 0 fits.vectors in
     let tree = counted (codes "TREE") (length s.tree) fits.node_count in
     let all = nodes-bytes s.tree s.floors fits.nodes w.floors in
-    omega (arith, a, b, d, e, f, g, choices, cost, bound, many, vectors, tree, all, w.vectors, w.prices, w.nodes, w.budget)
+    omega (arith, a, b, d, e, f, g, h, fixing, choices, cost, bound, many, vectors, tree, all, w.vectors, w.prices, w.nodes, w.budget)
 
-tried-bytes : (version : ℕ) (s : StageCert) (tried : Bool) → StageFitsAs version s tried → IsWithinLimits s → length (text_of (cond tried (proof_lines s) [])) ≤ 133099573
+tried-bytes : (version : ℕ) (s : StageCert) (tried : Bool) → StageFitsAs version s tried → IsWithinLimits s → length (text_of (cond tried (proof_lines s) [])) ≤ 133099630
 tried-bytes version s true fits w = proof-bytes version s fits w
 tried-bytes version s false fits w = omega arith
 
-stage-bytes : (version stage : ℕ) (s : StageCert) → stage < 2 ^ 32 → StageFits version s → IsWithinLimits s → length (text_of (stage_lines stage s)) ≤ 133099601
+stage-bytes : (version stage : ℕ) (s : StageCert) → stage < 2 ^ 32 → StageFits version s → IsWithinLimits s → length (text_of (stage_lines stage s)) ≤ 133099658
 stage-bytes version stage s lt fits w =
     omega (arith, size-cons (stage_words stage s.mark) (cond (is_tried s.mark) (proof_lines s) []), mark-bytes stage s.mark lt, tried-bytes version s (is_tried s.mark) fits w)
 
 stages-bytes : (version : ℕ) (stages : List StageCert) (stage : ℕ) → stage + length stages ≤ 2 ^ 32 → AllByRecursion (StageFits version) stages → AllByRecursion IsWithinLimits stages →
-    length (text_of (numbered stage_lines stage stages)) ≤ 133099601 * length stages
+    length (text_of (numbered stage_lines stage stages)) ≤ 133099658 * length stages
 stages-bytes version [] stage few fits w = omega arith
 stages-bytes version (s ∷ stages) stage few fits w =
     omega (arith, size-append (stage_lines stage s) (numbered stage_lines (suc stage) stages), stage-bytes version stage s (omega (arith, few)) fits.0 w.0, stages-bytes version stages (suc stage) (omega (arith, few)) fits.1 w.1)

@@ -10,6 +10,7 @@ mod TextLemmas
 mod CertLemmas
 mod WriteLemmas
 mod ExtraLemmas
+mod FixingLemmas
 mod PrintLemmas
 mod RangeLemmas
 mod StopLemmas

@@ -1,5 +1,5 @@
--- The line of a node is read as it is spelled, with the floor that it has in version 2.
-use Rattle.std.proofs.Common.{◌≡◌, ℕ, ◌^◌, ◌<◌, true, false, cond, eqb, List, [], ◌∷◌, Option, Some, None, refl, sym, ap, subst, arith, inl, inr, codes}
+-- The line of a node is read as it is spelled, with the floor that it has from version 2 on.
+use Rattle.std.proofs.Common.{◌≡◌, ℕ, ◌^◌, ◌<◌, true, false, cond, List, [], ◌∷◌, Option, Some, None, refl, sym, ap, subst, arith, inl, inr, codes}
 use Rattle.std.specs.Prelude.{◌&&◌}
 use Rattle.std.specs.Fmt.{decimal}
 use Rattle.std.specs.Str.{bytes_eq}
@@ -12,7 +12,7 @@ use Rattle.cert_format.specs.declared.cert.Floor.{Floor}
 use Rattle.cert_format.specs.Lines.{Word}
 use Rattle.cert_format.specs.Private.Words.{◌>>=◌, most_small, most_large, number_of, seen_of, next_by, is_end}
 use Rattle.cert_format.specs.Private.Rows.{split_row, leaf_row, over_row, floor_row, with_no_floor, undone_row, node_row}
-use Rattle.cert_format.specs.Spelling.{seen_word, node_words, undone_words, is_undone, SeenFits, NodeFits, FloorFits}
+use Rattle.cert_format.specs.Spelling.{seen_word, node_words, undone_words, is_undone, has_floors, SeenFits, NodeFits, FloorFits}
 use Rattle.cert_format.proofs.WordLemmas.{number_takes, number_again, next_takes, next_again, end_takes, bind_some, seen_takes, seen_again}
 
 split_takes : (ws : List Word) (n : Node) → split_row ws ≡ Some n → (codes "S" ∷ ws ≡ node_words n None) × NodeFits n × (is_undone n ≡ false)
@@ -73,8 +73,8 @@ floor_takes ws f e =
 
 -- the floor that a node of this version has
 abbrev pub FloorIs : ℕ → Node → Option Floor → Type 0
-FloorIs version node None = (is_undone node && eqb version 2) ≡ false
-FloorIs version node (Some f) = ((is_undone node && eqb version 2) ≡ true) × FloorFits f
+FloorIs version node None = (is_undone node && has_floors version) ≡ false
+FloorIs version node (Some f) = ((is_undone node && has_floors version) ≡ true) × FloorFits f
 
 pub record NodeTakes (version : ℕ) (ws : List Word) (node : Node) (floor : Option Floor) : Type 0 where
   pub words : ws ≡ node_words node floor
@@ -93,7 +93,7 @@ no_floor_takes version ws (Some n) node floor takes e =
 undone_takes : (version : ℕ) (ws : List Word) (node : Node) (floor : Option Floor) → undone_row version ws ≡ Some (node, floor) → NodeTakes version (codes "U" ∷ ws) node floor
 unfolding undone_row
 undone_takes version ws node floor e =
-    elim (cases_Bool (eqb version 2)) [
+    elim (cases_Bool (has_floors version)) [
       | inl two ↦
           let a = bind_some (floor_row ws) (λ f. Some (Undone, Some f)) (node, floor) (rw two at e) in
           let same = some_pair_parts Undone node (Some a.0) floor a.2 in
@@ -169,5 +169,5 @@ node_again version (Over resource) None fits floor = rw (over_again resource fit
 node_again version (Over resource) (Some f) fits floor = absurd (both_ways false refl floor.0)
 node_again version Undone None fits floor = rw floor refl
 node_again version Undone (Some f) fits floor =
-    let two : eqb version 2 ≡ true = floor.0 in
+    let two : has_floors version ≡ true = floor.0 in
     rw (two, floor_again f floor.1) refl

@@ -19,7 +19,7 @@ all_weaker P Q weaker [] all = tt
 all_weaker P Q weaker (x ∷ xs) all = (weaker x all.0, all_weaker P Q weaker xs all.1)
 
 proof_printable : (version : ℕ) (s : StageCert) → ProofFits version s → IsPrintableProof version s
-proof_printable version s f = record { has_cost = f.has_cost; has_bound = f.has_bound; vector_count = f.vector_count; floor_count = f.floor_count }
+proof_printable version s f = record { has_cost = f.has_cost; has_bound = f.has_bound; vector_count = f.vector_count; fixed_from = f.fixed_from; floor_count = f.floor_count }
 
 stage_printable : (version : ℕ) (s : StageCert) (tried : Bool) → StageFitsAs version s tried → IsPrintableAs version s tried
 stage_printable version s true f = proof_printable version s f
@@ -29,7 +29,7 @@ cert_printable : (c : Certificate) → IsCert c → length (cert_lines c) ≤ MO
 cert_printable c is few = record { version = is.version; count = is.count; stages = all_weaker (StageFits c.version) (IsPrintableStage c.version) (λ s f. stage_printable c.version s (is_tried s.mark) f) c.stages is.stages; few = few }
 
 extra_printable : (s : StageCert) → IsExtra s → length (extra_lines s) ≤ MOST_LINES → IsPrintableExtra s
-extra_printable s is few = record { tried = is.tried; fits = proof_printable 2 s is.fits; few = few }
+extra_printable s is few = record { tried = is.tried; fits = proof_printable 3 s is.fits; few = few }
 
 -- ---- a text has no more lines than bytes
 

@@ -1,5 +1,5 @@
 -- What is printed is in the form: the ranges of its numbers, and how many lines it has.
-use Rattle.std.proofs.Common.{◌≡◌, ℕ, suc, ◌+◌, ◌^◌, ◌<◌, ◌≤◌, Bool, true, false, cond, eqb, List, [], ◌∷◌, ◌++◌, length, take, drop, get_or, Option, Some, None, refl, sym, ap, subst, ◌∙◌, arith, codes, length-append, length-drop, ℤ, pos, negsuc, SFits, w64, inl, inr}
+use Rattle.std.proofs.Common.{◌≡◌, ℕ, suc, ◌+◌, ◌^◌, ◌<◌, ◌≤◌, Bool, true, false, cond, List, [], ◌∷◌, ◌++◌, length, take, drop, get_or, Option, Some, None, refl, sym, ap, subst, ◌∙◌, arith, codes, length-append, length-drop, ℤ, pos, negsuc, SFits, w64, inl, inr}
 use Rattle.std.specs.Prelude.{IfSome}
 use Rattle.std.specs.List.{AllByRecursion}
 use Rattle.std.proofs.lemmas.Bool.{cases_Bool}
@@ -10,7 +10,7 @@ use Rattle.cert_format.specs.declared.cert.Floor.{Floor}
 use Rattle.cert_format.specs.declared.cert.StageCert.{StageCert}
 use Rattle.cert_format.specs.declared.cert.Certificate.{Certificate}
 use Rattle.cert_format.specs.Lines.{Word}
-use Rattle.cert_format.specs.Spelling.{numbered, count_words, alternative_lines, price_lines, vector_lines, is_undone, node_lines, optional_lines, choice_lines, is_tried, proof_lines, stage_lines, IsLong, PriceFits, VectorFits, FloorFits, undone_count, ProofFits, StageFitsAs, StageFits, IsCert, IsExtra}
+use Rattle.cert_format.specs.Spelling.{numbered, count_words, alternative_lines, price_lines, vector_lines, is_undone, node_lines, fixing_lines, optional_lines, choice_lines, is_tried, proof_lines, stage_lines, IsLong, PriceFits, VectorFits, FloorFits, undone_count, has_floors, ProofFits, StageFitsAs, StageFits, IsCert, IsExtra}
 use Rattle.cert_format.specs.Printable.{IsPrintableProof, IsPrintableAs, IsPrintableStage, IsPrintable, IsPrintableExtra}
 use Rattle.cert_format.specs.Private.Ranges.{HasRanges, RangesAs}
 
@@ -77,7 +77,8 @@ at_most false n m e = omega (arith, e)
 
 proof_fits : (version : ℕ) (s : StageCert) → IsPrintableProof version s → HasRanges s → length (proof_lines s) < 2 ^ 32 → ProofFits version s
 proof_fits version s p r few =
-    let nodes : List Line = count_words (codes "TREE") (length s.tree) ∷ node_lines s.tree s.floors in
+    let trees : List Line = count_words (codes "TREE") (length s.tree) ∷ node_lines s.tree s.floors in
+    let nodes : List Line = fixing_lines s.fixing ++ trees in
     let tail : List Line = count_words (codes "VECTORS") (length s.vectors) ∷ (numbered vector_lines 0 s.vectors ++ nodes) in
     let bounds : List Line = optional_lines (codes "BOUND") s.bound ++ tail in
     let costs : List Line = optional_lines (codes "COST") s.cost ++ bounds in
@@ -85,10 +86,11 @@ proof_fits version s p r few =
     let b = length-append (optional_lines (codes "COST") s.cost) bounds in
     let d = length-append (optional_lines (codes "BOUND") s.bound) tail in
     let e = length-append (numbered vector_lines 0 s.vectors) nodes in
+    let g = length-append (fixing_lines s.fixing) trees in
     let f = nodes_length s.tree s.floors in
     let choice_small : length (choice_lines s.choice) < 2 ^ 32 = omega (arith, few, a) in
     let vector_small : length (numbered vector_lines 0 s.vectors) < 2 ^ 32 = omega (arith, few, a, b, d, e) in
-    let tree_small : length s.tree < 2 ^ 32 = omega (arith, few, a, b, d, e, f) in
+    let tree_small : length s.tree < 2 ^ 32 = omega (arith, few, a, b, d, e, f, g) in
     record {
       choice = choice_fits s.choice choice_small r.choice;
       has_cost = p.has_cost;
@@ -96,11 +98,13 @@ proof_fits version s p r few =
       has_bound = p.has_bound;
       bound = r.bound;
       vector_count = p.vector_count;
+      fixed_from = p.fixed_from;
+      fixing = r.fixing;
       vectors = vectors_fit s.vectors (vectors_small s.vectors 0 vector_small) r.vectors;
       node_count = tree_small;
       nodes = r.nodes;
       floor_count = p.floor_count;
-      floors = r.floors (at_most (eqb version 2) (undone_count s.tree) (length s.floors) p.floor_count);
+      floors = r.floors (at_most (has_floors version) (undone_count s.tree) (length s.floors) p.floor_count);
     }
 
 stage_fits : (version : ℕ) (s : StageCert) (tried : Bool) → IsPrintableAs version s tried → RangesAs s tried → length (cond tried (proof_lines s) []) < 2 ^ 32 → StageFitsAs version s tried
@@ -121,4 +125,4 @@ cert_is c p r =
 pub extra_is : (s : StageCert) → IsPrintableExtra s → HasRanges s → IsExtra s
 extra_is s p r =
     let whole = length-append (proof_lines s) ((codes "END" ∷ []) ∷ []) in
-    record { tried = p.tried; fits = proof_fits 2 s p.fits r (omega (arith, p.few, whole)) }
+    record { tried = p.tried; fits = proof_fits 3 s p.fits r (omega (arith, p.few, whole)) }

@@ -1,10 +1,10 @@
 -- A line that is read is the line that spells the value, and what was spelled is read again.
 use Rattle.std.proofs.Common.{◌≡◌, ℕ, ◌^◌, ◌<◌, ◌≤◌, ◌⊎◌, Bool, true, false, cond, eqb, List, [], ◌∷◌, Option, Some, None, refl, ap, subst, ◌∙◌, arith, inl, inr, codes}
-use Rattle.std.specs.Prelude.{IfSome, ◌&&◌, ◌||◌}
+use Rattle.std.specs.Prelude.{IfSome, nat_le, ◌&&◌}
 use Rattle.std.specs.Fmt.{decimal, signed_decimal}
 use Rattle.std.specs.Str.{bytes_eq}
 use Rattle.std.proofs.lemmas.Slice.Eq.{bytes_eq-Decides}
-use Rattle.std.proofs.lemmas.Bool.{cases_Bool, and_parts, eqb-true, eqb-false, eq-eqb}
+use Rattle.std.proofs.lemmas.Bool.{and_parts, and_from, leb-true, le-leb, eqb-true, eq-eqb}
 use Rattle.std.proofs.lemmas.Option.{cond_some}
 use Rattle.choice_problem.specs.declared.vectors.Price.{Price}
 use Rattle.cert_format.specs.declared.cert.Mark.{Mark}
@@ -177,45 +177,33 @@ mark_again stage m small =
 
 -- ---- the first line and the last
 
-either : (v : ℕ) → (eqb v 1 || eqb v 2) ≡ true → IsVersion v
-either v e =
-    elim (cases_Bool (eqb v 1)) [
-      | inl one ↦ let is : v ≡ 1 = eqb-true v 1 one in (omega arith, omega arith)
-      | inr other ↦ let two : eqb v 2 ≡ true = rw other at e in let is : v ≡ 2 = eqb-true v 2 two in (omega arith, omega arith)
-    ]
+from_one : (v : ℕ) → (nat_le 1 v && nat_le v 3) ≡ true → IsVersion v
+from_one v e =
+    let both = and_parts (nat_le 1 v) (nat_le v 3) e in
+    (leb-true 1 v both.0, leb-true v 3 both.1)
 
-one_or_two : (v : ℕ) → IsVersion v → (eqb v 1 || eqb v 2) ≡ true
-one_or_two v h =
-    elim (cases_Bool (eqb v 1)) [
-      | inl one ↦ rw one refl
-      | inr other ↦
-          let not_one : v ≡ 1 → ⊥ = eqb-false v 1 other in
-          let two : v ≡ 2 = is_two v (h.0) h.1 not_one in
-          rw (other, eq-eqb v 2 two) refl
-    ]
-  where
-    is_two : (n : ℕ) → 1 ≤ n → n ≤ 2 → (n ≡ 1 → ⊥) → n ≡ 2
-    is_two n a b c = omega arith
+one_to_three : (v : ℕ) → IsVersion v → (nat_le 1 v && nat_le v 3) ≡ true
+one_to_three v h = and_from _ _ (le-leb 1 v h.0) (le-leb v 3 h.1)
 
 pub version_takes : (ws : List Word) (v : ℕ) → version_row ws ≡ Some v → (ws ≡ count_words (codes "CERT") v) × IsVersion v
 unfolding version_row
 version_takes ws v e =
-    let a = bind_some (after_tag (codes "CERT") ws) (λ vs. next_by (number_of most_small) vs >>= λ x. cond ((eqb x.0 1 || eqb x.0 2) && is_end x.1) (Some x.0) None) v e in
-    let b = bind_some (next_by (number_of most_small) a.0) (λ x. cond ((eqb x.0 1 || eqb x.0 2) && is_end x.1) (Some x.0) None) v a.2 in
-    let g = cond_some ((eqb b.0.0 1 || eqb b.0.0 2) && is_end b.0.1) b.0.0 v b.2 in
-    let both = and_parts (eqb b.0.0 1 || eqb b.0.0 2) (is_end b.0.1) g.0 in
+    let a = bind_some (after_tag (codes "CERT") ws) (λ vs. next_by (number_of most_small) vs >>= λ x. cond ((nat_le 1 x.0 && nat_le x.0 3) && is_end x.1) (Some x.0) None) v e in
+    let b = bind_some (next_by (number_of most_small) a.0) (λ x. cond ((nat_le 1 x.0 && nat_le x.0 3) && is_end x.1) (Some x.0) None) v a.2 in
+    let g = cond_some ((nat_le 1 b.0.0 && nat_le b.0.0 3) && is_end b.0.1) b.0.0 v b.2 in
+    let both = and_parts (nat_le 1 b.0.0 && nat_le b.0.0 3) (is_end b.0.1) g.0 in
     let t0 = tag_takes (codes "CERT") ws a.0 a.1 in
     let t1 = next_takes (number_of most_small) a.0 b.0 b.1 in
     let p = number_takes most_small b.0.0 t1.word t1.reads in
     let end = is_end_nil b.0.1 both.1 in
     let whole : ws ≡ count_words (codes "CERT") b.0.0 = cc (t0, t1.parts, p.0, end) in
-    subst (λ (m : ℕ). (ws ≡ count_words (codes "CERT") m) × IsVersion m) g.1 (whole, either b.0.0 both.0)
+    subst (λ (m : ℕ). (ws ≡ count_words (codes "CERT") m) × IsVersion m) g.1 (whole, from_one b.0.0 both.0)
 
 pub version_again : (v : ℕ) → IsVersion v → version_row (count_words (codes "CERT") v) ≡ Some v
 unfolding version_row
 version_again v h =
     let r : number_of most_small (decimal v) ≡ Some v = number_again most_small v (omega (arith, h.1)) (omega (arith, h.1)) in
-    rw (tag_again (codes "CERT") (decimal v ∷ []), next_again (number_of most_small) (decimal v) v [] r, one_or_two v h) refl
+    rw (tag_again (codes "CERT") (decimal v ∷ []), next_again (number_of most_small) (decimal v) v [] r, one_to_three v h) refl
 
 pub end_line_takes : (ws : List Word) (n : ℕ) → end_row ws ≡ Some n → ws ≡ codes "END" ∷ []
 unfolding end_row

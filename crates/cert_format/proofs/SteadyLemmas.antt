@@ -3,14 +3,20 @@ use Rattle.std.proofs.Common.{ℕ, zero, suc, ◌^◌, ◌<◌, Bool, cond, List
 use Rattle.std.specs.Prelude.{IfSome, is_some, option_to_list}
 use Rattle.choice_problem.specs.declared.vectors.Price.{Price}
 use Rattle.choice_problem.specs.declared.nodes.Node.TheVariants.{Over}
+use Rattle.cost_fixing.specs.declared.fixings.Fixing.{Fixing}
 use Rattle.cert_format.specs.declared.cert.Mark.{Mark}
 use Rattle.cert_format.specs.declared.cert.Mark.TheVariants.{Optimal, NotTried}
+use Rattle.cert_format.specs.declared.rows.FixLine.{FixLine}
+use Rattle.cert_format.specs.declared.rows.FixLine.TheVariants.{Never, Maybe, Always}
+use Rattle.cert_format.specs.declared.rows.TreeLine.{TreeLine}
+use Rattle.cert_format.specs.declared.rows.TreeLine.TheVariants.{Fixed, Counted}
 use Rattle.cert_format.specs.Private.Words.{most_small, most_large}
 use Rattle.cert_format.specs.Private.Spots.{◌>>=◌, line_by}
-use Rattle.cert_format.specs.Private.Rows.{count_row, choices_row, alternative_row, price_row, node_row, mark_row, version_row, end_row, extra_row, tried_row}
-use Rattle.cert_format.specs.Private.Reading.{many, alternative_at, alternatives_at, choice_at, price_at, one_vector, vector_at, vectors_at, optional_at, nodes_at, tree_at, proof_at, stage_at, ended, cert_at, extra_at}
-use Rattle.cert_format.specs.Spelling.{not_tried, count_words, choices_words, alternative_words, price_words, node_words, stage_words, is_tried, has_bound}
+use Rattle.cert_format.specs.Private.Rows.{count_row, choices_row, alternative_row, price_row, tree_row, fix_line, node_row, mark_row, version_row, end_row, extra_row, tried_row}
+use Rattle.cert_format.specs.Private.Reading.{many, alternative_at, alternatives_at, choice_at, price_at, one_vector, vector_at, vectors_at, optional_at, nodes_at, after_head, head_at, tree_at, proof_at, stage_at, ended, cert_at, extra_at}
+use Rattle.cert_format.specs.Spelling.{not_tried, count_words, choices_words, alternative_words, price_words, fixing_words, FixingFits, node_words, stage_words, is_tried, has_bound}
 use Rattle.cert_format.proofs.RowLemmas.{count_again, choices_take, choices_again, alternative_again, price_row_again, mark_again, version_again, end_line_again}
+use Rattle.cert_format.proofs.FixingLemmas.{head_words, HeadFits, MayBegin, head_again}
 use Rattle.cert_format.proofs.NodeRowLemmas.{node_again}
 use Rattle.cert_format.proofs.BlockLemmas.{line_takes}
 use Rattle.cert_format.proofs.ExtraLemmas.{extra_again, tried_row_again}
@@ -79,38 +85,75 @@ steady_nodes version (suc n) =
     steady_then (line_by (node_row version)) (λ first q. nodes_at version n q >>= λ others. Ok ((first.0 ∷ others.0.0, option_to_list first.1 ++ others.0.1), others.1)) (steady_node version)
     (λ first. steady_then (nodes_at version n) (λ others q. Ok ((first.0 ∷ others.0, option_to_list first.1 ++ others.1), q)) (steady_nodes version n) (λ others. steady_done (first.0 ∷ others.0, option_to_list first.1 ++ others.1)))
 
-steady_tree : (version : ℕ) → Steady (tree_at version)
+abbrev no_fixing : Fixing
+no_fixing = record { vector = 0; scale = 0; cost = 0 }
+
+-- a line that a tree may begin with
+abbrev a_head : FixLine → TreeLine
+a_head Never = Counted 0
+a_head Maybe = Counted 0
+a_head Always = Fixed no_fixing
+
+a_head_fits : (fix : FixLine) → HeadFits (a_head fix)
+a_head_fits Never = let small : 0 < 2 ^ 32 = omega arith in small
+a_head_fits Maybe = let small : 0 < 2 ^ 32 = omega arith in small
+a_head_fits Always =
+    let small : 0 < 2 ^ 32 = omega arith in
+    let long : 0 < 2 ^ 64 = omega arith in
+    (small, long, long)
+
+a_head_may : (fix : FixLine) → MayBegin fix (a_head fix)
+a_head_may Never = tt
+a_head_may Maybe = tt
+a_head_may Always = tt
+
+steady_head_line : (fix : FixLine) → Steady (line_by (tree_row fix))
+steady_head_line fix = steady_line (tree_row fix) (head_words (a_head fix)) (a_head fix) (head_again fix (a_head fix) (a_head_fits fix) (a_head_may fix))
+
+steady_after : (line : TreeLine) → Steady (after_head line)
+unfolding after_head
+steady_after (Counted n) = steady_done (None, n)
+steady_after (Fixed f) =
+    steady_then (line_by (count_row (codes "TREE") most_small)) (λ n q. Ok ((Some f, n), q)) (steady_count (codes "TREE") most_small) (λ n. steady_done (Some f, n))
+
+steady_head : (fix : FixLine) → Steady (head_at fix)
+unfolding head_at
+steady_head fix = steady_then (line_by (tree_row fix)) after_head (steady_head_line fix) steady_after
+
+steady_tree : (version : ℕ) (fix : FixLine) → Steady (tree_at version fix)
 unfolding tree_at
-steady_tree version = steady_then (line_by (count_row (codes "TREE") most_small)) (λ n q. nodes_at version n q) (steady_count (codes "TREE") most_small) (λ n. steady_nodes version n)
+steady_tree version fix =
+    steady_then (head_at fix) (λ head q. nodes_at version head.1 q >>= λ nodes. Ok ((head.0, nodes.0), nodes.1)) (steady_head fix)
+    (λ head. steady_then (nodes_at version head.1) (λ nodes q. Ok ((head.0, nodes), q)) (steady_nodes version head.1) (λ nodes. steady_done (head.0, nodes)))
 
 -- ---- stages
 
-steady_proof : (version : ℕ) (mark : Mark) → Steady (proof_at version mark)
+steady_proof : (version : ℕ) (fix : FixLine) (mark : Mark) → Steady (proof_at version fix mark)
 unfolding proof_at
-steady_proof version mark =
+steady_proof version fix mark =
     steady_then choice_at
-    (λ choice p. optional_at (codes "COST") (is_some choice) p >>= λ cost. optional_at (codes "BOUND") (has_bound version mark) cost.1 >>= λ bound. vectors_at bound.1 >>= λ vectors. tree_at version vectors.1 >>= λ tree. Ok (record { mark = mark; choice = choice; cost = cost.0; bound = bound.0; vectors = vectors.0; tree = tree.0.0; floors = tree.0.1 }, tree.1))
+    (λ choice p. optional_at (codes "COST") (is_some choice) p >>= λ cost. optional_at (codes "BOUND") (has_bound version mark) cost.1 >>= λ bound. vectors_at bound.1 >>= λ vectors. tree_at version fix vectors.1 >>= λ tree. Ok (record { mark = mark; choice = choice; cost = cost.0; bound = bound.0; vectors = vectors.0; fixing = tree.0.0; tree = tree.0.1.0; floors = tree.0.1.1 }, tree.1))
     steady_choice
     (λ choice. steady_then (optional_at (codes "COST") (is_some choice))
-    (λ cost p. optional_at (codes "BOUND") (has_bound version mark) p >>= λ bound. vectors_at bound.1 >>= λ vectors. tree_at version vectors.1 >>= λ tree. Ok (record { mark = mark; choice = choice; cost = cost; bound = bound.0; vectors = vectors.0; tree = tree.0.0; floors = tree.0.1 }, tree.1))
+    (λ cost p. optional_at (codes "BOUND") (has_bound version mark) p >>= λ bound. vectors_at bound.1 >>= λ vectors. tree_at version fix vectors.1 >>= λ tree. Ok (record { mark = mark; choice = choice; cost = cost; bound = bound.0; vectors = vectors.0; fixing = tree.0.0; tree = tree.0.1.0; floors = tree.0.1.1 }, tree.1))
     (steady_optional (codes "COST") (is_some choice))
     (λ cost. steady_then (optional_at (codes "BOUND") (has_bound version mark))
-    (λ bound p. vectors_at p >>= λ vectors. tree_at version vectors.1 >>= λ tree. Ok (record { mark = mark; choice = choice; cost = cost; bound = bound; vectors = vectors.0; tree = tree.0.0; floors = tree.0.1 }, tree.1))
+    (λ bound p. vectors_at p >>= λ vectors. tree_at version fix vectors.1 >>= λ tree. Ok (record { mark = mark; choice = choice; cost = cost; bound = bound; vectors = vectors.0; fixing = tree.0.0; tree = tree.0.1.0; floors = tree.0.1.1 }, tree.1))
     (steady_optional (codes "BOUND") (has_bound version mark))
     (λ bound. steady_then vectors_at
-    (λ vectors p. tree_at version p >>= λ tree. Ok (record { mark = mark; choice = choice; cost = cost; bound = bound; vectors = vectors; tree = tree.0.0; floors = tree.0.1 }, tree.1))
+    (λ vectors p. tree_at version fix p >>= λ tree. Ok (record { mark = mark; choice = choice; cost = cost; bound = bound; vectors = vectors; fixing = tree.0.0; tree = tree.0.1.0; floors = tree.0.1.1 }, tree.1))
     steady_vectors
-    (λ vectors. steady_then (tree_at version)
-    (λ tree p. Ok (record { mark = mark; choice = choice; cost = cost; bound = bound; vectors = vectors; tree = tree.0; floors = tree.1 }, p))
-    (steady_tree version)
-    (λ tree. steady_done (record { mark = mark; choice = choice; cost = cost; bound = bound; vectors = vectors; tree = tree.0; floors = tree.1 }))))))
+    (λ vectors. steady_then (tree_at version fix)
+    (λ tree p. Ok (record { mark = mark; choice = choice; cost = cost; bound = bound; vectors = vectors; fixing = tree.0; tree = tree.1.0; floors = tree.1.1 }, p))
+    (steady_tree version fix)
+    (λ tree. steady_done (record { mark = mark; choice = choice; cost = cost; bound = bound; vectors = vectors; fixing = tree.0; tree = tree.1.0; floors = tree.1.1 }))))))
 
 steady_stage : (version stage : ℕ) → stage < 2 ^ 32 → Steady (stage_at version stage)
 unfolding stage_at
 steady_stage version stage small =
-    steady_then (line_by (mark_row stage)) (λ mark p. cond (is_tried mark) (proof_at version mark p) (Ok (not_tried mark, p)))
+    steady_then (line_by (mark_row stage)) (λ mark p. cond (is_tried mark) (proof_at version (fix_line version) mark p) (Ok (not_tried mark, p)))
     (steady_line (mark_row stage) (stage_words stage NotTried) NotTried (mark_again stage NotTried small))
-    (λ mark. steady_cond (is_tried mark) (proof_at version mark) (λ p. Ok (not_tried mark, p)) (steady_proof version mark) (steady_done (not_tried mark)))
+    (λ mark. steady_cond (is_tried mark) (proof_at version (fix_line version) mark) (λ p. Ok (not_tried mark, p)) (steady_proof version (fix_line version) mark) (steady_done (not_tried mark)))
 
 steady_stages : (version : ℕ) → Steady (many (stage_at version) 1 4)
 steady_stages version = steady_many (stage_at version) 5 (λ i lt. steady_stage version i (omega arith)) 4 1 (omega arith)
@@ -137,9 +180,9 @@ pub whole_extra : Whole extra_at
 unfolding extra_at
 whole_extra =
     whole_then (line_by extra_row)
-    (λ head p. line_by tried_row p >>= λ mark. proof_at 2 mark.0 mark.1 >>= λ stage. line_by end_row stage.1 >>= λ last. ended stage.0 last.1)
-    (steady_line extra_row (codes "EXTRA" ∷ codes "1" ∷ []) 1 extra_again)
+    (λ head p. line_by tried_row p >>= λ mark. proof_at 3 head mark.0 mark.1 >>= λ stage. line_by end_row stage.1 >>= λ last. ended stage.0 last.1)
+    (steady_line extra_row (codes "EXTRA" ∷ codes "1" ∷ []) Never (extra_again None))
     (λ head. whole_then (line_by tried_row)
-    (λ mark p. proof_at 2 mark p >>= λ stage. line_by end_row stage.1 >>= λ last. ended stage.0 last.1)
+    (λ mark p. proof_at 3 head mark p >>= λ stage. line_by end_row stage.1 >>= λ last. ended stage.0 last.1)
     (steady_line tried_row (stage_words 5 Optimal) Optimal (tried_row_again Optimal refl))
-    (λ mark. whole_then (proof_at 2 mark) (λ stage p. line_by end_row p >>= λ last. ended stage last.1) (steady_proof 2 mark) (λ stage. whole_end stage)))
+    (λ mark. whole_then (proof_at 3 head mark) (λ stage p. line_by end_row p >>= λ last. ended stage last.1) (steady_proof 3 head mark) (λ stage. whole_end stage)))

@@ -11,12 +11,13 @@ use Rattle.cert_format.specs.Private.Cuts.{onto_lines, cert_lines_of}
 use Rattle.choice_problem.specs.declared.vectors.Price.{Price}
 use Rattle.choice_problem.specs.declared.nodes.Node.{Node}
 use Rattle.choice_problem.specs.declared.nodes.Node.TheVariants.{Split, Leaf, Over, Undone}
+use Rattle.cost_fixing.specs.declared.fixings.Fixing.{Fixing}
 use Rattle.cert_format.specs.declared.cert.Floor.{Floor}
 use Rattle.cert_format.specs.declared.cert.Mark.{Mark}
 use Rattle.cert_format.specs.declared.cert.Mark.TheVariants.{Optimal, Infeasible, Unsettled, NotTried}
 use Rattle.cert_format.specs.declared.cert.StageCert.{StageCert}
 use Rattle.cert_format.specs.declared.cert.Certificate.{Certificate}
-use Rattle.cert_format.specs.Spelling.{numbered, count_words, alternative_lines, price_lines, vector_lines, seen_word, undone_words, node_words, is_undone, node_lines, optional_lines, choice_lines, stage_words, is_tried, proof_lines, stage_lines, cert_lines, NodeFits, FloorFits, PriceFits, VectorFits, IsLong, ProofFits, StageFitsAs, StageFits, IsCert}
+use Rattle.cert_format.specs.Spelling.{numbered, count_words, alternative_lines, price_lines, vector_lines, seen_word, undone_words, node_words, is_undone, node_lines, fixing_words, fixing_lines, optional_lines, choice_lines, stage_words, is_tried, proof_lines, stage_lines, cert_lines, NodeFits, FloorFits, FixingFits, PriceFits, VectorFits, IsLong, ProofFits, StageFitsAs, StageFits, IsCert}
 use Rattle.cert_format.proofs.WordLemmas.{Each, Each-weaker, IsDigit, digits_of_number}
 
 -- a byte of a word
@@ -161,6 +162,11 @@ nodes_are_lines (node ∷ nodes) (floor ∷ floors) n f =
       | inr other ↦ rw other (node_line node None n.0 tt, nodes_are_lines nodes (floor ∷ floors) n.1 f)
     ]
 
+fixing_is_lines : (fixing : Option Fixing) → IfSome fixing FixingFits → AllByRecursion IsLine (fixing_lines fixing)
+fixing_is_lines None fits = tt
+fixing_is_lines (Some f) fits =
+    (tag_line (codes "FIX") (decimal f.vector ∷ decimal f.scale ∷ decimal f.cost ∷ []) refl (number_word f.vector (omega (arith, fits.0)), (number_word f.scale fits.1, (number_word f.cost fits.2, tt))), tt)
+
 pub proof_is_lines : (version : ℕ) (s : StageCert) → ProofFits version s → AllByRecursion IsLine (proof_lines s)
 proof_is_lines version s fits =
     lines_join (choice_lines s.choice) _ (choice_is_lines s.choice fits.choice)
@@ -168,7 +174,7 @@ proof_is_lines version s fits =
     (lines_join (optional_lines (codes "BOUND") s.bound) _ (optional_is_lines (codes "BOUND") s.bound refl fits.bound) (
       count_line (codes "VECTORS") (length s.vectors) refl (omega (arith, fits.vector_count)),
       lines_join (numbered vector_lines 0 s.vectors) _ (numbered_lines vector_lines VectorFits 64 (λ i v lt f. vector_is_lines i v f) s.vectors 0 (omega (arith, fits.vector_count)) fits.vectors)
-          (count_line (codes "TREE") (length s.tree) refl (omega (arith, fits.node_count)), nodes_are_lines s.tree s.floors fits.nodes fits.floors),
+          (lines_join (fixing_lines s.fixing) _ (fixing_is_lines s.fixing fits.fixing) (count_line (codes "TREE") (length s.tree) refl (omega (arith, fits.node_count)), nodes_are_lines s.tree s.floors fits.nodes fits.floors)),
     )))
 
 pub mark_is_line : (i : ℕ) (m : Mark) → i < 2 ^ 64 → IsLine (stage_words i m)

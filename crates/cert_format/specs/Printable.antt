@@ -17,6 +17,7 @@ pub record IsPrintableProof (version : ℕ) (s : StageCert) : Type 0 where
   pub has_cost : is_some s.cost ≡ is_some s.choice
   pub has_bound : is_some s.bound ≡ has_bound version s.mark
   pub vector_count : length s.vectors ≤ MOST_VECTORS
+  pub fixed_from : IfSome s.fixing (λ f. 3 ≤ version)
   pub floor_count : length s.floors ≡ floor_count version s.tree
 
 abbrev pub IsPrintableAs : ℕ → StageCert → Bool → Type 0
@@ -37,19 +38,20 @@ pub record IsPrintable (c : Certificate) : Type 0 where
 -- one more stage can be printed
 pub record IsPrintableExtra (s : StageCert) : Type 0 where
   pub tried : is_tried s.mark ≡ true
-  pub fits : IsPrintableProof 2 s
+  pub fits : IsPrintableProof 3 s
   pub few : length (extra_lines s) ≤ MOST_LINES
 
 -- ---- how many lines there are
 
 -- the lines below the mark of a stage that was tried: one for each unit with a choice, one for each
--- vector and each of its prices, one for each node, and those that count them or state the cost and
--- the bound
+-- vector and each of its prices, one for each node, and those that count them or state the cost, the
+-- bound and the fixing
 abbrev pub proof_line_count : StageCert → ℕ
 proof_line_count s =
     1 + option_map_or (λ alts. length alts) s.choice 0
     + (option_map_or (λ n. 1) s.cost 0 + (option_map_or (λ n. 1) s.bound 0
-    + (1 + sum_by (λ prices. 1 + length prices) s.vectors + (1 + length s.tree))))
+    + (1 + sum_by (λ prices. 1 + length prices) s.vectors
+    + (option_map_or (λ f. 1) s.fixing 0 + (1 + length s.tree)))))
 
 -- a floor by a vector that may be listed, at a scale of at most 1024
 pub record IsShortFloor (f : Floor) : Type 0 where

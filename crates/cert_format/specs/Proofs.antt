@@ -5,6 +5,8 @@ use Rattle.choice_problem.specs.Choices.{IsFeasible, IsBest, HasNone, choice_cos
 use Rattle.choice_problem.specs.Bounds.{IsVector, whole_of}
 use Rattle.choice_problem.specs.Trees.{IsSound, IsWhole}
 use Rattle.choice_problem.specs.Floors.{AreFloors, IsAtMost}
+use Rattle.cost_fixing.specs.declared.fixings.Fixing.{Fixing}
+use Rattle.cost_fixing.specs.Fixings.{FixingHolds, tree_problem}
 use Rattle.cert_format.specs.declared.cert.Floor.{Floor}
 use Rattle.cert_format.specs.declared.cert.Mark.{Mark}
 use Rattle.cert_format.specs.declared.cert.Mark.TheVariants.{Optimal, Infeasible, Unsettled, NotTried}
@@ -27,13 +29,24 @@ FitsMark p c Infeasible = IsNone c.choice × IsWhole c.tree
 FitsMark p c Unsettled = (IsWhole c.tree → ⊥) × IfSome c.bound (IsStatedBound p c)
 FitsMark p c NotTried = ⊥
 
--- a stage that was tried has a proof: a feasible choice or none, its cost, vectors of the problem,
--- and a tree that is sound for that cost, or for none, and that fits the mark
+-- a fixing stands under OPTIMAL alone, and holds for the stage's cost
+pub record IsStageFixing (p : ProblemView) (c : StageCert) (f : Fixing) : Type 0 where
+  pub optimal : c.mark ≡ Optimal
+  pub holds : FixingHolds p c.vectors c.cost f
+
+-- the problem that the tree of a stage is a tree of: where there is a fixing, what it leaves
+abbrev pub problem_of_tree : ProblemView → StageCert → ProblemView
+problem_of_tree p c = tree_problem p c.vectors c.fixing
+
+-- a stage that was tried has a proof: a feasible choice or none, its cost, vectors of the problem, a
+-- fixing that holds or none, and a tree of what it leaves that is sound for that cost, or for none,
+-- and that fits the mark
 pub record IsProof (p : ProblemView) (c : StageCert) : Type 0 where
   pub feasible : IfSome c.choice (IsFeasible p)
   pub cost : c.cost ≡ option_map (choice_cost p) c.choice
   pub vectors : All (IsVector p) c.vectors
-  pub sound : IsSound p c.vectors c.cost (whole_of p) c.tree
+  pub fixing : IfSome c.fixing (IsStageFixing p c)
+  pub sound : IsSound (problem_of_tree p c) c.vectors c.cost (whole_of (problem_of_tree p c)) c.tree
   pub marked : FitsMark p c c.mark
 
 -- what is claimed: the choice is best; there is none; or none costs less than the bound

@@ -1,10 +1,11 @@
 -- What has a spelling as a certificate, and the one spelling of each, line by line.
-use Rattle.std.specs.Prelude.{◌≡◌, ℕ, suc, ◌==◌, ◌^◌, ◌<◌, ◌≤◌, if◌then◌else◌, Bool, true, false, List, [], ◌∷◌, ◌++◌, length, Option, Some, None, is_some, IfSome, codes, ℤ, pos, negsuc}
+use Rattle.std.specs.Prelude.{◌≡◌, ℕ, suc, ◌^◌, ◌<◌, ◌≤◌, nat_le, if◌then◌else◌, Bool, true, false, List, [], ◌∷◌, ◌++◌, length, Option, Some, None, is_some, IfSome, codes, ℤ, pos, negsuc}
 use Rattle.std.specs.List.{AllByRecursion}
 use Rattle.std.specs.Fmt.{decimal, signed_decimal}
 use Rattle.choice_problem.specs.declared.vectors.Price.{Price}
 use Rattle.choice_problem.specs.declared.nodes.Node.{Node}
 use Rattle.choice_problem.specs.declared.nodes.Node.TheVariants.{Split, Leaf, Over, Undone}
+use Rattle.cost_fixing.specs.declared.fixings.Fixing.{Fixing}
 use Rattle.cert_format.specs.declared.cert.Floor.{Floor}
 use Rattle.cert_format.specs.declared.cert.Mark.{Mark}
 use Rattle.cert_format.specs.declared.cert.Mark.TheVariants.{Optimal, Infeasible, Unsettled, NotTried}
@@ -73,6 +74,15 @@ node_lines (node ∷ nodes) (floor ∷ floors) =
     if is_undone node then node_words node (Some floor) ∷ node_lines nodes floors
     else node_words node None ∷ node_lines nodes (floor ∷ floors)
 
+-- the vector, the scale and the cost of a fixing
+abbrev pub fixing_words : Fixing → List Word
+fixing_words f =
+    codes "FIX" ∷ decimal f.vector ∷ decimal f.scale ∷ decimal f.cost ∷ []
+
+abbrev pub fixing_lines : Option Fixing → List (List Word)
+fixing_lines None = []
+fixing_lines (Some f) = fixing_words f ∷ []
+
 abbrev pub optional_lines : Word → Option ℕ → List (List Word)
 optional_lines tag None = []
 optional_lines tag (Some n) = count_words tag n ∷ []
@@ -102,7 +112,8 @@ proof_lines s =
     choice_lines s.choice ++ (optional_lines (codes "COST") s.cost
     ++ (optional_lines (codes "BOUND") s.bound
     ++ (count_words (codes "VECTORS") (length s.vectors) ∷ (numbered vector_lines 0 s.vectors
-    ++ (count_words (codes "TREE") (length s.tree) ∷ node_lines s.tree s.floors)))))
+    ++ (fixing_lines s.fixing
+    ++ (count_words (codes "TREE") (length s.tree) ∷ node_lines s.tree s.floors))))))
 
 abbrev pub stage_lines : ℕ → StageCert → List (List Word)
 stage_lines stage s = stage_words stage s.mark ∷ (if is_tried s.mark then proof_lines s else [])
@@ -130,6 +141,9 @@ NodeFits Undone = Unit {0}
 abbrev pub FloorFits : Floor → Type 0
 FloorFits f = (f.vector < 2 ^ 32) × (f.scale < 2 ^ 64)
 
+abbrev pub FixingFits : Fixing → Type 0
+FixingFits f = (f.vector < 2 ^ 32) × (f.scale < 2 ^ 64) × (f.cost < 2 ^ 64)
+
 -- a number of 64 bits with a sign
 abbrev pub IsLong : ℤ → Type 0
 IsLong (pos n) = n < 2 ^ 63
@@ -146,13 +160,17 @@ undone_count [] = 0
 undone_count (node ∷ nodes) =
     if is_undone node then suc (undone_count nodes) else undone_count nodes
 
--- a tree with its floors: version 1 has none, version 2 one for each undone node
-abbrev pub floor_count : ℕ → List Node → ℕ
-floor_count version nodes = if version == 2 then undone_count nodes else 0
+-- from version 2 on there are bounds and floors
+abbrev pub has_floors : ℕ → Bool
+has_floors version = nat_le 2 version
 
--- there is a bound in version 2 where the mark is OPEN
+-- a tree with its floors: version 1 has none, a later one has one for each undone node
+abbrev pub floor_count : ℕ → List Node → ℕ
+floor_count version nodes = if has_floors version then undone_count nodes else 0
+
+-- there is a bound from version 2 on where the mark is OPEN
 abbrev pub has_bound : ℕ → Mark → Bool
-has_bound version Unsettled = version == 2
+has_bound version Unsettled = has_floors version
 has_bound version Optimal = false
 has_bound version Infeasible = false
 has_bound version NotTried = false
@@ -167,6 +185,8 @@ pub record ProofFits (version : ℕ) (s : StageCert) : Type 0 where
   pub bound : SeenFits s.bound
   pub vector_count : length s.vectors ≤ MOST_VECTORS
   pub vectors : AllByRecursion VectorFits s.vectors
+  pub fixed_from : IfSome s.fixing (λ f. 3 ≤ version)
+  pub fixing : IfSome s.fixing FixingFits
   pub node_count : length s.tree < 2 ^ 32
   pub nodes : AllByRecursion NodeFits s.tree
   pub floor_count : length s.floors ≡ floor_count version s.tree
@@ -180,6 +200,7 @@ not_tried mark = record {
   cost = None;
   bound = None;
   vectors = [];
+  fixing = None;
   tree = [];
   floors = [];
 }
@@ -190,6 +211,7 @@ pub record HoldsNothing (s : StageCert) : Type 0 where
   pub cost : s.cost ≡ None
   pub bound : s.bound ≡ None
   pub vectors : s.vectors ≡ []
+  pub fixing : s.fixing ≡ None
   pub tree : s.tree ≡ []
   pub floors : s.floors ≡ []
 
@@ -201,7 +223,7 @@ abbrev pub StageFits : ℕ → StageCert → Type 0
 StageFits version s = StageFitsAs version s (is_tried s.mark)
 
 abbrev pub IsVersion : ℕ → Type 0
-IsVersion version = (1 ≤ version) × (version ≤ 2)
+IsVersion version = (1 ≤ version) × (version ≤ 3)
 
 -- a certificate has a spelling
 pub record IsCert (c : Certificate) : Type 0 where
@@ -211,9 +233,14 @@ pub record IsCert (c : Certificate) : Type 0 where
 
 -- ---- one more stage by itself
 
+-- 2 where there is a fixing, and else 1
+abbrev pub extra_word : Option Fixing → Word
+extra_word None = codes "1"
+extra_word (Some f) = codes "2"
+
 abbrev pub extra_lines : StageCert → List (List Word)
 extra_lines s =
-    (codes "EXTRA" ∷ codes "1" ∷ [])
+    (codes "EXTRA" ∷ extra_word s.fixing ∷ [])
     ∷ (stage_words 5 s.mark ∷ (proof_lines s ++ ((codes "END" ∷ []) ∷ [])))
 
 -- the one spelling of one more stage
@@ -222,4 +249,4 @@ extra_spelling s = text_of (extra_lines s)
 
 pub record IsExtra (s : StageCert) : Type 0 where
   pub tried : is_tried s.mark ≡ true
-  pub fits : ProofFits 2 s
+  pub fits : ProofFits 3 s

@@ -2,19 +2,21 @@
 
 ghost use Rattle.std.specs.Prelude.{◌≡◌, ◌^◌, ◌+◌, ◌<◌, ◌≤◌, ◌∷◌, ◌++◌, List, OnOk, IfErr, codes, option_to_list};
 ghost use Rattle.cert_format.specs.Private.Words.{most_small, most_large};
-ghost use Rattle.cert_format.specs.Private.Rows.{count_row, choices_row, node_row, mark_row};
-ghost use Rattle.cert_format.specs.Spelling.{has_bound};
+ghost use Rattle.cert_format.specs.Private.Rows.{count_row, choices_row, tree_row, node_row, mark_row};
+ghost use Rattle.cert_format.specs.Spelling.{has_floors, has_bound};
 ghost use Rattle.cert_format.specs.Private.Spots.{spot_of, line_by};
 ghost use Rattle.cert_format.specs.Forms.{Gives};
-ghost use Rattle.cert_format.specs.Private.Reading.{many, alternative_at, alternatives_at, choice_at, price_at, one_vector, vector_at, vectors_at, optional_at, nodes_at, tree_at, proof_at, stage_at};
+ghost use Rattle.cert_format.specs.Private.Reading.{many, alternative_at, alternatives_at, choice_at, price_at, one_vector, vector_at, vectors_at, optional_at, nodes_at, after_head, head_at, tree_at, proof_at, stage_at};
 
 use crate::cert::{Floor, FloorList, Mark, StageCert};
 use crate::fault::CertFault;
 use crate::place::Place;
 use crate::rows::{
-    AlternativeRow, ChoicesRow, CountRow, MarkRow, NodeRow, PriceRow, SmallCountRow,
+    AlternativeRow, ChoicesRow, CountRow, FixLine, MarkRow, NodeRow, PriceRow, SmallCountRow,
+    TreeLine, TreeRow, fix_line,
 };
 use choice_problem::{Choice, MOST_VECTORS, Node, Price, Tree, Vector, VectorList};
+use cost_fixing::Fixing;
 use std::alloc::Global;
 
 // The alternatives of the units below the count.
@@ -165,19 +167,53 @@ fn push_some(floors: &mut Vec<Floor>, floor: Option<Floor>) -> Result<(), CertFa
     Ok(())
 }
 
-// How many nodes a tree has, and each of them.
+// What follows the first line of a tree, up to its nodes.
+#[tactic(auto, unfolding(crate::specs::Private::Reading::after_head))]
+fn after_head(
+    line: TreeLine,
+    place: Place<'_>,
+) -> Result<((Option<Fixing>, u32), Place<'_>), CertFault>
+    ensures { Gives (λ x. (x.0, spot_of x.1)) result (after_head line (spot_of place.entry)) }
+{
+    match line {
+        TreeLine::Counted { nodes } => Ok(((None, nodes), place)),
+        TreeLine::Fixed { fixing } => {
+            let (nodes, place) = place.read(&SmallCountRow { tag: b"TREE" })?;
+            Ok(((Some(fixing), nodes), place))
+        }
+    }
+}
+
+// A fixing, if there is one, and how many nodes follow.
+#[tactic(auto, unfolding(crate::specs::Private::Reading::head_at))]
+fn head_at(fix: FixLine, place: Place<'_>) -> Result<((Option<Fixing>, u32), Place<'_>), CertFault>
+    ensures { Gives (λ x. (x.0, spot_of x.1)) result (head_at fix (spot_of place.entry)) }
+{
+    let (line, place) = place.read(&TreeRow { fix })?;
+    after_head(line, place)
+}
+
+// The fixing of a tree, if it has one, how many nodes it has, and each of them.
 #[tactic(auto, unfolding(crate::specs::Private::Reading::tree_at))]
 fn tree_at(
     alloc: Global,
     version: u32,
+    fix: FixLine,
     place: Place<'_>,
-) -> Result<(Tree, FloorList, Place<'_>), CertFault>
-    ensures { Gives (λ x. ((x.0, x.1), spot_of x.2)) result
-        (tree_at version (spot_of place.entry)) }
+) -> Result<(Option<Fixing>, Tree, FloorList, Place<'_>), CertFault>
+    ensures { Gives (λ x. ((x.0, (x.1, x.2)), spot_of x.3)) result
+        (tree_at version fix (spot_of place.entry)) }
 {
-    let (count, place) = place.read(&SmallCountRow { tag: b"TREE" })?;
+    let ((fixing, count), place) = head_at(fix, place)?;
     let (nodes, floors, place) = some_nodes(alloc, version, count, place)?;
-    Ok((Tree::new(nodes), FloorList::new(floors), place))
+    Ok((fixing, Tree::new(nodes), FloorList::new(floors), place))
+}
+
+/// Whether a version has bounds and floors.
+pub fn has_floors(version: u32) -> bool
+    ensures { result ≡ has_floors version }
+{
+    version >= 2
 }
 
 /// Whether a stage has a line with its bound.
@@ -185,7 +221,7 @@ pub fn has_bound(version: u32, mark: Mark) -> bool
     ensures { result ≡ has_bound version mark }
 {
     match mark {
-        Mark::Unsettled => version == 2,
+        Mark::Unsettled => has_floors(version),
         Mark::Optimal | Mark::Infeasible | Mark::NotTried => false,
     }
 }
@@ -195,22 +231,25 @@ pub fn has_bound(version: u32, mark: Mark) -> bool
 pub fn proof_at(
     alloc: Global,
     version: u32,
+    fix: FixLine,
     mark: Mark,
     place: Place<'_>,
 ) -> Result<(StageCert, Place<'_>), CertFault>
-    ensures { Gives (λ x. (x.0, spot_of x.1)) result (proof_at version mark (spot_of place.entry)) }
+    ensures { Gives (λ x. (x.0, spot_of x.1)) result
+        (proof_at version fix mark (spot_of place.entry)) }
 {
     let (choice, place) = choice_at(alloc, place)?;
     let (cost, place) = optional_at(b"COST", choice.is_some(), place)?;
     let (bound, place) = optional_at(b"BOUND", has_bound(version, mark), place)?;
     let (vectors, place) = vectors_at(alloc, place)?;
-    let (tree, floors, place) = tree_at(alloc, version, place)?;
+    let (fixing, tree, floors, place) = tree_at(alloc, version, fix, place)?;
     let stage = StageCert {
         mark,
         choice,
         cost,
         bound,
         vectors,
+        fixing,
         tree,
         floors,
     };
@@ -231,6 +270,8 @@ pub fn stage_at(
     let (mark, place) = place.read(&MarkRow { stage })?;
     match mark {
         Mark::NotTried => Ok((StageCert::not_tried(alloc), place)),
-        Mark::Optimal | Mark::Infeasible | Mark::Unsettled => proof_at(alloc, version, mark, place),
+        Mark::Optimal | Mark::Infeasible | Mark::Unsettled => {
+            proof_at(alloc, version, fix_line(version), mark, place)
+        }
     }
 }

@@ -5,6 +5,7 @@ ghost use Rattle.cert_format.specs.declared.cert.Mark.TheVariants.{NotTried};
 ghost use Rattle.cert_format.specs.Spelling.{is_tried, not_tried};
 
 use choice_problem::{Choice, Tree, VectorList};
+use cost_fixing::Fixing;
 use std::alloc::Global;
 use std::marker::Model;
 
@@ -88,9 +89,10 @@ impl FloorList {
     }
 }
 
-/// A stage with its proof: its allotment, if any, with the displacement in minutes; under OPEN in
-/// version 2 a cost below which no feasible allotment lies; the vectors that its tree names, number
-/// 1 first; the search tree; and in version 2 one floor for each undone node, in preorder.
+/// A stage with its proof: its allotment, if any, with the displacement in minutes; under OPEN from
+/// version 2 on a cost below which no feasible allotment lies; the vectors that its tree and its
+/// fixing name, number 1 first; in version 3, if there is one, the fixing, whose left problem the
+/// tree is of; the search tree; and from version 2 on one floor for each undone node, in preorder.
 #[derive(Drop)]
 pub struct StageCert {
     pub mark: Mark,
@@ -98,6 +100,7 @@ pub struct StageCert {
     pub cost: Option<u64>,
     pub bound: Option<u64>,
     pub vectors: VectorList,
+    pub fixing: Option<Fixing>,
     pub tree: Tree,
     pub floors: FloorList,
 }
@@ -113,6 +116,7 @@ impl StageCert {
             cost: None,
             bound: None,
             vectors: VectorList::new(Vec::new(alloc)),
+            fixing: None,
             tree: Tree::new(Vec::new(alloc)),
             floors: FloorList::new(Vec::new(alloc)),
         }
@@ -150,7 +154,7 @@ impl StageList {
     }
 }
 
-/// The four stages of a season with their proofs, and the version of the text, 1 or 2.
+/// The four stages of a season with their proofs, and the version of the text, from 1 to 3.
 #[derive(Drop)]
 pub struct Certificate {
     pub version: u32,

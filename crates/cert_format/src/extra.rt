@@ -25,9 +25,9 @@ use std::alloc::Global;
 fn extra_at(alloc: Global, place: Place<'_>) -> Result<StageCert, CertFault>
     ensures { Gives (λ s. s) result (extra_at (spot_of place.entry)) }
 {
-    let (_, place) = place.read(&ExtraRow)?;
+    let (fix, place) = place.read(&ExtraRow)?;
     let (mark, place) = place.read(&TriedRow)?;
-    let (stage, place) = proof_at(alloc, 2, mark, place)?;
+    let (stage, place) = proof_at(alloc, 3, fix, mark, place)?;
     let (_, place) = place.read(&EndRow)?;
     match place.next_line() {
         None => Ok(stage),
@@ -43,8 +43,8 @@ fn whole_extra(alloc: Global, bytes: &[u8]) -> Result<StageCert, CertFault>
     extra_at(alloc, Place::start(bytes))
 }
 
-/// The one more stage that the bytes spell, all of the bytes: `EXTRA 1`, stage 5 as in version 2,
-/// and `END`.
+/// The one more stage that the bytes spell, all of the bytes: `EXTRA 1`, or `EXTRA 2` where it has
+/// a fixing, stage 5 as in version 3, and `END`.
 ///
 /// `BadLine` as `read_cert` says; memory and time as there.
 pub fn read_extra(alloc: Global, bytes: &[u8]) -> Result<StageCert, CertFault>
@@ -67,7 +67,7 @@ pub fn read_extra(alloc: Global, bytes: &[u8]) -> Result<StageCert, CertFault>
 }
 
 /// The one spelling of one more stage, as `read_extra` reads it. A caller owes what `print_cert`
-/// asks of a stage of version 2, and that the stage was tried.
+/// asks of a stage of version 3, and that the stage was tried.
 #[tactic(auto, using(crate::proofs::RangeLemmas::extra_is))]
 pub fn print_extra(alloc: Global, cert: &StageCert) -> Result<Vec<u8>, Memory>
     requires { IsPrintableExtra cert.now }
@@ -76,7 +76,7 @@ pub fn print_extra(alloc: Global, cert: &StageCert) -> Result<Vec<u8>, Memory>
     ensures again { IfOk result (λ v. IsExtra cert.now) }
 {
     let mut out = Vec::new(alloc);
-    put_extra(&mut out)?;
+    put_extra(&mut out, &cert.fixing)?;
     put_mark(alloc, &mut out, 5, cert.mark)?;
     put_proof(alloc, &mut out, cert)?;
     put_end(&mut out)?;

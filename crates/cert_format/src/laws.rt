@@ -11,6 +11,7 @@ ghost use Rattle.cert_format.specs.Printable.{IsWithinLimits, proof_line_count};
 ghost use Rattle.cert_format.specs.Proofs.{IsProof, ClaimsOf};
 
 use choice_problem::{floored_tree, sound_tree};
+use cost_fixing::fixed_best;
 
 /// How many lines a stage has below its mark; and a certificate of four stages within the limits of
 /// a season has far fewer lines than can be printed, some 16 million, and so has one more stage by
@@ -22,7 +23,7 @@ pub fn line_counts()
     ensures extra { (s : StageCertValue) → IsWithinLimits s → length (extra_lines s) ≤ MOST_LINES }
 {}
 
-/// A certificate of four stages within the limits of a season has at most 512 MiB: 133,099,601
+/// A certificate of four stages within the limits of a season has at most 512 MiB: 133,099,658
 /// bytes a stage at most, the most of them its 2,000,000 prices and the 1,000,000 splits and closed
 /// leaves of its tree.
 pub fn season_bytes()
@@ -37,5 +38,6 @@ pub fn proven_stage()
     ensures { (p : ProblemView) (c : StageCertValue) → IsProof p c → ClaimsOf p c c.mark }
 {
     sound_tree();
+    fixed_best();
     floored_tree();
 }

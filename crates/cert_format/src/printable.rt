@@ -1,15 +1,16 @@
 //! Whether a certificate can be printed.
 
-ghost use Rattle.std.specs.Prelude.{◌≡◌, ◌↔◌, ◌+◌, ◌<◌, ◌≤◌, [], ◌∷◌, IsTrue, MatchOption, length, sum_by};
+ghost use Rattle.std.specs.Prelude.{◌≡◌, ◌↔◌, ◌+◌, ◌<◌, ◌≤◌, [], ◌∷◌, IsTrue, IfSome, MatchOption, length, sum_by};
 ghost use Rattle.std.specs.List.{AllByRecursion};
 ghost use Rattle.std.specs.Option.{option_map_or};
 ghost use Rattle.cert_format.specs.Spelling.{undone_count, floor_count, cert_lines, extra_lines, HoldsNothing};
 ghost use Rattle.cert_format.specs.Printable.{IsPrintableProof, IsPrintableStage, IsPrintable, IsPrintableExtra, proof_line_count};
 ghost use Rattle.cert_format.specs.Private.Ranges.{prices_line_count, stage_line_count};
 
-use crate::blocks::has_bound;
+use crate::blocks::{has_bound, has_floors};
 use crate::cert::{Certificate, MOST_LINES, Mark, StageCert};
 use choice_problem::{Choice, MOST_VECTORS, Node, Tree, Vector};
+use cost_fixing::Fixing;
 
 // 1 for an undone node, else 0.
 fn undone_of(node: Node) -> usize
@@ -38,10 +39,20 @@ fn count_undone(nodes: &[Node]) -> usize
 fn count_floors(version: u32, tree: &Tree) -> usize
     ensures { result ≡ floor_count version tree.now }
 {
-    if version == 2 {
+    if has_floors(version) {
         count_undone(tree.items())
     } else {
         0
+    }
+}
+
+// Whether a version has such a fixing, or none.
+fn may_be_fixed(version: u32, fixing: &Option<Fixing>) -> bool
+    ensures { IsTrue result ↔ IfSome fixing.now (λ f. 3 ≤ version) }
+{
+    match fixing {
+        None => true,
+        Some(_) => version >= 3,
     }
 }
 
@@ -52,6 +63,7 @@ fn is_printable_proof(version: u32, stage: &StageCert) -> bool
     stage.cost.is_some() == stage.choice.is_some()
         && stage.bound.is_some() == has_bound(version, stage.mark)
         && stage.vectors.items().len() <= MOST_VECTORS
+        && may_be_fixed(version, &stage.fixing)
         && stage.floors.items().len() == count_floors(version, &stage.tree)
 }
 
@@ -63,6 +75,7 @@ fn holds_nothing(stage: &StageCert) -> bool
         && stage.cost.is_none()
         && stage.bound.is_none()
         && stage.vectors.items().is_empty()
+        && stage.fixing.is_none()
         && stage.tree.items().is_empty()
         && stage.floors.items().is_empty()
 }
@@ -138,12 +151,24 @@ fn count_lines(number: Option<u64>) -> u64
     }
 }
 
+fn count_fixings(fixing: &Option<Fixing>) -> u64
+    ensures { result ≡ option_map_or (λ f. 1) fixing.now 0 }
+{
+    match fixing {
+        Some(_) => 1,
+        None => 0,
+    }
+}
+
 // The room that the lines below the mark of a stage that was tried leave.
 fn take_proof(room: u64, stage: &StageCert) -> Option<u64>
     ensures { MatchOption result (room < proof_line_count stage.now)
         (λ left. left + proof_line_count stage.now ≡ room) }
 {
-    let counts = 3 + count_lines(stage.cost) + count_lines(stage.bound);
+    let counts = 3
+        + count_lines(stage.cost)
+        + count_lines(stage.bound)
+        + count_fixings(&stage.fixing);
     let left = take_lines(room, counts)?;
     let left = take_lines(left, count_choices(&stage.choice))?;
     let left = take_vectors(left, stage.vectors.items())?;
@@ -195,7 +220,7 @@ fn has_few_extra_lines(stage: &StageCert) -> bool
 pub fn is_printable(cert: &Certificate) -> bool
     ensures { IsTrue result ↔ IsPrintable cert.now }
 {
-    if cert.version < 1 || cert.version > 2 {
+    if cert.version < 1 || cert.version > 3 {
         return false;
     }
     if cert.stages.items().len() != 4 {
@@ -214,7 +239,7 @@ pub fn is_printable_extra(stage: &StageCert) -> bool
     if !stage.mark.is_tried() {
         return false;
     }
-    if !is_printable_proof(2, stage) {
+    if !is_printable_proof(3, stage) {
         return false;
     }
     has_few_extra_lines(stage)

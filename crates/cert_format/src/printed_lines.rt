@@ -3,10 +3,11 @@
 ghost use Rattle.std.specs.Prelude.{◌≡◌, ◌++◌, ◌∷◌, ◌<◌, ◌^◌, [], None, true, OnOk, IfSome, codes};
 ghost use Rattle.std.specs.Fmt.{decimal, signed_decimal};
 ghost use Rattle.cert_format.specs.Lines.{spelled_line};
-ghost use Rattle.cert_format.specs.Spelling.{count_words, choices_words, alternative_words, price_words, seen_word, undone_words, node_words, mark_name, stage_words, is_undone, SeenFits, IsLong, PriceFits, NodeFits, FloorFits};
+ghost use Rattle.cert_format.specs.Spelling.{count_words, choices_words, alternative_words, price_words, seen_word, fixing_words, extra_word, undone_words, node_words, mark_name, stage_words, is_undone, SeenFits, IsLong, PriceFits, FixingFits, NodeFits, FloorFits};
 
 use crate::cert::{Floor, Mark};
 use choice_problem::{Node, Price};
+use cost_fixing::Fixing;
 use slot_text::{Memory, put_number};
 use std::alloc::Global;
 
@@ -107,6 +108,19 @@ pub fn put_price(alloc: Global, out: &mut Vec<u8>, price: Price) -> Result<(), M
     put_word(out, b"P")?;
     put_small_word(alloc, out, price.resource)?;
     put_last_signed(alloc, out, price.price)
+}
+
+/// The vector, the scale and the cost of a fixing.
+#[tactic(auto, unfolding(crate::specs::Lines::spelled_line))]
+pub fn put_fixing(alloc: Global, out: &mut Vec<u8>, fixing: Fixing) -> Result<(), Memory>
+    ensures text { OnOk result
+        (out.new.items ≡ out.old.items ++ spelled_line (fixing_words fixing)) }
+    ensures range { OnOk result (FixingFits fixing) }
+{
+    put_word(out, b"FIX")?;
+    put_small_word(alloc, out, fixing.vector)?;
+    put_number_word(alloc, out, fixing.scale)?;
+    put_last_number(alloc, out, fixing.cost)
 }
 
 // A seen cost, or `-` for none, at the end of a line.
@@ -210,12 +224,15 @@ pub fn put_end(out: &mut Vec<u8>) -> Result<(), Memory>
     put_last(out, b"END")
 }
 
-/// The first line of one more stage.
+/// The first line of one more stage, which says whether it has a fixing.
 #[tactic(auto, unfolding(crate::specs::Lines::spelled_line))]
-pub fn put_extra(out: &mut Vec<u8>) -> Result<(), Memory>
+pub fn put_extra(out: &mut Vec<u8>, fixing: &Option<Fixing>) -> Result<(), Memory>
     ensures { OnOk result (out.new.items ≡ out.old.items
-        ++ spelled_line (codes "EXTRA" ∷ codes "1" ∷ [])) }
+        ++ spelled_line (codes "EXTRA" ∷ extra_word fixing.now ∷ [])) }
 {
     put_word(out, b"EXTRA")?;
-    put_last(out, b"1")
+    match fixing {
+        None => put_last(out, b"1"),
+        Some(_) => put_last(out, b"2"),
+    }
 }

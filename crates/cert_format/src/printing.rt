@@ -4,15 +4,16 @@ ghost use Rattle.std.specs.Prelude.{◌≡◌, ◌++◌, ◌∷◌, ◌<◌, ◌
 ghost use Rattle.std.specs.List.{AllByRecursion};
 ghost use Rattle.choice_problem.specs.declared.nodes.Node.{Node};
 ghost use Rattle.cert_format.specs.Lines.{text_of};
-ghost use Rattle.cert_format.specs.Spelling.{numbered, count_words, alternative_lines, price_lines, vector_lines, node_words, node_lines, optional_lines, choice_lines, proof_lines, stage_lines, spelling, is_undone, is_tried, undone_count, SeenFits, PriceFits, NodeFits, FloorFits, IsCert};
+ghost use Rattle.cert_format.specs.Spelling.{numbered, count_words, alternative_lines, price_lines, vector_lines, fixing_lines, node_words, node_lines, optional_lines, choice_lines, proof_lines, stage_lines, spelling, is_undone, is_tried, undone_count, SeenFits, PriceFits, FixingFits, NodeFits, FloorFits, IsCert};
 ghost use Rattle.cert_format.specs.Printable.{IsPrintable};
 ghost use Rattle.cert_format.specs.Private.Ranges.{HasRanges, RangesAs};
 
 use crate::cert::{Certificate, Floor, FloorList, Mark, StageCert};
 use crate::printed_lines::{
-    put_alternative, put_count, put_end, put_mark, put_node, put_none, put_price,
+    put_alternative, put_count, put_end, put_fixing, put_mark, put_node, put_none, put_price,
 };
 use choice_problem::{Choice, Node, Price, Tree, Vector, VectorList};
+use cost_fixing::Fixing;
 use slot_text::Memory;
 use std::alloc::Global;
 
@@ -163,6 +164,33 @@ fn put_tree(alloc: Global, out: &mut Vec<u8>, tree: &Tree, floors: &FloorList) -
     put_nodes(alloc, out, nodes, floors.items())
 }
 
+// The line of a fixing, if there is one.
+fn put_some_fixing(alloc: Global, out: &mut Vec<u8>, fixing: &Option<Fixing>) -> Result<(), Memory>
+    ensures text { OnOk result
+        (out.new.items ≡ out.old.items ++ text_of (fixing_lines fixing.now)) }
+    ensures range { OnOk result (IfSome fixing.now FixingFits) }
+{
+    match fixing {
+        None => Ok(()),
+        Some(fixing) => put_fixing(alloc, out, *fixing),
+    }
+}
+
+// The fixing of a tree, if it has one, and the tree.
+fn put_fixed_tree(alloc: Global, out: &mut Vec<u8>, stage: &StageCert) -> Result<(), Memory>
+    ensures text { OnOk result (out.new.items ≡ out.old.items
+        ++ text_of (fixing_lines stage.now.fixing
+        ++ (count_words (codes "TREE") (length stage.now.tree)
+        ∷ node_lines stage.now.tree stage.now.floors))) }
+    ensures range { OnOk result (IfSome stage.now.fixing FixingFits
+        × AllByRecursion NodeFits stage.now.tree
+        × (length stage.now.floors ≤ undone_count stage.now.tree →
+        AllByRecursion FloorFits stage.now.floors)) }
+{
+    put_some_fixing(alloc, out, &stage.fixing)?;
+    put_tree(alloc, out, &stage.tree, &stage.floors)
+}
+
 /// What follows the line of the mark of a stage that was tried.
 pub fn put_proof(alloc: Global, out: &mut Vec<u8>, stage: &StageCert) -> Result<(), Memory>
     ensures text { OnOk result (out.new.items ≡ out.old.items ++ text_of (proof_lines stage.now)) }
@@ -172,7 +200,7 @@ pub fn put_proof(alloc: Global, out: &mut Vec<u8>, stage: &StageCert) -> Result<
     put_optional(alloc, out, b"COST", stage.cost)?;
     put_optional(alloc, out, b"BOUND", stage.bound)?;
     put_vector_list(alloc, out, &stage.vectors)?;
-    put_tree(alloc, out, &stage.tree, &stage.floors)
+    put_fixed_tree(alloc, out, stage)
 }
 
 // A stage by its number.
@@ -205,8 +233,8 @@ fn put_stages(alloc: Global, out: &mut Vec<u8>, stages: &[StageCert]) -> Result<
 /// the text.
 ///
 /// A caller owes what `IsPrintable` asks: choice and cost both or neither, a stage that was not
-/// tried without parts, at most 64 vectors, four stages, version 1 or 2 with bounds and floors as
-/// the version has them, and fewer than 2^32 lines.
+/// tried without parts, at most 64 vectors, four stages, version 1 to 3 with bounds, floors and
+/// fixings as the version has them, and fewer than 2^32 lines.
 #[tactic(auto, using(crate::proofs::RangeLemmas::cert_is))]
 pub fn print_cert(alloc: Global, cert: &Certificate) -> Result<Vec<u8>, Memory>
     requires { IsPrintable cert.now }

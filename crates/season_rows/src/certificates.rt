@@ -78,6 +78,35 @@ STAGE 4 NOT TRIED
 END
 ";
 
+// Stages with a fixing, and stages without one.
+const FIXED: &str = "\
+CERT 3
+STAGE 1 OPTIMAL
+CHOICES 1
+C 0 2
+COST 7
+VECTORS 1
+VECTOR 1
+P 0 5
+FIX 1 1024 8
+TREE 1
+L 0 1 7
+STAGE 2 OPEN
+CHOICES NONE
+BOUND 0
+VECTORS 0
+TREE 1
+U 0 1
+STAGE 3 INFEASIBLE
+CHOICES NONE
+VECTORS 0
+FIX 0 1 0
+TREE 1
+O 6
+STAGE 4 NOT TRIED
+END
+";
+
 const EXTRA: &str = "\
 EXTRA 1
 STAGE 5 OPEN
@@ -89,12 +118,26 @@ U 0 1
 END
 ";
 
+const FIXED_EXTRA: &str = "\
+EXTRA 2
+STAGE 5 OPTIMAL
+CHOICES 1
+C 0 2
+COST 7
+VECTORS 0
+FIX 0 1 8
+TREE 1
+L 0 1 7
+END
+";
+
 // What the reader says where lines of the example stand for others: the bad line, or `-` where the
 // text is read, and is then printed as it was.
 const TEXT_ROWS: &str = "\
 1|1 1 CERT 0
 -|1 1 CERT 2
-1|1 1 CERT 3
+-|1 1 CERT 3
+1|1 1 CERT 4
 1|1 1 CERT 01
 1|1 1 CERT
 1|1 1 CERT 1\x20
@@ -197,8 +240,55 @@ const OPEN_ROWS: &str = "\
 27|27 27 STAGE 3 NOT TRIED TRIED
 28|28 28 STAGE 3 NOT TRIED";
 
+// A fixing stands in version 3 alone, once, right before the nodes; its numbers have 32, 64 and 64
+// bits.
+const FIXED_ROWS: &str = "\
+-|1 1 CERT 3
+9|1 1 CERT 2
+9|1 1 CERT 1
+1|1 1 CERT 4
+-|9 9
+-|9 9 FIX 0 0 0
+-|9 9 FIX 4294967295 18446744073709551615 18446744073709551615
+9|9 9 FIX 4294967296 1024 8
+9|9 9 FIX 1 18446744073709551616 8
+9|9 9 FIX 1 1024 18446744073709551616
+9|9 9 FIX
+9|9 9 FIX 1
+9|9 9 FIX 1 1024
+9|9 9 FIX 1 1024 8 8
+9|9 9 FIX 1 1024 -
+9|9 9 FIX 1 1024 08
+9|9 9 FIX 1 1024 -8
+9|9 9 FIX  1 1024 8
+9|9 9 FIX 1 1024 8\x20
+9|9 9 fix 1 1024 8
+9|9 9 FIX NONE
+9|9 9 FIXED 1 1024 8
+10|9 9 FIX 1 1024 8/FIX 1 1024 8
+10|9 10 FIX 1 1024 8
+6|6 6 FIX 1 1024 8/VECTORS 1
+8|8 8 FIX 1 1024 8/P 0 5
+10|9 10 TREE 1/FIX 1 1024 8
+11|9 11 TREE 1/L 0 1 7/FIX 1 1024 8
+-|16 16 FIX 0 1 0/TREE 1
+14|14 14 FIX 0 1 0/BOUND 0
+25|24 24 STAGE 4 NOT TRIED/FIX 0 1 0";
+
+const FIXED_EXTRA_ROWS: &str = "\
+-|1 1 EXTRA 2
+7|1 1 EXTRA 1
+1|1 1 EXTRA 3
+7|7 7
+7|7 7 FIX 0 1
+8|7 7 FIX 0 1 8/FIX 0 1 8
+-|7 7 FIX 3 1048576 0
+-|2 9 STAGE 5 INFEASIBLE/CHOICES NONE/VECTORS 0/FIX 0 0 0/TREE 1/O 6
+5|2 9 STAGE 5 INFEASIBLE/CHOICES NONE/VECTORS 0/TREE 1/O 6";
+
 const EXTRA_ROWS: &str = "\
-1|1 1 EXTRA 2
+6|1 1 EXTRA 2
+1|1 1 EXTRA 3
 1|1 1 EXTRA 01
 1|1 1 CERT 2
 1|1 1 EXTRA 1\r
@@ -219,7 +309,7 @@ const EXTRA_ROWS: &str = "\
 // and a column, the first of them 0: another number, mark of a node or `-`, and a count or an LF
 // (the stroke) that makes a later line bad.
 const BYTE_ROWS: &str = "\
--|1 5 2
+-|1 5 23
 4|3 8 0
 5|3 8 23456789
 -|4 4 123456789
@@ -288,7 +378,9 @@ fn one_changed_line_is_bad_or_is_read(rt: HostRuntime) -> Result<(), Fail> {
     for (text, rows, is_extra) in [
         (TEXT, TEXT_ROWS, false),
         (OPEN, OPEN_ROWS, false),
+        (FIXED, FIXED_ROWS, false),
         (EXTRA, EXTRA_ROWS, true),
+        (FIXED_EXTRA, FIXED_EXTRA_ROWS, true),
     ] {
         for line in rows.split('\n') {
             assert!(rt; is_as_wanted(rt.alloc(), text, line, is_extra)?, "{line}");

@@ -3,7 +3,7 @@ use Rattle.std.specs.Prelude.{ℕ, suc, ◌+◌, if◌then◌else◌, ◌^◌, �
 use Rattle.std.specs.List.{AllByRecursion}
 use Rattle.choice_problem.specs.declared.vectors.Price.{Price}
 use Rattle.cert_format.specs.declared.cert.StageCert.{StageCert}
-use Rattle.cert_format.specs.Spelling.{SeenFits, PriceFits, NodeFits, FloorFits, undone_count, is_tried}
+use Rattle.cert_format.specs.Spelling.{SeenFits, PriceFits, FixingFits, NodeFits, FloorFits, undone_count, is_tried}
 use Rattle.cert_format.specs.Printable.{proof_line_count}
 
 pub record HasRanges (s : StageCert) : Type 0 where
@@ -11,6 +11,7 @@ pub record HasRanges (s : StageCert) : Type 0 where
   pub cost : SeenFits s.cost
   pub bound : SeenFits s.bound
   pub vectors : AllByRecursion (AllByRecursion PriceFits) s.vectors
+  pub fixing : IfSome s.fixing FixingFits
   pub nodes : AllByRecursion NodeFits s.tree
   pub floors : length s.floors ≤ undone_count s.tree → AllByRecursion FloorFits s.floors
 

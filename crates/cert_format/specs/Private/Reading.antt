@@ -2,16 +2,20 @@
 use Rattle.std.specs.Prelude.{ℕ, zero, suc, if◌then◌else◌, Bool, List, [], ◌∷◌, ◌++◌, Option, Some, None, Result, Ok, Err, option_to_list, is_some, codes}
 use Rattle.choice_problem.specs.declared.vectors.Price.{Price}
 use Rattle.choice_problem.specs.declared.nodes.Node.{Node}
+use Rattle.cost_fixing.specs.declared.fixings.Fixing.{Fixing}
 use Rattle.cert_format.specs.declared.cert.Floor.{Floor}
 use Rattle.cert_format.specs.declared.cert.Mark.{Mark}
 use Rattle.cert_format.specs.declared.cert.StageCert.{StageCert}
 use Rattle.cert_format.specs.declared.cert.Certificate.{Certificate}
 use Rattle.choice_problem.specs.declared.vectors.TheConstants.{MOST_VECTORS}
+use Rattle.cert_format.specs.declared.rows.FixLine.{FixLine}
+use Rattle.cert_format.specs.declared.rows.TreeLine.{TreeLine}
+use Rattle.cert_format.specs.declared.rows.TreeLine.TheVariants.{Fixed, Counted}
 use Rattle.cert_format.specs.Lines.{Word}
 use Rattle.cert_format.specs.Private.Cuts.{cert_lines_of}
 use Rattle.cert_format.specs.Private.Words.{most_small, most_large}
 use Rattle.cert_format.specs.Private.Spots.{Spot, Read, ◌>>=◌, line_by}
-use Rattle.cert_format.specs.Private.Rows.{count_row, choices_row, alternative_row, price_row, node_row, mark_row, version_row, end_row, extra_row, tried_row}
+use Rattle.cert_format.specs.Private.Rows.{count_row, choices_row, alternative_row, price_row, tree_row, fix_line, node_row, mark_row, version_row, end_row, extra_row, tried_row}
 use Rattle.cert_format.specs.Spelling.{is_tried, has_bound, not_tried}
 
 -- items one after the other, of which `one` reads the i-th
@@ -66,19 +70,33 @@ nodes_at version (suc n) s = do
   others ← nodes_at version n first.1
   Ok ((first.0.0 ∷ others.0.0, option_to_list first.0.1 ++ others.0.1), others.1)
 
-unfoldable pub tree_at : ℕ → Spot → Read (List Node × List Floor)
-tree_at version s = do
+-- what follows the first line of a tree, up to its nodes
+unfoldable pub after_head : TreeLine → Spot → Read (Option Fixing × ℕ)
+after_head (Counted n) s = Ok ((None, n), s)
+after_head (Fixed f) s = do
   n ← line_by (count_row (codes "TREE") most_small) s
-  nodes_at version n.0 n.1
+  Ok ((Some f, n.0), n.1)
+
+-- a fixing, if there is one, and how many nodes follow
+unfoldable pub head_at : FixLine → Spot → Read (Option Fixing × ℕ)
+head_at fix s = do
+  first ← line_by (tree_row fix) s
+  after_head first.0 first.1
+
+unfoldable pub tree_at : ℕ → FixLine → Spot → Read (Option Fixing × (List Node × List Floor))
+tree_at version fix s = do
+  head ← head_at fix s
+  nodes ← nodes_at version head.0.1 head.1
+  Ok ((head.0.0, nodes.0), nodes.1)
 
 -- what follows the line of the mark of a stage that was tried
-unfoldable pub proof_at : ℕ → Mark → Spot → Read StageCert
-proof_at version mark s = do
+unfoldable pub proof_at : ℕ → FixLine → Mark → Spot → Read StageCert
+proof_at version fix mark s = do
   choice ← choice_at s
   cost ← optional_at (codes "COST") (is_some choice.0) choice.1
   bound ← optional_at (codes "BOUND") (has_bound version mark) cost.1
   vectors ← vectors_at bound.1
-  tree ← tree_at version vectors.1
+  tree ← tree_at version fix vectors.1
   Ok (
     record {
       mark = mark;
@@ -86,8 +104,9 @@ proof_at version mark s = do
       cost = cost.0;
       bound = bound.0;
       vectors = vectors.0;
-      tree = tree.0.0;
-      floors = tree.0.1;
+      fixing = tree.0.0;
+      tree = tree.0.1.0;
+      floors = tree.0.1.1;
     },
     tree.1,
   )
@@ -95,7 +114,8 @@ proof_at version mark s = do
 unfoldable pub stage_at : ℕ → ℕ → Spot → Read StageCert
 stage_at version stage s = do
   mark ← line_by (mark_row stage) s
-  if is_tried mark.0 then proof_at version mark.0 mark.1 else Ok (not_tried mark.0, mark.1)
+  if is_tried mark.0 then proof_at version (fix_line version) mark.0 mark.1 else Ok
+      (not_tried mark.0, mark.1)
 
 -- nothing may follow
 abbrev pub ended_by : {A : Type 0} → A → ℕ → List (List Word) → Result A ℕ
@@ -121,7 +141,7 @@ unfoldable pub extra_at : Spot → Result StageCert ℕ
 extra_at s = do
   head ← line_by extra_row s
   mark ← line_by tried_row head.1
-  stage ← proof_at 2 mark.0 mark.1
+  stage ← proof_at 3 head.0 mark.0 mark.1
   last ← line_by end_row stage.1
   ended stage.0 last.1
 

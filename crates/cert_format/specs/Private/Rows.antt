@@ -1,12 +1,18 @@
 -- What the lines of a certificate say, line by line.
-use Rattle.std.specs.Prelude.{ℕ, ◌==◌, ◌&&◌, ◌||◌, if◌then◌else◌, List, [], ◌∷◌, Option, Some, None, codes}
+use Rattle.std.specs.Prelude.{ℕ, ◌==◌, ◌&&◌, nat_le, if◌then◌else◌, List, [], ◌∷◌, Option, Some, None, codes}
 use Rattle.std.specs.Str.{bytes_eq}
 use Rattle.choice_problem.specs.declared.vectors.Price.{Price}
 use Rattle.choice_problem.specs.declared.nodes.Node.{Node}
 use Rattle.choice_problem.specs.declared.nodes.Node.TheVariants.{Split, Leaf, Over, Undone}
+use Rattle.cost_fixing.specs.declared.fixings.Fixing.{Fixing}
 use Rattle.cert_format.specs.declared.cert.Floor.{Floor}
 use Rattle.cert_format.specs.declared.cert.Mark.{Mark}
 use Rattle.cert_format.specs.declared.cert.Mark.TheVariants.{Optimal, Infeasible, Unsettled, NotTried}
+use Rattle.cert_format.specs.declared.rows.FixLine.{FixLine}
+use Rattle.cert_format.specs.declared.rows.FixLine.TheVariants.{Never, Maybe, Always}
+use Rattle.cert_format.specs.declared.rows.TreeLine.{TreeLine}
+use Rattle.cert_format.specs.declared.rows.TreeLine.TheVariants.{Fixed, Counted}
+use Rattle.cert_format.specs.Spelling.{has_floors}
 use Rattle.cert_format.specs.Lines.{Word}
 use Rattle.cert_format.specs.Private.Words.{◌>>=◌, most_small, most_large, number_of, seen_of, price_of, after_tag, next_by, is_end, choices_word}
 
@@ -70,7 +76,7 @@ with_no_floor row = row >>= λ node. Some (node, None)
 
 unfoldable pub undone_row : ℕ → List Word → Option (Node × Option Floor)
 undone_row version ws =
-    if version == 2 then (floor_row ws >>= λ floor. Some (Undone, Some floor))
+    if has_floors version then (floor_row ws >>= λ floor. Some (Undone, Some floor))
     else (if is_end ws then Some (Undone, None) else None)
 
 -- a node, and its floor if it has one
@@ -81,6 +87,35 @@ node_row version (w ∷ ws) =
     else (if bytes_eq w (codes "L") then with_no_floor (leaf_row ws)
     else (if bytes_eq w (codes "O") then with_no_floor (over_row ws)
     else (if bytes_eq w (codes "U") then undone_row version ws else None)))
+
+-- the vector, the scale and the cost of a fixing
+unfoldable pub fixing_row : List Word → Option Fixing
+fixing_row ws = do
+  ws ← after_tag (codes "FIX") ws
+  vector ← next_by (number_of most_small) ws
+  scale ← next_by (number_of most_large) vector.1
+  cost ← next_by (number_of most_large) scale.1
+  if is_end cost.1 then Some (record { vector = vector.0; scale = scale.0; cost = cost.0 }) else None
+
+abbrev pub counted_row : List Word → Option TreeLine
+counted_row ws = count_row (codes "TREE") most_small ws >>= λ n. Some (Counted n)
+
+abbrev pub fixed_row : List Word → Option TreeLine
+fixed_row ws = fixing_row ws >>= λ f. Some (Fixed f)
+
+abbrev pub one_or_other : Option TreeLine → Option TreeLine → Option TreeLine
+one_or_other None other = other
+one_or_other (Some line) other = Some line
+
+-- the first line of a tree: that of a fixing, or the one that counts the nodes
+unfoldable pub tree_row : FixLine → List Word → Option TreeLine
+tree_row Never ws = counted_row ws
+tree_row Maybe ws = one_or_other (fixed_row ws) (counted_row ws)
+tree_row Always ws = fixed_row ws
+
+-- from version 3 on there may be a fixing
+abbrev pub fix_line : ℕ → FixLine
+fix_line version = if nat_le 3 version then Maybe else Never
 
 unfoldable pub mark_word : Word → Option Mark
 mark_word w =
@@ -102,24 +137,30 @@ mark_row stage ws = do
   s ← next_by (number_of most_small) ws
   if s.0 == stage then mark_words s.1 else None
 
--- the version, 1 or 2
+-- the version, from 1 to 3
 unfoldable pub version_row : List Word → Option ℕ
 version_row ws = do
   ws ← after_tag (codes "CERT") ws
   version ← next_by (number_of most_small) ws
-  if ((version.0 == 1) || (version.0 == 2)) && is_end version.1 then Some version.0 else None
+  if (nat_le 1 version.0 && nat_le version.0 3) && is_end version.1 then Some version.0 else None
 
 unfoldable pub end_row : List Word → Option ℕ
 end_row ws = do
   ws ← after_tag (codes "END") ws
   if is_end ws then Some 0 else None
 
+-- 2 where there is a fixing, and else 1
+unfoldable pub extra_number : Word → Option FixLine
+extra_number w =
+    if bytes_eq w (codes "1") then Some Never
+    else (if bytes_eq w (codes "2") then Some Always else None)
+
 -- the first line of one more stage
-unfoldable pub extra_row : List Word → Option ℕ
+unfoldable pub extra_row : List Word → Option FixLine
 extra_row ws = do
   ws ← after_tag (codes "EXTRA") ws
-  ws ← after_tag (codes "1") ws
-  if is_end ws then Some 1 else None
+  line ← next_by extra_number ws
+  if is_end line.1 then Some line.0 else None
 
 abbrev pub tried_mark : Mark → Option Mark
 tried_mark Optimal = Some Optimal

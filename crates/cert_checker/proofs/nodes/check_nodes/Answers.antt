@@ -7,7 +7,7 @@ use Rattle.choice_problem.specs.Bounds.{AreRanges, whole_of}
 use Rattle.cert_checker.specs.declared.lines.Judged.{Judged}
 use Rattle.cert_checker.specs.declared.verdict.Reason.{Reason}
 use Rattle.cert_checker.specs.Tests.{node_tests, floors_after}
-use Rattle.cert_checker.specs.Parts.{IsPart, GoesOnBy, Completes}
+use Rattle.cert_checker.specs.Parts.{IsPart, GoesOnBy, Completes, unfixed}
 use Rattle.cert_format.specs.declared.cert.Floor.{Floor}
 use Rattle.cert_checker.proofs.StateLemmas.{state-back}
 use Rattle.cert_checker.proofs.NodeLemmas.{nodes-done, nodes-next, nodes-refused, nodes-end}
@@ -19,7 +19,7 @@ no_node = Split 0 0 None
 pub loop-node-init : goal.loop-node-init
 loop-node-init c =
     let p = c.args.problem.now in
-    let cert = c.args.cert.now in
+    let cert = unfixed c.args.cert.now in
     let walk_is : c.new-walk.result ≡ whole_of p ∷ [] = c.new-walk.ensures ∙ ap (λ (w : List (ℕ × ℕ)). w ∷ []) c.in_ok-whole.ensures.value in
     record {
       at = omega arith;
@@ -34,7 +34,7 @@ loop-node-init c =
 pub returns-then-is_done : goal.returns-then-is_done
 returns-then-is_done c =
     let p = c.args.problem.now in
-    let cert = c.args.cert.now in
+    let cert = unfixed c.args.cert.now in
     let i = c.loop-node.node-index in
     let lines = node_tests (whole_of p ∷ []) cert.tree cert.floors in
     let there : i < length c.items-nodes.result.now = search rules in
@@ -47,7 +47,7 @@ returns-then-is_done c =
 pub returns-in-Some : goal.returns-in-Some
 returns-in-Some c =
     let p = c.args.problem.now in
-    let cert = c.args.cert.now in
+    let cert = unfixed c.args.cert.now in
     let i = c.loop-node.node-index in
     let lines = node_tests (whole_of p ∷ []) cert.tree cert.floors in
     let there : i < length c.items-nodes.result.now = search rules in
@@ -65,7 +65,7 @@ returns-in-Some c =
 pub loop-node-preserved : goal.loop-node-preserved
 loop-node-preserved c =
     let p = c.args.problem.now in
-    let cert = c.args.cert.now in
+    let cert = unfixed c.args.cert.now in
     let i = c.loop-node.node-index in
     let lines = node_tests (whole_of p ∷ []) cert.tree cert.floors in
     let there : i < length c.items-nodes.result.now = search rules in
@@ -90,7 +90,7 @@ loop-node-preserved c =
 pub returns : goal.returns
 returns c =
     let p = c.args.problem.now in
-    let cert = c.args.cert.now in
+    let cert = unfixed c.args.cert.now in
     let i = c.loop-node.node-index in
     let lines = node_tests (whole_of p ∷ []) cert.tree cert.floors in
     let there : length c.items-nodes.result.now ≤ i = search rules in

@@ -3,7 +3,7 @@ use Rattle.std.specs.Prelude.{All}
 use Rattle.choice_problem.specs.Bounds.{AreRanges, whole_of}
 use Rattle.cert_checker.specs.Tests.{node_tests}
 use Rattle.cert_checker.specs.States.{IsStateFirst}
-use Rattle.cert_checker.specs.Parts.{Completes}
+use Rattle.cert_checker.specs.Parts.{Completes, unfixed}
 use Rattle.cert_checker.proofs.nodes.check_nodes.Given as goal
 
 abbrev pub invariant-loop-node : goal.invariant-loop-node
@@ -11,5 +11,5 @@ invariant-loop-node l = record {
   at : l.at ≡ l.line + l.node-index;
   ranges : All (AreRanges l.problem) l.walk;
   state : IsStateFirst l.problem l.cert.vectors l.walk l.state;
-  leads : Completes l.problem l.cert l.at (node_tests l.walk (drop l.node-index l.cert.tree) l.floors) l.line (node_tests (whole_of l.problem ∷ []) l.cert.tree l.cert.floors);
+  leads : Completes l.problem (unfixed l.cert) l.at (node_tests l.walk (drop l.node-index l.cert.tree) l.floors) l.line (node_tests (whole_of l.problem ∷ []) l.cert.tree l.cert.floors);
 }
