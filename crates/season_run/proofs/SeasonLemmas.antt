@@ -90,7 +90,7 @@ limits [] h = tt
 limits (c ∷ certs) h = (h.0.limits, limits certs h.1)
 
 fits-two : (certs : List StageCert) (c b : StageCert) → AllByRecursion FitsSeason certs → FitsSeason c → FitsSeason b → AllByRecursion FitsSeason (certs ++ c ∷ b ∷ [])
-fits-two [] c b all f g = (f, g, tt)
+fits-two [] c b all f g = (f, (g, tt))
 fits-two (one ∷ certs) c b all f g = (all.0, fits-two certs c b all.1 f g)
 
 -- stages 3 and 4 after the first two
@@ -127,15 +127,13 @@ module _ (one_more : (d : Declaration) (units : List SlotUnit) (choices : List (
   all-valid : AreStages d-here s.units [] (certs ++ rest)
   all-valid = on.valid rest (
     next-valid d-here s.units on.earlier budget last.third (is_tried last.third.mark) follows refl on.follows_is third-here,
-    next-valid d-here s.units more budget last.fourth (is_tried last.fourth.mark) (may_follow more) refl refl fourth-here,
-    tt,
+    (next-valid d-here s.units more budget last.fourth (is_tried last.fourth.mark) (may_follow more) refl refl fourth-here, tt),
   )
 
   all-runs : AreStageRuns d-here s.units budget [] (certs ++ rest)
   all-runs = on.runs rest (
     next-run d-here (length on.earlier + 1) (states_after d-here s.units on.earlier) budget last.third (is_tried last.third.mark) follows refl third-here,
-    next-run d-here (length more + 1) (states_after d-here s.units more) budget last.fourth (is_tried last.fourth.mark) (may_follow more) refl fourth-here,
-    tt,
+    (next-run d-here (length more + 1) (states_after d-here s.units more) budget last.fourth (is_tried last.fourth.mark) (may_follow more) refl fourth-here, tt),
   )
 
   -- all four

@@ -1,6 +1,6 @@
 -- A stage with another choice of the same cost, and the last two stages of a run.
 use Rattle.std.proofs.Common.{◌≡◌, ℕ, ◌+◌, ◌≤◌, refl, sym, ◌∙◌, ap, subst, arith, List, [], ◌∷◌, ◌++◌, length, length-append, Bool, true, false, Option, Some, None, inl, inr}
-use Rattle.std.specs.Prelude.{◌⊎◌, ◌<◌, IfSome, IsSomeAnd, is_some}
+use Rattle.std.specs.Prelude.{◌⊎◌, IfSome, is_some}
 use Rattle.std.specs.Option.{option_map}
 use Rattle.season_days.specs.declared.declaration.Declaration.{Declaration}
 use Rattle.choice_problem.specs.declared.vectors.Price.{Price}
@@ -22,7 +22,6 @@ use Rattle.cert_format.specs.Proofs.{FitsMark, IsProof}
 use Rattle.cert_format.specs.Printable.{IsPrintableProof, IsPrintableAs, IsWithinLimits}
 use Rattle.cert_format.specs.Spelling.{is_tried, HoldsNothing}
 use Rattle.series_model.specs.declared.unit.Unit.{Unit as SlotUnit}
-use Rattle.series_model.specs.declared.times.Times.{Times}
 use Rattle.series_model.specs.declared.state.UnitState.{UnitState}
 use Rattle.series_model.specs.Allotments.{IsFeasibleAllotment, total_displacement}
 use Rattle.series_model.specs.Stages.{stage_units, stage_limit, stage_times, times_named, IsFeasibleChoice}
@@ -154,7 +153,7 @@ module _ (p : ProblemView) (x z : List ℕ) (tie : IsTie p x z) where
           cost = h.cost ∙ ap (λ (k : Option (List ℕ)). option_map (choice_cost p) k) choice_is ∙ ap (λ (n : ℕ). Some n) (sym tie.cost);
           vectors = h.vectors;
           sound = h.sound;
-          marked = subst (λ (m : Mark). FitsMark p tied m) (sym mark) (tt, was.1);
+          marked = subst (λ (m : Mark). FitsMark p tied m) (sym mark) (refl, was.1);
         }
 
     pub tied-run : (budget : ℕ) → IsStageRun p budget c → IsStageRun p budget tied

@@ -26,8 +26,8 @@ use worker_gate::Gate;
 /// most `budget` nodes with so many workers, each of which passes the gate before a visit.
 ///
 /// Where stages 3 and 4 are OPTIMAL and stage 4 costs something, and the budget is above 64, another
-/// choice of stage 3 of the same cost is looked for (`tied_choice`), and taken where stage 4 after it is
-/// OPTIMAL and costs less; which of the best choices a stage has is in no clause.
+/// choice of stage 3 of the same cost is looked for once (`tied_choice`), and taken where stage 4
+/// after it is OPTIMAL and costs less. Which of a stage's best choices is taken is in no clause.
 ///
 /// The certificate is valid and of version 2. A stage may stay OPEN where its search spends the
 /// budget: it then states a bound, and `settled_run` says with which budget none does. A budget of

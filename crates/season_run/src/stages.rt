@@ -25,7 +25,7 @@ use std::alloc::Global;
 ///
 /// One step a node and what its ranges change; for each undone node one a unit and a vector, and for
 /// each unit whose range has changed since the one before, one an alternative in it for each vector.
-/// Beside what the outcome has it takes, where nodes are undone, a price table and 32 bytes a unit
+/// Beside what the outcome has it takes, where nodes are undone, a price table and 24 bytes a unit
 /// for each vector, 24 bytes a unit, and 16 an undone node.
 pub fn stage_cert(alloc: Global, problem: &Problem, outcome: Outcome) -> Result<StageCert, Memory>
     requires { IsStageEnd problem.now outcome }

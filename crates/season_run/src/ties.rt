@@ -1,7 +1,7 @@
 //! Stages 3 and 4: of the choices of stage 3 that displace least, one after which stage 4 displaces
 //! less.
 
-ghost use Rattle.std.specs.Prelude.{◌≡◌, ◌⊎◌, ◌<◌, ◌≤◌, IfOk, IfSome, IsSomeAnd, IsTrue};
+ghost use Rattle.std.specs.Prelude.{◌≡◌, ◌⊎◌, ◌≤◌, IfOk, IfSome, IsTrue};
 ghost use Rattle.cert_format.specs.declared.cert.Mark.TheVariants.{Optimal};
 ghost use Rattle.series_model.specs.Stages.{AreStates, IsFeasibleChoice};
 ghost use Rattle.season_run.specs.Steps.{AreLastStages, FitsSeason, FollowsThird, IsCheaperStage, IsStageTie, IsTieOf};
@@ -139,42 +139,9 @@ fn tied_stages<R: Threads + Sync, G: Gate>(
         (λ after. (after ≡ last) ⊎ IsCheaperStage after.fourth last.fourth) }
 {
     problem_choices();
-    match third_tie(alloc, submission, states, &last)? {
-        Some(tie) => {
-            let better = better_stages(
-                rt, alloc, submission, states, follows, last, tie, budget, workers, gate,
-            )?;
-            Ok(better)
-        }
-        None => Ok(last),
-    }
-}
-
-// Stages 3 and 4 with another choice of stage 3, where stage 4 after it is OPTIMAL and costs less;
-// else as they are.
-fn better_stages<R: Threads + Sync, G: Gate>(
-    rt: &R,
-    alloc: Global,
-    submission: &Submission,
-    states: &[UnitState],
-    follows: bool,
-    last: LastStages,
-    tie: Choice,
-    budget: u32,
-    workers: u32,
-    gate: &G,
-) -> Result<LastStages, Memory>
-    requires states { AreStates submission.now states.now }
-    requires budget { (1 ≤ budget) × (budget ≤ 1000000) }
-    requires workers { (1 ≤ workers) × (workers ≤ 16) }
-    requires last { AreLastStages submission.now.declaration states.now budget follows last }
-    requires tie { IsTieOf submission.now.declaration 3 states.now last.third tie }
-    ensures stages { IfOk result
-        (AreLastStages submission.now.declaration states.now budget follows) }
-    ensures better { IfOk result
-        (λ after. (after ≡ last) ⊎ IsCheaperStage after.fourth last.fourth) }
-{
-    problem_choices();
+    let Some(tie) = third_tie(alloc, submission, states, &last)? else {
+        return Ok(last);
+    };
     let choice = Some(tie);
     let fourth = fourth_stage(
         rt, alloc, submission, states, follows, &choice, budget, workers, gate,
@@ -190,48 +157,18 @@ fn with_stages(last: LastStages, choice: Option<Choice>, fourth: StageCert) -> L
     ensures third { result.third ≡ record last.third { choice = choice } }
     ensures fourth { result.fourth ≡ fourth }
 {
-    let third = last.third;
-    LastStages {
-        third: StageCert {
-            mark: third.mark,
-            choice,
-            cost: third.cost,
-            bound: third.bound,
-            vectors: third.vectors,
-            tree: third.tree,
-            floors: third.floors,
-        },
-        fourth,
-    }
+    let mut third = last.third;
+    third.choice = choice;
+    LastStages { third, fourth }
 }
 
 // Whether a stage is OPTIMAL and costs less than another one.
 fn is_cheaper(cert: &StageCert, other: &StageCert) -> bool
     ensures { IsTrue result → IsCheaperStage cert.now other.now }
 {
-    match cert.mark {
-        Mark::Optimal => is_less(cert.cost, other.cost),
+    match (cert.cost, other.cost) {
+        (Some(cost), Some(most)) => cert.mark == Mark::Optimal && cost < most,
         _ => false,
-    }
-}
-
-// Whether both costs are there, and the first one is less.
-fn is_less(cost: Option<u64>, other: Option<u64>) -> bool
-    ensures { IsTrue result → IsSomeAnd cost (λ n. IsSomeAnd other (λ most. n < most)) }
-{
-    match cost {
-        Some(cost) => is_below(cost, other),
-        None => false,
-    }
-}
-
-// Whether the other cost is there, and this one is less.
-fn is_below(cost: u64, other: Option<u64>) -> bool
-    ensures { IsTrue result → IsSomeAnd other (λ most. cost < most) }
-{
-    match other {
-        Some(other) => cost < other,
-        None => false,
     }
 }
 
@@ -266,10 +203,7 @@ fn third_tie(
 fn is_open_to_ties(last: &LastStages) -> bool
     ensures { IsTrue result → last.now.third.mark ≡ Optimal }
 {
-    match last.third.mark {
-        Mark::Optimal => are_few(&last.third.choice) && is_paid(&last.fourth),
-        _ => false,
-    }
+    last.third.mark == Mark::Optimal && are_few(&last.third.choice) && is_paid(&last.fourth)
 }
 
 // Whether a stage is OPTIMAL and costs something, and its units are not too many.

@@ -1,4 +1,4 @@
-use Rattle.std.proofs.Common.{◌≡◌, ◌++◌, ◌∷◌, [], List, Bool, ap, ◌∙◌, subst, arith}
+use Rattle.std.proofs.Common.{◌++◌, ◌∷◌, [], List, Bool, subst, arith}
 use Rattle.series_model.specs.declared.state.UnitState.{UnitState}
 use Rattle.series_model.specs.Stages.{after_stage}
 use Rattle.season_run.specs.Steps.{IsNextStage}
@@ -11,8 +11,7 @@ returns-clause-fourth g c = λ earlier two is.
     let choice = c.args.choice.now in
     let cert = c.in_ok-cert.cert in
     let may = c.next_may_follow-may.result in
-    let after : c.in_ok-after.after.items ≡ after_stage d 3 states choice =
-    c.in_ok-after.ensures.after ∙ ap (λ (st : List UnitState). after_stage d 3 st choice) c.in_ok-before.ensures.items in
     let here = subst (λ (st : List UnitState). IsNextStage d 4 st c.args.budget cert may) c.deref.ensures.value c.in_ok-cert.ensures.stage in
-    let found = subst (λ (st : List UnitState). IsNextStage d 4 st c.args.budget cert may) after here in
+    let after = subst (λ (st : List UnitState). IsNextStage d 4 st c.args.budget cert may) c.in_ok-after.ensures.after here in
+    let found = subst (λ (st : List UnitState). IsNextStage d 4 (after_stage d 3 st choice) c.args.budget cert may) c.in_ok-before.ensures.items after in
     subst (λ (b : Bool). IsNextStage d 4 (after_stage d 3 states choice) c.args.budget cert b) (c.next_may_follow-may.ensures earlier (omega (arith, two)) is) found
