@@ -1,5 +1,5 @@
 -- A stage with another choice of the same cost, and the last two stages of a run.
-use Rattle.std.proofs.Common.{◌≡◌, ℕ, ◌+◌, ◌≤◌, refl, sym, ◌∙◌, ap, subst, arith, List, [], ◌∷◌, ◌++◌, length, length-append, Bool, true, false, Option, Some, None, inl, inr}
+use Rattle.std.proofs.Common.{◌≡◌, ℕ, ◌≤◌, refl, sym, ◌∙◌, ap, subst, arith, List, [], ◌∷◌, length, Bool, true, false, Option, Some, None, inl, inr}
 use Rattle.std.specs.Prelude.{◌⊎◌, IfSome, is_some}
 use Rattle.std.specs.Option.{option_map}
 use Rattle.season_days.specs.declared.declaration.Declaration.{Declaration}
@@ -19,7 +19,7 @@ use Rattle.cert_format.specs.declared.cert.Mark.{Mark}
 use Rattle.cert_format.specs.declared.cert.Mark.TheVariants as marks
 use Rattle.cert_format.specs.declared.cert.StageCert.{StageCert}
 use Rattle.cert_format.specs.Proofs.{FitsMark, IsProof}
-use Rattle.cert_format.specs.Printable.{IsPrintableProof, IsPrintableAs, IsWithinLimits}
+use Rattle.cert_format.specs.Printable.{IsPrintableProof, IsPrintableAs}
 use Rattle.cert_format.specs.Spelling.{is_tried, HoldsNothing}
 use Rattle.series_model.specs.declared.unit.Unit.{Unit as SlotUnit}
 use Rattle.series_model.specs.declared.state.UnitState.{UnitState}

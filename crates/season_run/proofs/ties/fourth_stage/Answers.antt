@@ -1,4 +1,4 @@
-use Rattle.std.proofs.Common.{◌++◌, ◌∷◌, [], List, Bool, subst, arith}
+use Rattle.std.proofs.Common.{List, Bool, subst, arith}
 use Rattle.series_model.specs.declared.state.UnitState.{UnitState}
 use Rattle.series_model.specs.Stages.{after_stage}
 use Rattle.season_run.specs.Steps.{IsNextStage}
