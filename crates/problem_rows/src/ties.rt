@@ -54,20 +54,35 @@ fn least_of(alloc: Global, problem: &Problem) -> Result<Option<(u32, u64)>, Fail
     Ok(least)
 }
 
+// Copies of parts.
+fn parts_of(alloc: Global, parts: &[Part]) -> Result<Vec<Part>, Fail> {
+    let mut copies = Vec::new(alloc);
+    for part in parts {
+        copies.push(Part::new(Vec::from_slice(alloc, part.strips())?))?;
+    }
+    Ok(copies)
+}
+
 // A copy of a unit.
 fn unit_of(alloc: Global, problem: &Problem, unit: u32) -> Result<Chooser, Fail> {
     if unit >= problem.units() {
         return Err("unit".into());
     }
-    let mut parts = Vec::new(alloc);
-    for part in problem.unit_parts(unit) {
-        parts.push(Part::new(Vec::from_slice(alloc, part.strips())?))?;
-    }
+    let parts = parts_of(alloc, problem.unit_parts(unit))?;
     let alts = Vec::from_slice(alloc, problem.unit_alts(unit))?;
     if !Chooser::allows(&parts, &alts) {
         return Err("alternatives".into());
     }
     Ok(Chooser::new(parts, alts))
+}
+
+// Copies of these units.
+fn units_of(alloc: Global, problem: &Problem, numbers: &[u32]) -> Result<Vec<Chooser>, Fail> {
+    let mut units = Vec::new(alloc);
+    for unit in numbers {
+        units.push(unit_of(alloc, problem, *unit)?)?;
+    }
+    Ok(units)
 }
 
 // The problem of these units under these limits.
@@ -77,22 +92,25 @@ fn with_units(
     numbers: &[u32],
     limits: Vec<i64>,
 ) -> Result<Problem, Fail> {
-    let mut units = Vec::new(alloc);
-    for unit in numbers {
-        units.push(unit_of(alloc, both, *unit)?)?;
-    }
+    let units = units_of(alloc, both, numbers)?;
     if !Problem::allows(&units, &limits) {
         return Err("problem".into());
     }
     Ok(Problem::new(units, limits))
 }
 
-// The first problem: its units, under half of each limit, rounded up.
-fn first_of(alloc: Global, both: &Problem) -> Result<Problem, Fail> {
+// Half of each limit, rounded up.
+fn half_limits(alloc: Global, both: &Problem) -> Result<Vec<i64>, Fail> {
     let mut limits = Vec::new(alloc);
     for limit in both.limits() {
         limits.push(limit / 2 + limit % 2)?;
     }
+    Ok(limits)
+}
+
+// The first problem: its units, under half of each limit.
+fn first_of(alloc: Global, both: &Problem) -> Result<Problem, Fail> {
+    let limits = half_limits(alloc, both)?;
     with_units(alloc, both, &[0, 1], limits)
 }
 
@@ -117,9 +135,9 @@ fn uses_of(both: &Problem, choice: &Choice, resource: u32) -> i64 {
     uses
 }
 
-// The next problem after a choice of the first one: the other units and those that take no part,
-// under what is left.
-fn next_after(alloc: Global, both: &Problem, choice: &Choice) -> Result<Problem, Fail> {
+// The units of the next problem after a choice of the first one: the others, and those that take no
+// part.
+fn left_units(alloc: Global, both: &Problem, choice: &Choice) -> Result<Vec<u32>, Fail> {
     let mut numbers = Vec::new(alloc);
     for unit in 0..both.units() {
         let alt = alt_of(both, choice, unit);
@@ -127,11 +145,23 @@ fn next_after(alloc: Global, both: &Problem, choice: &Choice) -> Result<Problem,
             numbers.push(unit)?;
         }
     }
+    Ok(numbers)
+}
+
+// What a choice of the first problem leaves of each limit.
+fn left_limits(alloc: Global, both: &Problem, choice: &Choice) -> Result<Vec<i64>, Fail> {
     let mut limits = Vec::new(alloc);
     for (resource, limit) in (0..).zip(both.limits()) {
         let left = limit.saturating_sub(uses_of(both, choice, resource));
         limits.push(left.max(0))?;
     }
+    Ok(limits)
+}
+
+// The next problem after a choice of the first one.
+fn next_after(alloc: Global, both: &Problem, choice: &Choice) -> Result<Problem, Fail> {
+    let numbers = left_units(alloc, both, choice)?;
+    let limits = left_limits(alloc, both, choice)?;
     with_units(alloc, both, &numbers, limits)
 }
 
@@ -170,27 +200,37 @@ fn lesser(one: Option<u64>, other: Option<u64>) -> Option<u64> {
 
 // What the next problem costs after the first choice, after the tie that is found, if one is, and
 // after the best of all ties.
-struct Gain {
+#[derive(Clone, Copy)]
+struct Costs {
     before: u64,
     after: u64,
     best: u64,
 }
 
 // Meets both problems, if that can be.
-fn gain(alloc: Global, both: &Problem) -> Result<Option<Gain>, Fail> {
+fn meet_both(alloc: Global, both: &Problem) -> Result<Option<Costs>, Fail> {
     let first = first_of(alloc, both)?;
-    let Some((number, cost)) = least_of(alloc, &first)? else {
+    match least_of(alloc, &first)? {
+        Some((number, cost)) => meet_next(alloc, both, &first, number, cost),
+        None => Ok(None),
+    }
+}
+
+// Meets the next problem after the first choice, of this number and cost, if that can be.
+fn meet_next(
+    alloc: Global,
+    both: &Problem,
+    first: &Problem,
+    number: u32,
+    cost: u64,
+) -> Result<Option<Costs>, Fail> {
+    let chosen = digits(alloc, first, number)?;
+    let Some(before) = cost_after(alloc, both, &chosen)? else {
         return Ok(None);
     };
-    let chosen = digits(alloc, &first, number)?;
-    let next = next_after(alloc, both, &chosen)?;
-    let Some((number, before)) = least_of(alloc, &next)? else {
-        return Ok(None);
-    };
-    let next_chosen = digits(alloc, &next, number)?;
-    let best = best_after(alloc, both, &first, cost)?;
-    let after = tied_cost(alloc, both, &first, &chosen, &next, &next_chosen)?;
-    Ok(Some(Gain {
+    let after = tied_cost(alloc, both, first, &chosen)?;
+    let best = best_after(alloc, both, first, cost)?;
+    Ok(Some(Costs {
         before,
         after: after.unwrap_or(before),
         best: best.unwrap_or(before),
@@ -203,20 +243,58 @@ fn tied_cost(
     both: &Problem,
     first: &Problem,
     chosen: &Choice,
-    next: &Problem,
-    next_chosen: &Choice,
 ) -> Result<Option<u64>, Fail> {
-    let mut is_first = Vec::new(alloc);
-    for unit in 0..both.units() {
-        is_first.push(unit < FIRST_UNITS)?;
-    }
-    if !chosen.is_for(first) || !fits(alloc, first, chosen)? {
-        return Ok(None);
-    }
-    match tied_choice(alloc, first, chosen, next, next_chosen, both, &is_first)? {
+    match tie_of(alloc, both, first, chosen)? {
         Some(tie) => cost_after(alloc, both, &tie),
         None => Ok(None),
     }
+}
+
+// The tie of a choice that is found, if one is.
+fn tie_of(
+    alloc: Global,
+    both: &Problem,
+    first: &Problem,
+    chosen: &Choice,
+) -> Result<Option<Choice>, Fail> {
+    let next = next_after(alloc, both, chosen)?;
+    match least_of(alloc, &next)? {
+        Some((number, _)) => tie_before(alloc, both, first, chosen, &next, number),
+        None => Ok(None),
+    }
+}
+
+// The tie of a choice that is found before the next problem, whose best choice has this number.
+fn tie_before(
+    alloc: Global,
+    both: &Problem,
+    first: &Problem,
+    chosen: &Choice,
+    next: &Problem,
+    number: u32,
+) -> Result<Option<Choice>, Fail> {
+    if !chosen.is_for(first) || !fits(alloc, first, chosen)? {
+        return Ok(None);
+    }
+    let next_chosen = digits(alloc, next, number)?;
+    let is_first = first_marks(alloc, both)?;
+    let tie = tied_choice(alloc, first, chosen, next, &next_chosen, both, &is_first)?;
+    Ok(tie)
+}
+
+// Of each unit, whether it is one of the first problem's.
+fn first_marks(alloc: Global, both: &Problem) -> Result<Vec<bool>, Fail> {
+    let mut marks = Vec::new(alloc);
+    for unit in 0..both.units() {
+        marks.push(unit < FIRST_UNITS)?;
+    }
+    Ok(marks)
+}
+
+// Meets the next problems that are drawn.
+fn meet_drawn(alloc: Global, draws: &mut Draws) -> Result<Option<Costs>, Fail> {
+    let both = drawn(alloc, draws)?;
+    meet_both(alloc, &both)
 }
 
 // Each next problem costs after the tie that is found what it costs after the best of all ties; and
@@ -227,10 +305,9 @@ fn ties_of_drawn_problems(rt: HostRuntime) -> Result<(), Fail> {
     let mut draws = Draws { last: 7 };
     let mut gains: u32 = 0;
     for number in 0..2_000 {
-        let both = drawn(alloc, &mut draws)?;
-        if let Some(gain) = gain(alloc, &both)? {
-            assert!(rt; gain.after == gain.best, "{number}");
-            if gain.after < gain.before {
+        if let Some(costs) = meet_drawn(alloc, &mut draws)? {
+            assert!(rt; costs.after == costs.best, "{number}");
+            if costs.after < costs.before {
                 gains = gains.saturating_add(1);
             }
         }
