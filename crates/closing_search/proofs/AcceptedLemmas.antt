@@ -8,6 +8,8 @@ use Rattle.choice_problem.specs.Choices.{choice_cost}
 use Rattle.closing_search.specs.declared.closed.Closed.{Closed}
 use Rattle.choice_problem.specs.Bounds.{IsVector, whole_of}
 use Rattle.choice_problem.specs.Trees.{IsSound, IsWhole, node_count}
+use Rattle.cost_fixing.specs.declared.fixings.Fixing.{Fixing}
+use Rattle.cost_fixing.specs.Fixings.{FixingHolds, tree_problem}
 use Rattle.closing_search.specs.declared.exact.Tables.{Tables}
 use Rattle.closing_search.specs.Tables.{listed_in}
 use Rattle.closing_search.specs.Closed.{ClosesWhole, IsClosedAtMost}
@@ -19,18 +21,29 @@ within-start p None cost closed at within = tt
 within-start p (Some x) cost closed at within = at (choice_cost p x) within
 
 -- a tree that passed the test
-pub closes-whole : {E : Type 0} (p : ProblemView) (budget : ℕ) (cost : Option ℕ) (tree : List Node) (vectors : List (List Price)) (nodes : List Node) (items : List (List Price)) (tables : Tables) (result : Result Bool E) →
+pub closes-whole : {E : Type 0} (p : ProblemView) (budget : ℕ) (cost : Option ℕ) (fixing : Option Fixing) (tree : List Node) (vectors : List (List Price)) (result : Result Bool E) →
     node_count tree ≤ budget → length vectors ≤ 64 → sum_by (λ (prices : List Price). length prices) (drop 1 vectors) ≤ 1000000 →
-    All (IsVector p) items → items ≡ vectors → listed_in tables ≡ items → nodes ≡ tree →
-    IfOk result (λ yes. IsTrue yes → IsSound p (listed_in tables) cost (whole_of p) nodes) → IfOk result (λ yes. IsTrue yes → IsWhole nodes) →
-    IfOk result (λ yes. IsTrue yes → ClosesWhole p budget cost tree vectors)
-closes-whole p budget cost tree vectors nodes items tables (Ok passes) few listed prices each items-are tables-are nodes-are sound whole = λ y. record {
-  sound = subst (λ (v : List (List Price)). IsSound p v cost (whole_of p) tree) (tables-are ∙ items-are)
-      (subst (λ (n : List Node). IsSound p (listed_in tables) cost (whole_of p) n) nodes-are (sound y));
-  whole = subst IsWhole nodes-are (whole y);
+    All (IsVector p) vectors → IfSome fixing (FixingHolds p vectors cost) →
+    IfOk result (λ yes. IsTrue yes → IsSound (tree_problem p vectors fixing) vectors cost (whole_of (tree_problem p vectors fixing)) tree) →
+    IfOk result (λ yes. IsTrue yes → IsWhole tree) →
+    IfOk result (λ yes. IsTrue yes → ClosesWhole p budget cost fixing tree vectors)
+closes-whole p budget cost fixing tree vectors (Ok passes) few listed prices each holds sound whole = λ y. record {
+  fixing = holds;
+  sound = sound y;
+  whole = whole y;
   few_nodes = few;
-  each = subst (All (IsVector p)) items-are each;
+  each = each;
   few = listed;
   few_prices = prices;
 }
-closes-whole p budget cost tree vectors nodes items tables (Err e) few listed prices each items-are tables-are nodes-are sound whole = tt
+closes-whole p budget cost fixing tree vectors (Err e) few listed prices each holds sound whole = tt
+
+-- what the tests of nodes show, of the tree and the vectors that they were made of
+pub sound-of : {E : Type 0} (p : ProblemView) (cost : Option ℕ) (tables : Tables) (items vectors : List (List Price)) (nodes tree : List Node) (result : Result Bool E) →
+    listed_in tables ≡ items → items ≡ vectors → nodes ≡ tree →
+    IfOk result (λ yes. IsTrue yes → IsSound p (listed_in tables) cost (whole_of p) nodes) →
+    IfOk result (λ yes. IsTrue yes → IsSound p vectors cost (whole_of p) tree)
+sound-of p cost tables items vectors nodes tree (Ok passes) tables-are items-are nodes-are sound = λ y.
+    subst (λ (v : List (List Price)). IsSound p v cost (whole_of p) tree) (tables-are ∙ items-are)
+    (subst (λ (n : List Node). IsSound p (listed_in tables) cost (whole_of p) n) nodes-are (sound y))
+sound-of p cost tables items vectors nodes tree (Err e) tables-are items-are nodes-are sound = tt

@@ -3,23 +3,26 @@
 ghost use Rattle.std.specs.Prelude.{◌≡◌, ◌↔◌, ◌<◌, ◌≤◌, ◌^◌, ℕ, List, All, IsTrue, IfOk, IfSome, drop, length, sum_by, Some, None};
 ghost use Rattle.choice_problem.specs.declared.vectors.Price.{Price};
 ghost use Rattle.choice_problem.specs.Choices.{IsFeasible, choice_cost};
-ghost use Rattle.choice_problem.specs.Trees.{node_count};
+ghost use Rattle.choice_problem.specs.Bounds.{IsVector, whole_of};
+ghost use Rattle.choice_problem.specs.Trees.{IsSound, IsWhole, node_count};
 ghost use Rattle.closing_search.specs.Closed.{ClosesWhole, IsClosed, IsClosedAtMost, IsKnownAtMost};
 
 use crate::closed::Closed;
-use crate::exact::{is_proof, leaf_tables};
+use crate::exact::{are_vectors, is_proof, leaf_tables};
 use choice_problem::{
     Choice, MOST_PRICES, MOST_VECTORS, Node, Problem, Tree, Vector, VectorList, cost_of,
     count_nodes, fits, sound_tree,
 };
+use cost_fixing::{Fixing, fixed_best, fixing_problem};
 use slot_text::Memory;
 use std::alloc::Global;
 
-// A tree that was found, with the vectors that its leaves name, and the choice that it is to prove best, if any. Nothing is
-// known of them.
+// A tree that was found, with the vectors that its leaves name, the fixing of the problem that it is a tree of, if there is
+// one, and the choice that it is to prove best, if any. Nothing is known of them.
 #[derive(Drop)]
 pub(crate) struct Found {
     pub(crate) choice: Option<Choice>,
+    pub(crate) fixing: Option<Fixing>,
     pub(crate) nodes: Vec<Node>,
     pub(crate) vectors: VectorList,
 }
@@ -39,12 +42,15 @@ pub(crate) fn accepted(
 {
     let Found {
         choice,
+        fixing,
         nodes,
         vectors,
     } = found;
     let tree = Tree::new(nodes);
     match choice {
-        Some(choice) => accepted_best(alloc, problem, start, budget, choice, tree, vectors),
+        Some(choice) => {
+            accepted_best(alloc, problem, start, budget, choice, fixing, tree, vectors)
+        }
         None if start.is_some() => Ok(None),
         None => accepted_none(alloc, problem, budget, tree, vectors),
     }
@@ -84,6 +90,7 @@ fn accepted_best(
     start: &Option<Choice>,
     budget: u32,
     choice: Choice,
+    fixing: Option<Fixing>,
     tree: Tree,
     vectors: VectorList,
 ) -> Result<Option<Closed>, Memory>
@@ -99,10 +106,10 @@ fn accepted_best(
     if !is_within(problem, start, cost) {
         return Ok(None);
     }
-    if !closes_whole(alloc, problem, budget, Some(cost), &tree, &vectors)? {
+    if !closes_whole(alloc, problem, budget, Some(cost), &fixing, &tree, &vectors)? {
         return Ok(None);
     }
-    let closed = optimal(problem, start, budget, choice, cost, tree, vectors);
+    let closed = optimal(problem, start, budget, choice, cost, fixing, tree, vectors);
     Ok(Some(closed))
 }
 
@@ -113,22 +120,24 @@ fn optimal(
     _budget: u32,
     choice: Choice,
     cost: u64,
+    fixing: Option<Fixing>,
     tree: Tree,
     vectors: VectorList,
 ) -> Closed
     requires feasible { IsFeasible problem.now choice }
     requires cost { choice_cost problem.now choice ≡ cost }
     requires within { IfSome start.now (λ x. cost ≤ choice_cost problem.now x) }
-    requires closes { ClosesWhole problem.now _budget (Some cost) tree vectors }
+    requires closes { ClosesWhole problem.now _budget (Some cost) fixing tree vectors }
     ensures closed { IsClosed problem.now _budget result }
     ensures start { IfSome start.now (λ x. IsClosedAtMost (choice_cost problem.now x) result) }
 {
-    sound_tree();
+    fixed_best();
     let _problem = problem;
     let _start = start;
     Closed::Optimal {
         choice,
         cost,
+        fixing,
         tree,
         vectors,
     }
@@ -144,7 +153,7 @@ fn accepted_none(
 ) -> Result<Option<Closed>, Memory>
     ensures { IfOk result (λ found. IfSome found (IsClosed problem.now budget)) }
 {
-    if !closes_whole(alloc, problem, budget, None, &tree, &vectors)? {
+    if !closes_whole(alloc, problem, budget, None, &None, &tree, &vectors)? {
         return Ok(None);
     }
     let closed = infeasible(problem, budget, tree, vectors);
@@ -153,7 +162,7 @@ fn accepted_none(
 
 // The answer that passed the test, where there is no choice.
 fn infeasible(problem: &Problem, _budget: u32, tree: Tree, vectors: VectorList) -> Closed
-    requires { ClosesWhole problem.now _budget None tree vectors }
+    requires { ClosesWhole problem.now _budget None None tree vectors }
     ensures { IsClosed problem.now _budget result }
 {
     sound_tree();
@@ -172,28 +181,50 @@ fn is_within(problem: &Problem, start: &Option<Choice>, cost: u64) -> bool
     }
 }
 
-// Whether the tree is whole, keeps the limits on nodes, vectors and prices, and is sound for the cost, or for none.
+// Whether the tree keeps the limits on nodes, vectors and prices, the fixing holds, if there is one, and the tree of what it
+// leaves is whole and sound for the cost, or for none.
 fn closes_whole(
     alloc: Global,
     problem: &Problem,
     budget: u32,
     cost: Option<u64>,
+    fixing: &Option<Fixing>,
     tree: &Tree,
     vectors: &VectorList,
 ) -> Result<bool, Memory>
     ensures { IfOk result (λ yes. IsTrue yes →
-        ClosesWhole problem.now budget cost tree.now vectors.now) }
+        ClosesWhole problem.now budget cost fixing.now tree.now vectors.now) }
 {
-    if !has_few_nodes(tree, budget) {
+    if !has_few_nodes(tree, budget) || !are_listable(vectors) {
         return Ok(false);
     }
-    if !are_listable(vectors) {
+    if !are_vectors(problem, vectors.items()) {
         return Ok(false);
     }
-    match leaf_tables(alloc, problem, vectors.items())? {
-        Some(tables) => is_proof(alloc, problem, &tables, cost, tree.items()),
+    let Some(fixing) = fixing else {
+        return proves(alloc, problem, cost, tree, vectors);
+    };
+    match fixing_problem(alloc, problem, vectors, cost, fixing)? {
+        Some(left) => proves(alloc, &left, cost, tree, vectors),
         None => Ok(false),
     }
+}
+
+// Whether a tree of a problem is whole and sound for the cost, or for none.
+fn proves(
+    alloc: Global,
+    problem: &Problem,
+    cost: Option<u64>,
+    tree: &Tree,
+    vectors: &VectorList,
+) -> Result<bool, Memory>
+    requires { All (IsVector problem.now) vectors.now }
+    ensures sound { IfOk result (λ yes. IsTrue yes →
+        IsSound problem.now vectors.now cost (whole_of problem.now) tree.now) }
+    ensures whole { IfOk result (λ yes. IsTrue yes → IsWhole tree.now) }
+{
+    let tables = leaf_tables(alloc, problem, vectors.items())?;
+    is_proof(alloc, problem, &tables, cost, tree.items())
 }
 
 // Whether a tree has at most so many nodes.

@@ -1,6 +1,6 @@
 //! The exact test of a tree: whether it is whole and each of its leaves is closed.
 
-ghost use Rattle.std.specs.Prelude.{◌≡◌, ◌∷◌, List, All, IsTrue, IfOk, IfSome};
+ghost use Rattle.std.specs.Prelude.{◌≡◌, ◌∷◌, List, All, IsTrue, IfOk};
 ghost use Rattle.choice_problem.specs.declared.nodes.Node.{Node};
 ghost use Rattle.choice_problem.specs.Bounds.{AreRanges, IsVector, whole_of};
 ghost use Rattle.choice_problem.specs.Trees.{AreSound, IsSound, IsWhole, LeafHolds, NodeHolds};
@@ -128,8 +128,8 @@ pub(crate) fn is_proof(
     Ok(walk.is_done())
 }
 
-// Whether each of these is a vector for the problem.
-fn are_vectors(problem: &Problem, vectors: &[Vector]) -> bool
+/// Whether each of these is a vector for the problem.
+pub(crate) fn are_vectors(problem: &Problem, vectors: &[Vector]) -> bool
     ensures { IsTrue result → All (IsVector problem.now) vectors.now }
 {
     for vector in vectors {
@@ -140,23 +140,18 @@ fn are_vectors(problem: &Problem, vectors: &[Vector]) -> bool
     true
 }
 
-/// The tables of the zero vector and of these, if each of them is a vector for the problem.
+/// The tables of the zero vector and of these.
 pub(crate) fn leaf_tables(
     alloc: Global,
     problem: &Problem,
     vectors: &[Vector],
-) -> Result<Option<Tables>, Memory>
-    ensures tables { IfOk result (λ found. IfSome found (AreLeafTables problem.now)) }
-    ensures vectors { IfOk result (λ found. IfSome found
-        (λ tables. listed_in tables ≡ vectors.now)) }
-    ensures each { IfOk result (λ found. IfSome found
-        (λ tables. All (IsVector problem.now) vectors.now)) }
+) -> Result<Tables, Memory>
+    requires { All (IsVector problem.now) vectors.now }
+    ensures tables { IfOk result (AreLeafTables problem.now) }
+    ensures vectors { IfOk result (λ tables. listed_in tables ≡ vectors.now) }
 {
-    if !are_vectors(problem, vectors) {
-        return Ok(None);
-    }
     let listed = tables_of(alloc, problem, vectors)?;
     let none = Vector::new(Vec::new(alloc));
     let zero = price_table(alloc, problem, &none)?;
-    Ok(Some(Tables { zero, listed }))
+    Ok(Tables { zero, listed })
 }

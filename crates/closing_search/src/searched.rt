@@ -8,13 +8,14 @@ ghost use Rattle.closing_search.specs.Closed.{IsEnding, EndsAtMost};
 use crate::accepted::{Found, accepted, known_best};
 use crate::barred::barred_alts;
 use crate::closed::Ending;
+use crate::guesses::close_by_guesses;
 use crate::quotas::quotas_of;
 use crate::states::{NEVER, Task};
-use crate::trees::{MOST_NODES, search_tree};
+use crate::trees::{FEW_VISITS, MOST_NODES, first_tree, further_trees};
 use crate::unpriced::unpriced;
 use choice_problem::{Choice, Problem, Vector};
 use reduced_problem::Reduced;
-use relaxed_problem::{Program, Relaxation};
+use relaxed_problem::{End, Program, Relaxation};
 use slot_text::Memory;
 use std::alloc::Global;
 
@@ -92,18 +93,41 @@ fn searched(
         quotas: &quotas,
         program: &program,
     };
-    let (found, best) = search_tree(
-        alloc,
-        &task,
-        &root,
-        ended.end,
-        start,
-        budget.min(MOST_NODES),
-    )?;
     let vector = root.vector(alloc, problem, &program)?;
+    let most = budget.min(MOST_NODES);
+    let (found, best) = settled(alloc, &task, &root, ended.end, &vector, start, most)?;
     Ok(Findings {
         found,
         best,
         vector,
     })
+}
+
+// Looks for a small tree first, then for one of what a fixing leaves, and at last for better choices.
+fn settled(
+    alloc: Global,
+    task: &Task<'_>,
+    root: &Relaxation,
+    end: End,
+    vector: &Vector,
+    start: &Option<Choice>,
+    most: u32,
+) -> Result<(Option<Found>, Option<Choice>), Memory>
+    requires { IsVector task.problem.now vector.now }
+{
+    if end == End::Above || end == End::Spent {
+        return Ok((None, None));
+    }
+    let (found, best) = first_tree(alloc, task, root, start, most)?;
+    if found.is_some() {
+        return Ok((found, best));
+    }
+    if end == End::Infeasible || most <= FEW_VISITS {
+        return further_trees(alloc, task, root, end, best, most);
+    }
+    let (found, best) = close_by_guesses(alloc, task.problem, vector, best, most)?;
+    if found.is_some() {
+        return Ok((found, best));
+    }
+    further_trees(alloc, task, root, end, best, most)
 }

@@ -14,59 +14,60 @@ use std::alloc::Global;
 /// The most nodes of a tree.
 pub(crate) const MOST_NODES: u32 = 20_000;
 
-// The most steps of the relaxations of all trees, and of the first one; how many trees are tried.
+// The most steps of the relaxations of all trees but the first one, and of that; how many trees are tried.
 const TREE_STEPS: u64 = 2_000_000_000;
 
-const FIRST_STEPS: u64 = 150_000_000;
+const FIRST_STEPS: u64 = 20_000_000;
 
 const MOST_TREES: u32 = 4;
 
-/// Looks for a tree, and for choices on the way, where the first relaxation ended like this.
-pub(crate) fn search_tree(
+/// Looks for a small tree, and for a choice on the way, from a start, if there is one.
+pub(crate) fn first_tree(
     alloc: Global,
     task: &Task<'_>,
     root: &Relaxation,
-    end: End,
     start: &Option<Choice>,
     most: u32,
 ) -> Result<(Option<Found>, Option<Choice>), Memory> {
-    if end == End::Above || end == End::Spent {
-        return Ok((None, None));
-    }
     let allowed = Allowed::all(alloc, task.problem)?;
-    let mut first = State::new(alloc, task, root, allowed, FIRST_STEPS)?;
+    let mut state = State::new(alloc, task, root, allowed, FIRST_STEPS)?;
     if let Some(start) = start {
         let copy = copy_of(alloc, start)?;
-        first.take(alloc, task.problem, copy)?;
+        state.take(alloc, task.problem, copy)?;
     }
-    grow(alloc, task, &mut first, most)?;
-    if let Some(found) = found_in(alloc, task, &first, most)? {
-        let State { best, .. } = first;
-        return Ok((Some(found), best));
-    }
-    go_on(alloc, task, first, root, end, most)
+    grow(alloc, task, &mut state, most)?;
+    let found = found_in(alloc, task, &state, most)?;
+    let State { best, .. } = state;
+    Ok((found, best))
 }
 
-// Looks for better choices, and then for other trees.
-fn go_on(
+/// Looks for better choices, and where none is known, for trees of the whole problem.
+pub(crate) fn further_trees(
     alloc: Global,
     task: &Task<'_>,
-    first: State,
     root: &Relaxation,
     end: End,
+    best: Option<Choice>,
     most: u32,
 ) -> Result<(Option<Found>, Option<Choice>), Memory> {
-    let known = first.cost;
-    let mut state = first.with_best(alloc, task, root)?;
-    let left = first.steps;
-    state.steps = TREE_STEPS - FIRST_STEPS + left.min(FIRST_STEPS);
+    let allowed = Allowed::all(alloc, task.problem)?;
+    let mut state = State::new(alloc, task, root, allowed, TREE_STEPS)?;
+    let is_known = best.is_some();
+    if let Some(best) = best {
+        state.take(alloc, task.problem, best)?;
+    }
     if end == End::Solved {
         improve(alloc, task, &mut state, root)?;
     }
-    let is_by_quotas = first.is_by_quotas && (left == 0 || state.cost != known);
-    state.is_by_quotas = is_by_quotas;
+    if is_known && most > FEW_VISITS {
+        let State { best, .. } = state;
+        return Ok((None, best));
+    }
     grow_trees(alloc, task, state, root, most)
 }
+
+/// With at most so many nodes no fixing is tried, and trees of the whole problem are.
+pub(crate) const FEW_VISITS: u32 = 64;
 
 // A tree and the best choice. Where a tree does not close, the next one is grown with the best choice that was found; and
 // where no better one was found, with splits by numbers alone.
@@ -97,8 +98,8 @@ fn grow_trees(
     Ok((None, best))
 }
 
-// The tree of ranges that was found, with its vectors and the best choice.
-fn found_in(
+/// The tree of ranges that was found, with its vectors and the best choice.
+pub(crate) fn found_in(
     alloc: Global,
     task: &Task<'_>,
     state: &State,
@@ -122,6 +123,7 @@ fn found_in(
     }
     Ok(Some(Found {
         choice: copy_if_any(alloc, &state.best)?,
+        fixing: None,
         nodes: renumbered(alloc, nodes, &numbers)?,
         vectors,
     }))

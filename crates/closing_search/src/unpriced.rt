@@ -21,6 +21,7 @@ pub(crate) fn unpriced(alloc: Global, problem: &Problem) -> Result<Found, Memory
     };
     Ok(Found {
         choice: Some(Choice::new(alts)),
+        fixing: None,
         nodes: vec![in alloc; leaf; 1]?,
         vectors: VectorList::new(Vec::new(alloc)),
     })

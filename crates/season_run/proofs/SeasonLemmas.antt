@@ -1,6 +1,8 @@
 -- The stages of a run, one after the other.
-use Rattle.std.proofs.Common.{◌≡◌, ℕ, ◌+◌, ◌≤◌, refl, sym, ◌∙◌, ap, subst, arith, List, [], ◌∷◌, ◌++◌, length, length-append, append_assoc, Bool, true, false, Option}
-use Rattle.std.specs.Prelude.{All}
+use Rattle.std.proofs.Common.{◌≡◌, ℕ, zero, suc, ◌+◌, ◌<◌, ◌≤◌, ◌⊎◌, inl, inr, get_or, drop, refl, sym, ◌∙◌, ap, subst, arith, List, [], ◌∷◌, ◌++◌, length, length-append, append_assoc, Bool, true, false, Option, Some, None}
+use Rattle.std.specs.Prelude.{All, is_some}
+use Rattle.std.specs.Option.{option_map_or}
+use Rattle.std.proofs.lemmas.List.{drop_more}
 use Rattle.std.specs.List.{AllByRecursion}
 use Rattle.std.proofs.lemmas.List.Elements.{All-cons, All-nil}
 use Rattle.season_days.specs.declared.declaration.Declaration.{Declaration}
@@ -9,14 +11,15 @@ use Rattle.cert_format.specs.declared.cert.Mark.TheVariants as marks
 use Rattle.cert_format.specs.declared.cert.StageCert.{StageCert}
 use Rattle.cert_format.specs.declared.cert.Certificate.{Certificate}
 use Rattle.cert_format.specs.declared.cert.TheConstants.{MOST_LINES}
-use Rattle.cert_format.specs.Spelling.{is_tried, cert_lines, HoldsNothing}
+use Rattle.cert_format.specs.Spelling.{is_tried, has_bound, cert_lines, HoldsNothing}
 use Rattle.cert_format.specs.Printable.{IsPrintable, IsPrintableStage, IsPrintableAs, IsWithinLimits}
 use Rattle.series_model.specs.declared.unit.Unit.{Unit as SlotUnit}
 use Rattle.series_model.specs.declared.state.UnitState.{UnitState}
 use Rattle.series_model.specs.Stages.{first_states, after_stage, states_after, may_follow, AreStates}
 use Rattle.series_model.specs.Submissions.{SubmissionView}
 use Rattle.wasg_stages.specs.Valid.{IsStageAs, AreStages}
-use Rattle.season_run.specs.Runs.{IsTriedRun, IsRunAs, AreStageRuns, IsRun, AreEnough}
+use Rattle.season_run.specs.Runs.{IsTriedRun, IsRunAs, AreStageRuns, IsRun, AreEnough, version_for}
+use Rattle.cost_fixing.specs.declared.fixings.Fixing.{Fixing}
 use Rattle.season_run.specs.declared.ties.LastStages.{LastStages}
 use Rattle.season_run.specs.Steps.{FitsSeason, AreLastStages, AreRunSoFar, IsNextStage}
 
@@ -80,9 +83,78 @@ so_far_next one_more s budget stage states after follows next certs c on stage_n
           (on.runs (c ∷ rest) (next-run d (length on.earlier + 1) (states_after d s.units on.earlier) budget c (is_tried c.mark) follows refl here, h));
     }
 
-printables : (certs : List StageCert) → AllByRecursion FitsSeason certs → AllByRecursion (IsPrintableStage 2) certs
-printables [] h = tt
-printables (c ∷ certs) h = (h.0.printable, printables certs h.1)
+-- ---- the version
+
+which-one : (fixing : Option Fixing) (rest : ℕ) → (option_map_or (λ f. 3) fixing rest ≡ 3) ⊎ ((option_map_or (λ f. 3) fixing rest ≡ rest) × (fixing ≡ None))
+which-one None rest = inr (refl, refl)
+which-one (Some f) rest = inl refl
+
+-- it is 3, or it is 2 and no stage has a fixing
+which : (certs : List StageCert) → (version_for certs ≡ 3) ⊎ ((version_for certs ≡ 2) × AllByRecursion (λ (c : StageCert). c.fixing ≡ None) certs)
+which [] = inr (refl, tt)
+which (c ∷ certs) = elim (which-one c.fixing (version_for certs)) [
+  | inl three ↦ inl three
+  | inr same ↦ elim (which certs) [
+    | inl three ↦ inl (same.0 ∙ three)
+    | inr two ↦ inr (same.0 ∙ two.0, (same.1, two.1))
+  ]
+]
+
+same-bound : (m : Mark) → has_bound 3 m ≡ has_bound 2 m
+same-bound marks.Optimal = refl
+same-bound marks.Infeasible = refl
+same-bound marks.Unsettled = refl
+same-bound marks.NotTried = refl
+
+printable-two : (c : StageCert) (tried : Bool) → c.fixing ≡ None → IsPrintableAs 3 c tried → IsPrintableAs 2 c tried
+printable-two c true e h = record {
+  has_cost = h.has_cost;
+  has_bound = h.has_bound ∙ same-bound c.mark;
+  vector_count = h.vector_count;
+  fixed_from = rw e tt;
+  floor_count = h.floor_count;
+}
+printable-two c false e h = h
+
+printables-three : (certs : List StageCert) → AllByRecursion FitsSeason certs → AllByRecursion (IsPrintableStage 3) certs
+printables-three [] h = tt
+printables-three (c ∷ certs) h = (h.0.printable, printables-three certs h.1)
+
+printables-two : (certs : List StageCert) → AllByRecursion FitsSeason certs → AllByRecursion (λ (c : StageCert). c.fixing ≡ None) certs → AllByRecursion (IsPrintableStage 2) certs
+printables-two [] h none = tt
+printables-two (c ∷ certs) h none = (printable-two c (is_tried c.mark) none.0 h.0.printable, printables-two certs h.1 none.1)
+
+printables : (certs : List StageCert) → AllByRecursion FitsSeason certs → AllByRecursion (IsPrintableStage (version_for certs)) certs
+printables certs h = elim (which certs) [
+  | inl three ↦ subst (λ (v : ℕ). AllByRecursion (IsPrintableStage v) certs) (sym three) (printables-three certs h)
+  | inr two ↦ subst (λ (v : ℕ). AllByRecursion (IsPrintableStage v) certs) (sym two.0) (printables-two certs h two.1)
+]
+
+version-small : (certs : List StageCert) → (1 ≤ version_for certs) × (version_for certs ≤ 3)
+version-small certs = elim (which certs) [
+  | inl three ↦ (omega (arith, three), omega (arith, three))
+  | inr two ↦ (omega (arith, two.0), omega (arith, two.0))
+]
+
+-- the version so far, and at the end
+pub version-next : (certs : List StageCert) (i : ℕ) (d : StageCert) → i < length certs → (get_or certs i d).fixing ≡ None → version_for (drop i certs) ≡ version_for (drop (i + 1) certs)
+version-next certs i d lt none = ap (λ (l : List StageCert). version_for l) (drop_more certs i d lt) ∙ ap (λ (f : Option Fixing). option_map_or (λ g. 3) f (version_for (drop (i + 1) certs))) none
+
+fixed-three : (fixing : Option Fixing) (rest : ℕ) → is_some fixing ≡ true → option_map_or (λ f. 3) fixing rest ≡ 3
+fixed-three None rest e = (let no : false ≡ true = e in cc)
+fixed-three (Some f) rest e = refl
+
+pub version-here : (certs : List StageCert) (i : ℕ) (d : StageCert) → i < length certs → is_some (get_or certs i d).fixing ≡ true → version_for (drop i certs) ≡ 3
+version-here certs i d lt some = ap (λ (l : List StageCert). version_for l) (drop_more certs i d lt) ∙ fixed-three (get_or certs i d).fixing (version_for (drop (i + 1) certs)) some
+
+nothing-left : (certs : List StageCert) (i : ℕ) → length certs ≤ i → drop i certs ≡ []
+nothing-left [] zero past = refl
+nothing-left [] (suc i) past = refl
+nothing-left (c ∷ certs) zero past = absurd (omega arith)
+nothing-left (c ∷ certs) (suc i) past = nothing-left certs i (omega arith)
+
+pub version-end : (certs : List StageCert) (i : ℕ) → length certs ≤ i → version_for (drop i certs) ≡ 2
+version-end certs i past = ap (λ (l : List StageCert). version_for l) (nothing-left certs i past)
 
 limits : (certs : List StageCert) → AllByRecursion FitsSeason certs → AllByRecursion IsWithinLimits certs
 limits [] h = tt
@@ -137,14 +209,15 @@ module _ (one_more : (d : Declaration) (units : List SlotUnit) (choices : List (
 
   -- all four
   pub so_far_finish : ((c : Certificate) → length c.stages ≡ 4 → AllByRecursion IsWithinLimits c.stages → length (cert_lines c) ≤ MOST_LINES) →
-      (c : Certificate) → c.version ≡ 2 → c.stages ≡ certs ++ last.third ∷ last.fourth ∷ [] → IsRun s budget c
+      (c : Certificate) → c.version ≡ version_for c.stages → c.stages ≡ certs ++ last.third ∷ last.fourth ∷ [] → IsRun s budget c
   so_far_finish few c version is =
       let fits = fits-two certs last.third last.fourth on.fit_certs two.third_fits two.fourth_fits in
       let count : length c.stages ≡ 4 = omega (arith, on.count, ap (λ (l : List StageCert). length l) is, length-append certs rest) in
       let within : AllByRecursion IsWithinLimits c.stages = subst (λ (l : List StageCert). AllByRecursion IsWithinLimits l) (sym is) (limits (certs ++ rest) fits) in
-      let printable : AllByRecursion (IsPrintableStage 2) c.stages = subst (λ (l : List StageCert). AllByRecursion (IsPrintableStage 2) l) (sym is) (printables (certs ++ rest) fits) in
+      let printable : AllByRecursion (IsPrintableStage (version_for c.stages)) c.stages =
+      subst (λ (l : List StageCert). AllByRecursion (IsPrintableStage (version_for l)) l) (sym is) (printables (certs ++ rest) fits) in
       let form : IsPrintable c = record {
-        version = (omega (arith, version), omega (arith, version));
+        version = subst (λ (v : ℕ). (1 ≤ v) × (v ≤ 3)) (sym version) (version-small c.stages);
         count = count;
         stages = subst (λ (v : ℕ). AllByRecursion (IsPrintableStage v) c.stages) (sym version) printable;
         few = few c count within;
@@ -170,7 +243,7 @@ untried-limits c h = record {
 
 pub untried-fits : (c : StageCert) → c.mark ≡ marks.NotTried → HoldsNothing c → FitsSeason c
 untried-fits c e h = record {
-  printable = subst (λ (m : Mark). IsPrintableAs 2 c (is_tried m)) (sym e) h;
+  printable = subst (λ (m : Mark). IsPrintableAs 3 c (is_tried m)) (sym e) h;
   limits = untried-limits c h;
 }
 

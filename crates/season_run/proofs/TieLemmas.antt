@@ -18,7 +18,7 @@ use Rattle.tied_choice.specs.Ties.{IsTie}
 use Rattle.cert_format.specs.declared.cert.Mark.{Mark}
 use Rattle.cert_format.specs.declared.cert.Mark.TheVariants as marks
 use Rattle.cert_format.specs.declared.cert.StageCert.{StageCert}
-use Rattle.cert_format.specs.Proofs.{FitsMark, IsProof}
+use Rattle.cert_format.specs.Proofs.{FitsMark, IsProof, IsStageFixing}
 use Rattle.cert_format.specs.Printable.{IsPrintableProof, IsPrintableAs}
 use Rattle.cert_format.specs.Spelling.{is_tried, HoldsNothing}
 use Rattle.series_model.specs.declared.unit.Unit.{Unit as SlotUnit}
@@ -26,9 +26,11 @@ use Rattle.series_model.specs.declared.state.UnitState.{UnitState}
 use Rattle.series_model.specs.Allotments.{IsFeasibleAllotment, total_displacement}
 use Rattle.series_model.specs.Stages.{stage_units, stage_limit, stage_times, times_named, IsFeasibleChoice}
 use Rattle.wasg_stages.specs.StageProblems.{IsAllotmentProblem, IsStageProblem, AreNumbers}
-use Rattle.season_run.specs.Ends.{MakesStage}
+use Rattle.season_run.specs.Ends.{MakesStageBy}
+use Rattle.cost_fixing.specs.declared.fixings.Fixing.{Fixing}
 use Rattle.season_run.specs.Runs.{IsStageRun, IsTriedRun, OpensAs}
-use Rattle.season_run.specs.Searches.{IsEndOfSearches, IsFreeSearch, IsSmallFirst, FollowsFree, KeepsKnown, closed_outcome, found_choice, listed_vectors}
+use Rattle.season_run.specs.Searches.{IsEndOfSearches, IsFreeSearch, IsSmallFirst, FollowsFree, KeepsKnown, IsVisitedEnd, closed_end, visited_end, found_choice, listed_vectors}
+use Rattle.season_run.specs.declared.trials.StageEnd.{StageEnd}
 use Rattle.season_run.specs.declared.ties.LastStages.{LastStages}
 use Rattle.season_run.specs.Steps.{AreLastStages, FitsSeason, FollowsThird, IsNextStage, IsStageTie, IsTieOf}
 
@@ -45,11 +47,14 @@ module _ (p : ProblemView) (x z : List ℕ) (tie : IsTie p x z) where
   swap (ends.Spent b tree vectors) = ends.Spent b tree vectors
 
   abbrev swap-closed : Closed → Closed
-  swap-closed (closed.Optimal choice cost tree vectors) = closed.Optimal z cost tree vectors
+  swap-closed (closed.Optimal choice cost fixing tree vectors) = closed.Optimal z cost fixing tree vectors
   swap-closed (closed.Infeasible tree vectors) = closed.Infeasible tree vectors
 
-  closed-same : (a : Closed) → swap (closed_outcome a) ≡ closed_outcome (swap-closed a)
-  closed-same (closed.Optimal choice cost tree vectors) = refl
+  abbrev swap-end : StageEnd → StageEnd
+  swap-end e = record { outcome = swap e.outcome; fixing = e.fixing }
+
+  closed-same : (a : Closed) → swap-end (closed_end a) ≡ closed_end (swap-closed a)
+  closed-same (closed.Optimal choice cost fixing tree vectors) = refl
   closed-same (closed.Infeasible tree vectors) = refl
 
   swapped : (given : List (List Price)) (budget : ℕ) (o : Outcome) → IsOutcome p given budget o → found_choice o ≡ Some x → IsOutcome p given budget (swap o)
@@ -60,8 +65,11 @@ module _ (p : ProblemView) (x z : List ℕ) (tie : IsTie p x z) where
   swapped given budget (ends.Infeasible tree vectors) h e = h
   swapped given budget (ends.Spent b tree vectors) h e = h
 
-  closed-swapped : (budget : ℕ) (a : Closed) → IsClosed p budget a → found_choice (closed_outcome a) ≡ Some x → IsClosed p budget (swap-closed a)
-  closed-swapped budget (closed.Optimal choice cost tree vectors) h e =
+  visited-swapped : (given : List (List Price)) (budget : ℕ) (e : StageEnd) → IsVisitedEnd p given budget e → found_choice e.outcome ≡ Some x → IsVisitedEnd p given budget (swap-end e)
+  visited-swapped given budget e h is = record { outcome = swapped given budget e.outcome h.outcome is; whole = h.whole }
+
+  closed-swapped : (budget : ℕ) (a : Closed) → IsClosed p budget a → found_choice (closed_end a).outcome ≡ Some x → IsClosed p budget (swap-closed a)
+  closed-swapped budget (closed.Optimal choice cost fixing tree vectors) h e =
       let was : IsBest p x = subst (λ (k : Option (List ℕ)). IfSome k (IsBest p)) e h.3 in
       let paid : choice_cost p x ≡ cost = subst (λ (k : Option (List ℕ)). IfSome k (λ y. choice_cost p y ≡ cost)) e h.2 in
       (h.0, tie.feasible, tie.cost ∙ paid, best was)
@@ -78,7 +86,7 @@ module _ (p : ProblemView) (x z : List ℕ) (tie : IsTie p x z) where
   most-same most (ends.Spent b tree vectors) h = h
 
   closed-most : (most : ℕ) (a : Closed) → IsClosedAtMost most a → IsClosedAtMost most (swap-closed a)
-  closed-most most (closed.Optimal choice cost tree vectors) h = h
+  closed-most most (closed.Optimal choice cost fixing tree vectors) h = h
   closed-most most (closed.Infeasible tree vectors) h = h
 
   known-same : (known : Option (List ℕ)) (o : Outcome) → KeepsKnown p known o → KeepsKnown p known (swap o)
@@ -90,30 +98,30 @@ module _ (p : ProblemView) (x z : List ℕ) (tie : IsTie p x z) where
   known-closed (Some y) a h = closed-most (choice_cost p y) a h
 
   -- a search by free splits, and what follows it
-  free-swapped : (budget : ℕ) (known : Option (List ℕ)) (o : Outcome) (e : Ending) → IsEnding p budget e → IfSome known (λ y. EndsAtMost p (choice_cost p y) e) → FollowsFree p budget e o →
-      found_choice o ≡ Some x → IsFreeSearch p budget known (swap o)
+  free-swapped : (budget : ℕ) (known : Option (List ℕ)) (o : StageEnd) (e : Ending) → IsEnding p budget e → IfSome known (λ y. EndsAtMost p (choice_cost p y) e) → FollowsFree p budget e o →
+      found_choice o.outcome ≡ Some x → IsFreeSearch p budget known (swap-end o)
   free-swapped budget known o (free.Closed a) h k f is = record {
     ending = free.Closed (swap-closed a);
-    ends = closed-swapped budget a h (ap (λ (b : Outcome). found_choice b) (sym f) ∙ is);
+    ends = closed-swapped budget a h (ap (λ (b : StageEnd). found_choice b.outcome) (sym f) ∙ is);
     keeps = known-closed known a k;
-    follows = ap swap f ∙ closed-same a;
+    follows = ap swap-end f ∙ closed-same a;
   }
   free-swapped budget known o (free.Open b vector) h k f is = record {
     ending = free.Open b vector;
     ends = h;
     keeps = k;
-    follows = (swapped (vector ∷ []) budget o f.0 is, known-same b o f.1);
+    follows = (visited-swapped (vector ∷ []) budget o f.0 is, known-same b o.outcome f.1);
   }
 
-  free-search : (budget : ℕ) (known : Option (List ℕ)) (o : Outcome) → IsFreeSearch p budget known o → found_choice o ≡ Some x → IsFreeSearch p budget known (swap o)
+  free-search : (budget : ℕ) (known : Option (List ℕ)) (o : StageEnd) → IsFreeSearch p budget known o → found_choice o.outcome ≡ Some x → IsFreeSearch p budget known (swap-end o)
   free-search budget known o f is = free-swapped budget known o f.ending f.ends f.keeps f.follows is
 
-  first-swapped : (budget : ℕ) (o first : Outcome) → IsOutcome p [] 64 first →
-      ((IsSettled first × (o ≡ first)) ⊎ ((IsSettled first → ⊥) × IsFreeSearch p budget (found_choice first) o)) → found_choice o ≡ Some x → IsSmallFirst p budget (swap o)
+  first-swapped : (budget : ℕ) (o : StageEnd) (first : Outcome) → IsOutcome p [] 64 first →
+      ((IsSettled first × (o ≡ visited_end first)) ⊎ ((IsSettled first → ⊥) × IsFreeSearch p budget (found_choice first) o)) → found_choice o.outcome ≡ Some x → IsSmallFirst p budget (swap-end o)
   first-swapped budget o first v (inl f) is = record {
     first = swap first;
-    visits = swapped [] 64 first v (ap (λ (b : Outcome). found_choice b) (sym f.1) ∙ is);
-    follows = inl (settled-same first f.0, ap swap f.1);
+    visits = swapped [] 64 first v (ap (λ (b : StageEnd). found_choice b.outcome) (sym f.1) ∙ is);
+    follows = inl (settled-same first f.0, ap swap-end f.1);
   }
   first-swapped budget o first v (inr f) is = record {
     first = first;
@@ -121,9 +129,9 @@ module _ (p : ProblemView) (x z : List ℕ) (tie : IsTie p x z) where
     follows = inr (f.0, free-search budget (found_choice first) o f.1 is);
   }
 
-  searches-swapped : (budget : ℕ) (o : Outcome) → IsEndOfSearches p budget o → found_choice o ≡ Some x → IsEndOfSearches p budget (swap o)
+  searches-swapped : (budget : ℕ) (o : StageEnd) → IsEndOfSearches p budget o → found_choice o.outcome ≡ Some x → IsEndOfSearches p budget (swap-end o)
   searches-swapped budget o s is = record {
-    small = λ le. swapped [] budget o (s.small le) is;
+    small = λ le. visited-swapped [] budget o (s.small le) is;
     few_units = λ lt few. let f = s.few_units lt few in first-swapped budget o f.first f.visits f.follows is;
     many_units = λ lt gt. free-search budget None o (s.many_units lt gt) is;
   }
@@ -132,18 +140,22 @@ module _ (p : ProblemView) (x z : List ℕ) (tie : IsTie p x z) where
     abbrev tied : StageCert
     tied = record c { choice = Some z }
 
-    found-here : (o : Outcome) → MakesStage p o c → found_choice o ≡ Some x
-    found-here (ends.Optimal choice cost tree vectors) made = sym made.0.choice_is ∙ choice_is
-    found-here (ends.Infeasible tree vectors) made = sym made.0.choice_is ∙ choice_is
-    found-here (ends.Spent b tree vectors) made = sym made.0.choice_is ∙ choice_is
+    found-by : (fixing : Option Fixing) (o : Outcome) → MakesStageBy p fixing o c → found_choice o ≡ Some x
+    found-by fixing (ends.Optimal choice cost tree vectors) made = sym made.0.choice_is ∙ choice_is
+    found-by fixing (ends.Infeasible tree vectors) made = sym made.0.choice_is ∙ choice_is
+    found-by fixing (ends.Spent b tree vectors) made = sym made.0.choice_is ∙ choice_is
 
-    made-here : (o : Outcome) → MakesStage p o c → MakesStage p (swap o) tied
-    made-here (ends.Optimal choice cost tree vectors) made = (
-      record { mark_is = made.0.mark_is; choice_is = refl; cost_is = made.0.cost_is; tree_is = made.0.tree_is; kept = made.0.kept },
+    made-by : (fixing : Option Fixing) (o : Outcome) → MakesStageBy p fixing o c → MakesStageBy p fixing (swap o) tied
+    made-by fixing (ends.Optimal choice cost tree vectors) made = (
+      record { mark_is = made.0.mark_is; choice_is = refl; cost_is = made.0.cost_is; fixing_is = made.0.fixing_is; tree_is = made.0.tree_is; kept = made.0.kept },
       record { no_bound = made.1.no_bound; no_floors = made.1.no_floors },
     )
-    made-here (ends.Infeasible tree vectors) made = (let no : marks.Infeasible ≡ marks.Optimal = sym made.0.mark_is ∙ mark in cc)
-    made-here (ends.Spent b tree vectors) made = (let no : marks.Unsettled ≡ marks.Optimal = sym made.0.mark_is ∙ mark in cc)
+    made-by fixing (ends.Infeasible tree vectors) made = (let no : marks.Infeasible ≡ marks.Optimal = sym made.0.mark_is ∙ mark in cc)
+    made-by fixing (ends.Spent b tree vectors) made = (let no : marks.Unsettled ≡ marks.Optimal = sym made.0.mark_is ∙ mark in cc)
+
+    fixing-by : (f : Option Fixing) → IfSome f (IsStageFixing p c) → IfSome f (IsStageFixing p tied)
+    fixing-by None h = tt
+    fixing-by (Some f) h = record { optimal = h.optimal; holds = h.holds }
 
     proof-here : IsProof p c → IsProof p tied
     proof-here h =
@@ -152,6 +164,7 @@ module _ (p : ProblemView) (x z : List ℕ) (tie : IsTie p x z) where
           feasible = tie.feasible;
           cost = h.cost ∙ ap (λ (k : Option (List ℕ)). option_map (choice_cost p) k) choice_is ∙ ap (λ (n : ℕ). Some n) (sym tie.cost);
           vectors = h.vectors;
+          fixing = fixing-by c.fixing h.fixing;
           sound = h.sound;
           marked = subst (λ (m : Mark). FitsMark p tied m) (sym mark) (refl, was.1);
         }
@@ -162,11 +175,11 @@ module _ (p : ProblemView) (x z : List ℕ) (tie : IsTie p x z) where
       nodes = r.nodes;
       listed = r.listed;
       named = r.named;
-      small = λ le. record { driven = (r.small le).driven; root = (r.small le).root };
-      outcome = swap r.outcome;
-      searches = searches-swapped budget r.outcome r.searches (found-here r.outcome r.made);
-      made = made-here r.outcome r.made;
-      opened = subst (λ (m : Mark). OpensAs p budget (listed_vectors (swap r.outcome)) tied m) (sym mark) tt;
+      small = λ le. record { unfixed = (r.small le).unfixed; driven = (r.small le).driven; root = (r.small le).root };
+      end = swap-end r.end;
+      searches = searches-swapped budget r.end r.searches (found-by r.end.fixing r.end.outcome r.made);
+      made = made-by r.end.fixing r.end.outcome r.made;
+      opened = subst (λ (m : Mark). OpensAs p budget (listed_vectors (swap r.end.outcome)) tied m) (sym mark) tt;
     }
 
 -- ---- a stage of a season, with another choice
@@ -247,11 +260,12 @@ module _ (numbers : Numbers) (there : There) (displaces : Displaces) (allots : A
         g.choice.length ∙ sym f.choice.length
     long false h = (let no : true ≡ false = sym (ap (λ (m : Mark). is_tried m) mark) ∙ h in cc)
 
-    printable-tied : IsPrintableProof 2 c → IsPrintableProof 2 (record c { choice = Some z })
+    printable-tied : IsPrintableProof 3 c → IsPrintableProof 3 (record c { choice = Some z })
     printable-tied h = record {
       has_cost = h.has_cost ∙ ap (λ (k : Option (List ℕ)). is_some k) choice_is;
       has_bound = h.has_bound;
       vector_count = h.vector_count;
+      fixed_from = h.fixed_from;
       floor_count = h.floor_count;
     }
 
@@ -260,9 +274,9 @@ module _ (numbers : Numbers) (there : There) (displaces : Displaces) (allots : A
         let few : length x ≤ 4096 = subst (λ (k : Option (List ℕ)). IfSome k (λ alts. length alts ≤ 4096)) choice_is fits.limits.units in
         let short : length z ≤ 4096 = omega (arith, few, long follows h) in
         let t : is_tried c.mark ≡ true = ap (λ (m : Mark). is_tried m) mark in
-        let was : IsPrintableProof 2 c = subst (IsPrintableAs 2 c) t fits.printable in
+        let was : IsPrintableProof 3 c = subst (IsPrintableAs 3 c) t fits.printable in
         record {
-          printable = subst (IsPrintableAs 2 (record c { choice = Some z })) (sym t) (printable-tied was);
+          printable = subst (IsPrintableAs 3 (record c { choice = Some z })) (sym t) (printable-tied was);
           limits = record {
             units = short;
             vectors = fits.limits.vectors;
@@ -277,7 +291,7 @@ module _ (numbers : Numbers) (there : There) (displaces : Displaces) (allots : A
   pub chosen-feasible : (budget : ℕ) (c : StageCert) (follows : Bool) → IsNextStage d stage states budget c follows → FitsSeason c → IfSome c.choice (IsFeasibleChoice d stage states)
   chosen-feasible budget c true h fits = of-choice h.1.problem h.1.problem_is c.choice h.1.run.proof.feasible
   chosen-feasible budget c false h fits =
-      let nothing : HoldsNothing c = subst (IsPrintableAs 2 c) h fits.printable in
+      let nothing : HoldsNothing c = subst (IsPrintableAs 3 c) h fits.printable in
       rw nothing.choice tt
 
   -- stages 3 and 4 with another choice of stage 3

@@ -1,5 +1,5 @@
 -- From what a search answers to the end of a stage's trial.
-use Rattle.std.proofs.Common.{◌≡◌, ℕ, zero, suc, ◌+◌, ◌*◌, ◌<◌, ◌≤◌, refl, ap, subst, arith, List, [], ◌∷◌, length, pos, Option, Some, None, inl, inr}
+use Rattle.std.proofs.Common.{◌≡◌, ℕ, zero, suc, ◌+◌, ◌*◌, ◌<◌, ◌≤◌, refl, sym, ap, subst, arith, List, [], ◌∷◌, length, pos, Option, Some, None, inl, inr}
 use Rattle.std.specs.Prelude.{IfSome}
 use Rattle.std.specs.Option.{option_map}
 use Rattle.std.proofs.lemmas.List.Elements.{All-cons, All-nil}
@@ -16,8 +16,10 @@ use Rattle.closing_search.specs.declared.closed.Closed.{Closed}
 use Rattle.closing_search.specs.declared.closed.Closed.TheVariants as closed
 use Rattle.closing_search.specs.declared.closed.Ending.{Ending}
 use Rattle.closing_search.specs.declared.closed.Ending.TheVariants as free
-use Rattle.season_run.specs.Ends.{AreStageVectors, IsStageEnd}
-use Rattle.season_run.specs.Searches.{IsFreeSearch, FollowsFree, closed_outcome, found_choice}
+use Rattle.season_run.specs.declared.trials.StageEnd.{StageEnd}
+use Rattle.cost_fixing.specs.declared.fixings.Fixing.{Fixing}
+use Rattle.season_run.specs.Ends.{AreStageVectors, IsStageEnd, IsStageEndBy}
+use Rattle.season_run.specs.Searches.{IsVisitedEnd, IsFreeSearch, FollowsFree, closed_end, visited_end, found_choice}
 use Rattle.season_run.specs.Steps.{TakesNodes, IsDrivenBy, IsDrivenEnd, IsTrialEnd}
 use Rattle.season_run.proofs.StageLemmas.{found-cost}
 
@@ -44,13 +46,16 @@ all-some p given budget vectors h =
     let long = ap (λ (l : List (List Price)). length l) h.begins in
     omega (arith, long)
 
-pub outcome-end : (p : ProblemView) (given : List (List Price)) (budget : ℕ) (o : Outcome) → 1 ≤ budget → IsOutcome p given budget o → IsStageEnd p o
+pub outcome-end : (p : ProblemView) (given : List (List Price)) (budget : ℕ) (o : Outcome) → 1 ≤ budget → IsOutcome p given budget o → IsStageEndBy p None o
 outcome-end p given budget (ends.Optimal choice cost tree vectors) some h =
-    record { found = h.0.found; listed = stage-vectors p given vectors h.0.listed; sound = h.0.sound; whole = h.1 }
+    record { found = h.0.found; listed = stage-vectors p given vectors h.0.listed; fixing = tt; sound = h.0.sound; whole = h.1 }
 outcome-end p given budget (ends.Infeasible tree vectors) some h =
-    record { found = h.0.found; listed = stage-vectors p given vectors h.0.listed; sound = h.0.sound; whole = h.1 }
+    (refl, record { found = h.0.found; listed = stage-vectors p given vectors h.0.listed; fixing = tt; sound = h.0.sound; whole = h.1 })
 outcome-end p given budget (ends.Spent best tree vectors) some h =
-    record { searched = searched-any p given vectors h.0.0 best tree h.0.1; root = all-some p given budget vectors (h.3 some); undone = h.2 }
+    (refl, record { searched = searched-any p given vectors h.0.0 best tree h.0.1; root = all-some p given budget vectors (h.3 some); undone = h.2 })
+
+visited-ended : (p : ProblemView) (given : List (List Price)) (budget : ℕ) (e : StageEnd) → 1 ≤ budget → IsVisitedEnd p given budget e → IsStageEnd p e
+visited-ended p given budget e some v = subst (λ (f : Option Fixing). IsStageEndBy p f e.outcome) (sym v.whole) (outcome-end p given budget e.outcome some v.outcome)
 
 pub outcome-nodes : (p : ProblemView) (given : List (List Price)) (budget : ℕ) (o : Outcome) → IsOutcome p given budget o → TakesNodes budget o
 outcome-nodes p given budget (ends.Optimal choice cost tree vectors) h = h.2
@@ -80,28 +85,28 @@ found-feasible p given budget (ends.Spent best tree vectors) h = found-is p h.0.
 
 -- ---- searches by free splits
 
-closed-end : (p : ProblemView) (budget : ℕ) (a : Closed) → IsClosed p budget a → IsStageEnd p (closed_outcome a)
-closed-end p budget (closed.Optimal choice cost tree vectors) h =
-    record { found = (h.1, h.2); listed = record { few = h.0.few; each = h.0.each; few_prices = h.0.few_prices }; sound = h.0.sound; whole = h.0.whole }
-closed-end p budget (closed.Infeasible tree vectors) h =
-    record { found = tt; listed = record { few = h.0.few; each = h.0.each; few_prices = h.0.few_prices }; sound = h.0.sound; whole = h.0.whole }
+closed-ended : (p : ProblemView) (budget : ℕ) (a : Closed) → IsClosed p budget a → IsStageEnd p (closed_end a)
+closed-ended p budget (closed.Optimal choice cost fixing tree vectors) h =
+    record { found = (h.1, h.2); listed = record { few = h.0.few; each = h.0.each; few_prices = h.0.few_prices }; fixing = h.0.fixing; sound = h.0.sound; whole = h.0.whole }
+closed-ended p budget (closed.Infeasible tree vectors) h =
+    (refl, record { found = tt; listed = record { few = h.0.few; each = h.0.each; few_prices = h.0.few_prices }; fixing = tt; sound = h.0.sound; whole = h.0.whole })
 
-closed-nodes : (p : ProblemView) (budget : ℕ) (a : Closed) → IsClosed p budget a → TakesNodes budget (closed_outcome a)
-closed-nodes p budget (closed.Optimal choice cost tree vectors) h = h.0.few_nodes
+closed-nodes : (p : ProblemView) (budget : ℕ) (a : Closed) → IsClosed p budget a → TakesNodes budget (closed_end a).outcome
+closed-nodes p budget (closed.Optimal choice cost fixing tree vectors) h = h.0.few_nodes
 closed-nodes p budget (closed.Infeasible tree vectors) h = h.0.few_nodes
 
-follows-end : (p : ProblemView) (budget : ℕ) (e : Ending) (o : Outcome) → 1 ≤ budget → IsEnding p budget e → FollowsFree p budget e o → IsStageEnd p o × TakesNodes budget o
-follows-end p budget (free.Closed a) o some h f = rw f (closed-end p budget a h, closed-nodes p budget a h)
-follows-end p budget (free.Open best vector) o some h f = (outcome-end p (vector ∷ []) budget o some f.0, outcome-nodes p (vector ∷ []) budget o f.0)
+follows-end : (p : ProblemView) (budget : ℕ) (e : Ending) (o : StageEnd) → 1 ≤ budget → IsEnding p budget e → FollowsFree p budget e o → IsStageEnd p o × TakesNodes budget o.outcome
+follows-end p budget (free.Closed a) o some h f = rw f (closed-ended p budget a h, closed-nodes p budget a h)
+follows-end p budget (free.Open best vector) o some h f = (visited-ended p (vector ∷ []) budget o some f.0, outcome-nodes p (vector ∷ []) budget o.outcome f.0.outcome)
 
 -- ---- the ends of all searches
 
 -- a larger problem, with a greater budget
-pub many-trial : (p : ProblemView) (budget : ℕ) (o : Outcome) → 64 < budget → 64 < unit_count p → IsFreeSearch p budget None o →
-    (2 * choice_count p ≤ budget + 1 → IsSettled o) → IsTrialEnd p budget o
+pub many-trial : (p : ProblemView) (budget : ℕ) (o : StageEnd) → 64 < budget → 64 < unit_count p → IsFreeSearch p budget None o →
+    (2 * choice_count p ≤ budget + 1 → IsSettled o.outcome) → IsTrialEnd p budget o
 many-trial p budget o more many f settled =
     let both = follows-end p budget f.ending o (omega (arith, more)) f.ends f.follows in record {
-      end = both.0;
+      ended = both.0;
       nodes = both.1;
       small = λ le. absurd (omega (arith, le, more));
       searches = record {
@@ -114,13 +119,13 @@ many-trial p budget o more many f settled =
 
 -- a small budget
 pub small-trial : (p : ProblemView) (budget : ℕ) (o : Outcome) → 1 ≤ budget → budget ≤ 64 → IsOutcome p [] budget o →
-    (2 * choice_count p ≤ budget + 1 → IsSettled o) → IsTrialEnd p budget o
+    (2 * choice_count p ≤ budget + 1 → IsSettled o) → IsTrialEnd p budget (visited_end o)
 small-trial p budget o some small h settled = record {
-  end = outcome-end p [] budget o some h;
+  ended = outcome-end p [] budget o some h;
   nodes = outcome-nodes p [] budget o h;
-  small = λ le. outcome-driven p [] budget o h;
+  small = λ le. (outcome-driven p [] budget o h, refl);
   searches = record {
-    small = λ le. h;
+    small = λ le. record { outcome = h; whole = refl };
     few_units = λ lt few. absurd (omega (arith, lt, small));
     many_units = λ lt gt. absurd (omega (arith, lt, small));
   };
@@ -133,9 +138,9 @@ fewer-nodes less budget (ends.Infeasible tree vectors) le s h = omega (arith, le
 fewer-nodes less budget (ends.Spent best tree vectors) le s h = absurd s
 
 -- the first visits settled a problem of few units
-pub first-trial : (p : ProblemView) (budget : ℕ) (o : Outcome) → 64 < budget → unit_count p ≤ 64 → IsOutcome p [] 64 o → IsSettled o → IsTrialEnd p budget o
+pub first-trial : (p : ProblemView) (budget : ℕ) (o : Outcome) → 64 < budget → unit_count p ≤ 64 → IsOutcome p [] 64 o → IsSettled o → IsTrialEnd p budget (visited_end o)
 first-trial p budget o more few h s = record {
-  end = outcome-end p [] 64 o (omega arith) h;
+  ended = outcome-end p [] 64 o (omega arith) h;
   nodes = fewer-nodes 64 budget o (omega (arith, more)) s (outcome-nodes p [] 64 o h);
   small = λ le. absurd (omega (arith, le, more));
   searches = record {
@@ -147,11 +152,11 @@ first-trial p budget o more few h s = record {
 }
 
 -- they did not
-pub next-trial : (p : ProblemView) (budget : ℕ) (first o : Outcome) → 64 < budget → unit_count p ≤ 64 → IsOutcome p [] 64 first → (IsSettled first → ⊥) →
-    IsFreeSearch p budget (found_choice first) o → (2 * choice_count p ≤ budget + 1 → IsSettled o) → IsTrialEnd p budget o
+pub next-trial : (p : ProblemView) (budget : ℕ) (first : Outcome) (o : StageEnd) → 64 < budget → unit_count p ≤ 64 → IsOutcome p [] 64 first → (IsSettled first → ⊥) →
+    IsFreeSearch p budget (found_choice first) o → (2 * choice_count p ≤ budget + 1 → IsSettled o.outcome) → IsTrialEnd p budget o
 next-trial p budget first o more few h left f settled =
     let both = follows-end p budget f.ending o (omega (arith, more)) f.ends f.follows in record {
-      end = both.0;
+      ended = both.0;
       nodes = both.1;
       small = λ le. absurd (omega (arith, le, more));
       searches = record {

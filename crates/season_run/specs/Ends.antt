@@ -1,5 +1,5 @@
 -- How the search of a stage may end, and the stage of a certificate that it makes.
-use Rattle.std.specs.Prelude.{◌≡◌, ◌⊎◌, ℕ, ◌≤◌, List, [], ◌∷◌, ◌++◌, drop, length, All, Contains, Option, Some, None, IsSomeAnd, IsNone}
+use Rattle.std.specs.Prelude.{◌≡◌, ◌⊎◌, ℕ, ◌≤◌, List, [], ◌∷◌, ◌++◌, drop, length, All, Contains, Option, Some, None, IfSome, IsSomeAnd, IsNone}
 use Rattle.std.specs.List.{AllZip}
 use Rattle.std.specs.Option.{option_map}
 use Rattle.choice_problem.specs.declared.vectors.Price.{Price}
@@ -11,6 +11,8 @@ use Rattle.choice_problem.specs.Trees.{IsSound, IsWhole}
 use Rattle.choice_problem.specs.Grafts.{open_ranges}
 use Rattle.choice_problem.specs.Floors.{IsAtMost}
 use Rattle.choice_problem.specs.Named.{Names, NamesUpTo}
+use Rattle.cost_fixing.specs.declared.fixings.Fixing.{Fixing}
+use Rattle.cost_fixing.specs.Fixings.{FixingHolds, tree_problem}
 use Rattle.dual_bound.specs.Stated.{floor_by, scale_at, IsStatedFloor}
 use Rattle.search_workers.specs.Outcomes.{IsBestFound, IsSearched, price_count}
 use Rattle.search_workers.specs.declared.outcomes.Outcome.{Outcome}
@@ -20,6 +22,7 @@ use Rattle.cert_format.specs.declared.cert.Floor.{Floor}
 use Rattle.cert_format.specs.declared.cert.Mark.{Mark}
 use Rattle.cert_format.specs.declared.cert.Mark.TheVariants as marks
 use Rattle.cert_format.specs.declared.cert.StageCert.{StageCert}
+use Rattle.season_run.specs.declared.trials.StageEnd.{StageEnd}
 
 -- ---- how a search may end
 
@@ -30,13 +33,16 @@ pub record AreStageVectors (p : ProblemView) (vectors : List (List Price)) : Typ
   pub each : All (IsVector p) vectors
   pub few_prices : price_count (drop 1 vectors) ≤ MOST_PRICES
 
--- a whole tree, sound for the cost of a feasible choice, or for none without one: it proves the
--- mark, by whatever search it was found
-pub record IsClosedEnd (p : ProblemView) (vectors : List (List Price)) (cost : Option ℕ)
-    (best : Option (List ℕ)) (tree : List Node) : Type 0 where
+-- A whole tree, sound for the cost of a feasible choice, or for none without one: it proves the
+-- mark, by whatever search it was found. Where there is a fixing, it holds, and the tree is one of the
+-- problem that it leaves
+pub record IsClosedEnd (p : ProblemView) (vectors : List (List Price)) (fixing : Option Fixing)
+    (cost : Option ℕ) (best : Option (List ℕ)) (tree : List Node) : Type 0 where
   pub found : IsBestFound p cost best
   pub listed : AreStageVectors p vectors
-  pub sound : IsSound p vectors cost (whole_of p) tree
+  pub fixing : IfSome fixing (FixingHolds p vectors cost)
+  pub sound : IsSound (tree_problem p vectors fixing) vectors cost
+      (whole_of (tree_problem p vectors fixing)) tree
   pub whole : IsWhole tree
 
 -- a driven tree with an undone node, the root vector among its vectors
@@ -46,13 +52,18 @@ pub record IsOpenEnd (p : ProblemView) (vectors : List (List Price)) (cost : Opt
   pub root : 1 ≤ length vectors
   pub undone : IsWhole tree → ⊥
 
--- a stage's search ends with a tree that proves its mark, or with a driven one
-abbrev pub IsStageEnd : ProblemView → Outcome → Type 0
-IsStageEnd p (ends.Optimal choice cost tree vectors) =
-    IsClosedEnd p vectors (Some cost) (Some choice) tree
-IsStageEnd p (ends.Infeasible tree vectors) = IsClosedEnd p vectors None None tree
-IsStageEnd p (ends.Spent best tree vectors) =
-    IsOpenEnd p vectors (option_map (choice_cost p) best) best tree
+-- a stage's search ends with a tree that proves its mark, or with a driven one; there is a fixing at
+-- most where a best choice was found
+abbrev pub IsStageEndBy : ProblemView → Option Fixing → Outcome → Type 0
+IsStageEndBy p fixing (ends.Optimal choice cost tree vectors) =
+    IsClosedEnd p vectors fixing (Some cost) (Some choice) tree
+IsStageEndBy p fixing (ends.Infeasible tree vectors) =
+    (fixing ≡ None) × IsClosedEnd p vectors None None None tree
+IsStageEndBy p fixing (ends.Spent best tree vectors) =
+    (fixing ≡ None) × IsOpenEnd p vectors (option_map (choice_cost p) best) best tree
+
+abbrev pub IsStageEnd : ProblemView → StageEnd → Type 0
+IsStageEnd p end = IsStageEndBy p end.fixing end.outcome
 
 -- ---- the floors and the bound of an OPEN stage
 
@@ -93,41 +104,53 @@ pub record AreStated (p : ProblemView) (vectors : List (List Price)) (cost : Opt
 
 -- ---- which vectors a stage keeps
 
--- the greatest number of a vector that a leaf or a floor names; 0 where none does
-pub record IsGreatestName (tree : List Node) (floors : List Floor) (number : ℕ) : Type 0 where
+-- some leaf, floor or fixing names the vector of this number
+abbrev pub IsNamed : Option Fixing → List Node → List Floor → ℕ → Type 0
+IsNamed fixing tree floors number = ((leaf : Node) × Contains tree leaf × Names number leaf)
+    ⊎ (((floor : Floor) × Contains floors floor × (floor.vector ≡ number))
+    ⊎ IsSomeAnd fixing (λ f. f.vector ≡ number))
+
+-- the greatest number of a vector that a leaf, a floor or the fixing names; 0 where none does
+pub record IsGreatestName (fixing : Option Fixing) (tree : List Node) (floors : List Floor)
+    (number : ℕ) : Type 0 where
   pub leaves : All (NamesUpTo number) tree
   pub at_floors : All (λ (f : Floor). f.vector ≤ number) floors
-  pub named : (number ≡ 0) ⊎ (((leaf : Node) × Contains tree leaf × Names number leaf)
-      ⊎ ((floor : Floor) × Contains floors floor × (floor.vector ≡ number)))
+  pub at_fixing : IfSome fixing (λ f. f.vector ≤ number)
+  pub named : (number ≡ 0) ⊎ IsNamed fixing tree floors number
 
 -- the vectors of a search up to the last one that is named
-pub record AreKeptOf (searched : List (List Price)) (tree : List Node) (floors : List Floor)
-    (vectors : List (List Price)) : Type 0 where
+pub record AreKeptOf (searched : List (List Price)) (fixing : Option Fixing) (tree : List Node)
+    (floors : List Floor) (vectors : List (List Price)) : Type 0 where
   pub behind : List (List Price)
   pub first : searched ≡ vectors ++ behind
-  pub last : IsGreatestName tree floors (length vectors)
+  pub last : IsGreatestName fixing tree floors (length vectors)
 
 -- ---- the stage that an end makes
 
 -- a stage of these parts, with its vectors up to the last one that is named
-pub record IsStageOf (mark : Mark) (choice : Option (List ℕ)) (cost : Option ℕ) (tree : List Node)
-    (vectors : List (List Price)) (c : StageCert) : Type 0 where
+pub record IsStageOf (mark : Mark) (choice : Option (List ℕ)) (cost : Option ℕ)
+    (fixing : Option Fixing) (tree : List Node) (vectors : List (List Price))
+    (c : StageCert) : Type 0 where
   pub mark_is : c.mark ≡ mark
   pub choice_is : c.choice ≡ choice
   pub cost_is : c.cost ≡ cost
+  pub fixing_is : c.fixing ≡ fixing
   pub tree_is : c.tree ≡ tree
-  pub kept : AreKeptOf vectors tree c.floors c.vectors
+  pub kept : AreKeptOf vectors fixing tree c.floors c.vectors
 
 -- no bound and no floors
 pub record StatesNothing (c : StageCert) : Type 0 where
   pub no_bound : IsNone c.bound
   pub no_floors : c.floors ≡ []
 
-abbrev pub MakesStage : ProblemView → Outcome → StageCert → Type 0
-MakesStage p (ends.Optimal choice cost tree vectors) c =
-    IsStageOf marks.Optimal (Some choice) (Some cost) tree vectors c × StatesNothing c
-MakesStage p (ends.Infeasible tree vectors) c =
-    IsStageOf marks.Infeasible None None tree vectors c × StatesNothing c
-MakesStage p (ends.Spent best tree vectors) c =
-    IsStageOf marks.Unsettled best (option_map (choice_cost p) best) tree vectors c
+abbrev pub MakesStageBy : ProblemView → Option Fixing → Outcome → StageCert → Type 0
+MakesStageBy p fixing (ends.Optimal choice cost tree vectors) c =
+    IsStageOf marks.Optimal (Some choice) (Some cost) fixing tree vectors c × StatesNothing c
+MakesStageBy p fixing (ends.Infeasible tree vectors) c =
+    IsStageOf marks.Infeasible None None fixing tree vectors c × StatesNothing c
+MakesStageBy p fixing (ends.Spent best tree vectors) c =
+    IsStageOf marks.Unsettled best (option_map (choice_cost p) best) fixing tree vectors c
     × AreStated p vectors c.cost tree c.floors c.bound
+
+abbrev pub MakesStage : ProblemView → StageEnd → StageCert → Type 0
+MakesStage p end c = MakesStageBy p end.fixing end.outcome c

@@ -2,6 +2,7 @@
 -- is valid.
 use Rattle.std.specs.Prelude.{◌≡◌, ℕ, ◌+◌, ◌*◌, ◌<◌, ◌≤◌, Bool, true, false, List, [], ◌∷◌, ◌++◌, length, map, All, Option}
 use Rattle.std.specs.List.{AllByRecursion}
+use Rattle.std.specs.Option.{option_map_or}
 use Rattle.season_days.specs.declared.declaration.Declaration.{Declaration}
 use Rattle.choice_problem.specs.declared.vectors.Price.{Price}
 use Rattle.choice_problem.specs.Problems.{ProblemView}
@@ -9,7 +10,7 @@ use Rattle.choice_problem.specs.Trees.{IsWhole, node_count, vector_at}
 use Rattle.choice_problem.specs.Driven.{IsDriven}
 use Rattle.choice_problem.specs.Roots.{IsRootVector}
 use Rattle.search_workers.specs.Outcomes.{AreListed, product_of}
-use Rattle.search_workers.specs.declared.outcomes.Outcome.{Outcome}
+use Rattle.season_run.specs.declared.trials.StageEnd.{StageEnd}
 use Rattle.cert_format.specs.declared.cert.Mark.{Mark}
 use Rattle.cert_format.specs.declared.cert.Mark.TheVariants.{Optimal, Infeasible, Unsettled, NotTried}
 use Rattle.cert_format.specs.declared.cert.StageCert.{StageCert}
@@ -40,7 +41,8 @@ pub record IsOpenStage (p : ProblemView) (budget : ℕ) (searched : List (List P
   pub driven : IsDriven p c.vectors c.cost c.tree
   pub listed : AreListed p [] searched
   pub root : 1 ≤ length searched
-  pub kept : AreKeptOf searched c.tree c.floors c.vectors
+  pub unfixed : c.fixing ≡ None
+  pub kept : AreKeptOf searched None c.tree c.floors c.vectors
   pub stated : AreStated p searched c.cost c.tree c.floors c.bound
 
 abbrev pub OpensAs : ProblemView → ℕ → List (List Price) → StageCert → Mark → Type 0
@@ -49,9 +51,10 @@ OpensAs p budget searched c Infeasible = Unit {0}
 OpensAs p budget searched c Unsettled = IsOpenStage p budget searched c
 OpensAs p budget searched c NotTried = ⊥
 
--- with a small budget the tree is driven, whatever the mark is, and the first vector, if there is
--- one, is the root vector
+-- with a small budget the tree is driven, whatever the mark is, and one of the whole problem; and the
+-- first vector, if there is one, is the root vector
 pub record IsSmallRun (p : ProblemView) (c : StageCert) : Type 0 where
+  pub unfixed : c.fixing ≡ None
   pub driven : IsDriven p c.vectors c.cost c.tree
   pub root : 0 < length c.vectors → IsRootVector p (vector_at c.vectors 1)
 
@@ -62,12 +65,12 @@ pub record IsStageRun (p : ProblemView) (budget : ℕ) (c : StageCert) : Type 0 
   pub proof : IsProof p c
   pub nodes : node_count c.tree ≤ budget
   pub listed : AreStageVectors p c.vectors
-  pub named : IsGreatestName c.tree c.floors (length c.vectors)
+  pub named : IsGreatestName c.fixing c.tree c.floors (length c.vectors)
   pub small : budget ≤ 64 → IsSmallRun p c
-  pub outcome : Outcome
-  pub searches : IsEndOfSearches p budget outcome
-  pub made : MakesStage p outcome c
-  pub opened : OpensAs p budget (listed_vectors outcome) c c.mark
+  pub end : StageEnd
+  pub searches : IsEndOfSearches p budget end
+  pub made : MakesStage p end c
+  pub opened : OpensAs p budget (listed_vectors end.outcome) c c.mark
 
 -- ---- a budget that is enough
 
@@ -101,11 +104,17 @@ AreStageRuns d units budget earlier (c ∷ certs) =
     IsRunAs d (length earlier + 1) (states_after d units earlier) budget c (is_tried c.mark)
     × AreStageRuns d units budget (earlier ++ c.choice ∷ []) certs
 
--- The certificate of a run: of version 2 and valid, so that a stage is NOT TRIED exactly where
--- stage 1 or stage 2 before it has no allotment and each other stage has a proof; each stage that
--- was tried ended within the budget; and each stage is within the limits of a season's stages.
+-- version 3 where some stage has a fixing, else version 2
+abbrev pub version_for : List StageCert → ℕ
+version_for [] = 2
+version_for (c ∷ certs) = option_map_or (λ f. 3) c.fixing (version_for certs)
+
+-- The certificate of a run: of version 2, or 3 where some stage has a fixing, and valid, so that a
+-- stage is NOT TRIED exactly where stage 1 or stage 2 before it has no allotment and each other stage
+-- has a proof; each stage that was tried ended within the budget; and each stage is within the limits
+-- of a season's stages.
 pub record IsRun (s : SubmissionView) (budget : ℕ) (c : Certificate) : Type 0 where
-  pub version : c.version ≡ 2
+  pub version : c.version ≡ version_for c.stages
   pub valid : IsValid s c
   pub stages : AreStageRuns s.declaration s.units budget [] c.stages
   pub limits : AllByRecursion IsWithinLimits c.stages

@@ -26,6 +26,7 @@ use Rattle.series_model.specs.Stages.{states_after, after_stage, may_follow, sta
 use Rattle.series_model.specs.Submissions.{SubmissionView}
 use Rattle.wasg_stages.specs.Valid.{AreStages}
 use Rattle.season_run.specs.declared.floors.Stated.{Stated}
+use Rattle.season_run.specs.declared.trials.StageEnd.{StageEnd}
 use Rattle.season_run.specs.declared.ties.LastStages.{LastStages}
 use Rattle.season_run.specs.Ends.{IsGreatestFloor, IsLeastOf, IsStageEnd, floor_cost, floor_costs}
 use Rattle.season_run.specs.Runs.{IsTriedRun, AreStageRuns}
@@ -102,18 +103,19 @@ IsDrivenEnd p (ends.Spent best tree vectors) =
 
 -- what the trial of a stage gives: an end of a search within the budget, that of a driven tree where
 -- the budget is small, and a whole tree where the budget is enough for the problem's choices
-pub record IsTrialEnd (p : ProblemView) (budget : ℕ) (outcome : Outcome) : Type 0 where
-  pub end : IsStageEnd p outcome
-  pub nodes : TakesNodes budget outcome
-  pub small : budget ≤ 64 → IsDrivenEnd p outcome
-  pub searches : IsEndOfSearches p budget outcome
-  pub settled : 2 * choice_count p ≤ budget + 1 → IsSettled outcome
+pub record IsTrialEnd (p : ProblemView) (budget : ℕ) (end : StageEnd) : Type 0 where
+  pub ended : IsStageEnd p end
+  pub nodes : TakesNodes budget end.outcome
+  pub small : budget ≤ 64 → IsDrivenEnd p end.outcome × (end.fixing ≡ None)
+  pub searches : IsEndOfSearches p budget end
+  pub settled : 2 * choice_count p ≤ budget + 1 → IsSettled end.outcome
 
 -- ---- stages of a certificate
 
--- a stage that a season may print in a certificate of version 2
+-- a stage that a season may print, in a certificate of version 3, and without a fixing in one of
+-- version 2
 pub record FitsSeason (c : StageCert) : Type 0 where
-  pub printable : IsPrintableStage 2 c
+  pub printable : IsPrintableStage 3 c
   pub limits : IsWithinLimits c
 
 -- the stages so far, each after the choices of those before it: what is still to come completes them

@@ -13,4 +13,4 @@ mod trials;
 pub use laws::settled_run;
 pub use seasons::{run_season, run_stage};
 pub use stages::stage_cert;
-pub use trials::SMALL_BUDGET;
+pub use trials::{SMALL_BUDGET, StageEnd};

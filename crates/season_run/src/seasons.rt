@@ -6,7 +6,7 @@ ghost use Rattle.cert_format.specs.Spelling.{is_tried};
 ghost use Rattle.cert_format.specs.declared.cert.Mark.TheVariants.{NotTried, Unsettled};
 ghost use Rattle.search_workers.specs.Outcomes.{choice_count};
 ghost use Rattle.series_model.specs.Stages.{AreStates};
-ghost use Rattle.season_run.specs.Runs.{IsRun, IsStageRun, IsTriedRun};
+ghost use Rattle.season_run.specs.Runs.{IsRun, IsStageRun, IsTriedRun, version_for};
 ghost use Rattle.season_run.specs.Steps.{FitsSeason, IsNextStage};
 
 use crate::stages::stage_cert;
@@ -29,7 +29,7 @@ use worker_gate::Gate;
 /// choice of stage 3 of the same cost is looked for once (`tied_choice`), and taken where stage 4
 /// after it is OPTIMAL and costs less. Which of a stage's best choices is taken is in no clause.
 ///
-/// The certificate is valid and of version 2. A stage may stay OPEN where its search spends the
+/// The certificate is valid, and of version 2, or 3 where some stage has a fixing. A stage may stay OPEN where its search spends the
 /// budget: it then states a bound, and `settled_run` says with which budget none does. A budget of
 /// at most 64 (`SMALL_BUDGET`) is spent on the search by visits alone, with the vectors of that
 /// search; that it begins with the greedy choice is not in the clauses.
@@ -64,9 +64,21 @@ pub fn run_season<R: Threads + Sync, G: Gate>(
     stages.push(last.third)?;
     stages.push(last.fourth)?;
     Ok(Certificate {
-        version: 2,
+        version: version_for(&stages),
         stages: StageList::new(stages),
     })
+}
+
+// The version of the stages' certificate: 3 where some stage has a fixing, else 2.
+fn version_for(stages: &[StageCert]) -> u32
+    ensures { result ≡ version_for stages.now }
+{
+    for cert in stages {
+        if cert.fixing.is_some() {
+            return 3;
+        }
+    }
+    2
 }
 
 // A stage, where it may follow the earlier ones.
@@ -136,7 +148,7 @@ pub fn run_stage<R: Threads + Sync, G: Gate>(
     requires workers { (1 ≤ workers) × (workers ≤ 16) }
     ensures run { IfOk result (λ c. IsStageRun problem.now budget c) }
     ensures tried { IfOk result (λ c. is_tried c.mark ≡ true) }
-    ensures printable { IfOk result (λ c. IsPrintableProof 2 c) }
+    ensures printable { IfOk result (λ c. IsPrintableProof 3 c) }
     ensures limits { IfOk result (λ c. IsWithinLimits c) }
     // With a budget of at least twice the number of choices, less one, the stage is not OPEN.
     ensures settled { 2 * choice_count problem.now ≤ budget + 1 →
@@ -145,8 +157,8 @@ pub fn run_stage<R: Threads + Sync, G: Gate>(
     fewer_vectors();
     let _resources = problem.resources();
     let _units = problem.units();
-    let outcome = settle_stage(rt, alloc, problem, budget, workers, gate)?;
-    let cert = stage_cert(alloc, problem, outcome)?;
+    let end = settle_stage(rt, alloc, problem, budget, workers, gate)?;
+    let cert = stage_cert(alloc, problem, end)?;
     Ok(cert)
 }
 

@@ -4,16 +4,18 @@ ghost use Rattle.std.specs.Prelude.{◌≡◌, ◌^◌, ◌<◌, IfOk, IfSome};
 ghost use Rattle.std.specs.Option.{ForSome, option_map};
 ghost use Rattle.choice_problem.specs.Choices.{IsFeasible, choice_cost};
 ghost use Rattle.cert_format.specs.Proofs.{IsProof};
-ghost use Rattle.cert_format.specs.declared.cert.Mark.TheVariants.{Unsettled};
+ghost use Rattle.cert_format.specs.declared.cert.Mark.TheVariants.{Optimal, Unsettled};
 ghost use Rattle.season_run.specs.Ends.{IsClosedEnd, IsOpenEnd, IsStageEnd, IsStageOf, StatesNothing, AreStated, MakesStage};
 ghost use Rattle.season_run.specs.Steps.{MarksClosed};
 
 use crate::floors::stated_floors;
 use crate::names::{first_vectors, greatest_name};
+use crate::trials::StageEnd;
 use cert_format::{Floor, FloorList, Mark, StageCert};
 use choice_problem::{
     Choice, Problem, Tree, VectorList, closed_ranges, cost_of, fewer_vectors, part_ranges,
 };
+use cost_fixing::Fixing;
 use price_table::tables_of;
 use search_workers::Outcome;
 use slot_text::Memory;
@@ -27,11 +29,12 @@ use std::alloc::Global;
 /// each unit whose range has changed since the one before, one an alternative in it for each vector.
 /// Beside what the outcome has it takes, where nodes are undone, a price table and 24 bytes a unit
 /// for each vector, 24 bytes a unit, and 16 an undone node.
-pub fn stage_cert(alloc: Global, problem: &Problem, outcome: Outcome) -> Result<StageCert, Memory>
-    requires { IsStageEnd problem.now outcome }
-    ensures stage { IfOk result (λ c. MakesStage problem.now outcome c) }
+pub fn stage_cert(alloc: Global, problem: &Problem, end: StageEnd) -> Result<StageCert, Memory>
+    requires { IsStageEnd problem.now end }
+    ensures stage { IfOk result (λ c. MakesStage problem.now end c) }
     ensures proof { IfOk result (λ c. IsProof problem.now c) }
 {
+    let StageEnd { outcome, fixing } = end;
     match outcome {
         Outcome::Optimal {
             choice,
@@ -46,6 +49,7 @@ pub fn stage_cert(alloc: Global, problem: &Problem, outcome: Outcome) -> Result<
                 mark,
                 Some(choice),
                 Some(cost),
+                fixing,
                 tree,
                 vectors,
             );
@@ -53,7 +57,7 @@ pub fn stage_cert(alloc: Global, problem: &Problem, outcome: Outcome) -> Result<
         }
         Outcome::Infeasible { tree, vectors } => {
             let mark = Mark::Infeasible;
-            let cert = closed_cert(alloc, problem, mark, None, None, tree, vectors);
+            let cert = closed_cert(alloc, problem, mark, None, None, None, tree, vectors);
             Ok(cert)
         }
         Outcome::Spent {
@@ -71,18 +75,20 @@ fn closed_cert(
     mark: Mark,
     choice: Option<Choice>,
     cost: Option<u64>,
+    fixing: Option<Fixing>,
     tree: Tree,
     vectors: VectorList,
 ) -> StageCert
-    requires end { IsClosedEnd _problem.now vectors cost choice tree }
+    requires end { IsClosedEnd _problem.now vectors fixing cost choice tree }
     requires mark { MarksClosed mark choice }
-    ensures made { IsStageOf mark choice cost tree vectors result }
+    requires fixing { IfSome fixing (λ _. mark ≡ Optimal) }
+    ensures made { IsStageOf mark choice cost fixing tree vectors result }
     ensures nothing { StatesNothing result }
     ensures proof { IsProof _problem.now result }
 {
     fewer_vectors();
     let floors: Vec<Floor> = Vec::new(alloc);
-    let number = greatest_name(tree.items(), &floors);
+    let number = greatest_name(&fixing, tree.items(), &floors);
     let vectors = first_vectors(vectors, number);
     StageCert {
         mark,
@@ -90,6 +96,7 @@ fn closed_cert(
         cost,
         bound: None,
         vectors,
+        fixing,
         tree,
         floors: FloorList::new(floors),
     }
@@ -116,7 +123,7 @@ fn open_cert(
 ) -> Result<StageCert, Memory>
     requires { IsOpenEnd problem.now vectors (option_map (choice_cost problem.now) best) best tree }
     ensures made { IfOk result (λ c. IsStageOf Unsettled best
-        (option_map (choice_cost problem.now) best) tree vectors c) }
+        (option_map (choice_cost problem.now) best) None tree vectors c) }
     ensures stated { IfOk result
         (λ c. AreStated problem.now vectors c.cost tree c.floors c.bound) }
     ensures proof { IfOk result (λ c. IsProof problem.now c) }
@@ -126,7 +133,7 @@ fn open_cert(
     let cost = cost_if_any(problem, &best);
     let tables = tables_of(alloc, problem, vectors.items())?;
     let stated = stated_floors(alloc, problem, &tables, tree.items(), cost)?;
-    let number = greatest_name(tree.items(), &stated.floors);
+    let number = greatest_name(&None, tree.items(), &stated.floors);
     let vectors = first_vectors(vectors, number);
     Ok(StageCert {
         mark: Mark::Unsettled,
@@ -134,6 +141,7 @@ fn open_cert(
         cost,
         bound: stated.bound,
         vectors,
+        fixing: None,
         tree,
         floors: FloorList::new(stated.floors),
     })

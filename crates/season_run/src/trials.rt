@@ -4,11 +4,12 @@ ghost use Rattle.std.specs.Prelude.{◌≡◌, ◌+◌, ◌*◌, ◌≤◌, ◌�
 ghost use Rattle.choice_problem.specs.Bounds.{IsVector};
 ghost use Rattle.choice_problem.specs.Choices.{IsFeasible};
 ghost use Rattle.search_workers.specs.Outcomes.{AreFurther, IsOutcome, IsSettled, choice_count};
-ghost use Rattle.season_run.specs.Searches.{IsFreeSearch, KeepsKnown, closed_outcome, found_choice};
+ghost use Rattle.season_run.specs.Searches.{IsFreeSearch, KeepsKnown, closed_end, found_choice, visited_end};
 ghost use Rattle.season_run.specs.Steps.{IsTrialEnd};
 
 use choice_problem::{Choice, Problem, Vector};
 use closing_search::{Closed, Ending, closing_search};
+use cost_fixing::Fixing;
 use search_workers::{Outcome, search, search_from};
 use slot_text::Memory;
 use std::alloc::Global;
@@ -20,6 +21,14 @@ use worker_gate::Gate;
 /// this search with so many visits.
 pub const SMALL_BUDGET: u32 = 64;
 
+/// How the searches of a stage ended, and the fixing of the problem that the tree is one of, if that
+/// is not the whole problem.
+#[derive(Drop)]
+pub struct StageEnd {
+    pub outcome: Outcome,
+    pub fixing: Option<Fixing>,
+}
+
 // Searches the problem of a stage: a small one first by a few visits of the prescribed search; then,
 // where the budget has more, by free splits; and where that closes nothing, by the prescribed search
 // with the whole budget, from what is known by then.
@@ -30,26 +39,36 @@ pub(crate) fn settle_stage<R: Threads + Sync, G: Gate>(
     budget: u32,
     workers: u32,
     gate: &G,
-) -> Result<Outcome, Memory>
+) -> Result<StageEnd, Memory>
     requires budget { 1 ≤ budget }
     requires workers { (1 ≤ workers) × (workers ≤ 16) }
     ensures { IfOk result (IsTrialEnd problem.now budget) }
 {
     if budget <= SMALL_BUDGET {
         let outcome = search(rt, alloc, problem, budget, workers, gate)?;
-        return Ok(outcome);
+        return Ok(visited_end(outcome));
     }
     if problem.units() > SMALL_BUDGET {
-        let outcome = settle_busy(rt, alloc, problem, budget, workers, gate, None)?;
-        return Ok(outcome);
+        let end = settle_busy(rt, alloc, problem, budget, workers, gate, None)?;
+        return Ok(end);
     }
     let first = search(rt, alloc, problem, SMALL_BUDGET, workers, gate)?;
     if is_settled(&first) {
-        return Ok(first);
+        return Ok(visited_end(first));
     }
     let start = found_choice(problem, first);
-    let outcome = settle_busy(rt, alloc, problem, budget, workers, gate, start)?;
-    Ok(outcome)
+    let end = settle_busy(rt, alloc, problem, budget, workers, gate, start)?;
+    Ok(end)
+}
+
+// The end of a search by visits.
+fn visited_end(outcome: Outcome) -> StageEnd
+    ensures { result ≡ visited_end outcome }
+{
+    StageEnd {
+        outcome,
+        fixing: None,
+    }
 }
 
 // Searches by free splits, and where that closes nothing, by the prescribed search.
@@ -61,40 +80,47 @@ fn settle_busy<R: Threads + Sync, G: Gate>(
     workers: u32,
     gate: &G,
     start: Option<Choice>,
-) -> Result<Outcome, Memory>
+) -> Result<StageEnd, Memory>
     requires workers { (1 ≤ workers) × (workers ≤ 16) }
     requires budget { 1 ≤ budget }
     requires start { IfSome start (IsFeasible problem.now) }
     ensures searches { IfOk result (IsFreeSearch problem.now budget start) }
-    ensures settled { 2 * choice_count problem.now ≤ budget + 1 → IfOk result IsSettled }
+    ensures settled { 2 * choice_count problem.now ≤ budget + 1 →
+        IfOk result (λ end. IsSettled end.outcome) }
 {
     match closing_search(alloc, problem, start, budget)? {
-        Ending::Closed(closed) => Ok(closed_outcome(closed)),
+        Ending::Closed(closed) => Ok(closed_end(closed)),
         Ending::Open { best, vector } => {
             let outcome = search_known(rt, alloc, problem, budget, workers, gate, best, vector)?;
-            Ok(outcome)
+            Ok(visited_end(outcome))
         }
     }
 }
 
-// The end of a search by free splits that closed the problem, as an end of searches.
-fn closed_outcome(closed: Closed) -> Outcome
-    ensures value { result ≡ closed_outcome closed }
-    ensures settled { IsSettled result }
+// The end of a search by free splits that closed the problem.
+fn closed_end(closed: Closed) -> StageEnd
+    ensures value { result ≡ closed_end closed }
+    ensures settled { IsSettled result.outcome }
 {
     match closed {
         Closed::Optimal {
             choice,
             cost,
+            fixing,
             tree,
             vectors,
-        } => Outcome::Optimal {
-            choice,
-            cost,
-            tree,
-            vectors,
+        } => StageEnd {
+            outcome: Outcome::Optimal {
+                choice,
+                cost,
+                tree,
+                vectors,
+            },
+            fixing,
         },
-        Closed::Infeasible { tree, vectors } => Outcome::Infeasible { tree, vectors },
+        Closed::Infeasible { tree, vectors } => {
+            visited_end(Outcome::Infeasible { tree, vectors })
+        }
     }
 }
 

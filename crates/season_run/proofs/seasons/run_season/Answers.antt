@@ -1,6 +1,7 @@
 use Rattle.std.proofs.Common.{◌≡◌, ◌+◌, ◌++◌, ◌∷◌, [], ℕ, subst, arith, List, sym, refl, ◌∙◌, ap, append_assoc, true}
 use Rattle.cert_format.specs.declared.cert.StageCert.{StageCert}
 use Rattle.series_model.specs.declared.state.UnitState.{UnitState}
+use Rattle.season_run.specs.Runs.{version_for}
 use Rattle.season_run.specs.Steps.{AreLastStages, AreRunSoFar, IsNextStage}
 use Rattle.season_run.proofs.SeasonLemmas.{so_far_start, so_far_next, so_far_finish}
 use Rattle.season_run.proofs.seasons.run_season.Goals as goal
@@ -31,4 +32,6 @@ returns g c =
     let two = subst (λ (st : List UnitState). AreLastStages s.declaration st c.args.budget l.follows last) c.deref-2.ensures.value c.in_ok-last.ensures in
     let stages : c.new.result ≡ l.stages.items ++ last.third ∷ last.fourth ∷ [] =
     c.new.ensures ∙ c.in_ok-push-3.ensures.items ∙ ap (λ (k : List StageCert). k ++ last.fourth ∷ []) c.in_ok-push-2.ensures.items ∙ append_assoc l.stages.items (last.third ∷ []) (last.fourth ∷ []) in
-    record { run = so_far_finish c.one_more_stage.ensures s c.args.budget l.states.items l.follows l.stages.items last on two c.line_counts.ensures.cert (record { version = 2; stages = c.new.result }) refl stages }
+    let version : c.version_for-version.result ≡ version_for c.new.result =
+    c.version_for-version.ensures ∙ ap (λ (l : List StageCert). version_for l) (c.deref-3.ensures.value ∙ sym c.new.ensures) in
+    record { run = so_far_finish c.one_more_stage.ensures s c.args.budget l.states.items l.follows l.stages.items last on two c.line_counts.ensures.cert (record { version = c.version_for-version.result; stages = c.new.result }) version stages }

@@ -1,4 +1,4 @@
-use Rattle.std.proofs.Common.{refl, sym, ◌∙◌, ap, subst, List, Option, ℕ}
+use Rattle.std.proofs.Common.{refl, sym, ◌∙◌, ap, subst, List, Option, None, ℕ}
 use Rattle.std.specs.List.{AllZip}
 use Rattle.std.specs.Option.{option_map}
 use Rattle.choice_problem.specs.Choices.{choice_cost}
@@ -25,6 +25,7 @@ returns-clause-made c =
       mark_is = refl;
       choice_is = refl;
       cost_is = c.cost_if_any-cost.ensures;
+      fixing_is = refl;
       tree_is = refl;
       kept = open-kept p c.args.vectors c.first_vectors-vectors.result cost c.args.best c.args.tree c.items-3.result.now c.in_ok-stated.stated.floors.items c.deref-2.result.now c.new.result c.greatest_name-number.result
           c.requires c.items-3.ensures c.deref-2.ensures.value c.new.ensures found.0 c.greatest_name-number.ensures c.first_vectors-vectors.ensures;
@@ -52,8 +53,8 @@ returns-clause-proof c =
     let zip = subst (λ (fs : List Floor). AllZip (IsFoundFloor p c.args.vectors) (undone_ranges p c.args.tree) fs) (sym c.new.ensures) found.0 in
     let least = subst (λ (fs : List Floor). IsLeastOf cost (floor_costs p c.args.vectors (undone_ranges p c.args.tree) fs) found.1.0) (sym c.new.ensures) found.1.2 in
     let least_now = subst (λ (o : Option ℕ). IsLeastOf o (floor_costs p c.args.vectors (undone_ranges p c.args.tree) c.new.result) found.1.0) (sym c.cost_if_any-cost.ensures) least in
-    let kept : AreKeptOf c.args.vectors c.args.tree c.new.result c.first_vectors-vectors.result =
+    let kept : AreKeptOf c.args.vectors None c.args.tree c.new.result c.first_vectors-vectors.result =
     open-kept p c.args.vectors c.first_vectors-vectors.result cost c.args.best c.args.tree c.items-3.result.now c.in_ok-stated.stated.floors.items c.deref-2.result.now c.new.result c.greatest_name-number.result
     c.requires c.items-3.ensures c.deref-2.ensures.value c.new.ensures found.0 c.greatest_name-number.ensures c.first_vectors-vectors.ensures in
-    open-proof c.fewer_vectors.ensures.sound c.fewer_vectors.ensures.floors c.closed_ranges.ensures.smaller p c.args.best c.args.tree c.args.vectors found.1.0 _ c.requires refl refl c.cost_if_any-cost.ensures refl found.1.1
+    open-proof c.fewer_vectors.ensures.sound c.fewer_vectors.ensures.floors c.closed_ranges.ensures.smaller p c.args.best c.args.tree c.args.vectors found.1.0 _ c.requires refl refl c.cost_if_any-cost.ensures refl refl found.1.1
     kept zip least_now

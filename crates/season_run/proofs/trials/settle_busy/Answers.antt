@@ -1,3 +1,4 @@
+use Rattle.std.proofs.Common.{refl}
 use Rattle.closing_search.specs.declared.closed.Ending.TheVariants as free
 use Rattle.season_run.proofs.trials.settle_busy.Goals as goal
 
@@ -7,7 +8,7 @@ returns-in-Closed-clause-searches g c =
       ending = free.Closed c.in-Closed.closed;
       ends = rw c.in-Closed.is at c.in_ok-closed.ensures.ending;
       keeps = rw c.in-Closed.is at c.in_ok-closed.ensures.start;
-      follows = c.closed_outcome.ensures.value;
+      follows = c.closed_end.ensures.value;
     }
 
 pub returns-in_ok-outcome-in-Open-clause-searches : goal.returns-in_ok-outcome-in-Open-clause-searches
@@ -16,5 +17,8 @@ returns-in_ok-outcome-in-Open-clause-searches g c =
       ending = free.Open c.in-Open.best c.in-Open.vector;
       ends = rw c.in-Open.is at c.in_ok-closed.ensures.ending;
       keeps = rw c.in-Open.is at c.in_ok-closed.ensures.start;
-      follows = (c.in_ok-outcome-in-Open.ensures.outcome, c.in_ok-outcome-in-Open.ensures.keeps);
+      follows = rw c.visited_end.ensures (
+        record { outcome = c.in_ok-outcome-in-Open.ensures.outcome; whole = refl },
+        c.in_ok-outcome-in-Open.ensures.keeps,
+      );
     }

@@ -1,0 +1,266 @@
+//! Trees of what fixings leave below guesses of the least cost. Below a low guess few alternatives are left, and a tree of them
+//! in which cheaper choices alone are looked for ends soon: with none, and then the guess rises; or with a best one.
+
+ghost use Rattle.choice_problem.specs.Bounds.{IsVector};
+ghost use Rattle.price_table.specs.Tables.{IsTableFor};
+
+use crate::accepted::Found;
+use crate::leftovers::{Grown, grow_left};
+use crate::states::copy_of;
+use choice_problem::{Choice, PRICED_SCALE, Problem, Ranges, Vector, VectorList, cost_of};
+use cost_fixing::{Fixing, Left, left_of};
+use price_table::{PriceTable, bound, price_table};
+use slot_text::Memory;
+use std::alloc::Global;
+
+// The most guesses, and the most steps of the relaxations of all their trees.
+const MOST_GUESSES: u32 = 24;
+
+const ALL_STEPS: u64 = 4_000_000_000;
+
+// The most steps of the tree of a guess, and of one after which the guess rises fast.
+const GUESS_STEPS: u64 = 1_000_000_000;
+
+const FEW_STEPS: u64 = 100_000_000;
+
+// The first guess is above the bound by one part in so many, and no guess by more than the bound.
+const FIRST_PART: u64 = 1_000;
+
+/// What is known between guesses: the best choice and its cost, if there is one; how much the next guess is above the bound of
+/// the problem; how many steps are left; and what the trees showed.
+#[derive(Drop)]
+pub(crate) struct Guesses {
+    best: Option<Choice>,
+    cost: Option<u64>,
+    bound: u64,
+    gap: u64,
+    steps: u64,
+    // Whether the best choice is best, as far as a tree showed it that could not be listed.
+    is_best: bool,
+    // Whether trees split by the uses of quotas first, and whether both ways were tried.
+    is_by_quotas: bool,
+    is_over: bool,
+}
+
+/// Looks for a tree of what a fixing at the vector leaves, and for choices on the way, from a choice that is known, if one is.
+pub(crate) fn close_by_guesses(
+    alloc: Global,
+    problem: &Problem,
+    vector: &Vector,
+    best: Option<Choice>,
+    most: u32,
+) -> Result<(Option<Found>, Option<Choice>), Memory>
+    requires { IsVector problem.now vector.now }
+{
+    let table = price_table(alloc, problem, vector)?;
+    let mut guesses = Guesses::new(problem, best, bound_at(alloc, problem, &table)?);
+    for _ in 0..MOST_GUESSES {
+        if guesses.is_over {
+            break;
+        }
+        let found = close_at(alloc, problem, vector, &table, &mut guesses, most)?;
+        if found.is_some() {
+            return Ok((found, guesses.into_best()));
+        }
+    }
+    Ok((None, guesses.into_best()))
+}
+
+// What the bound of a problem at a vector of the search's scale gives as a cost.
+fn bound_at(alloc: Global, problem: &Problem, table: &PriceTable) -> Result<u64, Memory>
+    requires { IsTableFor problem.now table.now }
+{
+    let whole = Ranges::whole(alloc, problem)?;
+    let scaled = bound(problem, &whole, table, PRICED_SCALE);
+    Ok(u64::try_from(scaled / 1_024).unwrap_or(0))
+}
+
+// Tries the next guess.
+fn close_at(
+    alloc: Global,
+    problem: &Problem,
+    vector: &Vector,
+    table: &PriceTable,
+    guesses: &mut Guesses,
+    most: u32,
+) -> Result<Option<Found>, Memory>
+    requires { IsTableFor problem.now table.now }
+{
+    let cost = guesses.next();
+    let Some(left) = left_of(alloc, problem, table, PRICED_SCALE, cost)? else {
+        guesses.rise(0);
+        return Ok(None);
+    };
+    let start = guesses.start_in(alloc, &left, cost)?;
+    let limit = guesses.limit();
+    let is_known = start.is_some();
+    let grown = grow_left(
+        alloc,
+        left.problem(),
+        start,
+        cost,
+        limit,
+        guesses.is_by_quotas,
+        most,
+    )?;
+    let Grown {
+        found,
+        best,
+        is_ended,
+        steps,
+    } = grown;
+    let choice = whole_choice(alloc, &left, best)?;
+    guesses.learn(problem, choice, is_known, is_ended, limit.saturating_sub(steps));
+    match found {
+        Some(found) => fixed_found(alloc, guesses, found, vector, cost),
+        None => Ok(None),
+    }
+}
+
+// The choice of the whole problem that a choice of what is left is, if there is one.
+fn whole_choice(
+    alloc: Global,
+    left: &Left,
+    choice: Option<Choice>,
+) -> Result<Option<Choice>, Memory> {
+    match choice {
+        Some(choice) if choice.is_for(left.problem()) => {
+            Ok(Some(left.whole_choice(alloc, &choice)?))
+        }
+        _ => Ok(None),
+    }
+}
+
+// What was found, with the best choice of the whole problem and with the fixing, whose vector stands behind the others.
+fn fixed_found(
+    alloc: Global,
+    guesses: &Guesses,
+    found: Found,
+    vector: &Vector,
+    cost: u64,
+) -> Result<Option<Found>, Memory> {
+    let Some(best) = &guesses.best else {
+        return Ok(None);
+    };
+    let Found { nodes, vectors, .. } = found;
+    let mut items = vectors.into_items();
+    items.push(Vector::new(Vec::from_slice(alloc, vector.items())?))?;
+    Ok(Some(Found {
+        choice: Some(copy_of(alloc, best)?),
+        fixing: Some(Fixing {
+            vector: u32::try_from(items.len()).unwrap_or(u32::MAX),
+            scale: PRICED_SCALE,
+            cost,
+        }),
+        nodes,
+        vectors: VectorList::new(items),
+    }))
+}
+
+impl Guesses {
+    // What is known at first.
+    fn new(problem: &Problem, best: Option<Choice>, bound: u64) -> Guesses {
+        let mut guesses = Guesses {
+            best: None,
+            cost: None,
+            bound,
+            gap: bound / FIRST_PART + 1,
+            steps: ALL_STEPS,
+            is_best: false,
+            is_by_quotas: true,
+            is_over: false,
+        };
+        guesses.take(problem, best);
+        guesses
+    }
+
+    // Takes a choice, if there is one and it is cheaper than the best one. Answers whether it is.
+    fn take(&mut self, problem: &Problem, choice: Option<Choice>) -> bool {
+        match choice {
+            Some(choice) if choice.is_for(problem) => {
+                let cost = cost_of(problem, &choice);
+                let is_cheaper = match self.cost {
+                    Some(best) => cost < best,
+                    None => true,
+                };
+                if is_cheaper {
+                    self.best = Some(choice);
+                    self.cost = Some(cost);
+                }
+                is_cheaper
+            }
+            _ => false,
+        }
+    }
+
+    fn into_best(self) -> Option<Choice> {
+        self.best
+    }
+
+    // The next guess: at most one more than the cost of the best choice.
+    fn next(&self) -> u64 {
+        let guess = self.bound.saturating_add(self.gap);
+        match self.cost {
+            Some(cost) if self.is_best || cost < guess => cost.saturating_add(1),
+            _ => guess,
+        }
+    }
+
+    // The best choice as one of what is left, where the guess is one more than its cost.
+    fn start_in(&self, alloc: Global, left: &Left, guess: u64) -> Result<Option<Choice>, Memory> {
+        match (&self.best, self.cost) {
+            (Some(best), Some(cost)) if cost < guess => {
+                if best.items().len() == left.problem().units() as usize {
+                    return left.left_choice(alloc, best);
+                }
+                Ok(None)
+            }
+            _ => Ok(None),
+        }
+    }
+
+    // How many steps the next tree may take.
+    fn limit(&self) -> u64 {
+        if self.is_best {
+            self.steps
+        } else {
+            self.steps.min(GUESS_STEPS)
+        }
+    }
+
+    // Notes what a tree of so many steps showed, which began with the best choice or not, and whether it ended.
+    fn learn(
+        &mut self,
+        problem: &Problem,
+        choice: Option<Choice>,
+        is_known: bool,
+        is_ended: bool,
+        steps: u64,
+    ) {
+        let is_better = self.take(problem, choice);
+        self.steps = self.steps.saturating_sub(steps);
+        if self.steps == 0 {
+            self.is_over = true;
+        } else if is_known && !is_better {
+            self.is_over = !self.is_by_quotas;
+            self.is_by_quotas = false;
+        } else if is_ended && is_better {
+            self.is_best = true;
+        } else if !is_better {
+            self.rise(steps);
+        }
+    }
+
+    // Takes a greater guess, after a tree of so many steps.
+    fn rise(&mut self, steps: u64) {
+        let more = if steps > FEW_STEPS {
+            self.gap / 5 * 2
+        } else {
+            self.gap
+        };
+        self.gap = self.gap.saturating_add(more).saturating_add(1);
+        if self.gap > self.bound.saturating_add(self.bound) {
+            self.is_over = true;
+        }
+    }
+}
