@@ -48,18 +48,19 @@ pub fn check_stage(
 /// bound. Else `No` with the first failing line and its first reason. Each certificate that was
 /// read can be printed, so it can be checked.
 ///
-/// Each stage's problem is made once, and a vector is priced when a node of the stage first names
-/// it. Then a split costs one step; a leaf one for each change of a range since a node last named
-/// its vector, and one an alternative of each range that differs. A node that names a resource
-/// costs as much for the changes since one last named that resource, but of each range that differs
-/// only the alternatives that use it, and the first such node one step a unit. What is kept of
-/// resources is at most 2^21 units' ranges and least uses, 24 MiB; where another resource has the
-/// place of this one, the node costs one step for each unit that a split above or before it names,
-/// and one an alternative in range that uses the resource. Places are for resources that nodes
-/// name, each once, and before the walk these are sorted. Beside the problem and these there are
-/// the tables and what `price_table` takes while it makes one, a copy of the ranges for each vector
-/// that is named, a few numbers a node, and one number a resource while a stage's choice is summed
-/// up. Nothing recurses on the depth of a tree.
+/// Each stage's problem is made once, and where the stage has a fixing, what it leaves, in as much
+/// memory again: its vector is priced for that, at one step an alternative. Else a vector is priced
+/// when a node of the stage first names it. Then a split costs one step; a leaf one for each change
+/// of a range since a node last named its vector, and one an alternative of each range that
+/// differs. A node that names a resource costs as much for the changes since one last named that
+/// resource, but of each range that differs only the alternatives that use it, and the first such
+/// node one step a unit. What is kept of resources is at most 2^21 units' ranges and least uses, 24
+/// MiB; where another resource has the place of this one, the node costs one step for each unit
+/// that a split above or before it names, and one an alternative in range that uses the resource.
+/// Places are for resources that nodes name, each once, and before the walk these are sorted.
+/// Beside the problem and these there are the tables and what `price_table` takes while it makes
+/// one, a copy of the ranges for each vector that is named, a few numbers a node, and one number a
+/// resource while a stage's choice is summed up. Nothing recurses on the depth of a tree.
 pub fn check(alloc: Global, submission: &Submission, cert: &Certificate) -> Result<Verdict, Memory>
     requires { IsPrintable cert.now }
     ensures exact { IfOk result (λ verdict. IsCheck submission.now cert.now verdict) }
