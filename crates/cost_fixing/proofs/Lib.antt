@@ -3,3 +3,4 @@ mod WithLemmas
 mod FixLemmas
 mod LimitLemmas
 mod StepLemmas
+mod AlikeLemmas

@@ -5,6 +5,7 @@ ghost use Rattle.std.specs.Prelude.{◌≡◌, ◌↔◌, ℕ, ◌<◌, ◌≤�
 ghost use Rattle.choice_problem.specs.declared.vectors.Price.{Price};
 ghost use Rattle.choice_problem.specs.declared.nodes.Node.{Node};
 ghost use Rattle.choice_problem.specs.Problems.{ProblemView, IsChooser, IsProblem, unit_count};
+ghost use Rattle.choice_problem.specs.Alike.{AreAlike};
 ghost use Rattle.choice_problem.specs.Choices.{IsFeasible, IsBest, HasNone, choice_cost};
 ghost use Rattle.choice_problem.specs.Bounds.{IsVector, Closes, whole_of};
 ghost use Rattle.choice_problem.specs.Trees.{IsSound, IsWhole};
@@ -21,7 +22,7 @@ ghost use Rattle.cost_fixing.specs.Fixings.{
   tree_problem,
 };
 
-use choice_problem::{closed_ranges, floored_tree};
+use choice_problem::{alike_problems, closed_ranges, floored_tree};
 
 /// What it means that an alternative is out: the bound with it closes for the cost. So a feasible
 /// choice below the cost takes none that is out.
@@ -90,3 +91,15 @@ pub fn left_problems()
     ensures tables { (p : ProblemView) (prices : List Price) (scale cost : ℕ) (t : TableView) →
         IsTableFor p t → IsTableFor (left_problem p prices scale cost) t }
 {}
+
+/// Of problems with the same numbers the same alternatives are out: what is left of one has the same
+/// numbers as what is left of the other, and a fixing holds of both or of none.
+pub fn alike_fixings()
+    ensures tree { (p q : ProblemView) (vectors : List (List Price)) (fixing : Option Fixing) →
+        AreAlike p q → AreAlike (tree_problem p vectors fixing) (tree_problem q vectors fixing) }
+    ensures holds { (p q : ProblemView) (vectors : List (List Price)) (cost : Option ℕ)
+        (f : Fixing) →
+        AreAlike p q → FixingHolds p vectors cost f → FixingHolds q vectors cost f }
+{
+    alike_problems();
+}

@@ -11,5 +11,5 @@ mod numbers;
 mod units;
 
 pub use fixings::{Fixing, fixing_problem};
-pub use laws::{fixed_best, fixed_choices, left_problems, out_alternatives};
+pub use laws::{alike_fixings, fixed_best, fixed_choices, left_problems, out_alternatives};
 pub use left::{Left, left_of};
