@@ -9,7 +9,7 @@ use Rattle.choice_problem.specs.declared.vectors.Price.{Price}
 use Rattle.choice_problem.specs.Problems.{ProblemView, ChooserView, IsChooser, IsProblem, ArePartsInRange, unit_count, alt_count, part_count, chooser_at, alt_uses, amount}
 use Rattle.choice_problem.specs.Bounds.{IsVector, priced}
 use Rattle.price_table.specs.Tables.{TableView, PricesUnit, IsTableFor, named_price, uses_price}
-use Rattle.cost_fixing.specs.Fixings.{unit_with, problem_with, left_problem, left_alts, is_out, HasLeft}
+use Rattle.cost_fixing.specs.Fixings.{unit_with, problem_with, left_problem, left_alts, is_out, LeavesSome}
 use Rattle.cost_fixing.proofs.ListLemmas.{range-within, passing-few, passing-there}
 use Rattle.cost_fixing.proofs.WithLemmas.{unit_with-IsChooser, with-count, with-unit, with-alts, with-alt, with-uses}
 use Rattle.cost_fixing.proofs.FixLemmas.{vector-with}
@@ -21,7 +21,7 @@ units-with p alts P h =
     All-map P (λ (u : ℕ). unit_with (chooser_at p u) (alts u)) (range_with_len 0 (unit_count p))
     (All-weaker (λ u. u < unit_count p) (λ u. P (unit_with (chooser_at p u) (alts u))) h (range_with_len 0 (unit_count p)) (range-within (unit_count p)))
 
-pub left-units : (p : ProblemView) (prices : List Price) (scale cost : ℕ) → All IsChooser p.units → HasLeft p prices scale cost →
+pub left-units : (p : ProblemView) (prices : List Price) (scale cost : ℕ) → All IsChooser p.units → LeavesSome p prices scale cost →
     All IsChooser (left_problem p prices scale cost).units
 left-units p prices scale cost all some =
     units-with p (λ u. left_alts p prices scale cost u) IsChooser

@@ -14,8 +14,8 @@ use Rattle.choice_problem.specs.Problems.{ProblemView, ChooserView, IsChooser, u
 use Rattle.choice_problem.specs.Choices.{IsChoice}
 use Rattle.choice_problem.specs.Bounds.{AreRanges, whole_of, Closes}
 use Rattle.price_table.specs.Totals.{TotalsView, AreTotalsFor}
-use Rattle.cost_fixing.specs.Fixings.{fixed_at, is_out, left_alts, left_problem, unit_with, problem_with, whole_choice, HasLeft}
-use Rattle.cost_fixing.specs.Loops.{AreWholeBut, AreAltsOf, AreNumbered, alts_in}
+use Rattle.cost_fixing.specs.Fixings.{fixed_at, is_out, left_alts, left_problem, unit_with, problem_with, whole_choice, LeavesSome}
+use Rattle.cost_fixing.specs.Loops.{AreWholeBut, AreAltsOf, IsNumbering, alts_in}
 use Rattle.cost_fixing.proofs.ListLemmas.{passing, passing-more, passing-few, passing-there}
 use Rattle.cost_fixing.proofs.WithLemmas.{numbers_with, numbers-at, numbers-count, with-count, with-alts, whole-number, unit_with-IsChooser}
 use Rattle.cost_fixing.proofs.FixLemmas.{out-closes, whole-at}
@@ -118,12 +118,12 @@ module _ (p : ProblemView) (prices : List Price) (scale cost : ℕ) where
   left-same alts e = with-same p (alts_in alts) lefts (λ u l. ap (λ (bs : List (List ℕ)). alts_in bs u) e ∙ numbers-at p lefts u l)
 
   -- all units have some exactly where each has one left
-  pub left-has : (alts : List (List ℕ)) → alts ≡ numbers_with p lefts → ((u : ℕ) → u < length alts → 0 < length (alts_in alts u)) → HasLeft p prices scale cost
+  pub left-has : (alts : List (List ℕ)) → alts ≡ numbers_with p lefts → ((u : ℕ) → u < length alts → 0 < length (alts_in alts u)) → LeavesSome p prices scale cost
   left-has alts e h = λ u l.
       let at = ap (λ (bs : List (List ℕ)). length (alts_in bs u)) e ∙ ap length (numbers-at p lefts u l) in
       omega (arith, at, h u (omega (arith, l, ap length e, numbers-count p lefts)))
 
-  pub has-left : (alts : List (List ℕ)) → alts ≡ numbers_with p lefts → HasLeft p prices scale cost → (u : ℕ) → u < length alts → 0 < length (alts_in alts u)
+  pub has-left : (alts : List (List ℕ)) → alts ≡ numbers_with p lefts → LeavesSome p prices scale cost → (u : ℕ) → u < length alts → 0 < length (alts_in alts u)
   has-left alts e h = λ u l.
       let l' : u < unit_count p = omega (arith, l, ap length e, numbers-count p lefts) in
       let at = ap (λ (bs : List (List ℕ)). length (alts_in bs u)) e ∙ ap length (numbers-at p lefts u l') in
@@ -143,8 +143,8 @@ module _ (p : ProblemView) (prices : List Price) (scale cost : ℕ) where
   }
 
   -- and number those of what is left
-  pub left-numbered : (alts : List (List ℕ)) → alts ≡ numbers_with p lefts → (q : ProblemView) → q ≡ left_problem p prices scale cost → AreNumbered q alts
-  left-numbered alts e q is = subst (λ (r : ProblemView). AreNumbered r alts) (sym is) (record {
+  pub left-numbered : (alts : List (List ℕ)) → alts ≡ numbers_with p lefts → (q : ProblemView) → q ≡ left_problem p prices scale cost → IsNumbering q alts
+  left-numbered alts e q is = subst (λ (r : ProblemView). IsNumbering r alts) (sym is) (record {
     count = ap length e ∙ numbers-count p lefts ∙ sym (with-count p lefts);
     each = λ u l.
         let l' : u < unit_count p = omega (arith, l, with-count p lefts) in
@@ -152,7 +152,7 @@ module _ (p : ProblemView) (prices : List Price) (scale cost : ℕ) where
   })
 
 -- a choice of the whole problem that takes an alternative which is not among the numbers
-pub none-whole : (q : ProblemView) (alts : List (List ℕ)) (z : List ℕ) (u n : ℕ) → AreNumbered q alts → u < unit_count q → n ≡ slice_index z u →
+pub none-whole : (q : ProblemView) (alts : List (List ℕ)) (z : List ℕ) (u n : ℕ) → IsNumbering q alts → u < unit_count q → n ≡ slice_index z u →
     ((a : ℕ) → a < alt_count q u → slice_index (alts_in alts u) a ≡ n → ⊥) → (x : List ℕ) → IsChoice q x → whole_choice alts x ≡ z → ⊥
 none-whole q alts z u n v l is none x c e =
     none (slice_index x u) (c.there u l)

@@ -10,7 +10,7 @@ use Rattle.finite_sums.proofs.SumLemmas.{sum_below-same}
 use Rattle.choice_problem.specs.declared.problems.Alt.{Alt}
 use Rattle.choice_problem.specs.Problems.{ProblemView, ChooserView, IsChooser, unit_count, alt_count, chooser_at, alt_at, alt_cost, alt_uses, named_uses, chooser_uses}
 use Rattle.choice_problem.specs.Choices.{IsChoice, IsFeasible, choice_cost, load_of}
-use Rattle.cost_fixing.specs.Fixings.{unit_with, problem_with, number_of, whole_choice}
+use Rattle.cost_fixing.specs.Fixings.{unit_with, problem_with, whole_alt, whole_choice}
 
 abbrev no_unit : ChooserView
 no_unit = record { parts = []; alts = [] }
@@ -45,14 +45,14 @@ unit_with-IsChooser m alts v some few there =
 
 -- the numbers that a choice takes, unit by unit
 pub whole-length : (alts : List (List ℕ)) (y : List ℕ) → length (whole_choice alts y) ≡ length alts
-whole-length alts y = length-map-range_with_len {X = ℕ} (λ u. number_of alts y u) 0 (length alts)
+whole-length alts y = length-map-range_with_len {X = ℕ} (λ u. whole_alt alts y u) 0 (length alts)
 
-pub whole-number : (alts : List (List ℕ)) (y : List ℕ) (u : ℕ) → u < length alts → slice_index (whole_choice alts y) u ≡ number_of alts y u
+pub whole-number : (alts : List (List ℕ)) (y : List ℕ) (u : ℕ) → u < length alts → slice_index (whole_choice alts y) u ≡ whole_alt alts y u
 whole-number alts y u l =
     let e : 0 + u ≡ u = omega arith in
-    get_or-map-range_with_len {X = ℕ} (λ v. number_of alts y v) 0 (length alts) u u 0 l e
+    get_or-map-range_with_len {X = ℕ} (λ v. whole_alt alts y v) 0 (length alts) u u 0 l e
 
-pub whole-is : (alts : List (List ℕ)) (y x : List ℕ) → length x ≡ length alts → ((u : ℕ) → u < length alts → number_of alts y u ≡ slice_index x u) →
+pub whole-is : (alts : List (List ℕ)) (y x : List ℕ) → length x ≡ length alts → ((u : ℕ) → u < length alts → whole_alt alts y u ≡ slice_index x u) →
     whole_choice alts y ≡ x
 whole-is alts y x e same =
     ext_get_or 0 (whole_choice alts y) x (whole-length alts y ∙ sym e)

@@ -38,8 +38,8 @@ abbrev pub left_problem : ProblemView → List Price → ℕ → ℕ → Problem
 left_problem p prices scale cost = problem_with p (λ u. left_alts p prices scale cost u)
 
 -- each unit has an alternative left
-abbrev pub HasLeft : ProblemView → List Price → ℕ → ℕ → Type 0
-HasLeft p prices scale cost = (u : ℕ) → u < unit_count p →
+abbrev pub LeavesSome : ProblemView → List Price → ℕ → ℕ → Type 0
+LeavesSome p prices scale cost = (u : ℕ) → u < unit_count p →
     0 < length (left_alts p prices scale cost u)
 
 -- a problem, and for each of its units the numbers that its alternatives have in a whole problem
@@ -54,12 +54,12 @@ left_view p prices scale cost = record {
 }
 
 -- the number in the whole problem of what a choice takes of a unit
-abbrev pub number_of : List (List ℕ) → List ℕ → ℕ → ℕ
-number_of alts x u = slice_index (slice_index_or alts u []) (slice_index x u)
+abbrev pub whole_alt : List (List ℕ) → List ℕ → ℕ → ℕ
+whole_alt alts x u = slice_index (slice_index_or alts u []) (slice_index x u)
 
 -- the choice of the whole problem that a choice of what is left is
 abbrev pub whole_choice : List (List ℕ) → List ℕ → List ℕ
-whole_choice alts x = map (λ u. number_of alts x u) (range_with_len 0 (length alts))
+whole_choice alts x = map (λ u. whole_alt alts x u) (range_with_len 0 (length alts))
 
 -- a fixing of a stage names a vector that is there and a scale in its limit; the stage has a cost, of at most the
 -- fixing's; and each unit has an alternative left
@@ -68,7 +68,7 @@ pub record FixingHolds (p : ProblemView) (vectors : List (List Price)) (cost : O
   pub there : f.vector ≤ length vectors
   pub small : f.scale < SCALE_BOUND
   pub within : IsSomeAnd cost (λ n. n ≤ f.cost)
-  pub left : HasLeft p (vector_at vectors f.vector) f.scale f.cost
+  pub left : LeavesSome p (vector_at vectors f.vector) f.scale f.cost
 
 -- the problem that the tree of a stage is on
 abbrev pub tree_problem : ProblemView → List (List Price) → Option Fixing → ProblemView

@@ -19,6 +19,6 @@ pub record AreAltsOf (p : ProblemView) (alts : List (List ℕ)) : Type 0 where
   pub there : (u : ℕ) → u < unit_count p → All (λ a. a < alt_count p u) (alts_in alts u)
 
 -- one number for each alternative of each unit
-pub record AreNumbered (p : ProblemView) (alts : List (List ℕ)) : Type 0 where
+pub record IsNumbering (p : ProblemView) (alts : List (List ℕ)) : Type 0 where
   pub count : length alts ≡ unit_count p
   pub each : (u : ℕ) → u < unit_count p → length (alts_in alts u) ≡ alt_count p u

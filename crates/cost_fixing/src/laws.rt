@@ -14,7 +14,7 @@ ghost use Rattle.cost_fixing.specs.declared.fixings.Fixing.{Fixing};
 ghost use Rattle.cost_fixing.specs.Fixings.{
   fixed_at,
   is_out,
-  HasLeft,
+  LeavesSome,
   left_problem,
   left_view,
   whole_choice,
@@ -81,7 +81,7 @@ pub fn fixed_best()
 /// alternative left. Its vectors are those of the whole problem, and so are its price tables.
 pub fn left_problems()
     ensures units { (p : ProblemView) (prices : List Price) (scale cost : ℕ) →
-        All IsChooser p.units → HasLeft p prices scale cost →
+        All IsChooser p.units → LeavesSome p prices scale cost →
         All IsChooser (left_problem p prices scale cost).units }
     ensures limits { (p : ProblemView) (prices : List Price) (scale cost : ℕ) →
         IsProblem p.units (map pos p.limits) →

@@ -3,7 +3,7 @@
 ghost use Rattle.std.specs.Prelude.{◌≡◌, ◌↔◌, ◌<◌, ℕ, IfOk, IfSome, IfNone, IsTrue, length};
 ghost use Rattle.choice_problem.specs.declared.closing.TheConstants.{SCALE_BOUND};
 ghost use Rattle.price_table.specs.Tables.{IsTableFor};
-ghost use Rattle.cost_fixing.specs.Fixings.{HasLeft, left_view};
+ghost use Rattle.cost_fixing.specs.Fixings.{LeavesSome, left_view};
 ghost use Rattle.cost_fixing.specs.Loops.{alts_in};
 
 use crate::numbers::{AltNumbers, left_numbers};
@@ -24,20 +24,20 @@ pub struct Left {
 
 impl Model for Left {
     ghost use Rattle.cost_fixing.specs.Fixings.{LeftView};
-    ghost use Rattle.cost_fixing.specs.Loops.{AreNumbered};
+    ghost use Rattle.cost_fixing.specs.Loops.{IsNumbering};
 
     ghost Value = { LeftView };
 
     ghost view = { λ l. record { problem = l.problem; alts = l.alts.items } };
 
-    ghost invariant = { λ l. AreNumbered l.problem l.alts.items };
+    ghost invariant = { λ l. IsNumbering l.problem l.alts.items };
 }
 
 impl Left {
     ghost use Rattle.std.specs.Prelude.{◌≡◌, ◌<◌, ℕ, List, IfOk, IfSome, IfNone, length, slice_index};
     ghost use Rattle.choice_problem.specs.Problems.{unit_count, alt_count};
     ghost use Rattle.choice_problem.specs.Choices.{IsChoice};
-    ghost use Rattle.cost_fixing.specs.Fixings.{number_of, whole_choice};
+    ghost use Rattle.cost_fixing.specs.Fixings.{whole_alt, whole_choice};
     ghost use Rattle.cost_fixing.specs.Loops.{alts_in};
 
     /// The problem with the alternatives that are left.
@@ -128,9 +128,9 @@ pub fn left_of(
     ensures value { IfOk result (λ found. IfSome found (λ left.
         left ≡ left_view problem.now table.now.prices scale cost)) }
     ensures some { IfOk result (λ found. IfSome found (λ _.
-        HasLeft problem.now table.now.prices scale cost)) }
+        LeavesSome problem.now table.now.prices scale cost)) }
     ensures none { IfOk result (λ found. IfNone found
-        (HasLeft problem.now table.now.prices scale cost → ⊥)) }
+        (LeavesSome problem.now table.now.prices scale cost → ⊥)) }
 {
     let alts = left_numbers(alloc, problem, table, scale, cost)?;
     if !has_each(&alts) {
