@@ -1,6 +1,6 @@
 -- What is answered after the test.
 use Rattle.std.proofs.Common.{ℕ, ◌≡◌, ◌≤◌, ◌∙◌, subst, List, length, drop, Bool, Some, None}
-use Rattle.std.specs.Prelude.{All, IsTrue, IfOk, IfSome, sum_by, Option, Result, Ok, Err}
+use Rattle.std.specs.Prelude.{◌↔◌, All, IsTrue, IfOk, IfSome, sum_by, Option, Result, Ok, Err}
 use Rattle.choice_problem.specs.declared.nodes.Node.{Node}
 use Rattle.choice_problem.specs.declared.vectors.Price.{Price}
 use Rattle.choice_problem.specs.Problems.{ProblemView}
@@ -9,7 +9,9 @@ use Rattle.closing_search.specs.declared.closed.Closed.{Closed}
 use Rattle.choice_problem.specs.Bounds.{IsVector, whole_of}
 use Rattle.choice_problem.specs.Trees.{IsSound, IsWhole, node_count}
 use Rattle.cost_fixing.specs.declared.fixings.Fixing.{Fixing}
-use Rattle.cost_fixing.specs.Fixings.{FixingHolds, tree_problem}
+use Rattle.choice_problem.specs.Trees.{vector_at}
+use Rattle.cost_fixing.specs.Fixings.{FixingHolds, left_problem, tree_problem}
+use Rattle.std.proofs.lemmas.List.Elements.{All-weaker}
 use Rattle.closing_search.specs.declared.exact.Tables.{Tables}
 use Rattle.closing_search.specs.Tables.{listed_in}
 use Rattle.closing_search.specs.Closed.{ClosesWhole, IsClosedAtMost}
@@ -23,12 +25,12 @@ within-start p (Some x) cost closed at within = at (choice_cost p x) within
 -- a tree that passed the test
 pub closes-whole : {E : Type 0} (p : ProblemView) (budget : ℕ) (cost : Option ℕ) (fixing : Option Fixing) (tree : List Node) (vectors : List (List Price)) (result : Result Bool E) →
     node_count tree ≤ budget → length vectors ≤ 64 → sum_by (λ (prices : List Price). length prices) (drop 1 vectors) ≤ 1000000 →
-    All (IsVector p) vectors → IfSome fixing (FixingHolds p vectors cost) →
+    All (IsVector p) vectors → IfOk result (λ yes. IsTrue yes → IfSome fixing (FixingHolds p vectors cost)) →
     IfOk result (λ yes. IsTrue yes → IsSound (tree_problem p vectors fixing) vectors cost (whole_of (tree_problem p vectors fixing)) tree) →
     IfOk result (λ yes. IsTrue yes → IsWhole tree) →
     IfOk result (λ yes. IsTrue yes → ClosesWhole p budget cost fixing tree vectors)
 closes-whole p budget cost fixing tree vectors (Ok passes) few listed prices each holds sound whole = λ y. record {
-  fixing = holds;
+  fixed = holds y;
   sound = sound y;
   whole = whole y;
   few_nodes = few;
@@ -47,3 +49,17 @@ sound-of p cost tables items vectors nodes tree (Ok passes) tables-are items-are
     subst (λ (v : List (List Price)). IsSound p v cost (whole_of p) tree) (tables-are ∙ items-are)
     (subst (λ (n : List Node). IsSound p (listed_in tables) cost (whole_of p) n) nodes-are (sound y))
 sound-of p cost tables items vectors nodes tree (Err e) tables-are items-are nodes-are sound = tt
+
+-- a vector of the whole problem is one of what is left
+abbrev pub LeftVectors : Type 0
+LeftVectors = (p : ProblemView) (prices vector : List Price) (scale cost : ℕ) → IsVector (left_problem p prices scale cost) vector ↔ IsVector p vector
+
+pub left-vectors : LeftVectors → (p q : ProblemView) (vectors : List (List Price)) (f : Fixing) → q ≡ tree_problem p vectors (Some f) → All (IsVector p) vectors → All (IsVector q) vectors
+left-vectors law p q vectors f is all = rw is (
+    All-weaker (IsVector p) (IsVector (tree_problem p vectors (Some f))) (λ v h. (law p (vector_at vectors f.vector) v f.scale f.cost).1 h) vectors all)
+
+-- a tree of what a fixing leaves
+pub sound-left : {E : Type 0} (p q : ProblemView) (vectors : List (List Price)) (cost : Option ℕ) (fixing : Option Fixing) (f : Fixing) (tree : List Node) (result : Result Bool E) → fixing ≡ Some f →
+    q ≡ tree_problem p vectors (Some f) → IfOk result (λ yes. IsTrue yes → IsSound q vectors cost (whole_of q) tree) →
+    IfOk result (λ yes. IsTrue yes → IsSound (tree_problem p vectors fixing) vectors cost (whole_of (tree_problem p vectors fixing)) tree)
+sound-left p q vectors cost fixing f tree result e is h = rw e (rw is at h)

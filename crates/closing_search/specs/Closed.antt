@@ -18,7 +18,7 @@ use Rattle.closing_search.specs.declared.closed.Ending.TheVariants as ends
 -- problem that it leaves
 pub record ClosesWhole (p : ProblemView) (budget : ℕ) (cost : Option ℕ) (fixing : Option Fixing)
     (tree : List Node) (vectors : List (List Price)) : Type 0 where
-  pub fixing : IfSome fixing (FixingHolds p vectors cost)
+  pub fixed : IfSome fixing (FixingHolds p vectors cost)
   pub sound : IsSound (tree_problem p vectors fixing) vectors cost
       (whole_of (tree_problem p vectors fixing)) tree
   pub whole : IsWhole tree

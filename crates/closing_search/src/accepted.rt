@@ -5,6 +5,7 @@ ghost use Rattle.choice_problem.specs.declared.vectors.Price.{Price};
 ghost use Rattle.choice_problem.specs.Choices.{IsFeasible, choice_cost};
 ghost use Rattle.choice_problem.specs.Bounds.{IsVector, whole_of};
 ghost use Rattle.choice_problem.specs.Trees.{IsSound, IsWhole, node_count};
+ghost use Rattle.cost_fixing.specs.Fixings.{FixingHolds, tree_problem};
 ghost use Rattle.closing_search.specs.Closed.{ClosesWhole, IsClosed, IsClosedAtMost, IsKnownAtMost};
 
 use crate::closed::Closed;
@@ -13,7 +14,7 @@ use choice_problem::{
     Choice, MOST_PRICES, MOST_VECTORS, Node, Problem, Tree, Vector, VectorList, cost_of,
     count_nodes, fits, sound_tree,
 };
-use cost_fixing::{Fixing, fixed_best, fixing_problem};
+use cost_fixing::{Fixing, fixed_best, fixing_problem, left_problems};
 use slot_text::Memory;
 use std::alloc::Global;
 
@@ -201,6 +202,27 @@ fn closes_whole(
     if !are_vectors(problem, vectors.items()) {
         return Ok(false);
     }
+    is_sound(alloc, problem, cost, fixing, tree, vectors)
+}
+
+// Whether the fixing holds, if there is one, and a tree of what it leaves is whole and sound for the cost, or for none.
+fn is_sound(
+    alloc: Global,
+    problem: &Problem,
+    cost: Option<u64>,
+    fixing: &Option<Fixing>,
+    tree: &Tree,
+    vectors: &VectorList,
+) -> Result<bool, Memory>
+    requires { All (IsVector problem.now) vectors.now }
+    ensures holds { IfOk result (λ yes. IsTrue yes →
+        IfSome fixing.now (FixingHolds problem.now vectors.now cost)) }
+    ensures sound { IfOk result (λ yes. IsTrue yes →
+        IsSound (tree_problem problem.now vectors.now fixing.now) vectors.now cost
+        (whole_of (tree_problem problem.now vectors.now fixing.now)) tree.now) }
+    ensures whole { IfOk result (λ yes. IsTrue yes → IsWhole tree.now) }
+{
+    left_problems();
     let Some(fixing) = fixing else {
         return proves(alloc, problem, cost, tree, vectors);
     };

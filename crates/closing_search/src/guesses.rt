@@ -110,7 +110,13 @@ fn close_at(
         steps,
     } = grown;
     let choice = whole_choice(alloc, &left, best)?;
-    guesses.learn(problem, choice, is_known, is_ended, limit.saturating_sub(steps));
+    guesses.learn(
+        problem,
+        choice,
+        is_known,
+        is_ended,
+        limit.saturating_sub(steps),
+    );
     match found {
         Some(found) => fixed_found(alloc, guesses, found, vector, cost),
         None => Ok(None),
@@ -254,7 +260,7 @@ impl Guesses {
     // Takes a greater guess, after a tree of so many steps.
     fn rise(&mut self, steps: u64) {
         let more = if steps > FEW_STEPS {
-            self.gap / 5 * 2
+            self.gap / 4
         } else {
             self.gap
         };

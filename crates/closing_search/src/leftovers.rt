@@ -71,12 +71,7 @@ pub(crate) fn grow_left(
 }
 
 // What a state has come to.
-fn grown_of(
-    alloc: Global,
-    task: &Task<'_>,
-    state: State,
-    most: u32,
-) -> Result<Grown, Memory> {
+fn grown_of(alloc: Global, task: &Task<'_>, state: State, most: u32) -> Result<Grown, Memory> {
     let is_ended = state.open.is_empty() && state.steps > 0;
     let found = if is_ended && state.best.is_some() {
         found_in(alloc, task, &state, most)?

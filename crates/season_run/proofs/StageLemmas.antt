@@ -130,7 +130,7 @@ closed-proof fewer p mark choice cost fixing tree vectors c end closed best mark
       feasible = rw choice_is (found-feasible p cost choice end.found);
       cost = rw (choice_is, cost_is) (found-cost p cost choice end.found);
       vectors = kept-vectors p vectors c.vectors fixing tree c.floors kept end.listed.each;
-      fixing = rw fixing_is (stage-fixing p c mark cost fixing mark_is cost_is best (kept-fixing p vectors c.vectors fixing tree c.floors kept cost end.fixing));
+      fixing = rw fixing_is (stage-fixing p c mark cost fixing mark_is cost_is best (kept-fixing p vectors c.vectors fixing tree c.floors kept cost end.fixed));
       sound = rw (cost_is, fixing_is, tree_is) (kept-sound p vectors c.vectors fixing tree c.floors kept fewer cost end.sound);
       marked = subst (FitsMark p c) (sym mark_is) (closed-mark p c mark choice choice_is (rw tree_is end.whole) closed);
     }
@@ -197,7 +197,7 @@ pub closed-kept : (p : ProblemView) (choice : Option (List ℕ)) (cost : Option 
 closed-kept p choice cost fixing tree lent vectors kept floors given number end t g n h is =
     let q = tree_problem p vectors fixing in
     kept_first fixing vectors kept tree floors number (sound_there q vectors cost (whole_of q ∷ []) tree end.sound)
-    (subst (All (λ (f : Floor). f.vector ≤ length vectors)) (sym n) (All-nil (λ (f : Floor). f.vector ≤ length vectors))) (fixing-listed p vectors cost fixing end.fixing)
+    (subst (All (λ (f : Floor). f.vector ≤ length vectors)) (sym n) (All-nil (λ (f : Floor). f.vector ≤ length vectors))) (fixing-listed p vectors cost fixing end.fixed)
     (no_floors-name fixing tree lent floors given number t g n h) is
 
 pub open-walks : (p : ProblemView) (vectors : List (List Price)) (cost : Option ℕ) (best : Option (List ℕ)) (tree lent : List Node) → IsOpenEnd p vectors cost best tree → lent ≡ tree → AreWalkable (whole_of p ∷ []) lent

@@ -48,9 +48,9 @@ all-some p given budget vectors h =
 
 pub outcome-end : (p : ProblemView) (given : List (List Price)) (budget : ℕ) (o : Outcome) → 1 ≤ budget → IsOutcome p given budget o → IsStageEndBy p None o
 outcome-end p given budget (ends.Optimal choice cost tree vectors) some h =
-    record { found = h.0.found; listed = stage-vectors p given vectors h.0.listed; fixing = tt; sound = h.0.sound; whole = h.1 }
+    record { found = h.0.found; listed = stage-vectors p given vectors h.0.listed; fixed = tt; sound = h.0.sound; whole = h.1 }
 outcome-end p given budget (ends.Infeasible tree vectors) some h =
-    (refl, record { found = h.0.found; listed = stage-vectors p given vectors h.0.listed; fixing = tt; sound = h.0.sound; whole = h.1 })
+    (refl, record { found = h.0.found; listed = stage-vectors p given vectors h.0.listed; fixed = tt; sound = h.0.sound; whole = h.1 })
 outcome-end p given budget (ends.Spent best tree vectors) some h =
     (refl, record { searched = searched-any p given vectors h.0.0 best tree h.0.1; root = all-some p given budget vectors (h.3 some); undone = h.2 })
 
@@ -87,9 +87,9 @@ found-feasible p given budget (ends.Spent best tree vectors) h = found-is p h.0.
 
 closed-ended : (p : ProblemView) (budget : ℕ) (a : Closed) → IsClosed p budget a → IsStageEnd p (closed_end a)
 closed-ended p budget (closed.Optimal choice cost fixing tree vectors) h =
-    record { found = (h.1, h.2); listed = record { few = h.0.few; each = h.0.each; few_prices = h.0.few_prices }; fixing = h.0.fixing; sound = h.0.sound; whole = h.0.whole }
+    record { found = (h.1, h.2); listed = record { few = h.0.few; each = h.0.each; few_prices = h.0.few_prices }; fixed = h.0.fixed; sound = h.0.sound; whole = h.0.whole }
 closed-ended p budget (closed.Infeasible tree vectors) h =
-    (refl, record { found = tt; listed = record { few = h.0.few; each = h.0.each; few_prices = h.0.few_prices }; fixing = tt; sound = h.0.sound; whole = h.0.whole })
+    (refl, record { found = tt; listed = record { few = h.0.few; each = h.0.each; few_prices = h.0.few_prices }; fixed = tt; sound = h.0.sound; whole = h.0.whole })
 
 closed-nodes : (p : ProblemView) (budget : ℕ) (a : Closed) → IsClosed p budget a → TakesNodes budget (closed_end a).outcome
 closed-nodes p budget (closed.Optimal choice cost fixing tree vectors) h = h.0.few_nodes

@@ -40,7 +40,7 @@ pub record IsClosedEnd (p : ProblemView) (vectors : List (List Price)) (fixing :
     (cost : Option ℕ) (best : Option (List ℕ)) (tree : List Node) : Type 0 where
   pub found : IsBestFound p cost best
   pub listed : AreStageVectors p vectors
-  pub fixing : IfSome fixing (FixingHolds p vectors cost)
+  pub fixed : IfSome fixing (FixingHolds p vectors cost)
   pub sound : IsSound (tree_problem p vectors fixing) vectors cost
       (whole_of (tree_problem p vectors fixing)) tree
   pub whole : IsWhole tree

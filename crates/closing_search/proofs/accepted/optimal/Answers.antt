@@ -17,7 +17,7 @@ returns-clause-closed c =
     let sound : IsSound q c.args.vectors (Some (choice_cost p x)) (whole_of q) c.args.tree =
     subst (λ (n : ℕ). IsSound q c.args.vectors (Some n) (whole_of q) c.args.tree) (sym r.cost) r.closes.sound in
     let holds : IfSome c.args.fixing (FixingHolds p c.args.vectors (Some (choice_cost p x))) =
-    subst (λ (n : ℕ). IfSome c.args.fixing (FixingHolds p c.args.vectors (Some n))) (sym r.cost) r.closes.fixing in
+    subst (λ (n : ℕ). IfSome c.args.fixing (FixingHolds p c.args.vectors (Some n))) (sym r.cost) r.closes.fixed in
     (r.closes, r.feasible, r.cost, c.fixed_best.ensures.tree p c.args.vectors c.args.fixing c.args.tree x r.closes.each r.feasible holds sound r.closes.whole)
 
 pub returns-clause-start : goal.returns-clause-start
