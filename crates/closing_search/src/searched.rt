@@ -113,7 +113,7 @@ fn settled(
     start: &Option<Choice>,
     most: u32,
 ) -> Result<(Option<Found>, Option<Choice>), Memory>
-    requires { IsVector task.problem.now vector.now }
+    requires { IsVector task.now.problem.now vector.now }
 {
     if end == End::Above || end == End::Spent {
         return Ok((None, None));

@@ -12,7 +12,7 @@ use slot_text::Memory;
 use std::alloc::Global;
 
 /// The most nodes of a tree.
-pub(crate) const MOST_NODES: u32 = 20_000;
+pub(crate) const MOST_NODES: u32 = 40_000;
 
 // The most steps of the relaxations of all trees but the first one, and of that; how many trees are tried.
 const TREE_STEPS: u64 = 2_000_000_000;
