@@ -12,8 +12,8 @@ ghost use Rattle.session_desk.specs.Seen.{SeenGoesOn, IsLedgerHistory};
 ghost use Rattle.session_desk.specs.Private.Amended.{HasAnswers, HasOneAnswer, HasLeft};
 ghost use Rattle.session_desk.specs.Private.Amended.{StopsAnswer};
 
-use crate::busy::BusyPlace;
 use crate::responder::{AnswerFault, Responder};
+use crate::time_slices::LinkSlices;
 use holding_book::laws::answer_lines;
 use holding_book::{Answer, Entry};
 use scr_reader::laws::{one_run, read_items_can_be_asked, read_lines_fit};
@@ -64,7 +64,7 @@ pub(crate) struct Amending<'a, 'b, R: Wait, G: LineGate, B: Beside> {
     pub season: Season,
     pub airport: Station,
     pub caller: u32,
-    pub place: BusyPlace<'b>,
+    pub slices: LinkSlices<'b>,
 }
 
 impl<'a, 'b, R: Wait, G: LineGate, B: Beside> Responder for Amending<'a, 'b, R, G, B> {
@@ -100,16 +100,8 @@ impl<'a, 'b, R: Wait, G: LineGate, B: Beside> Responder for Amending<'a, 'b, R, 
     ghost stopped = { λ a pass fault.
         StopsAt B.read B.broken a.ledger.now.origin.start.most pass.seen fault };
 
-    fn before_piece(&self, full: bool) {
-        if full {
-            self.place.enter(self.rt);
-        }
-    }
-
-    fn after_piece(&self, full: bool) {
-        if !full {
-            self.place.leave();
-        }
+    fn set_busy(&self, busy: bool) {
+        self.slices.set_busy(busy);
     }
 
     fn answer(
@@ -121,7 +113,6 @@ impl<'a, 'b, R: Wait, G: LineGate, B: Beside> Responder for Amending<'a, 'b, R, 
         one_run();
         read_lines_fit();
         read_items_can_be_asked();
-        self.place.stay(self.rt);
         match receive(alloc, self.season, self.airport, lines) {
             Ok(Received::Good(message)) => self.reply(pass, alloc, &message),
             Ok(Received::Bad { line }) => bad_reply(alloc, line),
@@ -251,6 +242,7 @@ impl<'a, 'b, R: Wait, G: LineGate, B: Beside> Amending<'a, 'b, R, G, B> {
             + self.now.ledger.now.origin.start.most)) }
     {
         answer_lines();
+        self.slices.wait(self.rt);
         self.gate.before_line();
         match self.ledger.amend(self.rt, alloc, pass, ask) {
             Ok(answer) => {

@@ -24,8 +24,8 @@ ghost use Rattle.session_desk.specs.Begun.{IsAnsweredBy, IsBegunBy, HasBroken, T
 ghost use Rattle.session_desk.specs.Begun.{desk_caller, ledger_caller};
 
 use crate::amending::{Amending, AtGate};
-use crate::busy::{BusyLinks, BusyPlace};
 use crate::session::{SessionEnd, SessionFault, serve};
+use crate::time_slices::{LinkSlices, TimeSlices};
 use crate::worker::{DoorWork, Worker, pair_up, serve_door, take_apart};
 use amend_journal::{JournalLedger, JournalPass};
 use desk_disk::Disk;
@@ -81,7 +81,7 @@ pub fn serve_link<R: Wait, G: Gate, B: Beside, L: Link>(
         (B.read pass.old.own) result (L.view link.new) (B.read pass.new.own) }
 {
     let gate = AtGate { gate, worker };
-    let busy = BusyLinks::new();
+    let line = TimeSlices::new();
     let amending = Amending {
         rt,
         gate: &gate,
@@ -89,7 +89,7 @@ pub fn serve_link<R: Wait, G: Gate, B: Beside, L: Link>(
         season: *season,
         airport,
         caller: pass.number(),
-        place: BusyPlace::of(&busy),
+        slices: LinkSlices::of(&line),
     };
     serve(rt, alloc, &amending, pass, link)
 }
@@ -138,7 +138,7 @@ fn work<R: Wait, G: Gate, B: Beside, D: Door>(
     ledger: &SharedLedger<B>,
     season: Season,
     airport: Station,
-    busy: &BusyLinks,
+    line: &TimeSlices,
     worker: &mut Worker<SharedPass<B>, D>,
     links: u32,
 )
@@ -171,7 +171,7 @@ fn work<R: Wait, G: Gate, B: Beside, D: Door>(
         season,
         airport,
         caller,
-        place: BusyPlace::of(busy),
+        slices: LinkSlices::of(line),
     };
     worker.work = serve_door(
         rt,
@@ -191,7 +191,7 @@ fn serve_all<R: Threads + Wait + Sync, G: Gate, B: Beside + Send, D: Door>(
     ledger: &SharedLedger<B>,
     season: Season,
     airport: Station,
-    busy: &BusyLinks,
+    line: &TimeSlices,
     workers: &mut [Worker<SharedPass<B>, D>],
     links: u32,
 )
@@ -242,7 +242,7 @@ fn serve_all<R: Threads + Wait + Sync, G: Gate, B: Beside + Send, D: Door>(
                 (D.view worker.new.door) (B.read worker.new.pass.own) }
         {
             work(
-                rt, alloc, gate, ledger, season, airport, busy, worker, links,
+                rt, alloc, gate, ledger, season, airport, line, worker, links,
             )
         },
     );
@@ -252,9 +252,9 @@ fn serve_all<R: Threads + Wait + Sync, G: Gate, B: Beside + Send, D: Door>(
 /// their order. Hands out the one history, what each worker did, and what was kept beside.
 ///
 /// Each worker serves at most so many links of its door, and the history holds at most so many
-/// entries. Links that mostly have more input at hand are served in terms, one after the other;
-/// others go between. It waits until all workers have ended. The doors stay, in their order, also
-/// where memory runs out before they are served.
+/// entries. Links that mostly have more input at hand are served in time slices, round robin; others
+/// go between. It waits until all workers have ended. The doors stay, in their order, also where
+/// memory runs out before they are served.
 pub fn serve_doors<R: Threads + Wait + Sync, G: Gate, B: Beside + Send, D: Door + Drop>(
     rt: &R,
     alloc: Global,
@@ -306,7 +306,7 @@ pub fn serve_doors<R: Threads + Wait + Sync, G: Gate, B: Beside + Send, D: Door 
     let mut workers = Vec::with_capacity(alloc, count)?;
     let (ledger, mut passes) = SharedLedger::start(alloc, book, beside, count as u32, most)?;
     pair_up(doors, &mut passes, &mut workers);
-    let busy = BusyLinks::new();
+    let line = TimeSlices::new();
     serve_all(
         rt,
         alloc,
@@ -314,7 +314,7 @@ pub fn serve_doors<R: Threads + Wait + Sync, G: Gate, B: Beside + Send, D: Door 
         &ledger,
         season,
         airport,
-        &busy,
+        &line,
         workers.as_mut_slice(),
         links,
     );

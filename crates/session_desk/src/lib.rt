@@ -3,11 +3,11 @@
 #![tactic(auto)]
 
 mod amending;
-mod busy;
 mod doors;
 mod pending;
 mod responder;
 mod session;
+mod time_slices;
 mod worker;
 
 pub use amending::DeskCaller;

@@ -57,11 +57,8 @@ pub(crate) trait Responder {
     /// What is known of a pass with which an ask was refused.
     ghost stopped: { Self → Self.Pass → AnswerFault → Type 0 };
 
-    /// A piece of input is about to be read, behind which more is mostly at hand where it is full.
-    fn before_piece(&self, full: bool);
-
-    /// A piece has been read.
-    fn after_piece(&self, full: bool);
+    /// Says whether the link is busy: whether more input is mostly at hand behind what was taken.
+    fn set_busy(&self, busy: bool);
 
     /// Answers the message of these lines. Its text is for the client.
     fn answer(

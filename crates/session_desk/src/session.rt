@@ -80,9 +80,9 @@ pub(crate) fn serve<R: Wait, A: Responder, L: Link>(
             Ok(0) => return end_of(&pending),
             Ok(n) => {
                 let (bytes, _) = piece.split_at(n);
-                responder.before_piece(n == LONGEST_PIECE);
+                responder.set_busy(n == LONGEST_PIECE);
                 match read_piece(alloc, responder, pass, link, &mut pending, bytes) {
-                    Ok(()) => responder.after_piece(n == LONGEST_PIECE),
+                    Ok(()) => {}
                     Err(fault) => return Err(fault),
                 }
             }

@@ -1,0 +1,117 @@
+//! Busy links are served in time slices, round robin.
+//!
+//! A link is busy while it gives whole pieces of input, behind which more is mostly at hand. The
+//! asks of one busy link are answered for a time slice, then those of the next, so that the counts
+//! of the book stay in the cache of one processor. A link that is not busy never waits here. What is
+//! answered does not depend on time slices, so contracts do not see them.
+//!
+//! No link waits for ever. A ticket is drawn only by a link that then waits until its slice has
+//! come, and nobody waits here who has the turn, so no ticket in the line is without a link. Whoever
+//! has the slice gives it up when its link is no longer busy, and at the end of its link. Where it
+//! does not, as for a client that is silent or takes nothing of its replies, the next in line, which
+//! sleeps for a slice at most, takes it over; the other then draws a new ticket for its next ask.
+//! So the link at place `n` of the line waits for at most `n` slices.
+
+use std::sync::Wait;
+use std::sync::atomic::{AtomicBool, AtomicU64, Ordering};
+use std::time::Duration;
+
+/// How long a time slice lasts while another busy link waits.
+const SLICE_MILLIS: u64 = 40;
+
+/// The line of busy links.
+#[derive(Drop)]
+pub(crate) struct TimeSlices {
+    /// The ticket that the next link in line draws.
+    next: AtomicU64,
+    /// The ticket whose slice it is. Where no link has the slice it is `next`.
+    current: AtomicU64,
+}
+
+/// The time slices of one worker's links.
+#[derive(Drop)]
+pub(crate) struct LinkSlices<'a> {
+    line: &'a TimeSlices,
+    /// Whether the link is busy.
+    busy: AtomicBool,
+    /// The ticket that was drawn last, or 0.
+    ticket: AtomicU64,
+}
+
+impl TimeSlices {
+    /// A line without links.
+    pub(crate) fn new() -> TimeSlices {
+        TimeSlices {
+            next: AtomicU64::new(1),
+            current: AtomicU64::new(1),
+        }
+    }
+
+    // Whether it is the slice of this ticket.
+    fn is_slice_of(&self, ticket: u64) -> bool {
+        self.current.load(Ordering::SeqCst) == ticket
+    }
+
+    // Whether the slice of a ticket has come, and may be over again. Else sleeps for a slice, or
+    // until another ticket has it; whoever is next in line then takes it over.
+    fn has_come<R: Wait>(&self, rt: &R, ticket: u64) -> bool {
+        let current = self.current.load(Ordering::SeqCst);
+        if current >= ticket {
+            return true;
+        }
+        let slice = Duration::from_millis(SLICE_MILLIS);
+        let low = (current % 0x1_0000_0000) as u32;
+        self.current.park_timeout(rt, low, slice);
+        if current.wrapping_add(1) == ticket {
+            self.end(current);
+        }
+        false
+    }
+
+    // If it is the slice of this ticket, the next ticket has it from now on.
+    fn end(&self, ticket: u64) {
+        let next = ticket.wrapping_add(1);
+        let ended = self
+            .current
+            .compare_exchange(ticket, next, Ordering::SeqCst, Ordering::SeqCst);
+        if ended.is_ok() {
+            self.current.wake_all();
+        }
+    }
+}
+
+impl<'a> LinkSlices<'a> {
+    /// Of a worker whose link is not busy.
+    pub(crate) fn of(line: &'a TimeSlices) -> LinkSlices<'a> {
+        LinkSlices {
+            line,
+            busy: AtomicBool::new(false),
+            ticket: AtomicU64::new(0),
+        }
+    }
+
+    /// Says whether the link is busy. If it is not, its slice ends, if it has it.
+    pub(crate) fn set_busy(&self, busy: bool) {
+        self.busy.store(busy, Ordering::SeqCst);
+        let ticket = self.ticket.load(Ordering::SeqCst);
+        if !busy && self.line.is_slice_of(ticket) {
+            self.line.end(ticket);
+        }
+    }
+
+    /// If the link is busy, waits for its slice, unless it has it.
+    pub(crate) fn wait<R: Wait>(&self, rt: &R) {
+        let busy = self.busy.load(Ordering::SeqCst);
+        if !busy || self.line.is_slice_of(self.ticket.load(Ordering::SeqCst)) {
+            return;
+        }
+        let ticket = self.line.next.fetch_add(1, Ordering::SeqCst);
+        self.ticket.store(ticket, Ordering::SeqCst);
+        for _ in rt.forever() {
+            if self.line.has_come(rt, ticket) {
+                return;
+            }
+        }
+        unreachable!()
+    }
+}
