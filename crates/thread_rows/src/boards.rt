@@ -4,7 +4,7 @@ ghost use Rattle.std.specs.Prelude.{◌≡◌, ◌+◌, ◌≤◌, IfOk};
 ghost use Rattle.std.specs.Thread.{IsSync};
 ghost use Rattle.incumbent_word.specs.Seats.{IsSeatOf};
 
-use incumbent_word::{Board, BoardSeat};
+use incumbent_word::{Board, BoardEnd, BoardSeat};
 use std::alloc::{AllocError, Global};
 use std::test::Fail;
 use std::thread::{Threads, join};
@@ -32,12 +32,13 @@ fn a_second_seat_comes_and_goes(rt: HostRuntime) -> Result<(), Fail> {
         panic!(rt; "memory")
     };
     let mut second = first.split(&board);
-    assert!(rt; first.claim(&board) == Some(0) && second.claim(&board) == Some(1));
-    assert!(rt; second.claim(&board).is_none() && second.least(&board) == Some(5));
+    let pieces = (first.claim(&board), second.claim(&board));
+    let (none, least) = (second.claim(&board), second.least(&board));
     first.join(&board, second);
-    assert!(rt; first.claim(&board).is_none());
+    let last = first.claim(&board);
     let end = board.close(first);
-    assert!(rt; end.claimed == 2 && end.taken == 0 && end.least == Some(5));
+    assert!(rt; pieces == (Some(0), Some(1)) && none.is_none() && least == Some(5));
+    assert!(rt; last.is_none() && end.claimed == 2 && end.taken == 0 && end.least == Some(5));
     Ok(())
 }
 
@@ -152,21 +153,37 @@ fn put_together(
 
 #[test]
 fn eight_workers_draw_each_piece_and_number_once(rt: HostRuntime) -> Result<(), Fail> {
-    let Ok((board, seat)) = Board::new(rt.alloc(), BUDGET, PIECES, None) else {
-        panic!(rt; "memory")
-    };
-    let Ok((seat, mut drawn)) = draw_together(&rt, rt.alloc(), &board, seat, 8) else {
-        panic!(rt; "memory")
-    };
-    let end = board.close(seat);
+    let (end, drawn) = drawn_by_eight(&rt, rt.alloc())?;
     assert!(rt; end.claimed == 1_000 && end.taken == 10_000 && end.least == Some(10_001));
-    assert!(rt; drawn.pieces.sort().is_ok() && drawn.numbers.sort().is_ok());
-    assert!(rt; drawn.pieces.len() == 1_000 && drawn.numbers.len() == 10_000);
-    for (place, piece) in drawn.pieces.iter().enumerate() {
-        assert!(rt; u64::from(*piece) == place as u64);
-    }
-    for (place, number) in drawn.numbers.iter().enumerate() {
-        assert!(rt; *number == place as u64);
-    }
+    assert!(rt; are_all_pieces(drawn.pieces)? && are_all_numbers(drawn.numbers)?);
     Ok(())
+}
+
+// What eight workers drew from a board, and what it says at its end.
+fn drawn_by_eight<R: Threads + Sync>(rt: &R, alloc: Global) -> Result<(BoardEnd, Drawn), Fail> {
+    let (board, seat) = Board::new(alloc, BUDGET, PIECES, None)?;
+    let (seat, drawn) = draw_together(rt, alloc, &board, seat, 8)?;
+    Ok((board.close(seat), drawn))
+}
+
+// Whether each piece is there once.
+fn are_all_pieces(mut pieces: Vec<u32>) -> Result<bool, AllocError> {
+    pieces.sort()?;
+    for (place, piece) in pieces.iter().enumerate() {
+        if u64::from(*piece) != place as u64 {
+            return Ok(false);
+        }
+    }
+    Ok(pieces.len() == 1_000)
+}
+
+// Whether each number is there once.
+fn are_all_numbers(mut numbers: Vec<u64>) -> Result<bool, AllocError> {
+    numbers.sort()?;
+    for (place, number) in numbers.iter().enumerate() {
+        if *number != place as u64 {
+            return Ok(false);
+        }
+    }
+    Ok(numbers.len() == 10_000)
 }

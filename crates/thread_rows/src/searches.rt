@@ -6,7 +6,8 @@ ghost use Rattle.choice_problem.specs.Bounds.{IsVector};
 ghost use Rattle.search_workers.specs.Outcomes.{AreFurther};
 
 use choice_problem::{
-    Alt, Choice, Chooser, Node, Part, Price, Problem, Strip, Tree, Vector, cost_of, fits,
+    Alt, Choice, Chooser, Node, Part, Price, Problem, Strip, Tree, Vector, VectorList, cost_of,
+    fits,
 };
 use search_workers::{Outcome, search, search_from};
 use std::alloc::{AllocError, Global};
@@ -42,6 +43,12 @@ fn unit(alloc: Global, strips: &[Strip], alts: Vec<Alt>) -> Result<Chooser, Fail
     }
 }
 
+// The problem of units, with one limit for so many resources.
+fn evenly(alloc: Global, units: Vec<Chooser>, limit: i64, count: u32) -> Result<Problem, Fail> {
+    let limits = vec![in alloc; limit; count as usize]?;
+    problem(units, limits)
+}
+
 fn problem(units: Vec<Chooser>, limits: Vec<i64>) -> Result<Problem, Fail> {
     if Problem::allows(&units, &limits) {
         Ok(Problem::new(units, limits))
@@ -50,50 +57,56 @@ fn problem(units: Vec<Chooser>, limits: Vec<i64>) -> Result<Problem, Fail> {
     }
 }
 
-// So many units that want one place each, of so many, and may pay 20 instead where `pays`.
-fn crowd(alloc: Global, count: u32, limit: i64, pays: bool) -> Result<Problem, Fail> {
+// Two units that want one place each, of which there is one.
+fn crowd(alloc: Global) -> Result<Problem, Fail> {
     let mut units = Vec::new(alloc);
-    for _ in 0..count {
-        let mut alts = vec![in alloc; alt(0, Some(0))]?;
-        if pays {
-            alts.push(alt(20, None))?;
-        }
+    for _ in 0..2 {
+        let alts = vec![in alloc; alt(0, Some(0))]?;
         units.push(unit(alloc, &[once(0)], alts)?)?;
     }
-    problem(units, vec![in alloc; limit]?)
+    evenly(alloc, units, 1, 1)
+}
+
+// A unit that uses these strips for nothing, or pays a price.
+fn payer(alloc: Global, strips: &[Strip], price: u64) -> Result<Chooser, Fail> {
+    let alts = vec![in alloc; alt(0, Some(0)), alt(price, None)]?;
+    unit(alloc, strips, alts)
 }
 
 // Three units of which each two exclude each other: each uses two of three resources with limit 1, or pays 20.
 fn three(alloc: Global) -> Result<Problem, Fail> {
     let mut units = Vec::new(alloc);
     for (one, two) in [(0, 1), (1, 2), (0, 2)] {
-        let alts = vec![in alloc; alt(0, Some(0)), alt(20, None)]?;
-        units.push(unit(alloc, &[once(one), once(two)], alts)?)?;
+        units.push(payer(alloc, &[once(one), once(two)], 20)?)?;
     }
-    problem(units, vec![in alloc; 1, 1, 1]?)
+    evenly(alloc, units, 1, 3)
 }
 
 // One unit on so many dates, whose times lie 5 minutes apart, the requested one in the middle; from half an hour before to
 // 25 minutes after it they use a window that is full on each date.
 fn shifted(alloc: Global, dates: u32) -> Result<Problem, Fail> {
-    let mut alts = Vec::new(alloc);
-    for place in 0..25u64 {
-        let minutes = 5 * place.abs_diff(12);
-        let part = if (6..18).contains(&place) {
-            Some(0)
-        } else {
-            None
-        };
-        alts.push(alt(minutes * u64::from(dates), part))?;
-    }
     let strip = Strip {
         first: 0,
         width: 1,
         gap: 1,
         times: dates,
     };
+    let alts = shifted_alts(alloc, dates)?;
     let units = vec![in alloc; unit(alloc, &[strip], alts)?]?;
-    problem(units, vec![in alloc; 0; dates as usize]?)
+    evenly(alloc, units, 0, dates)
+}
+
+fn shifted_alts(alloc: Global, dates: u32) -> Result<Vec<Alt>, Fail> {
+    let mut alts = Vec::new(alloc);
+    for place in 0..25u64 {
+        let minutes = 5 * place.abs_diff(12);
+        let held = 6 <= place && place < 18;
+        alts.push(alt(
+            minutes * u64::from(dates),
+            if held { Some(0) } else { None },
+        ))?;
+    }
+    Ok(alts)
 }
 
 // The place after this one in a ring.
@@ -108,11 +121,10 @@ fn ring(alloc: Global, count: u32) -> Result<Problem, Fail> {
     for place in 0..count {
         let next = after(place, count);
         let later = after(next, count);
-        let price = u64::from(place).wrapping_mul(u64::from(place)) % 7;
-        let alts = vec![in alloc; alt(0, Some(0)), alt(price.saturating_add(20), None)]?;
-        units.push(unit(alloc, &[once(place), once(next), once(later)], alts)?)?;
+        let price = u64::from(place).wrapping_mul(u64::from(place)) % 7 + 20;
+        units.push(payer(alloc, &[once(place), once(next), once(later)], price)?)?;
     }
-    problem(units, vec![in alloc; 1; count as usize]?)
+    evenly(alloc, units, 1, count)
 }
 
 fn seen_text(seen: Option<u64>) -> i64 {
@@ -122,25 +134,39 @@ fn seen_text(seen: Option<u64>) -> i64 {
     }
 }
 
-// The nodes of a tree: S unit cut seen, L vector scale seen, O resource, U; -1 stands for none.
-fn tree_text(alloc: Global, tree: &Tree) -> Result<String, Fail> {
-    let mut text = String::new(alloc);
-    for node in tree.items() {
-        let line = match *node {
-            Node::Split { unit, cut, seen } => {
-                format!(in alloc; " S {unit} {cut} {}", seen_text(seen))?
-            }
-            Node::Leaf {
-                vector,
-                scale,
-                seen,
-            } => { format!(in alloc; " L {vector} {scale} {}", seen_text(seen))? }
-            Node::Over { resource } => format!(in alloc; " O {resource}")?,
-            Node::Undone => format!(in alloc; " U")?,
-        };
-        text.push_str(line.as_str())?;
+// A node of a tree: S unit cut seen, L vector scale seen, O resource, U; -1 stands for none.
+fn node_text(alloc: Global, node: Node) -> Result<String, Fail> {
+    match node {
+        Node::Split { unit, cut, seen } => numbers_text(alloc, "S", unit, u64::from(cut), seen),
+        Node::Leaf {
+            vector,
+            scale,
+            seen,
+        } => numbers_text(alloc, "L", vector, scale, seen),
+        Node::Over { resource } => Ok(format!(in alloc; " O {resource}")?),
+        Node::Undone => Ok(format!(in alloc; " U")?),
     }
-    Ok(text)
+}
+
+fn numbers_text(
+    alloc: Global,
+    mark: &str,
+    one: u32,
+    two: u64,
+    seen: Option<u64>,
+) -> Result<String, Fail> {
+    let seen = seen_text(seen);
+    Ok(format!(in alloc; " {mark} {one} {two} {seen}")?)
+}
+
+// Adds how many vectors there are, and the nodes of the tree.
+fn add_tree(alloc: Global, text: &mut String, outcome: &Outcome) -> Result<(), Fail> {
+    let count = vectors_of(outcome).items().len();
+    text.push_str(&format!(in alloc; " {count}")?)?;
+    for node in tree_of(outcome).items() {
+        text.push_str(&node_text(alloc, *node)?)?;
+    }
+    Ok(())
 }
 
 // The mark, the cost, the number of vectors, and the tree where it is short.
@@ -150,25 +176,19 @@ fn outcome_text(
     outcome: &Outcome,
     tree: bool,
 ) -> Result<String, Fail> {
-    let (mut text, nodes, vectors) = match outcome {
-        Outcome::Optimal {
-            cost,
-            tree,
-            vectors,
-            ..
-        } => (format!(in alloc; "OPTIMAL {cost}")?, tree, vectors),
-        Outcome::Infeasible { tree, vectors } => (format!(in alloc; "INFEASIBLE")?, tree, vectors),
-        Outcome::Spent {
-            best,
-            tree,
-            vectors,
-        } => (spent_text(alloc, problem, best)?, tree, vectors),
-    };
+    let mut text = mark_text(alloc, problem, outcome)?;
     if tree {
-        let more = format!(in alloc; " {}{}", vectors.items().len(), tree_text(alloc, nodes)?)?;
-        text.push_str(more.as_str())?;
+        add_tree(alloc, &mut text, outcome)?;
     }
     Ok(text)
+}
+
+fn mark_text(alloc: Global, problem: &Problem, outcome: &Outcome) -> Result<String, Fail> {
+    match outcome {
+        Outcome::Optimal { cost, .. } => Ok(format!(in alloc; "OPTIMAL {cost}")?),
+        Outcome::Infeasible { .. } => Ok(format!(in alloc; "INFEASIBLE")?),
+        Outcome::Spent { best, .. } => spent_text(alloc, problem, best),
+    }
 }
 
 fn spent_text(alloc: Global, problem: &Problem, best: &Option<Choice>) -> Result<String, Fail> {
@@ -196,7 +216,7 @@ fn searched<R: Threads + Sync>(
 fn named(alloc: Global, name: &str) -> Result<Problem, Fail> {
     match name {
         "empty" => problem(Vec::new(alloc), Vec::new(alloc)),
-        "crowd" => crowd(alloc, 2, 1, false),
+        "crowd" => crowd(alloc),
         "shifted" => shifted(alloc, 210),
         _ => three(alloc),
     }
@@ -213,11 +233,22 @@ fn worked_rows(rt: HostRuntime) -> Result<(), Fail> {
         ("three", 1, 16, true, "SPENT 40 1 S 0 1 40 U U"),
         ("three", 15, 1, false, "OPTIMAL 40"),
     ] {
-        let problem = named(rt.alloc(), name)?;
-        let text = searched(&rt, rt.alloc(), &problem, budget, workers, tree)?;
+        let text = searched_by_name(&rt, rt.alloc(), name, budget, workers, tree)?;
         assert_eq!(rt; text.as_str(), want);
     }
     Ok(())
+}
+
+fn searched_by_name<R: Threads + Sync>(
+    rt: &R,
+    alloc: Global,
+    name: &str,
+    budget: u32,
+    workers: u32,
+    tree: bool,
+) -> Result<String, Fail> {
+    let problem = named(alloc, name)?;
+    searched(rt, alloc, &problem, budget, workers, tree)
 }
 
 // What is found by several workers is what one finds: the least costs are those of all choices, tried one by one.
@@ -243,6 +274,14 @@ fn all_find<R: Threads + Sync>(
         }
     }
     Ok(true)
+}
+
+fn vectors_of(outcome: &Outcome) -> &VectorList {
+    match outcome {
+        Outcome::Optimal { vectors, .. } => vectors,
+        Outcome::Infeasible { vectors, .. } => vectors,
+        Outcome::Spent { vectors, .. } => vectors,
+    }
 }
 
 fn tree_of(outcome: &Outcome) -> &Tree {
@@ -319,7 +358,7 @@ fn places(alloc: Global) -> Result<Problem, Fail> {
     for _ in 0..3 {
         units.push(seat(alloc, &[0, 0])?)?;
     }
-    problem(units, vec![in alloc; 1; 2]?)
+    evenly(alloc, units, 1, 2)
 }
 
 // A unit that takes one of the first places, at these costs.
@@ -390,36 +429,45 @@ fn feasible(alloc: Global, problem: &Problem, alts: &[u32]) -> Result<Choice, Fa
 // A vector of the price 1 for each of two resources shows at scale 0 that three units have no room in two places.
 #[test]
 fn a_vector_handed_in(rt: HostRuntime) -> Result<(), Fail> {
-    let alloc = rt.alloc();
-    let problem = places(alloc)?;
-    let prices = vec![in alloc;
-        Price {
-            resource: 0,
-            price: 1
-        },
-        Price {
-            resource: 1,
-            price: 1
-        },
-    ]?;
-    let further = one_further(alloc, &problem, Vector::new(prices))?;
-    let outcome = search_from(&rt, alloc, &problem, 100, 1, &RealGate, None, further)?;
-    let text = outcome_text(alloc, &problem, &outcome, true)?;
+    let problem = places(rt.alloc())?;
+    let text = with_vector(&rt, rt.alloc(), &problem)?;
     assert_eq!(rt; text.as_str(), "INFEASIBLE 2 L 2 0 -1");
     Ok(())
+}
+
+fn with_vector<R: Threads + Sync>(
+    rt: &R,
+    alloc: Global,
+    problem: &Problem,
+) -> Result<String, Fail> {
+    let prices = vec![in alloc; price_of_one(0), price_of_one(1)]?;
+    let further = one_further(alloc, problem, Vector::new(prices))?;
+    let outcome = search_from(rt, alloc, problem, 100, 1, &RealGate, None, further)?;
+    outcome_text(alloc, problem, &outcome, true)
+}
+
+fn price_of_one(resource: u32) -> Price {
+    Price { resource, price: 1 }
 }
 
 // The cost of a choice that is handed in is recorded by the first visit, and the result costs no more.
 #[test]
 fn a_choice_handed_in(rt: HostRuntime) -> Result<(), Fail> {
-    let alloc = rt.alloc();
-    let problem = ring(alloc, 5)?;
-    let choice = feasible(alloc, &problem, &[1, 1, 0, 1, 1])?;
-    let none = Vec::new(alloc);
-    let outcome = search_from(&rt, alloc, &problem, 1, 1, &RealGate, Some(choice), none)?;
-    let text = outcome_text(alloc, &problem, &outcome, true)?;
+    let problem = ring(rt.alloc(), 5)?;
+    let text = with_choice(&rt, rt.alloc(), &problem)?;
     assert_eq!(rt; text.as_str(), "SPENT 85 1 S 0 1 85 U U");
     Ok(())
+}
+
+fn with_choice<R: Threads + Sync>(
+    rt: &R,
+    alloc: Global,
+    problem: &Problem,
+) -> Result<String, Fail> {
+    let choice = feasible(alloc, problem, &[1, 1, 0, 1, 1])?;
+    let none = Vec::new(alloc);
+    let outcome = search_from(rt, alloc, problem, 1, 1, &RealGate, Some(choice), none)?;
+    outcome_text(alloc, problem, &outcome, true)
 }
 
 // Holds each of two workers at its first node until the other has come to so many of its own, for a limited number of turns.
@@ -465,11 +513,21 @@ fn two_workers_meet(rt: HostRuntime) -> Result<(), Fail> {
     let alloc = rt.alloc();
     let problem = ring(alloc, 12)?;
     let gate = Meeting::of(1, 1);
-    let outcome = search(&rt, alloc, &problem, 100_000, 2, &gate)?;
-    let text = outcome_text(alloc, &problem, &outcome, false)?;
-    assert_eq!(rt; text.as_str(), "OPTIMAL 172");
+    assert!(rt; finds_at(&rt, alloc, &problem, &gate, "OPTIMAL 172")?);
     assert_eq!(rt; gate.met.load(Ordering::SeqCst), 2);
     Ok(())
+}
+
+// Whether two workers find this.
+fn finds_at<R: Threads + Sync>(
+    rt: &R,
+    alloc: Global,
+    problem: &Problem,
+    gate: &Meeting,
+    want: &str,
+) -> Result<bool, Fail> {
+    let outcome = search(rt, alloc, problem, 100_000, 2, gate)?;
+    says(alloc, problem, &outcome, want)
 }
 
 // Four units, each of which takes one of four places at a cost of its own.
@@ -478,7 +536,7 @@ fn seated(alloc: Global) -> Result<Problem, Fail> {
     for costs in [[0, 10, 7, 4], [1, 10, 6, 2], [2, 10, 5, 0], [3, 10, 4, 11]] {
         units.push(seat(alloc, &costs)?)?;
     }
-    problem(units, vec![in alloc; 1; 4]?)
+    evenly(alloc, units, 1, 4)
 }
 
 // The place behind the tree that begins at a place of a list of nodes.
