@@ -74,20 +74,23 @@ pub(crate) fn put_answer(
     ask: &Item,
     answer: &Answer,
 ) -> Result<(), Fail> {
+    if let Answer::Listed(holdings) = answer {
+        return put_holdings(alloc, out, season, holdings.items());
+    }
+    put_asked(alloc, out, season, code_of_answer(answer), ask)?;
     match answer {
-        Answer::K | Answer::KChanged => put_asked(alloc, out, season, Code::K, ask),
-        Answer::U => put_asked(alloc, out, season, Code::U, ask),
-        Answer::X => put_asked(alloc, out, season, Code::X, ask),
-        Answer::W => put_asked(alloc, out, season, Code::W, ask),
-        Answer::Held => {
-            put_asked(alloc, out, season, Code::U, ask)?;
-            put_historic(alloc, out, season, ask)
-        }
-        Answer::Offer(line) => {
-            put_asked(alloc, out, season, Code::U, ask)?;
-            put(alloc, out, season, Code::O, line)
-        }
-        Answer::Listed(holdings) => put_holdings(alloc, out, season, holdings.items()),
+        Answer::Held => put_historic(alloc, out, season, ask),
+        Answer::Offer(line) => put(alloc, out, season, Code::O, line),
+        _ => Ok(()),
+    }
+}
+
+fn code_of_answer(answer: &Answer) -> Code {
+    match answer {
+        Answer::K | Answer::KChanged => Code::K,
+        Answer::X => Code::X,
+        Answer::W => Code::W,
+        _ => Code::U,
     }
 }
 

@@ -2,6 +2,7 @@
 //! on Saturday 25 October; 5 May and 7 April are Mondays.
 
 use crate::walk::walk;
+use std::alloc::Global;
 use std::test::Fail;
 
 // New requests. The window from 0600 to 0659 holds two arrivals a day. The third gets 0700, at 30
@@ -351,21 +352,29 @@ NBA004 30MAR30MAR 0000007 0610 = UBA004 30MAR30MAR 0000007 0610
     BBA002 30MAR30MAR 0000007 0610|;;open;0 0 = HBA001 30MAR30MAR 0000007 0610;\
     HBA002 30MAR30MAR 0000007 0610";
 
+const TABLES: [&str; 8] = [
+    NEW,
+    CLASHES,
+    CHANGES,
+    PARTS,
+    OFFERS,
+    TURNAROUNDS,
+    NIGHTS,
+    STARTS,
+];
+
 #[test]
 fn asks_are_answered_as_worked(rt: HostRuntime) -> Result<(), Fail> {
-    let mut wrong = String::new(rt.alloc());
-    for rows in [
-        NEW,
-        CLASHES,
-        CHANGES,
-        PARTS,
-        OFFERS,
-        TURNAROUNDS,
-        NIGHTS,
-        STARTS,
-    ] {
-        walk(rt.alloc(), rows, &mut wrong)?;
-    }
+    let wrong = all_wrong(rt.alloc())?;
     assert_eq!(rt; wrong.as_str(), "");
     Ok(())
+}
+
+// The rows that want something else than is found.
+fn all_wrong(alloc: Global) -> Result<String, Fail> {
+    let mut wrong = String::new(alloc);
+    for rows in TABLES {
+        walk(alloc, rows, &mut wrong)?;
+    }
+    Ok(wrong)
 }

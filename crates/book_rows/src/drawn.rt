@@ -56,16 +56,20 @@ impl Seen {
 
 #[test]
 fn kept_counts_agree_with_a_listing(rt: HostRuntime) -> Result<(), Fail> {
-    let alloc = rt.alloc();
-    let mut book = start_book(alloc, CAPACITY, REQUESTS, "0 0;;;")?;
-    let mut draws = Draws { last: 29 };
+    let mut book = start_book(rt.alloc(), CAPACITY, REQUESTS, "0 0;;;")?;
     let mut seen = Seen { counts: [0; 8] };
-    for number in 0..ASKS {
-        step(alloc, &mut book, &mut draws, &mut seen, number)?;
-    }
-    assert!(rt; all_fit(alloc, book.declaration(), book.holdings())?);
-    assert!(rt; seen.has_all(), "{:?}", seen.counts);
+    let fits = fits_after(rt.alloc(), &mut book, &mut seen)?;
+    assert!(rt; fits && seen.has_all(), "{:?}", seen.counts);
     Ok(())
+}
+
+// Whether all holdings fit after all asks.
+fn fits_after(alloc: Global, book: &mut Book, seen: &mut Seen) -> Result<bool, Fail> {
+    let mut draws = Draws { last: 29 };
+    for number in 0..ASKS {
+        step(alloc, book, &mut draws, seen, number)?;
+    }
+    all_fit(alloc, book.declaration(), book.holdings())
 }
 
 // One ask, if what was drawn is one.

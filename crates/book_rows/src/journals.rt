@@ -1,13 +1,15 @@
 //! A ledger with a journal: what it answered stands in the journal, and a desk that opens the
 //! journal again goes on from there.
 
-ghost use Rattle.std.specs.Prelude.{◌≡◌};
+ghost use Rattle.std.specs.Prelude.{◌≡◌, ◌≤◌, All, length, IfOk};
 ghost use Rattle.turn_lock.specs.Seats.{IsAtRest};
 ghost use Rattle.scr_reader.specs.Again.{IsFitItem};
+ghost use Rattle.amend_journal.specs.Format.{IsFit};
+ghost use Rattle.amend_journal.specs.declared.asked.TheConstants.{MOST_PAIRS};
 
 use crate::answers::{fit_ask, put_holdings};
 use crate::books::small_book;
-use amend_journal::{Journal, JournalFault, JournalLedger, JournalPass, replayed};
+use amend_journal::{Asked, Journal, JournalFault, JournalLedger, JournalPass, replayed};
 use desk_disk::{Disk, MemoryDisk};
 use desk_outside::Failure;
 use holding_book::Book;
@@ -54,21 +56,50 @@ fn run<R: Wait>(
     alloc: Global,
     bytes: &[u8],
     count: usize,
-    failing: Vec<Failure>,
+    failing: &[Failure],
 ) -> Result<Option<Left>, Fail> {
+    let disk = disk_of(alloc, bytes, failing)?;
     let book = small_book(alloc)?;
-    if bytes.len() > ROOM || book.count() > 1_000_000 {
-        return Err("too long".into());
+    if book.count() > 1_000_000 {
+        return Err("too many".into());
     }
     let season = book.declaration().season;
-    let disk = MemoryDisk::new(alloc, bytes, ROOM, 99, failing)?;
     match Journal::open(alloc, disk, &season) {
         Ok((journal, pairs)) => {
-            let book = replayed(alloc, book, &pairs)?;
-            Ok(Some(go_on(rt, alloc, journal, book, &season, count)?))
+            let left = resumed(rt, alloc, journal, &pairs, book, &season, count)?;
+            Ok(Some(left))
         }
         Err(_) => Ok(None),
     }
+}
+
+/// Answers the pairs of a journal on a book, and goes on from there.
+fn resumed<R: Wait>(
+    rt: &R,
+    alloc: Global,
+    journal: Journal<MemoryDisk>,
+    pairs: &[Asked],
+    book: Book,
+    season: &Season,
+    count: usize,
+) -> Result<Left, Fail>
+    requires journal { journal.season ≡ book.book.declaration.season }
+    requires season { season.now ≡ book.book.declaration.season }
+    requires fit { All (IsFit book.book.declaration.season) pairs.now }
+    requires many { length pairs.now ≤ MOST_PAIRS }
+    requires few { length book.book.holdings ≤ 1000000 }
+{
+    let book = replayed(alloc, book, pairs)?;
+    go_on(rt, alloc, journal, book, season, count)
+}
+
+/// A disk with room for a journal of four pairs that holds these bytes, some calls of which fail.
+fn disk_of(alloc: Global, bytes: &[u8], failing: &[Failure]) -> Result<MemoryDisk, Fail> {
+    if bytes.len() > ROOM {
+        return Err("too long".into());
+    }
+    let failing = failing.to_vec(alloc)?;
+    Ok(MemoryDisk::new(alloc, bytes, ROOM, 99, failing)?)
 }
 
 /// Asks what a journal lacks of the first so many asks, by a ledger over the book of its pairs.
@@ -87,14 +118,60 @@ fn go_on<R: Wait>(
         return Err("too many".into());
     }
     let found = journal.count() as usize;
+    let (ledger, first, second) = begun(alloc, journal, book)?;
+    run_by(rt, alloc, ledger, first, second, season, found, count)
+}
+
+/// A ledger of two callers with a journal, and their passes.
+fn begun(
+    alloc: Global,
+    journal: Journal<MemoryDisk>,
+    book: Book,
+) -> Result<
+    (
+        JournalLedger<MemoryDisk>,
+        JournalPass<MemoryDisk>,
+        JournalPass<MemoryDisk>,
+    ),
+    Fail,
+>
+    requires journal { journal.season ≡ book.book.declaration.season }
+    requires few { length book.book.holdings ≤ 2000000 }
+    ensures callers { IfOk result (λ r. r.0.callers ≡ 2) }
+    ensures first { IfOk result (λ r. IsAtRest r.0 r.1) }
+    ensures second { IfOk result (λ r. IsAtRest r.0 r.2) }
+    ensures declared { IfOk result (λ r.
+        book.book.declaration ≡ r.0.origin.start.declaration) }
+{
+    let (ledger, mut passes) = JournalLedger::start(alloc, journal, book, 2)?;
+    match (passes.pop(), passes.pop()) {
+        (Some(second), Some(first)) => Ok((ledger, first, second)),
+        _ => Err("passes".into()),
+    }
+}
+
+/// What is left of a run by these two callers, whose journal had so many pairs.
+fn run_by<R: Wait>(
+    rt: &R,
+    alloc: Global,
+    ledger: JournalLedger<MemoryDisk>,
+    first: JournalPass<MemoryDisk>,
+    second: JournalPass<MemoryDisk>,
+    season: &Season,
+    found: usize,
+    count: usize,
+) -> Result<Left, Fail>
+    requires callers { ledger.callers ≡ 2 }
+    requires first { IsAtRest ledger first }
+    requires second { IsAtRest ledger second }
+    requires season { season.now ≡ ledger.origin.start.declaration.season }
+{
+    let (mut first, mut second) = (first, second);
     let mut reached = Reached {
         done: found,
         broken: false,
     };
-    let (ledger, mut passes) = JournalLedger::start(alloc, journal, book, 2)?;
-    let mut second = passes.pop().ok_or("a pass")?;
-    let mut first = passes.pop().ok_or("a pass")?;
-    ask_in_turn(
+    let asked = ask_in_turn(
         rt,
         alloc,
         &ledger,
@@ -103,20 +180,22 @@ fn go_on<R: Wait>(
         &mut second,
         &mut reached,
         count,
-    )?;
+    );
     let (book, disk) = closed(alloc, ledger, first, second)?;
-    what_is_left(alloc, found, reached, season, &book, &disk)
+    what_is_left(alloc, found, asked, reached, season, &book, &disk)
 }
 
 /// What is left of a run that has ended with this book and this disk.
 fn what_is_left(
     alloc: Global,
     found: usize,
+    asked: Result<(), Fail>,
     reached: Reached,
     season: &Season,
     book: &Book,
     disk: &MemoryDisk,
 ) -> Result<Left, Fail> {
+    asked?;
     let mut held = Vec::new(alloc);
     put_holdings(alloc, &mut held, season, book.holdings())?;
     let bytes = Vec::from_slice(alloc, disk.bytes())?;
@@ -196,7 +275,7 @@ fn closed(
 }
 
 fn run_on<R: Wait>(rt: &R, alloc: Global, bytes: &[u8], count: usize) -> Result<Left, Fail> {
-    match run(rt, alloc, bytes, count, Vec::new(alloc))? {
+    match run(rt, alloc, bytes, count, &[])? {
         Some(left) => Ok(left),
         None => Err("not opened".into()),
     }
@@ -254,19 +333,25 @@ fn is_opened_again<R: Wait>(
     call: u64,
     part: usize,
 ) -> Result<bool, Fail> {
-    let failing = [Failure::after(call, part)].to_vec(alloc)?;
-    let Some(left) = run(rt, alloc, b"", 4, failing)? else {
-        return Ok(call < 5);
-    };
-    let Reached { done, broken } = left.reached;
-    let kept = run_on(rt, alloc, &left.bytes, 0)?.reached.done;
-    Ok(
-        broken
-            && call >= 5
-            && done as u64 == (call - 5) / 4
-            && (kept == done || kept == done.wrapping_add(1))
-            && ends_alike(rt, alloc, &left.bytes, whole)?,
-    )
+    match run(rt, alloc, b"", 4, &[Failure::after(call, part)])? {
+        Some(left) => Ok(
+            has_failed_at(call, left.reached)
+                && is_kept(rt, alloc, &left.bytes, left.reached.done)?
+                && ends_alike(rt, alloc, &left.bytes, whole)?,
+        ),
+        None => Ok(call < 5),
+    }
+}
+
+/// Whether the asks before the one at whose call the disk fails were answered, and it was refused.
+fn has_failed_at(call: u64, reached: Reached) -> bool {
+    reached.broken && call >= 5 && reached.done as u64 == (call - 5) / 4
+}
+
+/// Whether a journal has so many pairs or one more.
+fn is_kept<R: Wait>(rt: &R, alloc: Global, bytes: &[u8], done: usize) -> Result<bool, Fail> {
+    let kept = run_on(rt, alloc, bytes, 0)?.reached.done;
+    Ok(kept == done || kept == done.wrapping_add(1))
 }
 
 /// Whether a run over an image of a stop finds so many pairs and ends as the whole one.

@@ -1,13 +1,13 @@
 //! Asks of one caller and of two, one after the other and on threads of their own, to a ledger.
 
-ghost use Rattle.std.specs.Prelude.{◌≡◌, IfOk};
+ghost use Rattle.std.specs.Prelude.{◌≡◌, ◌≤◌, length, IfOk};
 ghost use Rattle.std.specs.Thread.{IsSync};
 ghost use Rattle.turn_lock.specs.Seats.{IsAtRest};
 ghost use Rattle.holding_book.specs.Asks.{CanAsk};
 
 use crate::answers::{ask, fit_items_pair, put_answer, spelled};
 use crate::books::{small_book, start_book};
-use crate::lines::data_lines;
+use crate::lines::{data_lines, halves};
 use holding_book::{Answer, Book, Entry};
 use scr_reader::{Item, read_item};
 use season_days::Declaration;
@@ -88,7 +88,7 @@ fn put_in_order<R: Wait>(
     first: &mut Caller,
     second: &mut Caller,
     asks: &str,
-) -> Result<(), Fail>
+)
     requires first { IsAtRest ledger.now first.old.pass }
     requires second { IsAtRest ledger.now second.old.pass }
     requires declared { declaration.now ≡ ledger.now.origin.start.declaration }
@@ -96,53 +96,38 @@ fn put_in_order<R: Wait>(
     ensures second { IsAtRest ledger.now second.new.pass }
 {
     for part in asks.split('/') {
-        put_next(rt, alloc, ledger, declaration, first, second, part)?;
+        match part.strip_prefix('2') {
+            Some(line) => put_line(rt, alloc, ledger, declaration, second, line),
+            None => put_line(rt, alloc, ledger, declaration, first, part),
+        }
     }
-    Ok(())
 }
 
-fn put_next<R: Wait>(
+// Puts the ask of which this is a short line to the ledger.
+fn put_line<R: Wait>(
     rt: &R,
     alloc: Global,
     ledger: &Ledger,
     declaration: &Declaration,
-    first: &mut Caller,
-    second: &mut Caller,
-    part: &str,
-) -> Result<(), Fail>
-    requires first { IsAtRest ledger.now first.old.pass }
-    requires second { IsAtRest ledger.now second.old.pass }
+    caller: &mut Caller,
+    line: &str,
+)
+    requires rest { IsAtRest ledger.now caller.old.pass }
     requires declared { declaration.now ≡ ledger.now.origin.start.declaration }
-    ensures first { IsAtRest ledger.now first.new.pass }
-    ensures second { IsAtRest ledger.now second.new.pass }
+    ensures { IsAtRest ledger.now caller.new.pass }
 {
-    match part.strip_prefix('2') {
-        Some(line) => {
-            let text = data_lines(alloc, line)?;
-            put_ask(
-                rt,
-                alloc,
-                ledger,
-                declaration,
-                &mut second.pass,
-                &mut second.said,
-                &text,
-            );
-        }
-        None => {
-            let text = data_lines(alloc, part)?;
-            put_ask(
-                rt,
-                alloc,
-                ledger,
-                declaration,
-                &mut first.pass,
-                &mut first.said,
-                &text,
-            );
-        }
+    match data_lines(alloc, line) {
+        Ok(text) => put_ask(
+            rt,
+            alloc,
+            ledger,
+            declaration,
+            &mut caller.pass,
+            &mut caller.said,
+            &text,
+        ),
+        Err(_) => caller.said.failed = true,
     }
-    Ok(())
 }
 
 // Puts the asks of one caller to the ledger.
@@ -261,14 +246,26 @@ fn begun(alloc: Global, book: &Book, most: u32) -> Result<(Ledger, Pass, Pass), 
     ensures declared { IfOk result (λ r.
         book.now.book.declaration ≡ r.0.origin.start.declaration) }
 {
-    let copy = book.copy(alloc)?;
-    if copy.count() > 1_000_000 || most > 100_000 {
+    let copy = copied(alloc, book)?;
+    if most > 100_000 {
         return Err("too many".into());
     }
     let (ledger, mut passes) = Ledger::start(alloc, copy, 2, most)?;
-    let second = passes.pop().ok_or("a pass")?;
-    let first = passes.pop().ok_or("a pass")?;
-    Ok((ledger, first, second))
+    match (passes.pop(), passes.pop()) {
+        (Some(second), Some(first)) => Ok((ledger, first, second)),
+        _ => Err("passes".into()),
+    }
+}
+
+// A copy of a book of few holdings.
+fn copied(alloc: Global, book: &Book) -> Result<Book, Fail>
+    ensures same { IfOk result (λ copy. copy.book ≡ book.now.book) }
+    ensures few { IfOk result (λ copy. length copy.book.holdings ≤ 1000000) }
+{
+    if book.count() > 1_000_000 {
+        return Err("too many".into());
+    }
+    Ok(book.copy(alloc)?)
 }
 
 // A ledger of two callers over the book, closed after their asks in this order.
@@ -280,8 +277,8 @@ fn run_in_order<R: Wait>(
     asks: &str,
 ) -> Result<Ended, Fail> {
     let (ledger, first, second) = begun(alloc, book, most)?;
-    let mut first = new_caller(alloc, first, "")?;
-    let mut second = new_caller(alloc, second, "")?;
+    let mut first = new_caller(alloc, first, String::new(alloc));
+    let mut second = new_caller(alloc, second, String::new(alloc));
     put_in_order(
         rt,
         alloc,
@@ -290,7 +287,7 @@ fn run_in_order<R: Wait>(
         &mut first,
         &mut second,
         asks,
-    )?;
+    );
     closed(alloc, ledger, first, second)
 }
 
@@ -303,9 +300,10 @@ fn run_on_threads<R: Threads + Wait + Sync>(
     one: &str,
     two: &str,
 ) -> Result<Ended, Fail> {
+    let (one, two) = (data_lines(alloc, one)?, data_lines(alloc, two)?);
     let (ledger, first, second) = begun(alloc, book, most)?;
-    let first = new_caller(alloc, first, one)?;
-    let second = new_caller(alloc, second, two)?;
+    let first = new_caller(alloc, first, one);
+    let second = new_caller(alloc, second, two);
     let (first, second) = on_threads(rt, alloc, &ledger, book.declaration(), first, second);
     closed(alloc, ledger, first, second)
 }
@@ -341,18 +339,18 @@ fn on_threads<R: Threads + Wait + Sync>(
 }
 
 // A caller with these asks, which was answered nothing yet.
-fn new_caller(alloc: Global, pass: Pass, asks: &str) -> Result<Caller, Fail>
-    ensures { IfOk result (λ caller. caller.pass ≡ pass) }
+fn new_caller(alloc: Global, pass: Pass, asks: String) -> Caller
+    ensures { result.pass ≡ pass }
 {
-    Ok(Caller {
+    Caller {
         pass,
         said: Said {
             entries: Vec::new(alloc),
             full: Vec::new(alloc),
             failed: false,
         },
-        asks: data_lines(alloc, asks)?,
-    })
+        asks,
+    }
 }
 
 fn closed(alloc: Global, ledger: Ledger, first: Caller, second: Caller) -> Result<Ended, Fail>
@@ -438,36 +436,52 @@ fn callers_have_one_history(rt: HostRuntime) -> Result<(), Fail> {
 
 // Whether a ledger answers as a row wants.
 fn is_as_wanted<R: Wait>(rt: &R, alloc: Global, row: &str) -> Result<bool, Fail> {
-    let (given, wanted) = row.rsplit_once('|').ok_or("a row")?;
-    let (given, answers) = given.rsplit_once('|').ok_or("answers")?;
-    let (given, asks) = given.rsplit_once('|').ok_or("asks")?;
-    let (capacity, most) = given.split_once('|').ok_or("a length")?;
-    let most = most.parse::<u32>()?;
+    let (capacity, given) = halves(row, '|');
     let mut book = start_book(alloc, capacity, "FBA001 0610", "0;;;")?;
-    let ended = run_in_order(rt, alloc, &book, most, asks)?;
-    Ok(
-        has_answers(alloc, &ended, most, answers, wanted)?
-            && is_one_history(alloc, &mut book, &ended)?,
-    )
+    answers_as(rt, alloc, &mut book, given)
+}
+
+// Whether a ledger over the book answers as the rest of a row wants.
+fn answers_as<R: Wait>(rt: &R, alloc: Global, book: &mut Book, given: &str) -> Result<bool, Fail> {
+    let (most, given) = halves(given, '|');
+    let (asks, wanted) = halves(given, '|');
+    let most = most.parse::<u32>()?;
+    let ended = run_in_order(rt, alloc, book, most, asks)?;
+    ended_as(alloc, book, &ended, most, wanted)
+}
+
+// Whether a ledger over the book has ended as a row wants.
+fn ended_as(
+    alloc: Global,
+    book: &mut Book,
+    ended: &Ended,
+    most: u32,
+    wanted: &str,
+) -> Result<bool, Fail> {
+    Ok(has_answers(alloc, ended, most, wanted)? && is_one_history(alloc, book, ended)?)
 }
 
 // Whether these lines were answered, and the history was full so often.
-fn has_answers(
-    alloc: Global,
-    ended: &Ended,
-    most: u32,
-    answers: &str,
-    wanted: &str,
-) -> Result<bool, Fail> {
-    let found = entry_lines(alloc, ended.book.declaration(), &ended.history, None)?;
-    let due = data_lines(alloc, answers)?;
-    let full = format!(in alloc; "{} {}", ended.first.full.len(), ended.second.full.len())?;
+fn has_answers(alloc: Global, ended: &Ended, most: u32, wanted: &str) -> Result<bool, Fail> {
+    let (answers, full) = halves(wanted, '|');
     Ok(
-        found.as_slice() == due.as_bytes()
-            && full.as_str() == wanted
+        has_lines(alloc, ended, answers)?
+            && was_full(alloc, ended, full)?
             && are_all(&ended.first.full, most)
             && are_all(&ended.second.full, most),
     )
+}
+
+fn has_lines(alloc: Global, ended: &Ended, answers: &str) -> Result<bool, Fail> {
+    let found = entry_lines(alloc, ended.book.declaration(), &ended.history, None)?;
+    let due = data_lines(alloc, answers)?;
+    Ok(found.as_slice() == due.as_bytes())
+}
+
+fn was_full(alloc: Global, ended: &Ended, wanted: &str) -> Result<bool, Fail> {
+    let (one, two) = (ended.first.full.len(), ended.second.full.len());
+    let full = format!(in alloc; "{one} {two}")?;
+    Ok(full.as_str() == wanted)
 }
 
 fn are_all(lengths: &[u64], most: u32) -> bool {
@@ -490,15 +504,28 @@ fn callers_on_threads_have_one_history(rt: HostRuntime) -> Result<(), Fail> {
 // Whether two callers on threads have one history, in which one of them has the last place.
 fn is_shared<R: Threads + Wait + Sync>(rt: &R, alloc: Global) -> Result<bool, Fail> {
     let mut book = small_book(alloc)?;
+    is_shared_over(rt, alloc, &mut book)
+}
+
+fn is_shared_over<R: Threads + Wait + Sync>(
+    rt: &R,
+    alloc: Global,
+    book: &mut Book,
+) -> Result<bool, Fail> {
     let one = "QBA001;NBA002 0620;QBA099;DBA001 05MAY05MAY 1000000 0610";
     let two = "QBA001;NBA003 0630;QBA099;DBA001 05MAY05MAY 1000000 0610";
-    let ended = run_on_threads(rt, alloc, &book, 8, one, two)?;
+    let ended = run_on_threads(rt, alloc, book, 8, one, two)?;
+    has_eight(alloc, book, &ended)
+}
+
+// Whether a history of eight entries was never full, and is one.
+fn has_eight(alloc: Global, book: &mut Book, ended: &Ended) -> Result<bool, Fail> {
     Ok(
         ended.history.len() == 8
             && ended.first.full.is_empty()
             && ended.second.full.is_empty()
-            && has_last_place(alloc, &ended)?
-            && is_one_history(alloc, &mut book, &ended)?,
+            && has_last_place(alloc, ended)?
+            && is_one_history(alloc, book, ended)?,
     )
 }
 
@@ -545,13 +572,7 @@ fn a_full_history_stays(rt: HostRuntime) -> Result<(), Fail> {
 // Whether a history of so many entries is full, each of them a question that found nothing.
 fn stays_full<R: Wait>(rt: &R, alloc: Global, most: u32) -> Result<bool, Fail> {
     let book = small_book(alloc)?;
-    let (after, history, end) = filled(rt, alloc, &book, most)?;
-    Ok(
-        end == Some(u64::from(most))
-            && history.len() as u64 == u64::from(most)
-            && are_questions(&history)
-            && after.holdings() == book.holdings(),
-    )
+    is_filled(rt, alloc, &book, most)
 }
 
 fn are_questions(history: &[Entry]) -> bool {
@@ -563,35 +584,39 @@ fn are_questions(history: &[Entry]) -> bool {
     true
 }
 
-// The ledger of one caller after so many questions and a request more, which is not entered: its
-// book, its history, and the length that the last fault named.
-fn filled<R: Wait>(
-    rt: &R,
-    alloc: Global,
-    book: &Book,
-    most: u32,
-) -> Result<(Book, Vec<Entry>, Option<u64>), Fail> {
+// Whether the ledger of one caller has so many questions after them and a request more, which is
+// not entered; it holds what the book holds.
+fn is_filled<R: Wait>(rt: &R, alloc: Global, book: &Book, most: u32) -> Result<bool, Fail> {
     let (ledger, mut pass) = begun_alone(alloc, book, most)?;
     let end = fill(rt, alloc, &ledger, book.declaration(), &mut pass, most)?;
     let passes = vec![in alloc; pass]?;
-    let (book, history) = ledger.close(passes);
-    Ok((book, history, end))
+    let (after, history) = ledger.close(passes);
+    Ok(end == Some(u64::from(most)) && has_questions(book, &after, &history, most))
 }
 
-// A ledger of one caller over a copy of the book, and its pass.
-fn begun_alone(alloc: Global, book: &Book, most: u32) -> Result<(Ledger, Pass), Fail>
+// Whether a history has so many questions, with the book as it was.
+fn has_questions(book: &Book, after: &Book, history: &[Entry], most: u32) -> bool {
+    history.len() as u64 == u64::from(most)
+        && are_questions(history)
+        && after.holdings() == book.holdings()
+}
+
+/// A ledger of one caller over a copy of the book, and its pass.
+pub(crate) fn begun_alone(alloc: Global, book: &Book, most: u32) -> Result<(Ledger, Pass), Fail>
     ensures callers { IfOk result (λ r. r.0.callers ≡ 1) }
     ensures rest { IfOk result (λ r. IsAtRest r.0 r.1) }
     ensures declared { IfOk result (λ r.
         book.now.book.declaration ≡ r.0.origin.start.declaration) }
 {
-    let copy = book.copy(alloc)?;
-    if copy.count() > 1_000_000 || most > 100_000 {
+    let copy = copied(alloc, book)?;
+    if most > 100_000 {
         return Err("too many".into());
     }
     let (ledger, mut passes) = Ledger::start(alloc, copy, 1, most)?;
-    let pass = passes.pop().ok_or("a pass")?;
-    Ok((ledger, pass))
+    match passes.pop() {
+        Some(pass) => Ok((ledger, pass)),
+        None => Err("a pass".into()),
+    }
 }
 
 // Puts so many questions to the ledger, and a request: the length that the fault named.

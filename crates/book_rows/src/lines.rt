@@ -13,6 +13,11 @@ pub(crate) fn lines(alloc: Global, text: &str) -> Result<String, Fail> {
     Ok(out)
 }
 
+/// What stands before a mark, and what stands behind it: nothing, where it is not there.
+pub(crate) fn halves(text: &str, mark: char) -> (&str, &str) {
+    text.split_once(mark).unwrap_or((text, ""))
+}
+
 /// The data lines for which a text stands, none for an empty one. Semicolons stand between lines. A
 /// line of two fields, as `NBA001 0610`, is an arrival from JFK on each day of S25; one of four, as
 /// `NBA001 05MAY05MAY 1000000 0610`, is one in a period. Every other line stands as it is.

@@ -6,6 +6,8 @@ ghost use Rattle.turn_lock.specs.Seats.{IsAtRest};
 ghost use Rattle.desk_links.specs.LinksInMemory.{IsUnused};
 
 use crate::books::small_book;
+use crate::ledgers::begun_alone;
+use crate::lines::halves;
 use amend_journal::{Journal, JournalLedger, JournalPass};
 use desk_disk::MemoryDisk;
 use desk_links::MemoryLink;
@@ -65,20 +67,18 @@ fn sessions_end(rt: HostRuntime) -> Result<(), Fail> {
 }
 
 fn is_as_wanted<R: Wait>(rt: &R, alloc: Global, row: &str) -> Result<bool, Fail> {
-    let (given, due) = row.rsplit_once('|').ok_or("an end")?;
-    let said = found(rt, alloc, given)?;
+    let (most, rest) = halves(row, '|');
+    let (input, due) = halves(rest, '|');
+    let said = found(rt, alloc, most, input)?;
     Ok(said.as_str() == due)
 }
 
 // What is said of what a row gives.
-fn found<R: Wait>(rt: &R, alloc: Global, given: &str) -> Result<String, Fail> {
-    let (most, input) = given.split_once('|').ok_or("an input")?;
-    let (most, call) = most.split_once(':').unwrap_or((most, ""));
-    let input = input_of(alloc, input)?;
-    let failing = failing_of(alloc, call)?;
+fn found<R: Wait>(rt: &R, alloc: Global, most: &str, input: &str) -> Result<String, Fail> {
+    let (most, call) = halves(most, ':');
     match most {
-        "journal" => journaled(rt, alloc, failing, input),
-        _ => session(rt, alloc, most.parse()?, failing, input),
+        "journal" => journaled(rt, alloc, call, input),
+        _ => session(rt, alloc, most.parse()?, call, input),
     }
 }
 
@@ -97,7 +97,7 @@ fn input_of(alloc: Global, text: &str) -> Result<Vec<u8>, Fail> {
         if place == 0 {
             put_text(&mut out, part)?;
         } else {
-            let (blanks, rest) = part.split_once('}').ok_or("a closing brace")?;
+            let (blanks, rest) = halves(part, '}');
             put_blanks(&mut out, blanks.parse()?)?;
             put_text(&mut out, rest)?;
         }
@@ -129,25 +129,34 @@ fn session<R: Wait>(
     rt: &R,
     alloc: Global,
     most: u32,
-    failing: Vec<Failure>,
-    input: Vec<u8>,
+    call: &str,
+    input: &str,
 ) -> Result<String, Fail> {
+    let mut link = link_of(alloc, input, call)?;
+    session_over(rt, alloc, most, &mut link)
+}
+
+fn session_over<R: Wait>(
+    rt: &R,
+    alloc: Global,
+    most: u32,
+    link: &mut MemoryLink,
+) -> Result<String, Fail>
+    requires { IsUnused link.old }
+{
     let book = small_book(alloc)?;
-    if book.count() > 1_000_000 || most > 100_000 {
-        return Err("too many".into());
-    }
+    let (ledger, mut pass) = begun_alone(alloc, &book, most)?;
     let season = book.declaration().season;
     let airport = book.declaration().airport;
-    let (ledger, mut passes) = Ledger::start(alloc, book, 1, most)?;
-    let mut pass = passes.pop().ok_or("a pass")?;
-    let link = link_of(alloc, input, failing)?;
     served(rt, alloc, &ledger, &mut pass, &season, airport, link)
 }
 
-// A link with this input, of which calls are to fail.
-fn link_of(alloc: Global, input: Vec<u8>, failing: Vec<Failure>) -> Result<MemoryLink, Fail>
+// A link with the input of a text, of which a call is to fail, if one is named.
+fn link_of(alloc: Global, input: &str, call: &str) -> Result<MemoryLink, Fail>
     ensures { IfOk result IsUnused }
 {
+    let input = input_of(alloc, input)?;
+    let failing = failing_of(alloc, call)?;
     Ok(MemoryLink::new(alloc, input, Vec::new(alloc), 1_000, failing)?)
 }
 
@@ -159,14 +168,13 @@ fn served<R: Wait>(
     pass: &mut Pass,
     season: &Season,
     airport: Station,
-    link: MemoryLink,
+    link: &mut MemoryLink,
 ) -> Result<String, Fail>
     requires rest { IsAtRest ledger.now pass.old }
     requires season { season.now ≡ ledger.now.origin.start.declaration.season }
     requires airport { airport ≡ ledger.now.origin.start.declaration.airport }
-    requires link { IsUnused link }
+    requires link { IsUnused link.old }
 {
-    let mut link = link;
     let end = serve_link(
         rt,
         alloc,
@@ -175,7 +183,7 @@ fn served<R: Wait>(
         pass,
         season,
         airport,
-        &mut link,
+        link,
         0,
     );
     let sent = replies(alloc, link.sent())?;
@@ -183,34 +191,38 @@ fn served<R: Wait>(
 }
 
 // How a session ends by a ledger with an empty journal, calls of whose disk are to fail.
-fn journaled<R: Wait>(
+fn journaled<R: Wait>(rt: &R, alloc: Global, call: &str, input: &str) -> Result<String, Fail> {
+    let mut link = link_of(alloc, input, "")?;
+    journaled_over(rt, alloc, call, &mut link)
+}
+
+fn journaled_over<R: Wait>(
     rt: &R,
     alloc: Global,
-    failing: Vec<Failure>,
-    input: Vec<u8>,
-) -> Result<String, Fail> {
+    call: &str,
+    link: &mut MemoryLink,
+) -> Result<String, Fail>
+    requires { IsUnused link.old }
+{
     let book = small_book(alloc)?;
     if book.count() > 1_000_000 {
         return Err("too many".into());
     }
     let season = book.declaration().season;
     let airport = book.declaration().airport;
-    let journal = journal_of(alloc, &season, failing)?;
+    let journal = journal_of(alloc, &season, call)?;
     let (ledger, mut passes) = JournalLedger::start(alloc, journal, book, 1)?;
-    let mut pass = passes.pop().ok_or("a pass")?;
-    let link = link_of(alloc, input, Vec::new(alloc))?;
-    served_with(rt, alloc, &ledger, &mut pass, &season, airport, link)
+    match passes.pop() {
+        Some(mut pass) => served_with(rt, alloc, &ledger, &mut pass, &season, airport, link),
+        None => Err("a pass".into()),
+    }
 }
 
-// An empty journal, calls of whose disk are to fail.
-fn journal_of(
-    alloc: Global,
-    season: &Season,
-    failing: Vec<Failure>,
-) -> Result<Journal<MemoryDisk>, Fail>
+// An empty journal, of whose disk a call is to fail, if one is named.
+fn journal_of(alloc: Global, season: &Season, call: &str) -> Result<Journal<MemoryDisk>, Fail>
     ensures { IfOk result (λ journal. journal.season ≡ season.now) }
 {
-    let disk = MemoryDisk::new(alloc, b"", 1_000, 99, failing)?;
+    let disk = MemoryDisk::new(alloc, b"", 1_000, 99, failing_of(alloc, call)?)?;
     match Journal::open(alloc, disk, season) {
         Ok((journal, _)) => Ok(journal),
         Err(_) => Err("not opened".into()),
@@ -225,17 +237,14 @@ fn served_with<R: Wait>(
     pass: &mut JournalPass<MemoryDisk>,
     season: &Season,
     airport: Station,
-    link: MemoryLink,
+    link: &mut MemoryLink,
 ) -> Result<String, Fail>
     requires rest { IsAtRest ledger.now pass.old }
     requires season { season.now ≡ ledger.now.origin.start.declaration.season }
     requires airport { airport ≡ ledger.now.origin.start.declaration.airport }
-    requires link { IsUnused link }
+    requires link { IsUnused link.old }
 {
-    let mut link = link;
-    let end = serve_journaled(
-        rt, alloc, &RealGate, ledger, pass, season, airport, &mut link, 0,
-    );
+    let end = serve_journaled(rt, alloc, &RealGate, ledger, pass, season, airport, link, 0);
     let sent = replies(alloc, link.sent())?;
     said(alloc, end, &sent)
 }

@@ -2,7 +2,7 @@
 
 use crate::answers::{ask, put_answer, put_holdings};
 use crate::books::start_book;
-use crate::lines::data_lines;
+use crate::lines::{data_lines, halves};
 use holding_book::Book;
 use std::alloc::Global;
 use std::test::Fail;
@@ -27,10 +27,10 @@ fn walk_season(alloc: Global, rows: &str, wrong: &mut String) -> Result<(), Fail
 
 // The book of the season with which the rows begin.
 fn begun(alloc: Global, rows: &str) -> Result<Book, Fail> {
-    let (capacity, rest) = rows.split_once('|').ok_or("requests")?;
-    let (requests, rest) = rest.split_once('|').ok_or("stages")?;
-    let (stages, _) = rest.split_once(" =").ok_or("holdings")?;
-    start_book(alloc, capacity, requests, stages)
+    let (capacity, rest) = halves(rows, '|');
+    let (requests, rest) = halves(rest, '|');
+    let (stages, _) = halves(rest, '=');
+    start_book(alloc, capacity, requests, stages.trim())
 }
 
 fn walk_rows(alloc: Global, book: &mut Book, rows: &str, wrong: &mut String) -> Result<(), Fail> {
@@ -41,8 +41,8 @@ fn walk_rows(alloc: Global, book: &mut Book, rows: &str, wrong: &mut String) -> 
 }
 
 fn check_row(alloc: Global, book: &mut Book, row: &str, wrong: &mut String) -> Result<(), Fail> {
-    let (given, wanted) = row.split_once(" =").ok_or("a row")?;
-    let found = find(alloc, book, given)?;
+    let (given, wanted) = halves(row, '=');
+    let found = find(alloc, book, given.trim())?;
     compare(alloc, &found, row, wanted, wrong)
 }
 

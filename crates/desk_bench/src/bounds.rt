@@ -1,5 +1,6 @@
 //! Whether a choice fits, and Lagrangian bounds: leaves, price tables and the root vector.
 
+ghost use Rattle.std.specs.Prelude.{All};
 ghost use Rattle.choice_problem.specs.Bounds.{AreRanges, IsVector};
 ghost use Rattle.price_table.specs.Tables.{IsTableFor};
 
@@ -107,9 +108,23 @@ fn judge(
     let start = Instant::now(rt)?;
     let tables = [price_table(alloc, problem, vector)?];
     step(rt, size, "price_table", start)?;
+    judge_tables(rt, size, problem, ranges, vector, &tables)
+}
+
+fn judge_tables(
+    rt: &HostRuntime,
+    size: Size,
+    problem: &Problem,
+    ranges: &Ranges,
+    vector: &Vector,
+    tables: &[PriceTable; 1],
+) -> anyhow::Result<()>
+    requires ranges { AreRanges problem.now ranges.now }
+    requires tables { All (IsTableFor problem.now) tables.now }
+{
     let scaled = timed_bound(rt, size, problem, ranges, &tables[0])?;
     let start = Instant::now(rt)?;
-    let floor = floor_of(problem, ranges, &tables).cost;
+    let floor = floor_of(problem, ranges, tables).cost;
     step(rt, size, "floor_of", start)?;
     let least = u64::try_from(scaled).unwrap_or(0);
     let numbers = [

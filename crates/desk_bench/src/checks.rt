@@ -7,6 +7,7 @@ use crate::report::{Size, print_row, step};
 use crate::turnarounds::submission;
 use cert_checker::{Verdict, check};
 use cert_format::{CertFault, Certificate, LONGEST_CERT, print_cert, read_cert};
+use series_model::Submission;
 use slot_text::{Memory, put_number};
 use std::alloc::Global;
 use std::time::Instant;
@@ -69,16 +70,42 @@ fn one_case(rt: &HostRuntime, alloc: Global, size: Size, case: Case) -> anyhow::
     let (lines, line) = lines_of(case.leaves);
     let made = submission(alloc, case.units, *b"NNNN", lines, line)?.ok_or(Memory)?;
     let text = text_of(alloc, case)?;
+    one_text(rt, alloc, size, case, &made, &text)
+}
+
+// Reads a text, checks what it is, and prints that again.
+fn one_text(
+    rt: &HostRuntime,
+    alloc: Global,
+    size: Size,
+    case: Case,
+    made: &Submission,
+    text: &[u8],
+) -> anyhow::Result<()> {
     let start = Instant::now(rt)?;
-    let Ok(cert) = read(alloc, &text) else {
+    let Ok(cert) = read(alloc, text) else {
         return print_row(rt, "checks: not read", &[]);
     };
     step(rt, size, "reading", start)?;
-    let start = Instant::now(rt)?;
-    let verdict = check(alloc, &made, &cert)?;
-    step(rt, size, "checking", start)?;
+    let verdict = judge(rt, alloc, size, made, &cert)?;
     print_verdict(rt, case, text.len(), verdict)?;
-    print_again(rt, alloc, size, &text, &cert)
+    print_again(rt, alloc, size, text, &cert)
+}
+
+// The verdict on a certificate.
+fn judge(
+    rt: &HostRuntime,
+    alloc: Global,
+    size: Size,
+    made: &Submission,
+    cert: &Certificate,
+) -> anyhow::Result<Verdict>
+    requires { IsPrintable cert.now }
+{
+    let start = Instant::now(rt)?;
+    let verdict = check(alloc, made, cert)?;
+    step(rt, size, "checking", start)?;
+    Ok(verdict)
 }
 
 // Prints how large a case is, and which line of its certificate fails, or 0.

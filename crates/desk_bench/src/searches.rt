@@ -166,12 +166,25 @@ fn searched<R: Threads + Sync + Print + Clock>(
     requires { (1 ≤ workers) × (workers ≤ 16) }
 {
     let start = Instant::now(rt)?;
-    let outcome = search(rt, alloc, problem, budget, workers, &RealGate)?;
+    let visited = visits_of(rt, alloc, problem, budget, workers)?;
     let millis = millis_since(rt, start)?;
-    let visited = count_visited(nodes_of(&outcome));
     step(rt, size, "search", start)?;
     rate(rt, size, "visits", visited, start)?;
     Ok((millis, visited))
+}
+
+// Searches a problem: how many nodes were visited.
+fn visits_of<R: Threads + Sync>(
+    rt: &R,
+    alloc: Global,
+    problem: &Problem,
+    budget: u32,
+    workers: u32,
+) -> Result<u64, Memory>
+    requires { (1 ≤ workers) × (workers ≤ 16) }
+{
+    let outcome = search(rt, alloc, problem, budget, workers, &RealGate)?;
+    Ok(count_visited(nodes_of(&outcome)))
 }
 
 // The nodes of the tree of a search.

@@ -54,8 +54,17 @@ fn season(rt: &HostRuntime, alloc: Global, size: Size, codes: [u8; 4]) -> anyhow
     let start = Instant::now(rt)?;
     let made = submission(alloc, units, codes, lines, busy_line(size))?.ok_or(Memory)?;
     step(rt, size, "reading", start)?;
+    time_stages(rt, alloc, size, &made)
+}
+
+fn time_stages(
+    rt: &HostRuntime,
+    alloc: Global,
+    size: Size,
+    made: &Submission,
+) -> anyhow::Result<()> {
     let start = Instant::now(rt)?;
-    four_stages(rt, alloc, &made)?;
+    four_stages(rt, alloc, made)?;
     step(rt, size, "four stages", start)
 }
 

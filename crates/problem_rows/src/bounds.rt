@@ -7,7 +7,7 @@ ghost use Rattle.price_table.specs.Tables.{IsTableFor};
 
 use crate::problems::{problem, ranges, table_of, vector};
 use crate::texts::{Case, piece, seen, walk};
-use choice_problem::{PRICED_SCALE, Problem, Ranges, SCALE_BOUND, Vector, leaf_closes};
+use choice_problem::{PRICED_SCALE, Price, Problem, Ranges, SCALE_BOUND, Vector, leaf_closes};
 use dual_bound::{KeptFloors, StatedFloor, floor_of, node_vector, root_vector};
 use price_table::{PriceTable, Totals, bound, closes};
 use std::alloc::Global;
@@ -16,10 +16,16 @@ use std::test::Fail;
 // Adds the prices of a vector: `N of PRICE` where the first resources have one price, else each resource and price.
 fn add_prices(alloc: Global, out: &mut String, vector: &Vector) -> Result<(), Fail> {
     let items = vector.items();
-    if !items.is_empty() && is_even(vector) {
-        out.push_str(&format!(in alloc; "{} of {}", items.len(), items[0].price)?)?;
-        return Ok(());
+    match items.first() {
+        Some(first) if is_even(vector) => {
+            out.push_str(&format!(in alloc; "{} of {}", items.len(), first.price)?)?;
+            Ok(())
+        }
+        _ => add_each(alloc, out, items),
     }
+}
+
+fn add_each(alloc: Global, out: &mut String, items: &[Price]) -> Result<(), Fail> {
     for entry in items {
         out.push_str(&format!(in alloc; " {} {}", entry.resource, entry.price)?)?;
     }
@@ -65,17 +71,44 @@ fn add_bound(
     requires { AreRanges problem.now ranges.now }
 {
     let tables = [table_of(alloc, problem, vector)?];
-    let floor = floor_of(problem, ranges, &tables);
-    if kept_floor(alloc, problem, ranges, &tables)? != floor {
+    add_floor(alloc, out, problem, ranges, &tables)
+}
+
+fn add_floor(
+    alloc: Global,
+    out: &mut String,
+    problem: &Problem,
+    ranges: &Ranges,
+    tables: &[PriceTable; 1],
+) -> Result<(), Fail>
+    requires ranges { AreRanges problem.now ranges.now }
+    requires tables { All (IsTableFor problem.now) tables.now }
+{
+    let floor = floor_of(problem, ranges, tables);
+    if kept_floor(alloc, problem, ranges, tables)? != floor {
         return Err("kept floors".into());
     }
-    let scaled = bound(problem, ranges, &tables[0], PRICED_SCALE);
-    let totals = Totals::of(alloc, problem, ranges, &tables[0], PRICED_SCALE)?;
+    let scaled = scaled_bound(alloc, problem, ranges, &tables[0])?;
+    out.push_str(&format!(in alloc; " | {scaled} {} by {}", floor.cost, floor.vector)?)?;
+    Ok(())
+}
+
+// The bound at a table, where the totals that are kept give the same.
+fn scaled_bound(
+    alloc: Global,
+    problem: &Problem,
+    ranges: &Ranges,
+    table: &PriceTable,
+) -> Result<i128, Fail>
+    requires ranges { AreRanges problem.now ranges.now }
+    requires table { IsTableFor problem.now table.now }
+{
+    let scaled = bound(problem, ranges, table, PRICED_SCALE);
+    let totals = Totals::of(alloc, problem, ranges, table, PRICED_SCALE)?;
     if totals.bound() != scaled {
         return Err("totals".into());
     }
-    out.push_str(&format!(in alloc; " | {scaled} {} by {}", floor.cost, floor.vector)?)?;
-    Ok(())
+    Ok(scaled)
 }
 
 // The vector that a row asks for: the one of its ranges, or of the problem, or its own.

@@ -1,10 +1,12 @@
 //! Problems, choices and trees.
 
+ghost use Rattle.std.specs.Prelude.{◌≤◌, length};
+
 use crate::problems::{problem, read_problem, strips};
-use crate::texts::{Case, numbers, piece, small_at, walk, yes_no};
+use crate::texts::{Case, number, numbers, piece, small_at, walk, yes_no};
 use choice_problem::{
-    Choice, Node, Problem, Ranges, Tree, cost_of, count_nodes, first_passed, fits, greatest_named,
-    open_pieces,
+    Choice, Node, Problem, Ranges, Strip, Tree, cost_of, count_nodes, first_passed, fits,
+    greatest_named, open_pieces,
 };
 use std::alloc::Global;
 use std::test::Fail;
@@ -25,18 +27,34 @@ impl Case for UseCase {
         let clauses = format!(in alloc; "P {text}; A 0 0 -; A 5 - -; U; L 9 9 9 9 9 9 9")?;
         let problem = problem(alloc, &clauses)?;
         let strips = strips(alloc, &numbers(alloc, text)?)?;
-        let mut out = String::new(alloc);
-        for resource in 0..7 {
-            for strip in &strips {
-                let uses = strip.uses(resource);
-                if uses_at(&problem, resource) != Some(uses) {
-                    return Err("uses".into());
-                }
-                out.push_str(&format!(in alloc; " {uses}")?)?;
-            }
-        }
-        Ok(out)
+        uses(alloc, &problem, &strips)
     }
+}
+
+// The uses of strips, of seven resources each.
+fn uses(alloc: Global, problem: &Problem, strips: &[Strip]) -> Result<String, Fail> {
+    let mut out = String::new(alloc);
+    for resource in 0..7 {
+        for strip in strips {
+            add_use(alloc, &mut out, problem, strip, resource)?;
+        }
+    }
+    Ok(out)
+}
+
+fn add_use(
+    alloc: Global,
+    out: &mut String,
+    problem: &Problem,
+    strip: &Strip,
+    resource: u32,
+) -> Result<(), Fail> {
+    let uses = strip.uses(resource);
+    if uses_at(problem, resource) != Some(uses) {
+        return Err("uses".into());
+    }
+    out.push_str(&format!(in alloc; " {uses}")?)?;
+    Ok(())
 }
 
 // How often the first alternative of the first unit uses a resource.
@@ -119,7 +137,7 @@ struct AccessorCase;
 impl Case for AccessorCase {
     fn find(&mut self, alloc: Global, unit: &str) -> Result<String, Fail> {
         let three = problem(alloc, "three")?;
-        accessors(alloc, &three, small_at(&numbers(alloc, unit)?, 0))
+        accessors(alloc, &three, number(alloc, unit)?)
     }
 }
 
@@ -147,14 +165,18 @@ impl Case for JudgedCase {
     fn find(&mut self, alloc: Global, row: &str) -> Result<String, Fail> {
         let problem = problem(alloc, piece(row, 0))?;
         let choice = choice(alloc, piece(row, 1))?;
-        if !choice.is_for(&problem) {
-            return Ok(format!(in alloc; "none")?);
-        }
-        let cost = cost_of(&problem, &choice);
-        let passed = first_passed(alloc, &problem, &choice)?;
-        let fits = fits(alloc, &problem, &choice)?;
-        Ok(format!(in alloc; "{cost} {passed:?} {fits}")?)
+        judged(alloc, &problem, &choice)
     }
+}
+
+fn judged(alloc: Global, problem: &Problem, choice: &Choice) -> Result<String, Fail> {
+    if !choice.is_for(problem) {
+        return Ok(format!(in alloc; "none")?);
+    }
+    let cost = cost_of(problem, choice);
+    let passed = first_passed(alloc, problem, choice)?;
+    let fits = fits(alloc, problem, choice)?;
+    Ok(format!(in alloc; "{cost} {passed:?} {fits}")?)
 }
 
 const CHOICES: &str = "three | 1 1 1 = 60 None true
@@ -227,18 +249,25 @@ impl Case for UndoneCase {
     fn find(&mut self, alloc: Global, row: &str) -> Result<String, Fail> {
         let problem = problem(alloc, "three")?;
         let nodes = nodes(alloc, piece(row, 0))?;
-        let most = small_at(&numbers(alloc, piece(row, 1))?, 0) as usize;
-        let mut out = String::new(alloc);
-        match open_pieces(alloc, Ranges::whole(alloc, &problem)?, &nodes, most)? {
-            Some(pieces) => {
-                for ranges in &pieces {
-                    add_ranges(alloc, &mut out, ranges)?;
-                }
-            }
-            None => out.push_str("none")?,
-        }
-        Ok(out)
+        let most = number(alloc, piece(row, 1))? as usize;
+        undone(alloc, &problem, &nodes, most)
     }
+}
+
+fn undone(alloc: Global, problem: &Problem, nodes: &[Node], most: usize) -> Result<String, Fail> {
+    let whole = Ranges::whole(alloc, problem)?;
+    match open_pieces(alloc, whole, nodes, most)? {
+        Some(pieces) => ranges_text(alloc, &pieces),
+        None => Ok(String::from_str(alloc, "none")?),
+    }
+}
+
+fn ranges_text(alloc: Global, pieces: &[Ranges]) -> Result<String, Fail> {
+    let mut out = String::new(alloc);
+    for ranges in pieces {
+        add_ranges(alloc, &mut out, ranges)?;
+    }
+    Ok(out)
 }
 
 // A tree: the low part of unit 1, then the high parts of units 1 and 0. A whole one. A split of one
@@ -263,12 +292,16 @@ fn nodes_are_counted(rt: HostRuntime) -> Result<(), Fail> {
         return Err("nodes".into());
     }
     let tree = Tree::new(list);
-    assert_eq!(rt; tree.items(), nodes(alloc, "1 O U L U")?.as_slice());
-    assert_eq!(rt; count_nodes(&tree), 3);
-    assert_eq!(rt; greatest_named(tree.items()), 0);
-    assert_eq!(rt;
-        greatest_named(&[leaf(3), Node::Undone, leaf(7), leaf(1)]),
-        7
-    );
+    let again = nodes(alloc, "1 O U L U")?;
+    assert!(rt; tree.items() == again.as_slice() && are_counted(&tree));
     Ok(())
+}
+
+// Whether three nodes of a tree count, and the greatest vector that its leaves and some others name.
+fn are_counted(tree: &Tree) -> bool
+    requires { length tree.now ≤ 5 }
+{
+    count_nodes(tree) == 3
+        && greatest_named(tree.items()) == 0
+        && greatest_named(&[leaf(3), Node::Undone, leaf(7), leaf(1)]) == 7
 }

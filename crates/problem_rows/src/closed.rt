@@ -6,7 +6,7 @@ ghost use Rattle.choice_problem.specs.Choices.{IsFeasible};
 use crate::choices::choice;
 use crate::draws::{CHOICES, Draws, drawn, numbered};
 use crate::problems::problem;
-use crate::texts::{Case, numbers, piece, small_at, walk};
+use crate::texts::{Case, number, piece, walk};
 use choice_problem::{Choice, Problem, cost_of, fits};
 use closing_search::{Closed, Ending, closing_search};
 use std::alloc::Global;
@@ -37,7 +37,7 @@ impl Case for ClosedCase {
 }
 
 fn searched(alloc: Global, problem: &Problem, row: &str) -> Result<String, Fail> {
-    let budget = small_at(&numbers(alloc, piece(row, 1))?, 0);
+    let budget = number(alloc, piece(row, 1))?;
     let start = start(alloc, problem, piece(row, 2))?;
     let ending = closing_search(alloc, problem, start, budget)?;
     shown(alloc, &ending)
@@ -104,8 +104,17 @@ fn problems_are_closed(rt: HostRuntime) -> Result<(), Fail> {
 // The cost of the choice of a number, if it is feasible.
 fn cost_at(alloc: Global, problem: &Problem, number: u32) -> Result<Option<u64>, Fail> {
     let choice = numbered(alloc, number)?;
-    if choice.is_for(problem) && fits(alloc, problem, &choice)? {
-        Ok(Some(cost_of(problem, &choice)))
+    cost_if_feasible(alloc, problem, &choice)
+}
+
+/// The cost of a choice, if it is feasible.
+pub(crate) fn cost_if_feasible(
+    alloc: Global,
+    problem: &Problem,
+    choice: &Choice,
+) -> Result<Option<u64>, Fail> {
+    if choice.is_for(problem) && fits(alloc, problem, choice)? {
+        Ok(Some(cost_of(problem, choice)))
     } else {
         Ok(None)
     }

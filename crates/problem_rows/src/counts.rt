@@ -58,17 +58,24 @@ impl Case for StepCase {
         let first = part(alloc, piece(row, 0))?;
         let second = part(alloc, piece(row, 1))?;
         let mut out = String::new(alloc);
-        let mut counts = Counts::of(alloc, &[], 6)?;
-        add_counts(alloc, &mut out, &counts)?;
-        counts.add(&first);
-        add_counts(alloc, &mut out, &counts)?;
-        counts.add(&second);
-        let both = counts.copy(alloc)?;
-        counts.take(&first);
-        add_counts(alloc, &mut out, &both)?;
-        add_counts(alloc, &mut out, &counts)?;
+        add_steps(alloc, &mut out, &first, &second)?;
         Ok(out)
     }
+}
+
+fn add_steps(alloc: Global, out: &mut String, first: &Part, second: &Part) -> Result<(), Fail>
+    requires first { IsPartInRange 6 first.now × ((r : ℕ) → part_uses first.now r ≤ 400) }
+    requires second { IsPartInRange 6 second.now × ((r : ℕ) → part_uses second.now r ≤ 400) }
+{
+    let mut counts = Counts::of(alloc, &[], 6)?;
+    add_counts(alloc, out, &counts)?;
+    counts.add(first);
+    add_counts(alloc, out, &counts)?;
+    counts.add(second);
+    let both = counts.copy(alloc)?;
+    counts.take(first);
+    add_counts(alloc, out, &both)?;
+    add_counts(alloc, out, &counts)
 }
 
 // Runs that overlap, and one resource four times beside another once. Runs apart, strips of no width, and two strips on the
@@ -89,17 +96,24 @@ struct FittingCase;
 
 impl Case for FittingCase {
     fn find(&mut self, alloc: Global, row: &str) -> Result<String, Fail> {
-        let parts = vec![in alloc; part(alloc, "0 2 1 3")?]?;
-        let second = part(alloc, "2 1 0 4 5 1 0 1")?;
         let limits = limits(alloc, &numbers(alloc, row)?)?;
         if limits.len() != 6 {
             return Err("limits".into());
         }
-        let mut counts = Counts::of(alloc, &parts, 6)?;
-        let over = counts.first_over(&limits);
-        let fits = counts.add_if_fits(Some(&second), None, &limits);
+        let (fits, over) = fitted(alloc, &limits)?;
         Ok(format!(in alloc; "{fits} {over:?}")?)
     }
+}
+
+fn fitted(alloc: Global, limits: &[i64]) -> Result<(bool, Option<u32>), Fail>
+    requires { length limits.now ≡ 6 }
+{
+    let parts = vec![in alloc; part(alloc, "0 2 1 3")?]?;
+    let second = part(alloc, "2 1 0 4 5 1 0 1")?;
+    let mut counts = Counts::of(alloc, &parts, 6)?;
+    let over = counts.first_over(limits);
+    let fits = counts.add_if_fits(Some(&second), None, limits);
+    Ok((fits, over))
 }
 
 // Counts 1, 2, 2, 1, 0, 0; further uses 0, 0, 4, 0, 0, 1. What the part does not use is not asked.
@@ -124,23 +138,35 @@ struct LeftCase;
 
 impl Case for LeftCase {
     fn find(&mut self, alloc: Global, row: &str) -> Result<String, Fail> {
-        let first = part(alloc, "0 2 1 3")?;
-        let second = part(alloc, "2 1 0 1 5 1 0 1")?;
-        let given = numbers(alloc, row)?;
-        let mut left = Vec::new(alloc);
-        for place in 0..6 {
-            left.push(small_at(&given, place))?;
-        }
-        if left.len() != 6 {
-            return Err("six numbers".into());
-        }
-        let left = Counts::with(left);
+        let left = left_of(alloc, row)?;
         let mut kept = Counts::of(alloc, &[], 6)?;
         kept.copy_from(&left);
-        let one = left.has_one(&first);
-        let two = kept.has_two(&first, &second);
+        let (one, two) = served(alloc, &left, &kept)?;
         Ok(format!(in alloc; "{one} {two} {}", kept.count(5))?)
     }
+}
+
+// The six numbers of a text as counts.
+fn left_of(alloc: Global, text: &str) -> Result<Counts, Fail>
+    ensures { IfOk result (λ counts. length counts ≡ 6) }
+{
+    let given = numbers(alloc, text)?;
+    let mut left = Vec::new(alloc);
+    for place in 0..6 {
+        left.push(small_at(&given, place))?;
+    }
+    if left.len() != 6 {
+        return Err("six numbers".into());
+    }
+    Ok(Counts::with(left))
+}
+
+fn served(alloc: Global, left: &Counts, kept: &Counts) -> Result<(bool, bool), Fail>
+    requires { (length left.now ≡ 6) × (length kept.now ≡ 6) }
+{
+    let first = part(alloc, "0 2 1 3")?;
+    let second = part(alloc, "2 1 0 1 5 1 0 1")?;
+    Ok((left.has_one(&first), kept.has_two(&first, &second)))
 }
 
 // The first part uses resources 0 to 3, the second 2 and 5, so both share resource 2.

@@ -29,11 +29,13 @@ impl Case for VectorCase {
     fn find(&mut self, alloc: Global, text: &str) -> Result<String, Fail> {
         let three = problem(alloc, "three")?;
         let list = VectorList::new(vec![in alloc; vector(alloc, text)?]?);
-        yes_no(
-            alloc,
-            list.items().iter().all(|vector| vector.is_for(&three)),
-        )
+        let are_for = are_for(&three, &list);
+        yes_no(alloc, are_for)
     }
+}
+
+fn are_for(problem: &Problem, list: &VectorList) -> bool {
+    list.items().iter().all(|vector| vector.is_for(problem))
 }
 
 #[test]
@@ -181,33 +183,38 @@ fn leaves_of_one_unit(rt: HostRuntime) -> Result<(), Fail> {
     walk(rt.alloc(), &mut EdgeCase, EDGES)
 }
 
-// The range of the first unit in the whole ranges and in the two parts, and again in a copy that is set.
-fn cut(alloc: Global, problem: &Problem) -> Result<String, Fail> {
-    let whole = Ranges::whole(alloc, problem)?;
-    if problem.units() == 0 || whole.high(0) < 1 || whole.low(0) > 0 {
-        return Err("ranges".into());
+// The range of the first unit.
+fn first_span(ranges: &Ranges) -> Option<(u32, u32)> {
+    if ranges.len() > 0 {
+        Some((ranges.low(0), ranges.high(0)))
+    } else {
+        None
+    }
+}
+
+// Whether the first unit has two alternatives in whole ranges, and the right ones in their two parts, and in a copy that is
+// set.
+fn are_cut(alloc: Global, whole: &Ranges) -> Result<bool, Fail> {
+    if whole.len() == 0 || whole.low(0) != 0 || whole.high(0) != 1 {
+        return Ok(false);
     }
     let (low, high) = whole.split(alloc, 0, 1)?;
     let mut set = high.copy(alloc)?;
-    set.set(0, 0, 0);
-    let text = format!(in alloc;
-        "{}-{} {}-{} {}-{} {}-{}",
-        whole.low(0),
-        whole.high(0),
-        low.low(0),
-        low.high(0),
-        high.low(0),
-        high.high(0),
-        set.low(0),
-        set.high(0)
-    )?;
-    Ok(text)
+    if set.len() > 0 {
+        set.set(0, 0, 0);
+    }
+    Ok(
+        first_span(&low) == Some((0, 0))
+            && first_span(&high) == Some((1, 1))
+            && first_span(&set) == Some((0, 0)),
+    )
 }
 
 #[test]
 fn ranges_are_cut(rt: HostRuntime) -> Result<(), Fail> {
     let alloc = rt.alloc();
     let three = problem(alloc, "three")?;
-    assert_eq!(rt; cut(alloc, &three)?.as_str(), "0-1 0-0 1-1 0-0");
+    let whole = Ranges::whole(alloc, &three)?;
+    assert!(rt; are_cut(alloc, &whole)?);
     Ok(())
 }

@@ -1,8 +1,8 @@
 //! What is known of problems that stay open.
 
-use crate::closed::least_cost;
+use crate::closed::{cost_if_feasible, least_cost};
 use crate::draws::{Draws, drawn};
-use choice_problem::{Choice, Problem, cost_of, fits};
+use choice_problem::{Choice, Problem};
 use closing_search::{Ending, closing_search};
 use std::alloc::Global;
 use std::test::Fail;
@@ -16,9 +16,7 @@ fn open_problems_have_good_choices(rt: HostRuntime) -> Result<(), Fail> {
     let mut draws = Draws { last: 6 };
     let mut dearer: u32 = 0;
     for number in 0..500 {
-        let problem = drawn(alloc, &mut draws)?;
-        let want = least_cost(alloc, &problem)?;
-        let found = known_cost(alloc, &problem)?;
+        let (found, want) = drawn_costs(alloc, &mut draws)?;
         assert!(rt; found.is_some() == want.is_some(), "{number}");
         if found != want {
             dearer = dearer.saturating_add(1);
@@ -26,6 +24,13 @@ fn open_problems_have_good_choices(rt: HostRuntime) -> Result<(), Fail> {
     }
     assert!(rt; dearer <= DEARER, "{dearer}");
     Ok(())
+}
+
+// The known and the least cost of the next problem that is drawn.
+fn drawn_costs(alloc: Global, draws: &mut Draws) -> Result<(Option<u64>, Option<u64>), Fail> {
+    let problem = drawn(alloc, draws)?;
+    let want = least_cost(alloc, &problem)?;
+    Ok((known_cost(alloc, &problem)?, want))
 }
 
 // The cost of the choice that is known where a tree may have no node, if there is one that is feasible.
@@ -41,12 +46,8 @@ fn feasible_cost(
     problem: &Problem,
     best: Option<Choice>,
 ) -> Result<Option<u64>, Fail> {
-    let Some(best) = best else {
-        return Ok(None);
-    };
-    if best.is_for(problem) && fits(alloc, problem, &best)? {
-        Ok(Some(cost_of(problem, &best)))
-    } else {
-        Ok(None)
+    match best {
+        Some(best) => cost_if_feasible(alloc, problem, &best),
+        None => Ok(None),
     }
 }

@@ -118,11 +118,21 @@ struct RelaxedCase;
 impl Case for RelaxedCase {
     fn find(&mut self, alloc: Global, row: &str) -> Result<String, Fail> {
         let problem = problem(alloc, piece(row, 0))?;
-        let reduced = Reduced::of(alloc, &problem)?;
         let excluded = flags(alloc, piece(row, 1))?;
-        let program = Program::new(alloc, &problem, &reduced, &excluded)?;
-        endings(alloc, &problem, &program, piece(row, 2))
+        relaxed(alloc, &problem, &excluded, piece(row, 2))
     }
+}
+
+// How a relaxation without these alternatives ends.
+fn relaxed(
+    alloc: Global,
+    problem: &Problem,
+    excluded: &[bool],
+    narrow: &str,
+) -> Result<String, Fail> {
+    let reduced = Reduced::of(alloc, problem)?;
+    let program = Program::new(alloc, problem, &reduced, excluded)?;
+    endings(alloc, problem, &program, narrow)
 }
 
 // How a relaxation ends on all alternatives, and a copy of it on these ranges.
@@ -137,6 +147,18 @@ fn endings(
     if narrow.is_empty() {
         return Ok(ended);
     }
+    narrowed(alloc, problem, program, &first, narrow, &ended)
+}
+
+// How a relaxation ended, and how a copy of it ends on these ranges.
+fn narrowed(
+    alloc: Global,
+    problem: &Problem,
+    program: &Program<'_>,
+    first: &Relaxation,
+    narrow: &str,
+    ended: &str,
+) -> Result<String, Fail> {
     let mut next = first.copy(alloc)?;
     let narrowed = ending_on(alloc, problem, program, &mut next, narrow)?;
     Ok(format!(in alloc; "{ended}, {narrowed}")?)

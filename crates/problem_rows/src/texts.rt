@@ -56,6 +56,12 @@ pub(crate) fn numbers(alloc: Global, text: &str) -> Result<Vec<i128>, Fail> {
     Ok(numbers)
 }
 
+/// The number with which a text begins, cut to 32 bits, or 0.
+pub(crate) fn number(alloc: Global, text: &str) -> Result<u32, Fail> {
+    let numbers = numbers(alloc, text)?;
+    Ok(small_at(&numbers, 0))
+}
+
 /// The number at a place, or 0.
 pub(crate) fn at(numbers: &[i128], place: usize) -> i128 {
     if place < numbers.len() {

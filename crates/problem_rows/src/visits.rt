@@ -1,6 +1,6 @@
 //! Visits of ranges by `visit` and by a walk that came from other ranges, and greedy choices.
 
-ghost use Rattle.std.specs.Prelude.{◌≡◌};
+ghost use Rattle.std.specs.Prelude.{◌≡◌, ◌≤◌, All, length};
 ghost use Rattle.price_table.specs.Tables.{IsTableFor};
 
 use crate::problems::{problem, span, table};
@@ -46,13 +46,18 @@ fn answers(
     requires walk { walk.now.problem ≡ problem.now }
     requires root { IsTableFor problem.now root.now }
 {
-    let anew = shown(alloc, &visit(alloc, problem, walk.ranges(), root, seen)?)?;
-    let kept = shown(alloc, &walk.visit(alloc, problem, root, seen)?)?;
+    let anew = visit(alloc, problem, walk.ranges(), root, seen)?;
+    let kept = walk.visit(alloc, problem, root, seen)?;
+    both_shown(alloc, &anew, &kept)
+}
+
+fn both_shown(alloc: Global, anew: &Visit, kept: &Visit) -> Result<String, Fail> {
+    let anew = shown(alloc, anew)?;
+    let kept = shown(alloc, kept)?;
     if anew.as_str() == kept.as_str() {
-        Ok(kept)
-    } else {
-        Ok(format!(in alloc; "unlike: {anew} / {kept}")?)
+        return Ok(kept);
     }
+    Ok(format!(in alloc; "unlike: {anew} / {kept}")?)
 }
 
 // The answer of a visit of a row: the problem, the ranges that a walk comes from, and those that it
@@ -60,10 +65,16 @@ fn answers(
 fn visited(alloc: Global, row: &str) -> Result<String, Fail> {
     let problem = problem(alloc, piece(row, 0))?;
     let root = table(alloc, &problem, piece(row, 3))?;
-    let mut walk = Walk::of(alloc, &problem, Ranges::whole(alloc, &problem)?)?;
-    go(alloc, &problem, &mut walk, piece(row, 1))?;
-    go(alloc, &problem, &mut walk, piece(row, 2))?;
-    answers(alloc, &problem, &walk, &root, seen(piece(row, 4)))
+    walked(alloc, &problem, &root, row)
+}
+
+fn walked(alloc: Global, problem: &Problem, root: &PriceTable, row: &str) -> Result<String, Fail>
+    requires { IsTableFor problem.now root.now }
+{
+    let mut walk = Walk::of(alloc, problem, Ranges::whole(alloc, problem)?)?;
+    go(alloc, problem, &mut walk, piece(row, 1))?;
+    go(alloc, problem, &mut walk, piece(row, 2))?;
+    answers(alloc, problem, &walk, root, seen(piece(row, 4)))
 }
 
 // One unit beside a full window, on all dates of a season, 30 minutes a date, and on one date: the
@@ -177,17 +188,27 @@ struct FurtherCase;
 impl Case for FurtherCase {
     fn find(&mut self, alloc: Global, row: &str) -> Result<String, Fail> {
         let problem = problem(alloc, "three")?;
-        let root = table(alloc, &problem, "")?;
         let tables = vec![in alloc;
             table(alloc, &problem, piece(row, 0))?,
             table(alloc, &problem, piece(row, 1))?,
         ]?;
-        let walk = Walk::of(alloc, &problem, Ranges::whole(alloc, &problem)?)?;
-        shown(
-            alloc,
-            &walk.visit_with(alloc, &problem, &root, &tables, seen(piece(row, 2)))?,
-        )
+        further(alloc, &problem, &tables, seen(piece(row, 2)))
     }
+}
+
+fn further(
+    alloc: Global,
+    problem: &Problem,
+    tables: &[PriceTable],
+    seen: Option<u64>,
+) -> Result<String, Fail>
+    requires tables { All (IsTableFor problem.now) tables.now }
+    requires few { length tables.now ≤ 2 }
+{
+    let root = table(alloc, problem, "")?;
+    let walk = Walk::of(alloc, problem, Ranges::whole(alloc, problem)?)?;
+    let visit = walk.visit_with(alloc, problem, &root, tables, seen)?;
+    shown(alloc, &visit)
 }
 
 // The first further vector that closes.

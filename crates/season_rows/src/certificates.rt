@@ -1,11 +1,14 @@
 //! The text of the certificate of one series and one new request that share a window, and what
 //! damages it.
 
-ghost use Rattle.std.specs.Prelude.{◌≤◌, length};
+ghost use Rattle.std.specs.Prelude.{◌≤◌, length, IfOk};
+ghost use Rattle.cert_format.specs.Printable.{IsPrintable};
 ghost use Rattle.cert_format.specs.declared.cert.TheConstants.{LONGEST_CERT};
 
 use crate::lines::{Row, read_row, with_row};
-use cert_format::{CertFault, LONGEST_CERT, print_cert, print_extra, read_cert, read_extra};
+use cert_format::{
+    CertFault, Certificate, LONGEST_CERT, print_cert, print_extra, read_cert, read_extra,
+};
 use std::alloc::Global;
 use std::test::Fail;
 
@@ -418,6 +421,27 @@ fn bad_line(alloc: Global, text: &[u8], is_extra: bool) -> Result<u32, Fail> {
     }
 }
 
+/// The certificate of a text.
+pub fn certificate_of(alloc: Global, text: &str) -> Result<Certificate, Fail>
+    ensures { IfOk result (λ cert. IsPrintable cert) }
+{
+    if text.len() > LONGEST_CERT {
+        return Err("too long".into());
+    }
+    Ok(read_cert(alloc, text.as_bytes())?)
+}
+
+/// Appends the lines of a stage that stands behind so many, with its number.
+pub fn push_stage(
+    alloc: Global,
+    text: &mut String,
+    before: usize,
+    block: &str,
+) -> Result<(), Fail> {
+    text.push_str(&format!(in alloc; "STAGE {} {block}", before.wrapping_add(1))?)?;
+    Ok(())
+}
+
 fn printed_cert(alloc: Global, text: &[u8]) -> Result<Vec<u8>, CertFault>
     requires { length text.now ≤ LONGEST_CERT }
 {
@@ -440,13 +464,8 @@ fn every_byte_replaced_is_bad_or_read(rt: HostRuntime) -> Result<(), Fail> {
     let (mut line, mut column) = (1_u32, 0_u32);
     for (at, old) in text.iter().enumerate() {
         let rows = rows_at(rt.alloc(), line, column)?;
-        for byte in 0..=255_u8 {
-            if byte != *old {
-                let bad = bad_at(rt.alloc(), at, byte)?;
-                let wanted = wanted_line(&rows, line, byte);
-                assert_eq!(rt; bad, wanted, "byte {byte} at {line} {column}");
-            }
-        }
+        let other = other_byte(rt.alloc(), at, *old, line, &rows)?;
+        assert_eq!(rt; other, None, "{line} {column}");
         column = column.wrapping_add(1);
         if *old == b'\n' {
             line = line.wrapping_add(1);
@@ -454,6 +473,22 @@ fn every_byte_replaced_is_bad_or_read(rt: HostRuntime) -> Result<(), Fail> {
         }
     }
     Ok(())
+}
+
+// The first byte at this place with which another line is bad than the rows say.
+fn other_byte(
+    alloc: Global,
+    place: usize,
+    old: u8,
+    line: u32,
+    rows: &[Row<'_>],
+) -> Result<Option<u8>, Fail> {
+    for byte in 0..=255_u8 {
+        if byte != old && bad_at(alloc, place, byte)? != wanted_line(rows, line, byte) {
+            return Ok(Some(byte));
+        }
+    }
+    Ok(None)
 }
 
 // The bad line of the example with this byte at this place.

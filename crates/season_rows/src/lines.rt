@@ -15,15 +15,25 @@ pub struct Row<'a> {
 /// A row as it is written: what is wanted, a bar, two numbers of lines, and the lines that stand
 /// in their place, with a stroke between two; none where there are no more fields.
 pub fn read_row(text: &str) -> Result<Row<'_>, Fail> {
-    let (wanted, change) = text.split_once('|').ok_or("a bar")?;
-    let (from, rest) = change.split_once(' ').ok_or("two numbers")?;
-    let (to, lines) = rest.split_once(' ').unwrap_or((rest, ""));
+    let (wanted, change) = halves(text, '|');
+    let (from, rest) = halves(change, ' ');
+    let (to, lines) = halves(rest, ' ');
     Ok(Row {
         wanted,
         from: from.parse()?,
         to: to.parse()?,
         lines,
     })
+}
+
+/// What stands before the first mark, and what stands behind it: nothing, where it is not there.
+pub fn halves(text: &str, mark: char) -> (&str, &str) {
+    text.split_once(mark).unwrap_or((text, ""))
+}
+
+/// What stands before the last mark, and what stands behind it: nothing, where it is not there.
+pub fn last_halves(text: &str, mark: char) -> (&str, &str) {
+    text.rsplit_once(mark).unwrap_or((text, ""))
 }
 
 /// The text with the lines of a row in place of those that it names.

@@ -1,10 +1,8 @@
 //! The replies to the messages of worked seasons, byte for byte. The season S25 has 210 dates.
 
-ghost use Rattle.std.specs.Prelude.{IfOk};
-ghost use Rattle.cert_format.specs.Printable.{IsPrintable};
-
+use crate::certificates::{certificate_of, push_stage};
+use crate::lines::{halves, last_halves};
 use crate::seasons::{lines, numbers, submission};
-use cert_format::{Certificate, read_cert};
 use scr_replies::season_replies;
 use series_model::Submission;
 use std::alloc::Global;
@@ -86,9 +84,9 @@ fn replies_are_as_worked(rt: HostRuntime) -> Result<(), Fail> {
 }
 
 fn is_as_worked(alloc: Global, row: &str) -> Result<bool, Fail> {
-    let (season, want) = row.rsplit_once('|').ok_or("a reply")?;
-    let (season, choices) = season.rsplit_once('|').ok_or("choices")?;
-    let (capacity, messages) = season.split_once('|').ok_or("messages")?;
+    let (season, want) = last_halves(row, '|');
+    let (season, choices) = last_halves(season, '|');
+    let (capacity, messages) = halves(season, '|');
     let submission = submission(alloc, "S25", capacity, messages)?;
     has_replies(alloc, &submission, choices, want)
 }
@@ -107,33 +105,17 @@ fn has_replies(
 // The replies by a certificate with these choices.
 fn replies(alloc: Global, submission: &Submission, choices: &str) -> Result<Vec<u8>, Fail> {
     let text = certificate(alloc, choices)?;
-    let cert = read(alloc, text.as_str())?;
+    let cert = certificate_of(alloc, text.as_str())?;
     Ok(season_replies(alloc, submission, &cert)?)
-}
-
-fn read(alloc: Global, text: &str) -> Result<Certificate, Fail>
-    ensures { IfOk result (λ cert. IsPrintable cert) }
-{
-    if text.len() > 1_000_000 {
-        return Err("too long".into());
-    }
-    Ok(read_cert(alloc, text.as_bytes())?)
 }
 
 // A certificate with these choices. Its marks and trees have their form, and prove nothing.
 fn certificate(alloc: Global, choices: &str) -> Result<String, Fail> {
     let mut text = String::new(alloc);
     for (before, choice) in choices.split(';').enumerate() {
-        push_stage(alloc, &mut text, before, choice)?;
+        push_stage(alloc, &mut text, before, &block(alloc, choice)?)?;
     }
     Ok(format!(in alloc; "CERT 1\n{text}END\n")?)
-}
-
-// Appends the lines of a stage that stands behind so many.
-fn push_stage(alloc: Global, text: &mut String, before: usize, choice: &str) -> Result<(), Fail> {
-    let block = block(alloc, choice)?;
-    text.push_str(&format!(in alloc; "STAGE {} {block}", before.wrapping_add(1))?)?;
-    Ok(())
 }
 
 // The lines of a stage, from its mark on.

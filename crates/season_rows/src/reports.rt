@@ -1,12 +1,13 @@
 //! Reports on worked seasons, line by line, and what requests alone show. The season S25 has 210
 //! dates, from Sunday 30MAR on.
 
-ghost use Rattle.std.specs.Prelude.{IfOk};
 ghost use Rattle.cert_format.specs.Printable.{IsPrintable};
 
+use crate::certificates::{certificate_of, push_stage};
+use crate::lines::{halves, last_halves};
 use crate::seasons::{lines, submission};
 use cert_checker::{Verdict, check};
-use cert_format::{Certificate, read_cert};
+use cert_format::Certificate;
 use report_lines::{demand_lines, over_lines};
 use season_report::report_text;
 use series_model::Submission;
@@ -415,9 +416,9 @@ fn reports_are_as_worked(rt: HostRuntime) -> Result<(), Fail> {
 }
 
 fn is_as_worked(alloc: Global, row: &str) -> Result<bool, Fail> {
-    let (season, want) = row.split_once('\n').ok_or("a report")?;
-    let (capacity, rest) = season.split_once('|').ok_or("messages")?;
-    let (messages, stages) = rest.split_once('|').ok_or("stages")?;
+    let (season, want) = halves(row, '\n');
+    let (capacity, rest) = halves(season, '|');
+    let (messages, stages) = halves(rest, '|');
     let submission = submission(alloc, "S25", capacity, messages)?;
     has_report(alloc, &submission, stages, want)
 }
@@ -436,17 +437,8 @@ fn has_report(
 // The report on a certificate with these stages.
 fn report(alloc: Global, submission: &Submission, stages: &str) -> Result<Vec<u8>, Fail> {
     let text = certificate(alloc, stages)?;
-    let cert = read(alloc, text.as_str())?;
+    let cert = certificate_of(alloc, text.as_str())?;
     report_of(alloc, submission, &cert)
-}
-
-fn read(alloc: Global, text: &str) -> Result<Certificate, Fail>
-    ensures { IfOk result (λ cert. IsPrintable cert) }
-{
-    if text.len() > 1_000_000 {
-        return Err("too long".into());
-    }
-    Ok(read_cert(alloc, text.as_bytes())?)
 }
 
 // The report on a certificate that is valid.
@@ -463,16 +455,9 @@ fn report_of(alloc: Global, submission: &Submission, cert: &Certificate) -> Resu
 fn certificate(alloc: Global, stages: &str) -> Result<String, Fail> {
     let mut text = String::new(alloc);
     for (before, stage) in stages.split('|').enumerate() {
-        push_stage(alloc, &mut text, before, stage)?;
+        push_stage(alloc, &mut text, before, &block(alloc, stage)?)?;
     }
     Ok(format!(in alloc; "CERT 1\n{text}END\n")?)
-}
-
-// Appends the lines of a stage that stands behind so many.
-fn push_stage(alloc: Global, text: &mut String, before: usize, stage: &str) -> Result<(), Fail> {
-    let block = block(alloc, stage)?;
-    text.push_str(&format!(in alloc; "STAGE {} {block}", before.wrapping_add(1))?)?;
-    Ok(())
 }
 
 // The lines of a stage, from its mark on.
@@ -492,8 +477,8 @@ fn proof(alloc: Global, stage: &str) -> Result<String, Fail> {
         Some(stage) => ("OPEN", stage),
         None => ("OPTIMAL", stage),
     };
-    let (cost, rest) = stage.split_once(':').ok_or("a choice")?;
-    let (choice, rest) = rest.split_once(':').ok_or("a tree")?;
+    let (cost, rest) = halves(stage, ':');
+    let (choice, rest) = halves(rest, ':');
     let (tree, prices) = rest.split_once(':').unwrap_or((rest, ""));
     let choices = choices(alloc, choice)?;
     let proof = vectors_and_tree(alloc, prices, tree)?;
@@ -559,8 +544,8 @@ fn requests_show_what_is_worked(rt: HostRuntime) -> Result<(), Fail> {
 }
 
 fn shows(alloc: Global, row: &str) -> Result<bool, Fail> {
-    let (season, want) = row.rsplit_once('|').ok_or("lines")?;
-    let (capacity, messages) = season.split_once('|').ok_or("messages")?;
+    let (season, want) = last_halves(row, '|');
+    let (capacity, messages) = halves(season, '|');
     let submission = submission(alloc, "S25", capacity, messages)?;
     let want = lines(alloc, want)?;
     has_lines(alloc, &submission, want.as_str())

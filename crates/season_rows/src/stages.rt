@@ -2,6 +2,9 @@
 //! 210 dates, and the capacity line has one window a date, the resources 0 to 209; a night quota is
 //! resource 210.
 
+ghost use Rattle.std.specs.Prelude.{◌≤◌, length};
+
+use crate::lines::{halves, last_halves};
 use crate::seasons::{numbers, submission, text_of};
 use choice_problem::{Choice, Problem, cost_of, fits};
 use series_model::Submission;
@@ -79,8 +82,8 @@ fn stages_are_as_worked(rt: HostRuntime) -> Result<(), Fail> {
 }
 
 fn check_season(alloc: Global, rows: &str) -> Result<(), Fail> {
-    let (season, questions) = rows.split_once('\n').ok_or("questions")?;
-    let (capacity, messages) = season.split_once('|').ok_or("messages")?;
+    let (season, questions) = halves(rows, '\n');
+    let (capacity, messages) = halves(season, '|');
     let submission = submission(alloc, "S25", capacity, messages)?;
     check_questions(alloc, &submission, questions)
 }
@@ -93,7 +96,7 @@ fn check_questions(alloc: Global, submission: &Submission, questions: &str) -> R
 }
 
 fn check_question(alloc: Global, submission: &Submission, row: &str) -> Result<(), Fail> {
-    let (question, want) = row.rsplit_once('|').ok_or("an answer")?;
+    let (question, want) = last_halves(row, '|');
     let found = answer(alloc, submission, question)?;
     if found.as_str() == want {
         return Ok(());
@@ -102,9 +105,9 @@ fn check_question(alloc: Global, submission: &Submission, row: &str) -> Result<(
 }
 
 fn answer(alloc: Global, submission: &Submission, question: &str) -> Result<String, Fail> {
-    let (word, rest) = question.split_once(' ').ok_or("a stage")?;
-    let (stage, rest) = rest.split_once('|').ok_or("choices")?;
-    let (before, asked) = rest.split_once('|').ok_or("a choice")?;
+    let (word, rest) = halves(question, ' ');
+    let (stage, rest) = halves(rest, '|');
+    let (before, asked) = halves(rest, '|');
     answer_at(
         alloc,
         submission,
@@ -128,11 +131,26 @@ fn answer_at(
         return Err("choices".into());
     }
     let earlier = Earlier::new(choices);
-    let problem = stage_problem(alloc, submission, stage, &earlier)?;
-    if word != "limit" {
-        return of_problem(alloc, &problem, word, asked);
+    match word {
+        "limit" => limit_after(alloc, submission, stage, &earlier, asked),
+        _ => {
+            let problem = stage_problem(alloc, submission, stage, &earlier)?;
+            of_problem(alloc, &problem, word, asked)
+        }
     }
-    let units = units_of_stage(alloc, submission, stage, &earlier)?;
+}
+
+fn limit_after(
+    alloc: Global,
+    submission: &Submission,
+    stage: u32,
+    earlier: &Earlier,
+    asked: &str,
+) -> Result<String, Fail>
+    requires { length earlier.now ≤ 3 }
+{
+    let problem = stage_problem(alloc, submission, stage, earlier)?;
+    let units = units_of_stage(alloc, submission, stage, earlier)?;
     limit(alloc, &problem, &units, asked)
 }
 

@@ -4,6 +4,7 @@
 ghost use Rattle.std.specs.Prelude.{IfSome};
 ghost use Rattle.series_model.specs.Units.{UnitFits};
 
+use crate::lines::{halves, last_halves};
 use crate::seasons::made;
 use capacity_windows::Movement;
 use season_days::Kind;
@@ -83,7 +84,7 @@ fn units_are_as_worked(rt: HostRuntime) -> Result<(), Fail> {
 }
 
 fn check_row(alloc: Global, row: &str) -> Result<(), Fail> {
-    let (question, want) = row.rsplit_once('|').ok_or("an answer")?;
+    let (question, want) = last_halves(row, '|');
     let found = answer(alloc, question)?;
     if found.as_str() == want {
         return Ok(());
@@ -92,9 +93,9 @@ fn check_row(alloc: Global, row: &str) -> Result<(), Fail> {
 }
 
 fn answer(alloc: Global, question: &str) -> Result<String, Fail> {
-    let (word, rest) = question.split_once('|').ok_or("a season")?;
-    let (season, rest) = rest.split_once('|').ok_or("a capacity file")?;
-    let (capacity, messages) = rest.split_once('|').ok_or("messages")?;
+    let (word, rest) = halves(question, '|');
+    let (season, rest) = halves(rest, '|');
+    let (capacity, messages) = halves(rest, '|');
     match made(alloc, season, capacity, messages)? {
         Ok(submission) => answer_of(alloc, &submission, word),
         Err(fault) => refusal(alloc, fault),
@@ -203,17 +204,33 @@ fn totals(alloc: Global, submission: &Submission, unit: &Unit) -> Result<String,
 {
     let declaration = submission.declaration();
     let options = options_of(alloc, unit, declaration)?;
-    let mut sums = (0_u32, 0_u32, 0_u64);
-    for times in &options {
+    let ends = ends(alloc, submission, unit, &options)?;
+    let (arrivals, departures) = sums(&options);
+    let (count, costs) = (options.len(), all_costs(submission, unit, &options));
+    Ok(format!(in alloc; "{count} {ends} {arrivals} {departures} {costs}")?)
+}
+
+// The sums of the minutes of alternatives.
+fn sums(options: &[Times]) -> (u32, u32) {
+    let mut sums = (0_u32, 0_u32);
+    for times in options {
         if let Times::At { arrival, departure } = *times {
             sums.0 = sums.0.wrapping_add(arrival);
             sums.1 = sums.1.wrapping_add(departure);
         }
-        sums.2 = sums.2.wrapping_add(displacement(unit, *times, declaration));
     }
-    let ends = ends(alloc, submission, unit, &options)?;
-    let (count, arrivals, departures, costs) = (options.len(), sums.0, sums.1, sums.2);
-    Ok(format!(in alloc; "{count} {ends} {arrivals} {departures} {costs}")?)
+    sums
+}
+
+// The sum of the costs of alternatives.
+fn all_costs(submission: &Submission, unit: &Unit, options: &[Times]) -> u64
+    requires { UnitFits submission.now.declaration.season unit.now }
+{
+    let mut costs = 0_u64;
+    for times in options {
+        costs = costs.wrapping_add(displacement(unit, *times, submission.declaration()));
+    }
+    costs
 }
 
 // The first alternative and the last one, with their costs.

@@ -1,14 +1,10 @@
 //! Certificates of worked seasons and what damages them. The verdicts, costs, vectors and bounds
 //! are worked by hand.
 
-ghost use Rattle.std.specs.Prelude.{IfOk};
-ghost use Rattle.cert_format.specs.Printable.{IsPrintable};
-
-use crate::certificates::TEXT;
+use crate::certificates::{TEXT, certificate_of};
 use crate::lines::{read_row, with_row};
 use crate::seasons::submission;
 use cert_checker::{Reason, Verdict, check};
-use cert_format::{Certificate, LONGEST_CERT, read_cert};
 use series_model::Submission;
 use std::alloc::Global;
 use std::test::Fail;
@@ -639,7 +635,8 @@ fn check_row(alloc: Global, submission: &Submission, text: &str, line: &str) -> 
 // The verdict on the certificate of a text, in which `PRICES` stands for a price at each of the
 // first 210 resources.
 fn verdict(alloc: Global, submission: &Submission, text: &str) -> Result<String, Fail> {
-    let cert = read(alloc, with_prices(alloc, text)?.as_bytes())?;
+    let text = with_prices(alloc, text)?;
+    let cert = certificate_of(alloc, &text)?;
     said(alloc, check(alloc, submission, &cert)?)
 }
 
@@ -667,15 +664,6 @@ fn price_lines(alloc: Global) -> Result<String, Fail> {
         out.push_str(&format!(in alloc; "P {resource} 32768\n")?)?;
     }
     Ok(out)
-}
-
-fn read(alloc: Global, text: &[u8]) -> Result<Certificate, Fail>
-    ensures { IfOk result (λ cert. IsPrintable cert) }
-{
-    if text.len() > LONGEST_CERT {
-        return Err("too long".into());
-    }
-    Ok(read_cert(alloc, text)?)
 }
 
 fn word(reason: Reason) -> &'static str {

@@ -6,6 +6,7 @@
 ghost use Rattle.std.specs.Prelude.{◌≡◌, IfOk};
 ghost use Rattle.season_days.specs.Capacity.{IsDeclaration};
 
+use crate::lines::halves;
 use crate::seasons::{lines, numbers, text_of};
 use capacity_file::read_capacity;
 use capacity_windows::{Movement, Windows};
@@ -147,8 +148,8 @@ fn windows_and_uses_are_as_worked(rt: HostRuntime) -> Result<(), Fail> {
 }
 
 fn check_season(alloc: Global, rows: &str) -> Result<(), Fail> {
-    let (first, questions) = rows.split_once('\n').ok_or("questions")?;
-    let (season, rules) = first.split_once('/').ok_or("lines")?;
+    let (first, questions) = halves(rows, '\n');
+    let (season, rules) = halves(first, '/');
     let windows = declared(alloc, season, rules)?;
     check_questions(alloc, &windows, questions)
 }
@@ -190,7 +191,7 @@ fn declaration(alloc: Global, season: &str, rules: &str) -> Result<Declaration, 
 
 // A question with its answer.
 fn answer(alloc: Global, windows: &Windows, question: &str) -> Result<String, Fail> {
-    let (word, rest) = question.split_once(' ').ok_or("a question")?;
+    let (word, rest) = halves(question, ' ');
     if word == "declared" {
         return sizes(alloc, windows);
     }
