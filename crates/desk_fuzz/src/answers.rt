@@ -2,32 +2,67 @@
 //! record is one history, what is held fits, and a stage for those that wait is found valid.
 
 use crate::laws::{first_of, law};
-use crate::plain::{Plain, is_on, read_plain};
-use crate::records::{History, answers_to, history_of, own_lines, reply_lines};
+use crate::next_season::{counted, is_next};
+use crate::plain::declared;
+use crate::printed::{links_due, links_of, stage_lines};
+use crate::records::{History, answers_to, history_of};
+use crate::refusals::open_slots;
+use crate::sent::{are_sent, broken_door};
 use crate::works::{fit_replies, held_slots, is_found_valid, said_of};
-use desk_links::MemoryDoor;
-use drawn_worlds::{
-    Command, begins, copied, count_of, file_text, number, queries_text, text_of, word,
-};
+use drawn_worlds::{Command, HEAD, copied, count_of, file_text, number, queries_text, text_of};
 use memory_desk::{Given, RunEnd, RunFault};
 use slot_text::Memory;
 use std::alloc::Global;
 use std::sync::Wait;
 use std::thread::Threads;
 
-/// Asks were answered: the replies to the first message are the first ones, and what is held behind
-/// them all fits.
+/// Asks were answered: the replies to each front of the messages begin the replies to them all, and
+/// what is held behind them all fits.
 pub fn amended<R: Threads + Wait + Sync>(
     rt: &R,
     alloc: Global,
     given: &Given,
     ran: &RunEnd,
+    damaged: &str,
 ) -> Result<&'static str, RunFault> {
     let asks = file_text(alloc, given.file("ASKS"))?;
+    let is_whole = damaged != "ASKS";
+    if is_whole && !is_count_of(alloc, given, ran, &asks)? {
+        return Ok("entries of asks");
+    }
     if !asks.ends_with('\n') {
         return Ok("");
     }
-    broken_replies(rt, alloc, given, ran, &asks)
+    broken_replies(rt, alloc, given, ran, &asks, is_whole)
+}
+
+/// Whether each ask of messages that are whole was counted, a pair once; none where they are of
+/// another season.
+fn is_count_of(alloc: Global, given: &Given, ran: &RunEnd, asks: &str) -> Result<bool, Memory> {
+    let said = text_of(alloc, ran.sink.bytes())?;
+    let due = if is_of_season(alloc, given)? {
+        asks_in(asks)
+    } else {
+        0
+    };
+    let line = format!(in alloc; "ENTRIES {due}\n")?;
+    Ok(said.as_str() == line.as_str())
+}
+
+/// Whether the season is that of the messages that are drawn.
+fn is_of_season(alloc: Global, given: &Given) -> Result<bool, Memory> {
+    let capacity = file_text(alloc, given.file("CAP"))?;
+    Ok(declared(&capacity, "SEASON") == "S25")
+}
+
+/// How many asks messages have, of which no line of a header has six characters.
+fn asks_in(asks: &str) -> u64 {
+    let mut count = 0_u64;
+    for line in asks.lines() {
+        let is_ask = line.len() > 5 && !line.starts_with('C');
+        count = count.saturating_add(u64::from(is_ask));
+    }
+    count
 }
 
 fn broken_replies<R: Threads + Wait + Sync>(
@@ -36,23 +71,69 @@ fn broken_replies<R: Threads + Wait + Sync>(
     given: &Given,
     ran: &RunEnd,
     asks: &str,
+    is_whole: bool,
 ) -> Result<&'static str, RunFault> {
     let answers = file_text(alloc, ran.cabinet.file("ANSWERS"))?;
-    let is_first = begin_with_first(rt, alloc, given, asks, &answers)?;
+    let are_placed = are_by_their_places(rt, alloc, given, asks, &answers, is_whole)?;
     let later = broken_behind(rt, alloc, given, asks, &answers)?;
-    Ok(first_of(law(is_first, "replies by their places"), later))
+    Ok(first_of(law(are_placed, "replies by their places"), later))
 }
 
-/// Whether replies begin with those to the first message alone.
-fn begin_with_first<R: Threads + Wait + Sync>(
+/// Whether the replies to each front of the messages begin the replies to all, and end with one to
+/// the last message of that front.
+fn are_by_their_places<R: Threads + Wait + Sync>(
     rt: &R,
     alloc: Global,
     given: &Given,
     asks: &str,
     answers: &str,
+    is_whole: bool,
 ) -> Result<bool, RunFault> {
-    let first = answers_to_first(rt, alloc, given, asks)?;
-    Ok(answers.starts_with(first.as_str()))
+    let is_good = is_of_season(alloc, given)?;
+    let mut front = String::new(alloc);
+    let mut before = String::new(alloc);
+    for message in asks.split("\n\n") {
+        put_message(&mut front, message)?;
+        let replies = answers_to(rt, alloc, given, &front)?;
+        let reply = replies.strip_prefix(before.as_str());
+        let is_reply = match reply {
+            Some(reply) => is_reply_to(message, reply, is_whole, is_good),
+            None => false,
+        };
+        if !is_reply || !answers.starts_with(replies.as_str()) {
+            return Ok(false);
+        }
+        before = replies;
+    }
+    Ok(before.as_str() == answers)
+}
+
+fn put_message(front: &mut String, message: &str) -> Result<(), Memory> {
+    front.push_str(message)?;
+    front.push_str("\n\n")?;
+    Ok(())
+}
+
+/// Whether a text can be the reply to a message: one of its header, or one that names a line of it,
+/// or the one behind its last. A whole message has the former, but in another season.
+fn is_reply_to(message: &str, reply: &str, is_whole: bool, is_good: bool) -> bool {
+    if message.is_empty() {
+        return reply.is_empty();
+    }
+    if is_whole && is_good {
+        return reply.starts_with(HEAD) && reply.ends_with("\n\n");
+    }
+    if is_whole {
+        return reply == "BAD 2\n\n";
+    }
+    let lines = (message.lines().count() as u64).saturating_add(1);
+    match reply.strip_prefix("BAD ") {
+        Some(rest) => {
+            let place = number(first_line(reply), 1).unwrap_or(0);
+            1 <= place && place <= lines && rest.ends_with("\n\n")
+        }
+        None => reply.is_empty() || reply.starts_with("SCR\n") && reply.ends_with("\n\n"),
+    }
 }
 
 /// The first law that is broken where all flights are asked for behind the asks.
@@ -71,26 +152,6 @@ fn broken_behind<R: Threads + Wait + Sync>(
     ))
 }
 
-/// The replies to the first message alone.
-fn answers_to_first<R: Threads + Wait + Sync>(
-    rt: &R,
-    alloc: Global,
-    given: &Given,
-    asks: &str,
-) -> Result<String, RunFault> {
-    let front = first_message(asks);
-    let whole = format!(in alloc; "{front}\n")?;
-    answers_to(rt, alloc, given, &whole)
-}
-
-/// What stands before the first empty line.
-fn first_message(asks: &str) -> &str {
-    match asks.split_once("\n\n") {
-        Some((front, _)) => front,
-        None => asks,
-    }
-}
-
 /// The replies to asks, and behind them what all flights hold then.
 fn listed_behind<R: Threads + Wait + Sync>(
     rt: &R,
@@ -107,23 +168,46 @@ fn behind<'a>(whole: &'a str, front: &str) -> &'a str {
     whole.strip_prefix(front).unwrap_or("")
 }
 
-/// Clients were served: the record is one history from the start, and where no link failed each
-/// door's clients were sent the answers of its caller, in their order.
+/// Clients were served: what was printed counts the entries and the links, the record is one
+/// history from the start, and each door's clients were sent the answers of its caller, in their
+/// order.
 pub fn served<R: Threads + Wait + Sync>(
     rt: &R,
     alloc: Global,
     given: &Given,
     ran: &RunEnd,
+    damaged: &str,
 ) -> Result<&'static str, RunFault> {
-    let said = text_of(alloc, ran.sink.bytes())?;
     let record = file_text(alloc, ran.cabinet.file("RECORD"))?;
-    let entries = count_of(&record, "ENTRY ") as u64;
+    let counts = broken_counts(alloc, given, ran, &record, "")?;
     let is_history = is_one_history(rt, alloc, given, &record)?;
-    let first = first_of(
-        law(number(first_line(&said), 1) == Some(entries), "entries"),
-        law(is_history, "a record"),
-    );
-    Ok(first_of(first, are_sent(alloc, given, ran, &record)?))
+    let sent = are_sent(alloc, given, ran, &record)?;
+    let first = first_of(counts, first_of(law(is_history, "a record"), sent));
+    let is_calm = given.fails.link.is_none() && given.fails.accept.is_none();
+    if !is_calm || damaged == "CLIENT" {
+        return Ok(first);
+    }
+    Ok(first_of(first, broken_door(rt, alloc, given, ran)?))
+}
+
+/// The first law that what was printed of clients breaks: a front, the entries of the record, and
+/// the links that the doors handed out, which are all where none failed.
+fn broken_counts(
+    alloc: Global,
+    given: &Given,
+    ran: &RunEnd,
+    record: &str,
+    front: &str,
+) -> Result<&'static str, Memory> {
+    let said = text_of(alloc, ran.sink.bytes())?;
+    let entries = count_of(record, "ENTRY ");
+    let links = links_of(ran);
+    let due = format!(in alloc; "{front}ENTRIES {entries}\nLINKS {links}\n")?;
+    let are_all = ran.status != 0 || links == links_due(given);
+    Ok(first_of(
+        law(said.as_str() == due.as_str(), "entries and links"),
+        law(are_all, "links"),
+    ))
 }
 
 /// Whether the asks of a record have its answers where `amend` is asked.
@@ -142,44 +226,9 @@ fn first_line(text: &str) -> &str {
     text.lines().next().unwrap_or("")
 }
 
-/// Whether what the links of each door were sent is what its caller was answered.
-fn are_sent(
-    alloc: Global,
-    given: &Given,
-    ran: &RunEnd,
-    record: &str,
-) -> Result<&'static str, Memory> {
-    if given.fails.link.is_some() {
-        return Ok("");
-    }
-    for (place, door) in ran.doors.iter().enumerate() {
-        if !is_sent(alloc, record, place as u64, door)? {
-            return Ok("what was sent");
-        }
-    }
-    Ok("")
-}
-
-/// Whether the links of a door were sent the answers of this caller.
-fn is_sent(alloc: Global, record: &str, caller: u64, door: &MemoryDoor) -> Result<bool, Memory> {
-    let own = own_lines(alloc, record, caller)?;
-    let sent = sent_text(alloc, door)?;
-    let lines = reply_lines(alloc, &sent)?;
-    Ok(lines.as_str() == own.as_str())
-}
-
-/// What all links of a door were sent.
-fn sent_text(alloc: Global, door: &MemoryDoor) -> Result<String, Memory> {
-    let mut text = String::new(alloc);
-    for link in door.kept() {
-        let sent = text_of(alloc, link.sent())?;
-        text.push_str(&sent)?;
-    }
-    Ok(text)
-}
-
-/// Clients were served with a journal: the record follows the pairs that were found, and a desk
-/// that opens the journal then finds these and each entry; where the disk failed maybe one more.
+/// Clients were served with a journal: the pairs that were found are its open slots, the record
+/// follows them, and a desk that opens the journal then finds these and each entry; where the disk
+/// failed maybe one more.
 pub fn resumed<R: Threads + Wait + Sync>(
     rt: &R,
     alloc: Global,
@@ -191,25 +240,48 @@ pub fn resumed<R: Threads + Wait + Sync>(
     if said.starts_with("JOURNAL ") {
         return Ok(law(is_journal_left(given, ran), "a journal that was refused"));
     }
-    let kept = number(first_line(&said), 1).unwrap_or(u64::MAX);
-    broken_record(rt, alloc, given, ran, kept, damaged == "JOURNAL")
+    let kept = match &given.journal {
+        Some(bytes) => open_slots(bytes.as_slice()),
+        None => u64::MAX,
+    };
+    let record = file_text(alloc, ran.cabinet.file("RECORD"))?;
+    let printed = broken_print(alloc, given, ran, &record, kept)?;
+    let is_damaged = damaged == "JOURNAL";
+    Ok(first_of(
+        printed,
+        broken_record(rt, alloc, given, ran, &record, kept, is_damaged)?,
+    ))
 }
 
-/// The first law that a record breaks, and the journal beside it, in which so many pairs were found.
+/// The first law that what was printed, or sent, breaks where so many pairs were found.
+fn broken_print(
+    alloc: Global,
+    given: &Given,
+    ran: &RunEnd,
+    record: &str,
+    kept: u64,
+) -> Result<&'static str, Memory> {
+    let front = format!(in alloc; "KEPT {kept}\n")?;
+    let counts = broken_counts(alloc, given, ran, record, &front)?;
+    Ok(first_of(counts, are_sent(alloc, given, ran, record)?))
+}
+
+/// The first law that a record breaks, and the journal beside it, in which so many pairs were
+/// found.
 fn broken_record<R: Threads + Wait + Sync>(
     rt: &R,
     alloc: Global,
     given: &Given,
     ran: &RunEnd,
+    record: &str,
     kept: u64,
-    damaged: bool,
+    is_damaged: bool,
 ) -> Result<&'static str, RunFault> {
-    let record = file_text(alloc, ran.cabinet.file("RECORD"))?;
-    let entries = count_of(&record, "ENTRY ") as u64;
+    let entries = count_of(record, "ENTRY ") as u64;
     let found = found_again(rt, alloc, given, ran)?;
     let all = kept.saturating_add(entries);
     let stands = found == Some(all) || ran.status == 14 && found == Some(all.saturating_add(1));
-    let follows = damaged || follows_kept(rt, alloc, given, &record, kept)?;
+    let follows = is_damaged || follows_kept(rt, alloc, given, record, kept)?;
     Ok(first_of(
         law(stands, "a journal opened again"),
         law(follows, "a record behind a journal"),
@@ -282,10 +354,8 @@ pub fn recleared<R: Threads + Wait + Sync>(
     given: &Given,
     ran: &RunEnd,
 ) -> Result<&'static str, RunFault> {
-    let said = text_of(alloc, ran.sink.bytes())?;
     let replies = file_text(alloc, ran.cabinet.file("REPLIES"))?;
-    let replied = count_of(&replies, "K").saturating_add(count_of(&replies, "U")) as u64;
-    let is_whole = number(first_line(&said), 1) == Some(replied);
+    let is_whole = is_waiting_text(alloc, ran, &replies)?;
     let is_valid = is_found_valid(rt, alloc, given, ran, Command::Reclear, Command::Recheck)?;
     let fit = fit_together(rt, alloc, given, &replies)?;
     Ok(first_of(
@@ -295,6 +365,18 @@ pub fn recleared<R: Threads + Wait + Sync>(
             law(fit, "loads beside a book"),
         ),
     ))
+}
+
+/// Whether what was printed counts the lines that were replied to, and has the cost, the bound and
+/// the status of the stage that was written.
+fn is_waiting_text(alloc: Global, ran: &RunEnd, replies: &str) -> Result<bool, Memory> {
+    let said = text_of(alloc, ran.sink.bytes())?;
+    let replied = count_of(replies, "K").saturating_add(count_of(replies, "U"));
+    let stage = file_text(alloc, ran.cabinet.file("EXTRA"))?;
+    let lines = stage_lines(alloc, &stage)?;
+    let due = format!(in alloc; "WAITING {replied}\n{lines}")?;
+    let status = if lines.contains(" OPEN ") { 9 } else { 0 };
+    Ok(said.as_str() == due.as_str() && ran.status == status)
 }
 
 /// Whether what the book holds behind the asks fits beside the slots of replies.
@@ -326,7 +408,7 @@ fn held_behind<R: Threads + Wait + Sync>(
 }
 
 /// Usage was watched: the numbers of series, and of those with precedence, are those of a count
-/// date by date.
+/// date by date, and the next season has the lines of the latter.
 pub fn watched<R: Threads + Wait + Sync>(
     rt: &R,
     alloc: Global,
@@ -337,91 +419,24 @@ pub fn watched<R: Threads + Wait + Sync>(
     if !damaged.is_empty() {
         return Ok("");
     }
-    let said = text_of(alloc, ran.sink.bytes())?;
-    let due = due_numbers(rt, alloc, given)?;
-    Ok(law(said.as_str() == due.as_str(), "numbers of series"))
+    let held = held_slots(rt, alloc, given)?;
+    Ok(broken_usage(alloc, given, ran, &held)?)
 }
 
-/// The line of the numbers of series that a book has, and of those that keep precedence.
-fn due_numbers<R: Threads + Wait + Sync>(
-    rt: &R,
+/// The first law that what was printed and written of these holdings breaks.
+fn broken_usage(
     alloc: Global,
     given: &Given,
-) -> Result<String, RunFault> {
+    ran: &RunEnd,
+    held: &str,
+) -> Result<&'static str, Memory> {
+    let said = text_of(alloc, ran.sink.bytes())?;
     let operated = file_text(alloc, given.file("OPERATED"))?;
-    let held = held_slots(rt, alloc, given)?;
-    let (series, kept) = counted(&held, &operated);
-    Ok(format!(in alloc; "SERIES {series} KEPT {kept}\n")?)
-}
-
-/// How many series the confirmed holdings of a listing have, and how many keep precedence.
-fn counted(held: &str, operated: &str) -> (u64, u64) {
-    let mut series = 0_u64;
-    let mut kept = 0_u64;
-    for line in held.lines().filter(|line| line.starts_with('H')) {
-        for weekday in 0..7 {
-            let (dates, flown) = dates_of(line, weekday, operated);
-            let is_kept = dates >= 5 && flown.saturating_mul(100) >= dates.saturating_mul(80);
-            series = series.saturating_add(u64::from(dates > 0));
-            kept = kept.saturating_add(u64::from(is_kept));
-        }
-    }
-    (series, kept)
-}
-
-/// How many dates a line has on a weekday, and how many of them were operated.
-fn dates_of(line: &str, weekday: u64, operated: &str) -> (u64, u64) {
-    let Some(plain) = read_plain(line) else {
-        return (0, 0);
-    };
-    let mut dates = 0_u64;
-    let mut flown = 0_u64;
-    for date in plain.first..plain.last.saturating_add(1) {
-        if date % 7 == weekday && is_on(plain.days, date) {
-            dates = dates.saturating_add(1);
-            flown = flown.saturating_add(u64::from(is_flown(line, &plain, date, operated)));
-        }
-    }
-    (dates, flown)
-}
-
-/// Whether each movement of a line was operated on a date.
-fn is_flown(line: &str, plain: &Plain<'_>, date: u64, operated: &str) -> bool {
-    let first = word(line, 0).strip_prefix('H').unwrap_or("");
-    let departs = word(line, 1);
-    (plain.arrival.is_none() || is_reported(operated, "ARR", first, date))
-        && (plain.departure.is_none() || is_reported(operated, "DEP", departs, date))
-}
-
-fn is_reported(operated: &str, kind: &str, flight: &str, date: u64) -> bool {
-    for line in operated.lines() {
-        let is_of = word(line, 1) == kind && word(line, 2) == flight;
-        if is_of && has_date(word(line, 3), date) {
-            return true;
-        }
-    }
-    false
-}
-
-/// Whether a period of June, whose days are all days, has a date.
-fn has_date(period: &str, date: u64) -> bool {
-    let (first, rest) = period.split_once("JUN").unwrap_or(("", ""));
-    let last = rest.split_once("JUN").unwrap_or(("", "")).0;
-    let first: u64 = first.parse().unwrap_or(99);
-    let last: u64 = last.parse().unwrap_or(0);
-    first.saturating_add(62) <= date && date <= last.saturating_add(62)
-}
-
-/// Whether the one link of the one door was sent a front of what the other run sent it, where there
-/// is one.
-pub fn are_front_of(given: &Given, calm: &RunEnd, ran: &RunEnd) -> bool {
-    match given.clients.as_slice() {
-        [clients] if clients.inputs.len() == 1 => { begins(first_sent(ran), first_sent(calm)) }
-        _ => true,
-    }
-}
-
-/// What the first link of the first door was sent.
-fn first_sent(ran: &RunEnd) -> Option<&[u8]> {
-    Some(ran.doors.first()?.kept().first()?.sent())
+    let next = file_text(alloc, ran.cabinet.file("NEXT"))?;
+    let (series, kept) = counted(held, &operated);
+    let due = format!(in alloc; "SERIES {series} KEPT {kept}\n")?;
+    Ok(first_of(
+        law(said.as_str() == due.as_str(), "numbers of series"),
+        law(is_next(alloc, &next, held, &operated)?, "the next season"),
+    ))
 }

@@ -1,9 +1,10 @@
 //! One case: a command on a drawn world, first where no call fails, and then where one may.
 
-use crate::answers::{amended, are_front_of, recleared, resumed, served, watched};
+use crate::answers::{amended, recleared, resumed, served, watched};
 use crate::compared::broken_beside;
 use crate::general::{broken_law, is_refused_behind};
 use crate::laws::{first_of, law};
+use crate::sent::is_front_of;
 use crate::works::{allotted, checked, inspected, made, reported, tried};
 use desk_outside::Failure;
 use drawn_worlds::{COMMANDS, Command, Draws, damage_world, text_of, whole_world};
@@ -112,7 +113,7 @@ fn broken_beside_calm<R: Threads + Wait + Sync>(
     if !first.is_empty() {
         return Ok(first);
     }
-    given.fails = drawn_fails(draws, case.command);
+    given.fails = drawn_fails(draws, case.command, given.journal.is_some());
     broken_second(rt, alloc, case, given, calm, counts)
 }
 
@@ -151,7 +152,7 @@ fn note(counts: &mut [u64], command: Command, status: u8) {
 }
 
 /// A call of one object that is to fail.
-fn drawn_fails(draws: &mut Draws, command: Command) -> Fails {
+fn drawn_fails(draws: &mut Draws, command: Command, has_disk: bool) -> Fails {
     let part = if draws.once_in(2) {
         None
     } else {
@@ -172,7 +173,7 @@ fn drawn_fails(draws: &mut Draws, command: Command) -> Fails {
             call: draws.below(9),
             part,
         }),
-        3 if command == Command::Resume => {
+        3 if has_disk => {
             fails.disk = Some(Failure {
                 call: draws.below(30),
                 part,
@@ -230,7 +231,7 @@ fn broken_work<R: Threads + Wait + Sync>(
 ) -> Result<&'static str, RunFault> {
     let command = case.command;
     if command == Command::Inspect {
-        return inspected(rt, alloc, given, ran);
+        return inspected(rt, alloc, given, ran, case.damaged.is_empty());
     }
     if !command.ends(ran.status) && ran.status != 13 {
         return Ok("");
@@ -238,12 +239,12 @@ fn broken_work<R: Threads + Wait + Sync>(
     match command {
         Command::Allocate => allotted(rt, alloc, given, ran),
         Command::Check => checked(rt, alloc, given),
-        Command::Amend => amended(rt, alloc, given, ran),
-        Command::Serve => served(rt, alloc, given, ran),
+        Command::Amend => amended(rt, alloc, given, ran, case.damaged),
+        Command::Serve => served(rt, alloc, given, ran, case.damaged),
         Command::Resume => resumed(rt, alloc, given, ran, case.damaged),
         Command::Usage => watched(rt, alloc, given, ran, case.damaged),
         Command::Reclear => recleared(rt, alloc, given, ran),
-        Command::Report => reported(alloc, ran),
+        Command::Report => reported(alloc, given, ran),
         Command::Make => made(alloc, case.words.as_str(), ran),
         Command::Trial => tried(rt, alloc, case.words.as_str(), ran),
         Command::Recheck | Command::Inspect => Ok(""),
@@ -271,9 +272,6 @@ fn broken_failing<R: Threads + Wait + Sync>(
     if case.refused || !case.command.ends(ran.status) {
         return Ok("");
     }
-    let sent = law(
-        are_front_of(given, calm, ran),
-        "what a failing link was sent",
-    );
+    let sent = law(is_front_of(calm, ran), "what a first link was sent");
     Ok(first_of(sent, broken_work(rt, alloc, case, given, ran)?))
 }

@@ -1,18 +1,17 @@
 //! What holds of each run of the desk, whatever it was given: its status is one of the command's,
-//! what was printed is of that status, a fault is answered only where a call failed, and no file
-//! but those that the command writes has other bytes than before.
+//! what was printed is of that status and names what it may, a fault is answered only where a call
+//! failed, no file but those that the command writes has other bytes than before, and the disk is
+//! where it was.
 
 use crate::laws::{first_of, law};
+use crate::refusals::{is_cause, is_named};
 use desk_disk::Disk;
 use desk_links::Door;
 use desk_outside::{Cabinet, Sink};
-use drawn_worlds::{Command, are_same, has_name, number, text_of, word};
+use drawn_worlds::{Command, are_same, has_name, text_of, word};
 use memory_desk::{Given, RunEnd};
 use slot_text::Memory;
 use std::alloc::Global;
-
-/// The most bytes of a file that is read, but for a certificate.
-const MOST_BYTES: usize = 4_194_304;
 
 /// The name of the first law that a run breaks, or nothing.
 pub fn broken_law(
@@ -28,11 +27,27 @@ pub fn broken_law(
         law(is_text_of(command, status, &said), "text"),
     );
     let second = first_of(
-        law(is_named(command, given, status, &said), "name"),
-        law(has_cause(given, ran, &said), "cause"),
+        law(is_named(alloc, command, given, status, &said)?, "name"),
+        law(has_cause(ran, &said), "cause"),
     );
-    let files = law(are_files_left(command, given, ran, &said), "files");
-    Ok(first_of(first, first_of(second, files)))
+    let third = first_of(
+        law(are_files_left(command, given, ran, &said), "files"),
+        law(is_disk_back(command, given, ran), "disk"),
+    );
+    let told = law(tells_why(alloc, command, given, status, &said)?, "why");
+    Ok(first_of(first, first_of(first_of(second, third), told)))
+}
+
+/// Whether `inspect` says why it refuses.
+fn tells_why(
+    alloc: Global,
+    command: Command,
+    given: &Given,
+    status: u8,
+    said: &str,
+) -> Result<bool, Memory> {
+    let tells = command == Command::Inspect && (status == 3 || status == 4);
+    Ok(!tells || is_cause(alloc, given, said)?)
 }
 
 /// Whether a command may end with a status.
@@ -85,40 +100,6 @@ fn are_done_lines(command: Command, status: u8, said: &str) -> bool {
     said.starts_with(begins) && ends
 }
 
-/// Whether the file that a refusal names is one of the command's, and its reason that of the file.
-fn is_named(command: Command, given: &Given, status: u8, said: &str) -> bool {
-    let name = word(said.lines().next().unwrap_or(""), 1);
-    match status {
-        3 => has_name(command.reads(), name) && is_line_of(given, name, said),
-        5 => is_cabinet_line(command, given, name, said),
-        _ => true,
-    }
-}
-
-/// Whether a refusal names a line of the file, or one behind its last.
-fn is_line_of(given: &Given, name: &str, said: &str) -> bool {
-    let bytes = given.file(name).unwrap_or(b"");
-    let ends = bytes.iter().filter(|byte| **byte == b'\n').count() as u64;
-    match number(said.lines().next().unwrap_or(""), 2) {
-        Some(line) => 1 <= line && line <= ends.saturating_add(2),
-        None => false,
-    }
-}
-
-fn is_cabinet_line(command: Command, given: &Given, name: &str, said: &str) -> bool {
-    let failed = match given.fails.cabinet {
-        Some(failure) => command.file_of(usize::try_from(failure.call).unwrap_or(usize::MAX)),
-        None => "",
-    };
-    match word(said.lines().next().unwrap_or(""), 2) {
-        "MISSING" => has_name(command.reads(), name) && given.file(name).is_none(),
-        "LARGE" => given.file(name).unwrap_or(b"").len() > MOST_BYTES,
-        "READ" => has_name(command.reads(), name) && name == failed,
-        "WRITE" => has_name(command.writes(), name) && name == failed,
-        _ => false,
-    }
-}
-
 /// Whether what was refused where no call failed is the file that was damaged, or one behind it, by
 /// the order in which the command reads. What a client says and a journal stand behind all files.
 pub fn is_refused_behind(command: Command, damaged: &str, status: u8, said: &str) -> bool {
@@ -153,7 +134,7 @@ fn place_in(names: &str, name: &str) -> usize {
 }
 
 /// Whether calls failed where the status says so, and none where it says that none did.
-fn has_cause(given: &Given, ran: &RunEnd, said: &str) -> bool {
+fn has_cause(ran: &RunEnd, said: &str) -> bool {
     let cabinet = ran.cabinet.faults() > 0;
     let sink = ran.sink.faults() > 0;
     let doors = have_doors_failed(ran);
@@ -164,7 +145,18 @@ fn has_cause(given: &Given, ran: &RunEnd, said: &str) -> bool {
     let exact = (status == 6) == sink && (status != 5 || was_told == cabinet);
     let calm = (is_cut || !cabinet) && (is_cut || status == 10 || status == 14 || !doors);
     let disks = (is_cut || status == 14 || !disk) && (status != 14 || disk);
-    exact && calm && disks && (status != 10 || doors) && (given.journal.is_some() || !disk)
+    exact && calm && disks && (status != 10 || doors)
+}
+
+/// Whether there is a disk exactly where one was given, which no command but `resume` asked.
+fn is_disk_back(command: Command, given: &Given, ran: &RunEnd) -> bool {
+    match (&given.journal, &ran.disk) {
+        (Some(before), Some(disk)) => {
+            command == Command::Resume || disk.faults() == 0 && disk.bytes() == before.as_slice()
+        }
+        (None, None) => true,
+        _ => false,
+    }
 }
 
 fn have_doors_failed(ran: &RunEnd) -> bool {

@@ -4,8 +4,10 @@
 //!
 //! A case is a season, with what one command reads of it, in memory; half of them are damaged by a
 //! byte, a field or a line. The desk runs twice on it: where no call fails, and where one may. What
-//! is then looked at is said by plain code that shares nothing with the desk's: see `general`,
-//! `compared`, `works` and `answers`.
+//! is then looked at is said in `general`, `compared`, `works` and `answers`, by plain code that
+//! reads the texts itself and calls no reader, count or book of the desk. Where a law speaks of two
+//! commands it runs the desk again: a certificate that was written is checked, and the asks of a
+//! record are asked anew.
 #![tactic(auto)]
 
 mod answers;
@@ -14,8 +16,13 @@ mod compared;
 mod general;
 mod laws;
 mod made;
+mod next_season;
 mod plain;
+mod printed;
 mod records;
+mod refusals;
+mod sent;
+mod told;
 mod works;
 
 use cases::{STATUSES, broken_case};

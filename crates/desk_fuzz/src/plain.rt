@@ -157,7 +157,7 @@ fn put_date(list: &mut Vec<Movement>, plain: &Plain<'_>, date: u64) -> Result<()
 
 /// Whether a list of movements is within the limits that a capacity file declares.
 pub fn fits(capacity: &str, list: &[Movement]) -> bool {
-    let step = step_of(capacity).unwrap_or(0);
+    let step = step_of(capacity);
     for line in capacity.lines() {
         let holds = match field(line, 0) {
             "CAP" => is_within(line, step, list),
@@ -171,13 +171,66 @@ pub fn fits(capacity: &str, list: &[Movement]) -> bool {
     true
 }
 
-fn step_of(capacity: &str) -> Option<u64> {
-    for line in capacity.lines() {
-        if field(line, 0) == "STEP" {
-            return value(line, 1);
+fn step_of(capacity: &str) -> u64 {
+    declared(capacity, "STEP").parse().unwrap_or(0)
+}
+
+/// The second field of the first line that begins with a word; empty where there is none.
+pub fn declared<'a>(text: &'a str, begin: &str) -> &'a str {
+    for line in text.lines() {
+        if field(line, 0) == begin {
+            return field(line, 1);
         }
     }
-    None
+    ""
+}
+
+/// How many lines begin with a word.
+pub fn lines_with(text: &str, begin: &str) -> u64 {
+    let mut count = 0_u64;
+    for line in text.lines() {
+        count = count.saturating_add(u64::from(field(line, 0) == begin));
+    }
+    count
+}
+
+/// How many windows a capacity file declares on the dates of S25, its night quota counted as one.
+pub fn windows_of(capacity: &str) -> u64 {
+    let step = step_of(capacity);
+    let mut count = lines_with(capacity, "NIGHT");
+    for line in capacity.lines() {
+        if field(line, 0) == "CAP" {
+            count = count.saturating_add(starts_of(line, step).saturating_mul(DATES));
+        }
+    }
+    count
+}
+
+/// How many windows of a date a capacity line has.
+fn starts_of(line: &str, step: u64) -> u64 {
+    let from = minute_of(field(line, 3), 0).unwrap_or(0);
+    let to = minute_of(field(line, 4), 0).unwrap_or(0);
+    let steps = to.saturating_sub(from).checked_div(step).unwrap_or(0);
+    steps.saturating_add(1)
+}
+
+/// How many dates the lines of a text have together, which are printed lines of June.
+pub fn dates_of_all(lines: &str) -> u64 {
+    let mut count = 0_u64;
+    for line in lines.lines() {
+        if let Some(plain) = read_plain(line) {
+            count = count.saturating_add(dates_in(&plain));
+        }
+    }
+    count
+}
+
+fn dates_in(plain: &Plain<'_>) -> u64 {
+    let mut count = 0_u64;
+    for date in plain.first..plain.last.saturating_add(1) {
+        count = count.saturating_add(u64::from(is_on(plain.days, date)));
+    }
+    count
 }
 
 /// A field of a line as a number.

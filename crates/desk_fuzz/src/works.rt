@@ -5,7 +5,9 @@
 use crate::laws::{first_of, law};
 use crate::made::{made_capacity, made_requests};
 use crate::plain::{fits, movements_of};
+use crate::printed::{nodes_of, stage_lines};
 use crate::records::answers_to;
+use crate::told::broken_lines;
 use drawn_worlds::{
     Command, copied, count_of, file_text, held_lines, keep_writes, number, queries_text, text_of,
     word,
@@ -43,8 +45,8 @@ pub fn fit_replies(alloc: Global, given: &Given, replies: &str) -> Result<bool, 
     Ok(fits(&capacity, &list))
 }
 
-/// Stages were allotted: the status is that of their lines, the certificate is valid, what was
-/// allotted is within the limits, and each unit has one reply.
+/// Stages were allotted: the status is that of their lines, which are those of the certificate, it
+/// is valid, what was allotted is within the limits, and each unit has one reply.
 pub fn allotted<R: Threads + Wait + Sync>(
     rt: &R,
     alloc: Global,
@@ -64,7 +66,14 @@ pub fn allotted<R: Threads + Wait + Sync>(
         law(is_valid, "a certificate that was written"),
         law(is_whole, "replies"),
     );
-    Ok(first_of(first, second))
+    let stages = law(are_stages(alloc, ran, &said)?, "costs and bounds");
+    Ok(first_of(first, first_of(second, stages)))
+}
+
+/// Whether what was printed is the marks, the costs and the bounds of the certificate.
+fn are_stages(alloc: Global, ran: &RunEnd, said: &str) -> Result<bool, Memory> {
+    let certificate = file_text(alloc, ran.cabinet.file("CERT"))?;
+    Ok(stage_lines(alloc, &certificate)?.as_str() == said)
 }
 
 /// The status that the lines of stages give.
@@ -137,29 +146,52 @@ pub fn held_slots<R: Threads + Wait + Sync>(
     answers_to(rt, alloc, given, &queries)
 }
 
-/// A season was told of, or refused: as `allocate` does.
+/// A season was told of, or refused: as `allocate` does; and what is told counts its lines.
 pub fn inspected<R: Threads + Wait + Sync>(
     rt: &R,
     alloc: Global,
     given: &Given,
     ran: &RunEnd,
+    is_whole: bool,
 ) -> Result<&'static str, RunFault> {
     let said = text_of(alloc, ran.sink.bytes())?;
     let allotted = said_of(rt, alloc, Command::Allocate.words(), given)?;
+    if ran.status == 0 {
+        return Ok(broken_told(alloc, given, &said, &allotted, is_whole)?);
+    }
     let status = ran.status;
     let line = said.lines().next().unwrap_or("");
     let due = format!(in alloc; "{status} {line}\n")?;
-    let is_same = if status == 0 {
-        matches!(word(&allotted, 0), "0" | "8" | "9")
-    } else {
-        allotted.as_str() == due.as_str()
-    };
-    Ok(law(is_same, "inspect beside allocate"))
+    Ok(law(
+        allotted.as_str() == due.as_str(),
+        "a refusal beside allocate",
+    ))
+}
+
+/// The first law that what is told of a season breaks, beside what `allocate` says.
+fn broken_told(
+    alloc: Global,
+    given: &Given,
+    said: &str,
+    allotted: &str,
+    is_whole: bool,
+) -> Result<&'static str, Memory> {
+    let is_done = matches!(word(allotted, 0), "0" | "8" | "9");
+    let is_over = count_of(said, "OVER ") > 0;
+    let first = first_of(
+        law(is_done, "inspect beside allocate"),
+        law(
+            is_over == allotted.contains("STAGE 1 INFEASIBLE"),
+            "what is over the limits",
+        ),
+    );
+    Ok(first_of(first, broken_lines(alloc, given, said, is_whole)?))
 }
 
 /// A certificate was reported on: the numbers that are printed are those of the units of the
-/// report, and in a stage that is settled nothing cheaper fits.
-pub fn reported(alloc: Global, ran: &RunEnd) -> Result<&'static str, RunFault> {
+/// report, its stages are those of the certificate, and in a stage that is settled nothing cheaper
+/// fits.
+pub fn reported(alloc: Global, given: &Given, ran: &RunEnd) -> Result<&'static str, RunFault> {
     let said = text_of(alloc, ran.sink.bytes())?;
     let report = file_text(alloc, ran.cabinet.file("REPORT"))?;
     let page = file_text(alloc, ran.cabinet.file("PAGE"))?;
@@ -169,13 +201,29 @@ pub fn reported(alloc: Global, ran: &RunEnd) -> Result<&'static str, RunFault> {
     );
     let is_page = page.starts_with("<!DOCTYPE html>") && page.ends_with("</html>\n");
     let is_report = report.starts_with("REPORT 1\n") && report.ends_with("\nEND\n");
-    Ok(first_of(first, law(is_page && is_report, "forms of a report")))
+    let second = first_of(
+        law(is_page && is_report, "forms of a report"),
+        law(are_stages_of(alloc, given, &report)?, "stages of a report"),
+    );
+    Ok(first_of(first, second))
+}
+
+/// Whether the stages of a report are those of the certificate.
+fn are_stages_of(alloc: Global, given: &Given, report: &str) -> Result<bool, Memory> {
+    let certificate = file_text(alloc, given.file("CERT"))?;
+    let mut text = String::new(alloc);
+    for line in report.lines().filter(|line| line.starts_with("STAGE ")) {
+        let (stage, _) = line.split_once(" UNITS ").unwrap_or((line, ""));
+        text.push_str(stage)?;
+        text.push('\n')?;
+    }
+    Ok(stage_lines(alloc, &certificate)?.as_str() == text.as_str())
 }
 
 /// The words of outcomes, in the order in which they are printed.
 const OUTCOMES: [&str; 5] = ["KEPT", "HISTORIC", "MOVED", "REFUSED", "NONE"];
 
-/// Whether the numbers of outcomes are those of the units, and they add up.
+/// Whether the numbers of outcomes are those of the units, and they add up, as do their minutes.
 fn are_numbers_of(said: &str, report: &str) -> bool {
     let mut sum = 0_u64;
     for (place, outcome) in OUTCOMES.iter().enumerate() {
@@ -185,7 +233,29 @@ fn are_numbers_of(said: &str, report: &str) -> bool {
         }
         sum = sum.saturating_add(told.unwrap_or(0));
     }
-    number(said, 1) == Some(sum)
+    number(said, 1) == Some(sum) && minutes_told(said) == minutes_of(report)
+}
+
+/// The minutes at the end of a tally.
+fn minutes_told(said: &str) -> Option<u64> {
+    let (_, minutes) = said.split_once(" MINUTES ")?;
+    minutes.strip_suffix('\n')?.parse().ok()
+}
+
+/// What the units of a report cost that have slots: None where one does not cost its minutes of
+/// change on each of its dates.
+fn minutes_of(report: &str) -> Option<u64> {
+    let mut sum = 0_u64;
+    for line in report.lines().filter(|line| line.starts_with("UNIT ")) {
+        if matches!(word(line, 4), "KEPT" | "HISTORIC" | "MOVED") {
+            let due = number(line, 6)?.checked_mul(number(line, 8)?)?;
+            if number(line, 10) != Some(due) {
+                return None;
+            }
+            sum = sum.checked_add(due)?;
+        }
+    }
+    Some(sum)
 }
 
 fn units_with(report: &str, outcome: &str) -> u64 {
@@ -220,18 +290,26 @@ pub fn made(alloc: Global, words: &str, ran: &RunEnd) -> Result<&'static str, Ru
     Ok(law(is_made, "a made season"))
 }
 
-/// A season was tried: what was printed of its stages is what `allocate` prints of its files.
+/// A season was tried: what was printed of its stages is what `allocate` prints of its files, and
+/// the nodes are those of the certificate that it writes.
 pub fn tried<R: Threads + Wait + Sync>(
     rt: &R,
     alloc: Global,
     words: &str,
     ran: &RunEnd,
 ) -> Result<&'static str, RunFault> {
-    let said = text_of(alloc, ran.sink.bytes())?;
     let given = made_world(alloc, words)?;
-    let due = said_of(rt, alloc, TRIED, &given)?;
-    let is_same = said.starts_with(behind_status(&due)) && said.ends_with("CHECK YES\n");
-    Ok(law(is_same, "a trial"))
+    let allotted = run_desk(rt, alloc, TRIED, &given, &RealGate)?;
+    Ok(law(is_trial(alloc, ran, &allotted)?, "a trial"))
+}
+
+fn is_trial(alloc: Global, ran: &RunEnd, allotted: &RunEnd) -> Result<bool, Memory> {
+    let said = text_of(alloc, ran.sink.bytes())?;
+    let stages = text_of(alloc, allotted.sink.bytes())?;
+    let certificate = file_text(alloc, allotted.cabinet.file("CERT"))?;
+    let nodes = nodes_of(&certificate);
+    let due = format!(in alloc; "{stages}NODES {nodes}\nCHECK YES\n")?;
+    Ok(said.as_str() == due.as_str() && ran.status == allotted.status)
 }
 
 /// The words of `allocate` with the budget of a trial.
@@ -249,11 +327,4 @@ fn made_world(alloc: Global, words: &str) -> Result<Given, Memory> {
         made_requests(alloc, seed, units)?.into_bytes(),
     )?;
     Ok(given)
-}
-
-fn behind_status(said: &str) -> &str {
-    match said.split_once(' ') {
-        Some((_, printed)) => printed,
-        None => "",
-    }
 }

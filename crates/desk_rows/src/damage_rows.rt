@@ -1,5 +1,7 @@
-//! The table of damaged input, command by command: a damaged file is refused by all of them alike,
-//! and before what comes behind it is looked at.
+//! Damaged input, command by command: each that reads a season refuses a damaged one, each that
+//! reads a certificate a damaged one, and what is read behind these is refused by the commands that
+//! read it. Where a season or a certificate is damaged, the files behind it are out of form, too:
+//! what comes first is refused.
 
 use crate::play::play_script;
 use std::alloc::Global;
@@ -28,6 +30,18 @@ line FLEX 60|FLEX 125|4 LIMIT FLEX 125;
 line FBA001 30MAR30MAR 0000007 180320 JFK0610 J|\
     ^BA001 30MAR30MAR 0000007 180320 JFK0610 J|3 FORM SCR 5;
 line SCR|{100000 AAAAAAAAAA}|3 FORM SCR 1;
+line SCR|{524288 AAAAAAAA}|5 CABINET SCR LARGE;
+line AIRPORT ABC|{524288 AAAAAAAA}|5 CABINET CAP LARGE;
+";
+
+/// The same of `inspect`, which says why in a second line, but for files that are too large.
+const INSPECTED: &str = "\
+words inspect CAP SCR
+line STEP 5|STEP 18446744073709551616|3 FORM CAP 3;FIELD 2 VALUE;
+line FLEX 60|FLEX 125|4 LIMIT FLEX 125;MOST 120;
+line FBA001 30MAR30MAR 0000007 180320 JFK0610 J|\
+    ^BA001 30MAR30MAR 0000007 180320 JFK0610 J|3 FORM SCR 5;FIELD 1 CODE;
+line SCR|{100000 AAAAAAAAAA}|3 FORM SCR 1;LONG;
 line SCR|{524288 AAAAAAAA}|5 CABINET SCR LARGE;
 line AIRPORT ABC|{524288 AAAAAAAA}|5 CABINET CAP LARGE;
 ";
@@ -82,6 +96,8 @@ fn script_of(alloc: Global, words: &str, rows: &str) -> Result<String, Fail> {
 fn damaged_seasons_are_refused(rt: HostRuntime) -> Result<(), Fail> {
     let alloc = rt.alloc();
     let script = script_of(alloc, "allocate CAP SCR CERT REPLIES", "")?;
+    play_script(&rt, alloc, &script)?;
+    let script = format!(in alloc; "{WORLD}{INSPECTED}")?;
     play_script(&rt, alloc, &script)
 }
 

@@ -62,6 +62,29 @@ fn said(alloc: Global, status: u8, printed: &[u8]) -> Result<String, Fail> {
     Ok(format!(in alloc; "{status} {text}")?)
 }
 
+/// Room for a journal of six pairs.
+const ROOM: usize = 1553;
+
+/// A disk that holds these bytes, of which calls are to fail.
+pub(crate) fn disk_of(
+    alloc: Global,
+    file: &[u8],
+    failing: Vec<Failure>,
+) -> Result<Option<MemoryDisk>, Fail> {
+    if file.len() > ROOM {
+        return Err("too long".into());
+    }
+    Ok(Some(MemoryDisk::new(alloc, file, ROOM, 99, failing)?))
+}
+
+/// What a disk holds that the desk has put back.
+pub(crate) fn bytes_of(alloc: Global, disk: &Option<MemoryDisk>) -> Result<Vec<u8>, Fail> {
+    match disk {
+        Some(disk) => Ok(Vec::from_slice(alloc, disk.bytes())?),
+        None => Err("the disk is gone".into()),
+    }
+}
+
 /// Runs the desk without doors, where no put fails.
 pub(crate) fn call_alone<R: Threads + Wait + Sync>(
     rt: &R,

@@ -19,11 +19,14 @@
 //! - `accept CALL|SAID` and `link CALL|SAID` run it where this accept of the first door fails, or
 //!   this call of that door's first link.
 //! - `sent DOOR LINK TEXT` wants that this link was sent this text in the last run.
+//! - `journal` gives each run below a disk with an empty file; `kept N`, the last line about a run,
+//!   lets a desk without clients open what the run left there, and wants that it finds N pairs.
 //!
 //! In what is wanted `*` stands for any text. Each certificate that a run wrote is checked.
 
-use crate::desk_calls::{call_alone, call_desk, door_of, new_cabinet};
+use crate::desk_calls::{bytes_of, call_alone, call_with_disk, disk_of, door_of, new_cabinet};
 use crate::texts::{edited, fits, folded, spelled_out};
+use desk_disk::MemoryDisk;
 use desk_links::MemoryDoor;
 use desk_outside::{Failure, MemoryCabinet};
 use std::alloc::{AllocError, Global};
@@ -49,6 +52,8 @@ struct Play {
     clients: Vec<String>,
     piece: usize,
     doors: Vec<MemoryDoor>,
+    is_journaled: bool,
+    disk: Option<MemoryDisk>,
 }
 
 /// Plays a script, and fails with the first of its lines that is not as it says.
@@ -65,6 +70,8 @@ pub(crate) fn play_script<R: Threads + Wait + Sync>(
         clients: Vec::new(alloc),
         piece: 0,
         doors: Vec::new(alloc),
+        is_journaled: false,
+        disk: None,
     };
     for line in script.split('\n') {
         if !play_line(rt, alloc, &mut play, line)? {
@@ -88,8 +95,9 @@ fn play_line<R: Threads + Wait + Sync>(
         "take" => take_file(alloc, play, rest),
         "holds" => compare_file(alloc, play, rest),
         "fronts" => play_fronts(rt, alloc, play, rest),
-        "door" | "shut" | "piece" => set_clients(alloc, play, word, rest),
+        "door" | "shut" | "piece" | "journal" => set_clients(alloc, play, word, rest),
         "sent" => compare_sent(alloc, play, rest),
+        "kept" => compare_kept(rt, alloc, play, rest),
         _ => play_run(rt, alloc, play, word, rest),
     }
 }
@@ -139,11 +147,12 @@ fn compare_file(alloc: Global, play: &mut Play, rest: &str) -> Result<bool, Fail
     Ok(fits(play.said.as_str(), wanted))
 }
 
-/// Sets what the doors of each run below have.
+/// Sets what the doors of each run below have, and whether it has a disk.
 fn set_clients(alloc: Global, play: &mut Play, word: &str, rest: &str) -> Result<bool, Fail> {
     match word {
         "door" => play.clients.push(String::from_str(alloc, rest)?)?,
         "shut" => play.clients = Vec::new(alloc),
+        "journal" => play.is_journaled = true,
         _ => play.piece = rest.parse()?,
     }
     Ok(true)
@@ -159,6 +168,52 @@ fn compare_sent(alloc: Global, play: &mut Play, rest: &str) -> Result<bool, Fail
     let link = door.kept().get(link).ok_or("no such link")?;
     play.said = folded(alloc, link.sent())?;
     Ok(fits(play.said.as_str(), wanted))
+}
+
+/// Whether a desk without clients finds so many pairs in the journal that the last run left.
+fn compare_kept<R: Threads + Wait + Sync>(
+    rt: &R,
+    alloc: Global,
+    play: &mut Play,
+    count: &str,
+) -> Result<bool, Fail> {
+    let bytes = bytes_of(alloc, &play.disk)?;
+    play.disk = disk_of(alloc, &bytes, Vec::new(alloc))?;
+    play.doors = Vec::new(alloc);
+    let words = "resume CAP SCR CERT JOURNAL RECORD";
+    run_words(rt, alloc, play, words, None)?;
+    let due = format!(in alloc; "0 KEPT {count};ENTRIES 0;LINKS 0;")?;
+    Ok(play.said.as_str() == due.as_str())
+}
+
+/// Runs the desk on these words over what the play has, where a put may fail.
+fn run_words<R: Threads + Wait + Sync>(
+    rt: &R,
+    alloc: Global,
+    play: &mut Play,
+    words: &str,
+    sink: Option<Failure>,
+) -> Result<(), Fail> {
+    play.said = call_with_disk(
+        rt,
+        alloc,
+        words,
+        &mut play.cabinet,
+        sink,
+        &mut play.doors,
+        &RealGate,
+        &mut play.disk,
+    )?;
+    Ok(())
+}
+
+/// An empty disk, where runs have one.
+fn made_disk(alloc: Global, is_journaled: bool) -> Result<Option<MemoryDisk>, Fail> {
+    if is_journaled {
+        disk_of(alloc, b"", Vec::new(alloc))
+    } else {
+        Ok(None)
+    }
 }
 
 /// The doors of a run.
@@ -269,15 +324,9 @@ fn run_desk<R: Threads + Wait + Sync>(
 ) -> Result<bool, Fail> {
     play.cabinet = filled_cabinet(alloc, &play.files, run)?;
     play.doors = made_doors(alloc, play, run)?;
-    play.said = call_desk(
-        rt,
-        alloc,
-        play.words.as_str(),
-        &mut play.cabinet,
-        run.sink,
-        &mut play.doors,
-        &RealGate,
-    )?;
+    play.disk = made_disk(alloc, play.is_journaled)?;
+    let words = play.words.clone()?;
+    run_words(rt, alloc, play, words.as_str(), run.sink)?;
     Ok(fits(play.said.as_str(), run.said) && has_valid_certificate(rt, alloc, play)?)
 }
 

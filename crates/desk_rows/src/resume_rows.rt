@@ -1,8 +1,10 @@
-//! The rows of `resume`: a journal that is begun and opened again, files that are no journal, disks
-//! of which each call fails, and images that a stop may leave at each moment.
+//! The rows of `resume`: a journal that is begun and opened again, files that are no journal,
+//! disks, links and doors of which each call fails, and images that a stop may leave at each
+//! moment.
 
-use crate::desk_calls::{call_with_disk, doors_of, first_link, new_cabinet};
-use crate::serve_rows::served_cabinet;
+use crate::desk_calls::{bytes_of, call_with_disk, disk_of, doors_of, first_link, new_cabinet};
+use crate::play::play_script;
+use crate::serve_rows::{SIX_ASKS, SIX_ENTRIES, TWO_MESSAGES, served_cabinet};
 use crate::texts::{fits, folded, spelled_out};
 use desk_disk::MemoryDisk;
 use desk_links::MemoryDoor;
@@ -12,9 +14,6 @@ use std::sync::Wait;
 use std::test::Fail;
 use std::thread::Threads;
 use worker_gate::RealGate;
-
-/// Room for a journal of four pairs.
-const ROOM: usize = 1041;
 
 const WORDS: &str = "resume CAP SCR CERT JOURNAL RECORD";
 
@@ -48,14 +47,6 @@ fn run<R: Threads + Wait + Sync>(
     run_over(rt, alloc, cabinet, sink, &mut doors, &mut disk)
 }
 
-/// A disk that holds these bytes, of which calls are to fail.
-fn disk_of(alloc: Global, file: &[u8], failing: Vec<Failure>) -> Result<Option<MemoryDisk>, Fail> {
-    if file.len() > ROOM {
-        return Err("too long".into());
-    }
-    Ok(Some(MemoryDisk::new(alloc, file, ROOM, 99, failing)?))
-}
-
 /// Runs the desk over these doors and this disk.
 fn run_over<R: Threads + Wait + Sync>(
     rt: &R,
@@ -76,14 +67,6 @@ fn first_sent(alloc: Global, doors: &[MemoryDoor]) -> Result<String, Fail> {
     match first_link(doors, 0) {
         Some(link) => Ok(folded(alloc, link.sent())?),
         None => Ok(String::new(alloc)),
-    }
-}
-
-/// What a disk holds that the desk has put back.
-fn bytes_of(alloc: Global, disk: &Option<MemoryDisk>) -> Result<Vec<u8>, Fail> {
-    match disk {
-        Some(disk) => Ok(Vec::from_slice(alloc, disk.bytes())?),
-        None => Err("the disk is gone".into()),
     }
 }
 
@@ -636,3 +619,137 @@ fn is_unread<R: Threads + Wait + Sync>(
     let due = format!(in alloc; "5 CABINET {name} READ;")?;
     Ok(ran.said.as_str() == due.as_str() && ran.bytes.is_empty() && ran.sent.is_empty())
 }
+
+/// One hour of two arrivals, one of them historic, and an empty journal.
+const JOURNALED: &str = "\
+file CAP AIRPORT ABC;SEASON S25;STEP 5;FLEX 60;GROUND 40;REFUSE NONE;\
+    CAP ARR 60 0600 0600 1234567 2;
+file SCR SCR;S25;20NOV;ABC;FBA001 30MAR25OCT 1234567 180320 JFK0610 J;
+words allocate CAP SCR CERT REPLIES
+says 0 STAGE 1 OPTIMAL 0;*
+take CERT
+file RECORD OLD;
+journal
+words resume CAP SCR CERT JOURNAL RECORD --links 2
+";
+
+/// Calls of a link that fail, where two messages and an end come with its first take: the desk goes
+/// on with the next client, and each ask that was entered stands in the journal. Then accepts of
+/// the first door, of two doors of two links.
+const FAILS: &str = "\
+says 0 KEPT 0;ENTRIES 0;LINKS 0;
+holds RECORD 
+kept 0
+door SCR;S25;20NOV;ABC;NBA002 30MAR25OCT 1234567 180320 JFK0620 J;;\
+    SCR;S25;20NOV;ABC;NBA003 30MAR25OCT 1234567 180320 JFK0700 J;;|SCR;S25;20NOV;ABC;QBA003;;
+says 0 KEPT 0;ENTRIES 3;LINKS 2;
+kept 3
+link 0|0 KEPT 0;ENTRIES 1;LINKS 2;
+sent 0 0 
+sent 0 1 SCR;S25;20NOV;ABC;WBA003;;
+holds RECORD ENTRY 1 CALLER 0;QBA003;WBA003;
+kept 1
+link 1|0 KEPT 0;ENTRIES 2;LINKS 2;
+sent 0 0 
+sent 0 1 SCR;S25;20NOV;ABC;WBA003;;
+holds RECORD ENTRY 1 CALLER 0;NBA002 *;KBA002 *;ENTRY 2 CALLER 0;QBA003;WBA003;
+kept 2
+link 2|0 KEPT 0;ENTRIES 3;LINKS 2;
+sent 0 0 SCR;S25;20NOV;ABC;KBA002 30MAR25OCT 1234567 180320 JFK0620 J;;
+sent 0 1 SCR;S25;20NOV;ABC;HBA003 30MAR25OCT 1234567 180320 JFK0700 J;;
+holds RECORD ENTRY 1 CALLER 0;NBA002 *;KBA002 *;ENTRY 2 CALLER 0;NBA003 *;KBA003 *;\
+    ENTRY 3 CALLER 0;QBA003;HBA003 *
+kept 3
+link 2:6|0 KEPT 0;ENTRIES 3;LINKS 2;
+sent 0 0 SCR;S25;20NOV;ABC;KBA002 30MAR25OCT 1234567 180320 JFK0620 J;;SCR;S2
+sent 0 1 SCR;S25;20NOV;ABC;HBA003 30MAR25OCT 1234567 180320 JFK0700 J;;
+kept 3
+link 3|0 KEPT 0;ENTRIES 3;LINKS 2;
+sent 0 0 SCR;S25;20NOV;ABC;KBA002 30MAR25OCT 1234567 180320 JFK0620 J;;\
+    SCR;S25;20NOV;ABC;KBA003 30MAR25OCT 1234567 180320 JFK0700 J;;
+kept 3
+shut
+door SCR;S25;20NOV;ABC;QBA001;;|SCR;S25;20NOV;ABC;QBA001;;
+door SCR;S25;20NOV;ABC;QBA001;;|SCR;S25;20NOV;ABC;QBA001;;
+says 0 KEPT 0;ENTRIES 4;LINKS 4;
+kept 4
+accept 0|10 KEPT 0;ENTRIES 2;LINKS 2;
+holds RECORD ENTRY 1 CALLER 1;*ENTRY 2 CALLER 1;*
+kept 2
+accept 1|10 KEPT 0;ENTRIES 3;LINKS 3;
+sent 0 0 SCR;S25;20NOV;ABC;HBA001 30MAR25OCT 1234567 180320 JFK0610 J;;
+holds RECORD ENTRY 1 CALLER *;*ENTRY 3 CALLER *;QBA001;HBA001 *
+kept 3
+accept 2|0 KEPT 0;ENTRIES 4;LINKS 4;
+kept 4
+words resume CAP SCR CERT JOURNAL RECORD --links 3
+says 0 KEPT 0;ENTRIES 4;LINKS 4;
+accept 2|10 KEPT 0;ENTRIES 4;LINKS 4;
+holds RECORD ENTRY 1 CALLER *;*ENTRY 4 CALLER *;QBA001;HBA001 *
+kept 4";
+
+#[test]
+fn links_and_doors_fail(rt: HostRuntime) -> Result<(), Fail> {
+    let alloc = rt.alloc();
+    let script = format!(in alloc; "{JOURNALED}{FAILS}")?;
+    play_script(&rt, alloc, &script)
+}
+
+/// One link in pieces of one byte, of which each take and the put fail in turn: what was sent is
+/// whole or nothing, and the asks stand in the record and in the journal where their message had
+/// come.
+#[test]
+fn each_call_of_a_link_fails(rt: HostRuntime) -> Result<(), Fail> {
+    let alloc = rt.alloc();
+    let takes = spelled_out(alloc, SIX_ASKS)?.len();
+    let mut script = format!(in alloc; "{JOURNALED}piece 1\ndoor {SIX_ASKS}\n")?;
+    for call in 0..takes + 3 {
+        let rows = rows_of_call(alloc, takes, call)?;
+        script.push_str(&rows)?;
+    }
+    play_script(&rt, alloc, &script)
+}
+
+/// What is said, sent, recorded and kept where this call of a link fails, of which so many are
+/// takes of its message.
+fn rows_of_call(alloc: Global, takes: usize, call: usize) -> Result<String, Fail> {
+    let (entered, record) = if call < takes {
+        (0, "")
+    } else {
+        (6, SIX_ENTRIES)
+    };
+    let sent = if call <= takes {
+        ""
+    } else {
+        "SCR;S25;20NOV;ABC;KBA002 *;WBA009 30MAR25OCT 1234567 180320 JFK0700 J;;"
+    };
+    Ok(format!(in alloc;
+        "link {call}|0 KEPT 0;ENTRIES {entered};LINKS 1;\nsent 0 0 {sent}\n\
+        holds RECORD {record}\nkept {entered}\n"
+    )?)
+}
+
+/// Two messages in pieces of one byte: where a take of the second one fails, the first has its
+/// reply, its entry and its pair.
+#[test]
+fn a_reply_is_sent_before_more_is_taken(rt: HostRuntime) -> Result<(), Fail> {
+    let alloc = rt.alloc();
+    let all = spelled_out(alloc, TWO_MESSAGES)?.len();
+    let (first, _) = TWO_MESSAGES.split_once(";;").ok_or("two messages")?;
+    let takes = first.len() + 2;
+    let mut script = format!(in alloc; "{JOURNALED}piece 1\ndoor {TWO_MESSAGES}\n")?;
+    // behind the takes of the first message comes one put
+    for call in takes.saturating_add(1)..all + 1 {
+        let rows = format!(in alloc; "link {call}|{FIRST_ROWS}")?;
+        script.push_str(&rows)?;
+    }
+    play_script(&rt, alloc, &script)
+}
+
+/// The first of these messages was answered, and the second did not come.
+const FIRST_ROWS: &str = "\
+0 KEPT 0;ENTRIES 1;LINKS 1;
+sent 0 0 SCR;S25;20NOV;ABC;KBA002 30MAR25OCT 1234567 180320 JFK0620 J;;
+holds RECORD ENTRY 1 CALLER 0;NBA002 *;KBA002 *
+kept 1
+";

@@ -1,5 +1,5 @@
-//! The rows of `serve`: sessions worked by hand over links in memory, devices that fail at each call,
-//! and two workers that run at once.
+//! The rows of `serve`: sessions worked by hand over links in memory, devices that fail at each
+//! call, and two workers that run at once.
 
 use crate::desk_calls::{call_alone, call_desk, door_of, doors_of, first_link, new_cabinet};
 use crate::play::play_script;
@@ -123,8 +123,9 @@ says 2 WORDS;
 words serve CAP SCR NO RECORD
 says 5 CABINET NO MISSING;";
 
-/// How sessions end, over links of one door: blanks and line ends, lines and messages of the greatest
-/// length, bad messages, and messages that are cut. (Capacity as above; one hour of two arrivals.)
+/// How sessions end, over links of one door: blanks and line ends, lines and messages of the
+/// greatest length, bad messages, and messages that are cut. (Capacity as above; one hour of two
+/// arrivals.)
 const ENDS: &str = "\
 file CAP AIRPORT ABC;SEASON S25;STEP 5;FLEX 60;GROUND 40;REFUSE NONE;\
     CAP ARR 60 0600 0600 1234567 2;
@@ -206,11 +207,11 @@ const CAP: &str = "AIRPORT ABC;SEASON S25;STEP 5;FLEX 60;GROUND 40;REFUSE NONE;\
 
 const SCR: &str = "SCR;S25;20NOV;ABC;FBA001 30MAR25OCT 1234567 180320 JFK0610 J;";
 
-const SIX_ASKS: &str = "SCR;S25;20NOV;ABC;NBA002 30MAR25OCT 1234567 180320 JFK0620 J;\
+pub(crate) const SIX_ASKS: &str = "SCR;S25;20NOV;ABC;NBA002 30MAR25OCT 1234567 180320 JFK0620 J;\
     NBA003 30MAR25OCT 1234567 180320 JFK0630 J;ABA003 30MAR25OCT 1234567 180320 JFK0700 J;\
     DBA002 01JUN30JUN 1234567 180320 JFK0620 J;QBA002;ZBA009 30MAR25OCT 1234567 180320 JFK0700 J;;";
 
-const SIX_ENTRIES: &str = "ENTRY 1 CALLER 0;NBA002 30MAR25OCT 1234567 180320 JFK0620 J;\
+pub(crate) const SIX_ENTRIES: &str = "ENTRY 1 CALLER 0;NBA002 30MAR25OCT 1234567 180320 JFK0620 J;\
     KBA002 30MAR25OCT 1234567 180320 JFK0620 J;ENTRY 2 CALLER 0;\
     NBA003 30MAR25OCT 1234567 180320 JFK0630 J;UBA003 30MAR25OCT 1234567 180320 JFK0630 J;\
     OBA003 30MAR25OCT 1234567 180320 JFK0700 J;ENTRY 3 CALLER 0;\
@@ -237,8 +238,8 @@ pub(crate) fn served_cabinet<R: Threads + Wait + Sync>(
     Ok(cabinet)
 }
 
-/// Worker 1 waits at its first line until worker 0 has come to its first, and worker 0 at each of its
-/// lines until worker 1 has come to its second.
+/// Worker 1 waits at its first line until worker 0 has come to its first, and worker 0 at each of
+/// its lines until worker 1 has come to its second.
 #[derive(Drop)]
 struct Meeting {
     came: AtomicU64,
@@ -345,8 +346,8 @@ fn sent_length(doors: &[MemoryDoor], door: usize) -> Option<usize> {
     Some(first_link(doors, door)?.sent().len())
 }
 
-// One link in pieces of one byte, of which each take and the put fail in turn: the desk goes on, what
-// was sent is whole or nothing, and the asks are entered where their message had come.
+// One link in pieces of one byte, of which each take and the put fail in turn: the desk goes on,
+// what was sent is whole or nothing, and the asks are entered where their message had come.
 #[test]
 fn each_call_of_a_link_fails(rt: HostRuntime) -> Result<(), Fail> {
     let alloc = rt.alloc();
@@ -394,8 +395,10 @@ fn has_entered(
     })
 }
 
-// Two messages in pieces of one byte. Where a take of the second one fails, the first has its reply.
-const TWO_MESSAGES: &str = "SCR;S25;20NOV;ABC;NBA002 30MAR25OCT 1234567 180320 JFK0620 J;;\
+// Two messages in pieces of one byte. Where a take of the second one fails, the first has its
+// reply.
+pub(crate) const TWO_MESSAGES: &str =
+    "SCR;S25;20NOV;ABC;NBA002 30MAR25OCT 1234567 180320 JFK0620 J;;\
     SCR;S25;20NOV;ABC;QBA002;;";
 
 const FIRST_REPLY: &str = "SCR;S25;20NOV;ABC;KBA002 30MAR25OCT 1234567 180320 JFK0620 J;;";

@@ -3,8 +3,8 @@
 use std::alloc::{AllocError, Global};
 use std::test::Fail;
 
-/// The bytes for which a text stands: `^` is the byte 255, `~` a CR, and each `{3 AB}` is `AB` three
-/// times.
+/// The bytes for which a text stands: `^` is the byte 255, `~` a CR, and each `{3 AB}` is `AB`
+/// three times.
 pub(crate) fn spelled_out(alloc: Global, text: &str) -> Result<Vec<u8>, Fail> {
     let mut out = Vec::new(alloc);
     for (place, part) in text.split('{').enumerate() {

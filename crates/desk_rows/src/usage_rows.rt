@@ -3,9 +3,9 @@
 use crate::play::play_script;
 use std::test::Fail;
 
-/// One historic arrival of 30 weeks: Sunday is operated on 24 dates of 30, the other days on 23. Then
-/// refusals in their order, which leave the files as they were, devices that fail at each call, what
-/// was written as a season of its own, and reports of the most bytes.
+/// One historic arrival of 30 weeks: Sunday is operated on 24 dates of 30, the other days on 23.
+/// Then refusals in their order, which leave the files as they were, devices that fail at each
+/// call, what was written as a season of its own, and reports of the most bytes.
 const REPORTS: &str = "\
 file CAP AIRPORT ABC;SEASON S25;STEP 5;FLEX 60;GROUND 40;REFUSE NONE;\
     CAP ARR 60 0600 0600 1234567 2;

@@ -231,9 +231,9 @@ take EXTRA
 words recheck CAP SCR CERT ASKS EXTRA
 says 0 YES;";
 
-/// Which lines wait: not what clashes with one that waits before it, in whatever period; what has no
-/// common date with it does; nor what clashes with an offer, before it is declined. A refusal costs
-/// 9,999 where none is declared.
+/// Which lines wait: not what clashes with one that waits before it, in whatever period; what has
+/// no common date with it does; nor what clashes with an offer, before it is declined. A refusal
+/// costs 9,999 where none is declared.
 const CLASHES: &str = "\
 file CAP AIRPORT ABC;SEASON S25;STEP 5;FLEX 0;GROUND 40;REFUSE 10;\
     CAP ARR 60 0600 0600 1234567 1;
@@ -302,7 +302,8 @@ file REPLIES what stood there;
 words reclear CAP SCR CERT ASKS EXTRA REPLIES
 ";
 
-/// A line of a script that puts asks, which differ in the flight, from 1000 on and below a last one.
+/// A line of a script that puts asks, which differ in the flight, from 1000 on and below a last
+/// one.
 fn asks_below(alloc: Global, last: u32) -> Result<String, Fail> {
     let mut text = String::from_str(alloc, "file ASKS SCR;S25;21NOV;ABC;")?;
     for flight in 1000..last {

@@ -44,11 +44,10 @@ pub fn are_same(one: Option<&[u8]>, other: Option<&[u8]>) -> bool {
     }
 }
 
-/// Whether a file is not there, or its bytes begin the other one's.
+/// Whether both files are there, and the bytes of one begin the other one's.
 pub fn begins(front: Option<&[u8]>, whole: Option<&[u8]>) -> bool {
     match (front, whole) {
         (Some(front), Some(whole)) => whole.starts_with(front),
-        (None, _) => true,
         _ => false,
     }
 }

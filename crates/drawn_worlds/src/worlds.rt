@@ -31,6 +31,7 @@ pub fn whole_world<R: Threads + Wait + Sync>(
     put_season(alloc, draws, case, &mut given)?;
     put_made_files(rt, alloc, draws, case, command, &mut given)?;
     put_old_files(alloc, draws, command, &mut given)?;
+    put_idle_disk(alloc, draws, command, &mut given)?;
     Ok(given)
 }
 
@@ -142,7 +143,7 @@ fn drawn_message(
     message_text(alloc, draws, case, &held)
 }
 
-/// One door, or two, the first with one client or two; the asks stand in a file, too.
+/// One door, or two, the first with one client, two or three; the asks stand in a file, too.
 fn put_clients<R: Threads + Wait + Sync>(
     rt: &R,
     alloc: Global,
@@ -152,15 +153,28 @@ fn put_clients<R: Threads + Wait + Sync>(
 ) -> Result<(), RunFault> {
     put_asks(rt, alloc, draws, case, given)?;
     open_door_of_asks(alloc, given)?;
-    if draws.once_in(2) {
-        let text = drawn_message(alloc, draws, case, given, "ANSWERS")?;
-        given.add_client(text.into_bytes())?;
+    put_more_clients(alloc, draws, case, given)?;
+    given.piece = [0, 1, 7, 4096].get(draws.place(4)).copied().unwrap_or(0);
+    Ok(())
+}
+
+/// At most two clients more at the first door, and a second door.
+fn put_more_clients(
+    alloc: Global,
+    draws: &mut Draws,
+    case: u64,
+    given: &mut Given,
+) -> Result<(), Memory> {
+    for _ in 0..2 {
+        if draws.once_in(2) {
+            let text = drawn_message(alloc, draws, case, given, "ANSWERS")?;
+            given.add_client(text.into_bytes())?;
+        }
     }
     if draws.once_in(3) {
         let text = drawn_message(alloc, draws, case, given, "REPLIES")?;
         given.open_door(alloc, text.into_bytes())?;
     }
-    given.piece = [0, 1, 7, 4096].get(draws.place(4)).copied().unwrap_or(0);
     Ok(())
 }
 
@@ -170,7 +184,7 @@ fn open_door_of_asks(alloc: Global, given: &mut Given) -> Result<(), Memory> {
     given.open_door(alloc, asks)
 }
 
-/// A journal that an earlier desk kept, with its record, or an empty file; and the client of the
+/// A journal that an earlier desk kept, with its record, or an empty file; and the clients of the
 /// desk that opens it.
 fn put_journal<R: Threads + Wait + Sync>(
     rt: &R,
@@ -186,6 +200,9 @@ fn put_journal<R: Threads + Wait + Sync>(
         keep_journal(rt, alloc, given)?;
         let text = drawn_message(alloc, draws, case, given, "ANSWERS")?;
         given.replace_client(text.into_bytes());
+    }
+    if draws.once_in(2) {
+        put_more_clients(alloc, draws, case, given)?;
     }
     given.piece = draws.place(3);
     Ok(())
@@ -220,8 +237,21 @@ fn put_old_files(
     Ok(())
 }
 
+/// A disk of a command that asks none, in one of eight cases.
+fn put_idle_disk(
+    alloc: Global,
+    draws: &mut Draws,
+    command: Command,
+    given: &mut Given,
+) -> Result<(), Memory> {
+    if command != Command::Resume && draws.once_in(8) {
+        given.journal = Some(Vec::from_slice(alloc, OLD)?);
+    }
+    Ok(())
+}
+
 /// Damages one thing that the command takes, and names it: a file that it reads, or that is away
-/// then; what a client says; or its journal.
+/// then; what a client says; or its journal, or that is away.
 pub fn damage_world(
     alloc: Global,
     draws: &mut Draws,
@@ -269,6 +299,10 @@ fn damage_client(alloc: Global, draws: &mut Draws, given: &mut Given) -> Result<
 }
 
 fn damage_journal(alloc: Global, draws: &mut Draws, given: &mut Given) -> Result<(), Memory> {
+    if draws.once_in(6) {
+        given.journal = None;
+        return Ok(());
+    }
     let damaged = match &given.journal {
         Some(bytes) => damaged_bytes(alloc, draws, bytes)?,
         None => return Ok(()),
