@@ -3,21 +3,21 @@
 
 use crate::laws::{first_of, law};
 use crate::next_season::{counted, is_next};
-use crate::plain::declared;
+use crate::places::{Due, are_by_their_places, is_count_of, reply_due};
 use crate::printed::{links_due, links_of, stage_lines};
 use crate::records::{History, answers_to, history_of};
 use crate::refusals::open_slots;
 use crate::sent::{are_sent, broken_door};
 use crate::works::{fit_replies, held_slots, is_found_valid, said_of};
-use drawn_worlds::{Command, HEAD, copied, count_of, file_text, number, queries_text, text_of};
+use drawn_worlds::{Command, copied, count_of, file_text, number, queries_text, text_of};
 use memory_desk::{Given, RunEnd, RunFault};
 use slot_text::Memory;
 use std::alloc::Global;
 use std::sync::Wait;
 use std::thread::Threads;
 
-/// Asks were answered: the replies to each front of the messages begin the replies to them all, and
-/// what is held behind them all fits.
+/// Asks were answered: each ask of whole messages is counted, the replies to each front of the
+/// messages begin the replies to them all, and what is held behind them all fits.
 pub fn amended<R: Threads + Wait + Sync>(
     rt: &R,
     alloc: Global,
@@ -26,43 +26,14 @@ pub fn amended<R: Threads + Wait + Sync>(
     damaged: &str,
 ) -> Result<&'static str, RunFault> {
     let asks = file_text(alloc, given.file("ASKS"))?;
-    let is_whole = damaged != "ASKS";
-    if is_whole && !is_count_of(alloc, given, ran, &asks)? {
+    let due = reply_due(alloc, given, damaged == "ASKS")?;
+    if !is_count_of(alloc, ran, &asks, due)? {
         return Ok("entries of asks");
     }
     if !asks.ends_with('\n') {
         return Ok("");
     }
-    broken_replies(rt, alloc, given, ran, &asks, is_whole)
-}
-
-/// Whether each ask of messages that are whole was counted, a pair once; none where they are of
-/// another season.
-fn is_count_of(alloc: Global, given: &Given, ran: &RunEnd, asks: &str) -> Result<bool, Memory> {
-    let said = text_of(alloc, ran.sink.bytes())?;
-    let due = if is_of_season(alloc, given)? {
-        asks_in(asks)
-    } else {
-        0
-    };
-    let line = format!(in alloc; "ENTRIES {due}\n")?;
-    Ok(said.as_str() == line.as_str())
-}
-
-/// Whether the season is that of the messages that are drawn.
-fn is_of_season(alloc: Global, given: &Given) -> Result<bool, Memory> {
-    let capacity = file_text(alloc, given.file("CAP"))?;
-    Ok(declared(&capacity, "SEASON") == "S25")
-}
-
-/// How many asks messages have, of which no line of a header has six characters.
-fn asks_in(asks: &str) -> u64 {
-    let mut count = 0_u64;
-    for line in asks.lines() {
-        let is_ask = line.len() > 5 && !line.starts_with('C');
-        count = count.saturating_add(u64::from(is_ask));
-    }
-    count
+    broken_replies(rt, alloc, given, ran, &asks, due)
 }
 
 fn broken_replies<R: Threads + Wait + Sync>(
@@ -71,69 +42,12 @@ fn broken_replies<R: Threads + Wait + Sync>(
     given: &Given,
     ran: &RunEnd,
     asks: &str,
-    is_whole: bool,
+    due: Due,
 ) -> Result<&'static str, RunFault> {
     let answers = file_text(alloc, ran.cabinet.file("ANSWERS"))?;
-    let are_placed = are_by_their_places(rt, alloc, given, asks, &answers, is_whole)?;
+    let are_placed = are_by_their_places(rt, alloc, given, asks, &answers, due)?;
     let later = broken_behind(rt, alloc, given, asks, &answers)?;
     Ok(first_of(law(are_placed, "replies by their places"), later))
-}
-
-/// Whether the replies to each front of the messages begin the replies to all, and end with one to
-/// the last message of that front.
-fn are_by_their_places<R: Threads + Wait + Sync>(
-    rt: &R,
-    alloc: Global,
-    given: &Given,
-    asks: &str,
-    answers: &str,
-    is_whole: bool,
-) -> Result<bool, RunFault> {
-    let is_good = is_of_season(alloc, given)?;
-    let mut front = String::new(alloc);
-    let mut before = String::new(alloc);
-    for message in asks.split("\n\n") {
-        put_message(&mut front, message)?;
-        let replies = answers_to(rt, alloc, given, &front)?;
-        let reply = replies.strip_prefix(before.as_str());
-        let is_reply = match reply {
-            Some(reply) => is_reply_to(message, reply, is_whole, is_good),
-            None => false,
-        };
-        if !is_reply || !answers.starts_with(replies.as_str()) {
-            return Ok(false);
-        }
-        before = replies;
-    }
-    Ok(before.as_str() == answers)
-}
-
-fn put_message(front: &mut String, message: &str) -> Result<(), Memory> {
-    front.push_str(message)?;
-    front.push_str("\n\n")?;
-    Ok(())
-}
-
-/// Whether a text can be the reply to a message: one of its header, or one that names a line of it,
-/// or the one behind its last. A whole message has the former, but in another season.
-fn is_reply_to(message: &str, reply: &str, is_whole: bool, is_good: bool) -> bool {
-    if message.is_empty() {
-        return reply.is_empty();
-    }
-    if is_whole && is_good {
-        return reply.starts_with(HEAD) && reply.ends_with("\n\n");
-    }
-    if is_whole {
-        return reply == "BAD 2\n\n";
-    }
-    let lines = (message.lines().count() as u64).saturating_add(1);
-    match reply.strip_prefix("BAD ") {
-        Some(rest) => {
-            let place = number(first_line(reply), 1).unwrap_or(0);
-            1 <= place && place <= lines && rest.ends_with("\n\n")
-        }
-        None => reply.is_empty() || reply.starts_with("SCR\n") && reply.ends_with("\n\n"),
-    }
 }
 
 /// The first law that is broken where all flights are asked for behind the asks.

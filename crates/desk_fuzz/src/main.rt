@@ -17,6 +17,7 @@ mod general;
 mod laws;
 mod made;
 mod next_season;
+mod places;
 mod plain;
 mod printed;
 mod records;
