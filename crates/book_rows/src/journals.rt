@@ -171,7 +171,7 @@ fn run_by<R: Wait>(
         done: found,
         broken: false,
     };
-    let asked = ask_in_turn(
+    ask_in_turn(
         rt,
         alloc,
         &ledger,

@@ -1,6 +1,6 @@
 //! Lines of messages in a short form.
 
-use std::alloc::Global;
+use std::alloc::{AllocError, Global};
 use std::test::Fail;
 
 /// The lines of a text in which semicolons stand between them.
@@ -21,7 +21,7 @@ pub(crate) fn halves(text: &str, mark: char) -> (&str, &str) {
 /// The data lines for which a text stands, none for an empty one. Semicolons stand between lines. A
 /// line of two fields, as `NBA001 0610`, is an arrival from JFK on each day of S25; one of four, as
 /// `NBA001 05MAY05MAY 1000000 0610`, is one in a period. Every other line stands as it is.
-pub(crate) fn data_lines(alloc: Global, text: &str) -> Result<String, Fail> {
+pub(crate) fn data_lines(alloc: Global, text: &str) -> Result<String, AllocError> {
     let mut out = String::new(alloc);
     if text.is_empty() {
         return Ok(out);
@@ -33,7 +33,7 @@ pub(crate) fn data_lines(alloc: Global, text: &str) -> Result<String, Fail> {
     Ok(out)
 }
 
-fn data_line(alloc: Global, line: &str) -> Result<String, Fail> {
+fn data_line(alloc: Global, line: &str) -> Result<String, AllocError> {
     let Some((dated, time)) = line.rsplit_once(' ') else {
         return Ok(format!(in alloc; "{line}\n")?);
     };
