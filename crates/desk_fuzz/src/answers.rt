@@ -4,6 +4,7 @@
 use crate::laws::{first_of, law};
 use crate::next_season::{counted, is_next};
 use crate::places::{Due, are_by_their_places, is_count_of, reply_due};
+use crate::plain::first_line;
 use crate::printed::{links_due, links_of, stage_lines};
 use crate::records::{History, answers_to, history_of};
 use crate::refusals::open_slots;
@@ -134,10 +135,6 @@ fn is_one_history<R: Threads + Wait + Sync>(
     let history = history_of(alloc, record, u64::MAX)?;
     let answers = answers_to(rt, alloc, given, &history.asks)?;
     Ok(answers.as_str() == history.due.as_str())
-}
-
-fn first_line(text: &str) -> &str {
-    text.lines().next().unwrap_or("")
 }
 
 /// Clients were served with a journal: the pairs that were found are its open slots, the record

@@ -1,6 +1,6 @@
 //! Replies to messages: one to each, in its place, behind those to the messages before it.
 
-use crate::plain::declared;
+use crate::plain::{declared, first_line};
 use crate::records::answers_to;
 use drawn_worlds::{HEAD, file_text, number, text_of};
 use memory_desk::{Given, RunEnd, RunFault};
@@ -119,7 +119,7 @@ fn is_some_reply(message: &str, reply: &str) -> bool {
     if !reply.ends_with("\n\n") || !reply.starts_with("BAD ") {
         return reply.ends_with("\n\n") && reply.starts_with("SCR\n");
     }
-    let first = reply.lines().next().unwrap_or("");
+    let first = first_line(reply);
     let last = (message.lines().count() as u64).saturating_add(1);
     match number(first, 1) {
         Some(place) => 1 <= place && place <= last,

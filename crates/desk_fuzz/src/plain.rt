@@ -185,6 +185,11 @@ pub fn declared<'a>(text: &'a str, begin: &str) -> &'a str {
     ""
 }
 
+/// The first line of a text; empty where there is none.
+pub fn first_line(text: &str) -> &str {
+    text.lines().next().unwrap_or("")
+}
+
 /// How many lines begin with a word.
 pub fn lines_with(text: &str, begin: &str) -> u64 {
     let mut count = 0_u64;
