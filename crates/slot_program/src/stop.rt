@@ -195,6 +195,7 @@ fn reason_name(reason: Reason) -> &'static str
         Reason::Fit => "FIT",
         Reason::Bound => "BOUND",
         Reason::Price => "PRICE",
+        Reason::Fixing => "FIXING",
         Reason::Shape => "SHAPE",
         Reason::Closed => "CLOSED",
         Reason::Split => "SPLIT",

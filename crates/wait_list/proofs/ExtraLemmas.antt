@@ -5,13 +5,15 @@ use Rattle.std.specs.Fmt.{decimal}
 use Rattle.std.proofs.lemmas.Fmt.{length-decimal-le}
 use Rattle.std.proofs.lemmas.Grind.{flat_map-append}
 use Rattle.std.proofs.lemmas.List.Concat.{flat_map-cons}
+use Rattle.std.specs.Prelude.{Option, Some, None}
+use Rattle.cost_fixing.specs.declared.fixings.Fixing.{Fixing}
 use Rattle.cert_format.specs.declared.cert.Mark.{Mark}
 use Rattle.cert_format.specs.declared.cert.Mark.TheVariants.{Optimal, Infeasible, Unsettled, NotTried}
 use Rattle.cert_format.specs.declared.cert.StageCert.{StageCert}
 use Rattle.cert_format.specs.declared.cert.Certificate.{Certificate}
 use Rattle.cert_format.specs.declared.cert.TheConstants.{MOST_SEASON_BYTES}
 use Rattle.cert_format.specs.Lines.{Word, spelled_line, text_of}
-use Rattle.cert_format.specs.Spelling.{numbered, count_words, mark_name, stage_words, is_tried, proof_lines, stage_lines, spelling, StageFitsAs, StageFits, IsCert, IsExtra, extra_spelling}
+use Rattle.cert_format.specs.Spelling.{numbered, count_words, mark_name, stage_words, is_tried, proof_lines, stage_lines, spelling, StageFitsAs, StageFits, IsCert, IsExtra, extra_word, extra_spelling}
 use Rattle.cert_format.specs.Printable.{IsWithinLimits}
 
 abbrev Line : Type 0
@@ -54,10 +56,14 @@ tried-bytes stage s e = tried-by stage s (is_tried s.mark) e
 -- ---- the stage four times
 
 abbrev four-times : StageCert → Certificate
-four-times s = record { version = 2; stages = s ∷ s ∷ s ∷ s ∷ [] }
+four-times s = record { version = 3; stages = s ∷ s ∷ s ∷ s ∷ [] }
 
-stage-fits : (s : StageCert) → IsExtra s → StageFits 2 s
-stage-fits s is = subst (StageFitsAs 2 s) (sym is.tried) is.fits
+stage-fits : (s : StageCert) → IsExtra s → StageFits 3 s
+stage-fits s is = subst (StageFitsAs 3 s) (sym is.tried) is.fits
+
+number-bytes : (f : Option Fixing) → length (spelled_line (extra_word f ∷ [])) ≡ 2
+number-bytes None = one-word (codes "1")
+number-bytes (Some f) = one-word (codes "2")
 
 is-cert : (s : StageCert) → IsExtra s → IsCert (four-times s)
 is-cert s is =
@@ -73,15 +79,15 @@ pub extra-bytes : ((c : Certificate) → IsCert c → AllByRecursion IsWithinLim
 extra-bytes law s is w =
     let most = law (four-times s) (is-cert s is) (w, (w, (w, (w, tt)))) in
     let end : List Line = (codes "END" ∷ []) ∷ [] in
-    let first = size-cons (count_words (codes "CERT") 2) (numbered stage_lines 1 (s ∷ s ∷ s ∷ s ∷ []) ++ end) in
+    let first = size-cons (count_words (codes "CERT") 3) (numbered stage_lines 1 (s ∷ s ∷ s ∷ s ∷ []) ++ end) in
     let stages = size-append (numbered stage_lines 1 (s ∷ s ∷ s ∷ s ∷ [])) end in
     let one = size-append (stage_lines 1 s) (numbered stage_lines 2 (s ∷ s ∷ s ∷ [])) in
     let two = size-append (stage_lines 2 s) (numbered stage_lines 3 (s ∷ s ∷ [])) in
     let three = size-append (stage_lines 3 s) (numbered stage_lines 4 (s ∷ [])) in
-    let head = size-cons (codes "EXTRA" ∷ codes "1" ∷ []) (stage_words 5 s.mark ∷ (proof_lines s ++ end)) in
+    let head = size-cons (codes "EXTRA" ∷ extra_word s.fixing ∷ []) (stage_words 5 s.mark ∷ (proof_lines s ++ end)) in
     let mark = size-cons (stage_words 5 s.mark) (proof_lines s ++ end) in
     let body = size-append (proof_lines s) end in
-    let extra = words (codes "EXTRA") (codes "1") [] in
+    let extra = words (codes "EXTRA") (extra_word s.fixing) [] in
     let digit : length (decimal 5) ≤ 1 = length-decimal-le 1 5 (omega arith) (omega arith) (omega arith) in
     omega (
       arith,
@@ -96,7 +102,7 @@ extra-bytes law s is w =
       body,
       extra,
       digit,
-      one-word (codes "1"),
+      number-bytes s.fixing,
       tried-bytes 1 s is.tried,
       tried-bytes 2 s is.tried,
       tried-bytes 3 s is.tried,
