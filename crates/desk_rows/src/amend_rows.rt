@@ -42,7 +42,7 @@ line AIRPORT ABC|AIRPORT AB|3 FORM CAP 1;
 line FLEX 60|FLEX 125|4 LIMIT FLEX 125;
 line STAGE 1 OPTIMAL|STAGE 1 INFEASIBLE|1 NO 3 MARK;
 line COST 0|COST 1|1 NO 5 COST;
-line CERT 2|CERT 3|3 FORM CERT 1;
+line CERT 2|CERT 4|3 FORM CERT 1;
 line FBA001 30MAR25OCT 1234567 180320 JFK0610 J|QBA001|3 FORM SCR 5;
 holds ANSWERS what stood there;
 holds ASKS SCR;*QBA002;ZBA009 30MAR25OCT 1234567 180320 JFK0700 J;
@@ -81,7 +81,7 @@ says 2 WORDS;
 file ASKS A{524288 AAAAAAAA}
 words amend CAP SCR CERT ASKS ANSWERS
 says 5 CABINET ASKS LARGE;
-line CERT 2|CERT 3|3 FORM CERT 1;
+line CERT 2|CERT 4|3 FORM CERT 1;
 holds ANSWERS what stood there;";
 
 /// An hour of one arrival, which another historic series has. A change into it is held, one beside

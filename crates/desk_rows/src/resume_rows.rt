@@ -404,7 +404,7 @@ fn statuses_have_an_order(rt: HostRuntime) -> Result<(), Fail> {
     let failing = [Failure::at(6)].to_vec(alloc)?;
     let said = says(&rt, alloc, &mut cabinet, failing, Some(Failure::at(0)))?;
     assert_eq!(rt; said.as_str(), "14 KEPT 0;ENTRIES 0;LINKS 1;");
-    let _ = cabinet.load("CERT", b"CERT 3\n");
+    let _ = cabinet.load("CERT", b"CERT 4\n");
     let failing = [Failure::at(0)].to_vec(alloc)?;
     let said = says(&rt, alloc, &mut cabinet, failing, None)?;
     assert_eq!(rt; said.as_str(), "3 FORM CERT 1;");
