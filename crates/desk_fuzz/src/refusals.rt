@@ -67,6 +67,7 @@ fn is_reason(text: &str, place: Option<u64>, reason: &str) -> bool {
         "COST" => "COST FIT",
         "BOUND" => "BOUND",
         "P" => "PRICE",
+        "FIX" => "FIXING",
         "TREE" => "SHAPE CLOSED",
         "S" => "SPLIT",
         "L" => "LEAF",
