@@ -18,7 +18,7 @@ use Rattle.cert_format.specs.declared.cert.Mark.{Mark}
 use Rattle.cert_format.specs.declared.cert.Mark.TheVariants.{Optimal, Infeasible, Unsettled, NotTried}
 use Rattle.cert_format.specs.declared.cert.StageCert.{StageCert}
 use Rattle.cost_fixing.specs.declared.fixings.Fixing.{Fixing}
-use Rattle.cost_fixing.specs.Fixings.{HasLeft, FixingHolds, left_problem, tree_problem}
+use Rattle.cost_fixing.specs.Fixings.{LeavesSome, FixingHolds, left_problem, tree_problem}
 use Rattle.cert_format.specs.Proofs.{IsProof, IsStageFixing, FitsMark, IsStatedBound, floor_pairs}
 use Rattle.season_run.specs.Ends.{IsClosedEnd, IsOpenEnd, IsGreatestFloor, IsGreatestName, IsLeastOf, AreKeptOf, AreStated, undone_ranges, floor_cost, floor_costs}
 use Rattle.season_run.specs.Steps.{IsFoundFloor, AreFound, MarksClosed}
@@ -76,7 +76,7 @@ first-fixing p kept behind cost (Some f) le h = record {
   there = le;
   small = h.small;
   within = h.within;
-  left = subst (λ (v : List Price). HasLeft p v f.scale f.cost) (vector-first kept behind f.vector le) h.left;
+  left = subst (λ (v : List Price). LeavesSome p v f.scale f.cost) (vector-first kept behind f.vector le) h.left;
 }
 
 -- what the first vectors keep

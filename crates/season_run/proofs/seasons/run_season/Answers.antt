@@ -32,6 +32,6 @@ returns g c =
     let two = subst (λ (st : List UnitState). AreLastStages s.declaration st c.args.budget l.follows last) c.deref-2.ensures.value c.in_ok-last.ensures in
     let stages : c.new.result ≡ l.stages.items ++ last.third ∷ last.fourth ∷ [] =
     c.new.ensures ∙ c.in_ok-push-3.ensures.items ∙ ap (λ (k : List StageCert). k ++ last.fourth ∷ []) c.in_ok-push-2.ensures.items ∙ append_assoc l.stages.items (last.third ∷ []) (last.fourth ∷ []) in
-    let version : c.version_for-version.result ≡ version_for c.new.result =
-    c.version_for-version.ensures ∙ ap (λ (l : List StageCert). version_for l) (c.deref-3.ensures.value ∙ sym c.new.ensures) in
-    record { run = so_far_finish c.one_more_stage.ensures s c.args.budget l.states.items l.follows l.stages.items last on two c.line_counts.ensures.cert (record { version = c.version_for-version.result; stages = c.new.result }) version stages }
+    let version : c.version_for.result ≡ version_for c.new.result =
+    c.version_for.ensures ∙ ap (λ (l : List StageCert). version_for l) (c.deref-3.ensures.value ∙ sym c.new.ensures) in
+    record { run = so_far_finish c.one_more_stage.ensures s c.args.budget l.states.items l.follows l.stages.items last on two c.line_counts.ensures.cert (record { version = c.version_for.result; stages = c.new.result }) version stages }

@@ -18,7 +18,7 @@ returns-then-is_settled g c =
     let p = c.args.problem.now in
     let few : unit_count p ≤ 64 = omega (arith, c.if-units-gt-SMALL_BUDGET.false, c.units.ensures.count) in
     let settled : IsSettled c.in_ok-first.first = search rules in
-    rw c.visited_end-2.ensures (first-trial p c.args.budget c.in_ok-first.first (omega (arith, c.if-budget-le-SMALL_BUDGET.false)) few c.in_ok-first.ensures.outcome settled)
+    rw c.visited_end-then-is_settled.ensures (first-trial p c.args.budget c.in_ok-first.first (omega (arith, c.if-budget-le-SMALL_BUDGET.false)) few c.in_ok-first.ensures.outcome settled)
 
 pub found_choice-start-requires : goal.found_choice-start-requires
 found_choice-start-requires g c = found-feasible c.args.problem.now [] 64 c.in_ok-first.first c.in_ok-first.ensures.outcome
