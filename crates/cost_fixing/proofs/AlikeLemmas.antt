@@ -1,5 +1,5 @@
 -- Of problems that are alike the same alternatives are out, and what is left of them is alike.
-use Rattle.std.proofs.Common.{◌≡◌, ℕ, ◌<◌, Bool, not, List, length, get_or, Option, Some, None, sym, ◌∙◌, ap, subst, arith, pos, ◌-ℤ◌, ◌*ℤ◌, ℤ}
+use Rattle.std.proofs.Common.{◌≡◌, ℕ, ◌<◌, not, List, length, Option, Some, None, sym, ◌∙◌, ap, subst, arith, pos, ◌-ℤ◌, ◌*ℤ◌, ℤ}
 use Rattle.std.specs.Prelude.{All, slice_index, slice_set, int_lt}
 use Rattle.std.specs.List.{filter, range_with_len}
 use Rattle.std.proofs.lemmas.List.Elements.{filter_agree}

@@ -1,9 +1,9 @@
 -- Choices below the cost take no alternative that is out, so what is left decides.
-use Rattle.std.proofs.Common.{◌≡◌, ℕ, zero, suc, ◌+◌, ◌-◌, ◌<◌, ◌≤◌, ◌↔◌, Bool, true, false, T, not, List, [], ◌∷◌, ◌++◌, length, get_or, set, map, Option, Some, None, refl, sym, ◌∙◌, ap, subst, arith, inl, inr, pos, ◌-ℤ◌, ◌*ℤ◌}
-use Rattle.std.specs.Prelude.{All, AllPairs, slice_index, slice_index_or, IfSome, int_lt}
-use Rattle.std.specs.List.{filter, range_with_len, AllZip}
+use Rattle.std.proofs.Common.{◌≡◌, ℕ, zero, suc, ◌+◌, ◌-◌, ◌<◌, ◌≤◌, ◌↔◌, Bool, true, false, T, not, List, [], ◌∷◌, ◌++◌, length, get_or, map, Option, Some, None, refl, sym, ◌∙◌, ap, subst, arith, inl, inr}
+use Rattle.std.specs.Prelude.{All, slice_index, IfSome}
+use Rattle.std.specs.List.{range_with_len, AllZip}
 use Rattle.std.specs.Bool.{passes}
-use Rattle.std.proofs.lemmas.Bool.{cases_lt, cases_eq, cases_Bool, not-true}
+use Rattle.std.proofs.lemmas.Bool.{cases_lt, cases_eq, cases_Bool}
 use Rattle.std.proofs.lemmas.List.{get_or-set_same, get_or-set_other, get_or-map, length-map}
 use Rattle.std.proofs.lemmas.List.FromFn.{get_or-map-range_with_len, length-map-range_with_len}
 use Rattle.std.proofs.lemmas.List.Elements.{All-weaker}
@@ -11,9 +11,9 @@ use Rattle.finite_sums.specs.Sums.{count_below}
 use Rattle.choice_problem.specs.declared.vectors.Price.{Price}
 use Rattle.choice_problem.specs.declared.nodes.Node.{Node}
 use Rattle.choice_problem.specs.declared.nodes.Node.TheVariants.{Split, Leaf, Over, Undone}
-use Rattle.choice_problem.specs.Problems.{ProblemView, ChooserView, unit_count, alt_count, chooser_at}
+use Rattle.choice_problem.specs.Problems.{ProblemView, ChooserView, unit_count, alt_count}
 use Rattle.choice_problem.specs.Choices.{IsChoice, IsFeasible, IsBest, HasNone, choice_cost}
-use Rattle.choice_problem.specs.Bounds.{low_of, high_of, IsWithin, IsVector, IsPrice, Closes, whole_of, bound_of}
+use Rattle.choice_problem.specs.Bounds.{low_of, high_of, IsWithin, IsVector, IsPrice, Closes, whole_of}
 use Rattle.choice_problem.specs.Trees.{IsSound, IsWhole, LeafHolds, vector_at, parts_of}
 use Rattle.choice_problem.specs.Grafts.{open_ranges}
 use Rattle.choice_problem.specs.Floors.{AreFloors, IsAtMost}
@@ -31,7 +31,7 @@ pub out-closes : (p : ProblemView) (prices : List Price) (scale cost u a : ℕ) 
     is_out p prices scale cost u a ≡ true ↔ Closes p (fixed_at p u a) prices scale (Some cost)
 out-closes p prices scale cost u a = (
   (λ e. record { lt = passes (is_out p prices scale cost u a) e }),
-  (λ h. true_of (is_out p prices scale cost u a) h.lt)
+  (λ h. true_of (is_out p prices scale cost u a) h.lt),
 )
 
 -- a choice is within the alternatives of which one unit's is fixed at its own

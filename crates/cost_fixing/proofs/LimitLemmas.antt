@@ -1,14 +1,13 @@
 -- Problems with some alternatives of another one are within the limits, and have its price tables.
-use Rattle.std.proofs.Common.{◌≡◌, ℕ, ◌+◌, ◌*◌, ◌<◌, ◌^◌, not, List, [], length, sym, ◌∙◌, ap, arith}
+use Rattle.std.proofs.Common.{ℕ, ◌+◌, ◌*◌, ◌<◌, not, List, [], length, sym, ◌∙◌, ap, arith}
 use Rattle.std.specs.Prelude.{All, slice_index, slice_index_or, ℤ}
 use Rattle.std.specs.List.{range_with_len}
 use Rattle.std.proofs.lemmas.List.Elements.{All-map, All-weaker}
 use Rattle.finite_sums.proofs.SumLemmas.{sum_by-same}
 use Rattle.choice_problem.specs.declared.problems.Alt.{Alt}
 use Rattle.choice_problem.specs.declared.vectors.Price.{Price}
-use Rattle.choice_problem.specs.Problems.{ProblemView, ChooserView, IsChooser, IsProblem, ArePartsInRange, unit_count, alt_count, part_count, chooser_at, alt_uses, amount}
-use Rattle.choice_problem.specs.Bounds.{IsVector, priced}
-use Rattle.price_table.specs.Tables.{TableView, PricesUnit, IsTableFor, named_price, uses_price}
+use Rattle.choice_problem.specs.Problems.{ProblemView, ChooserView, IsChooser, IsProblem, ArePartsInRange, unit_count, alt_count, chooser_at, alt_uses, amount}
+use Rattle.price_table.specs.Tables.{TableView, PricesUnit, IsTableFor, named_price}
 use Rattle.cost_fixing.specs.Fixings.{unit_with, problem_with, left_problem, left_alts, is_out, LeavesSome}
 use Rattle.cost_fixing.proofs.ListLemmas.{range-within, passing-few, passing-there}
 use Rattle.cost_fixing.proofs.WithLemmas.{unit_with-IsChooser, with-count, with-unit, with-alts, with-alt, with-uses}
@@ -26,10 +25,10 @@ pub left-units : (p : ProblemView) (prices : List Price) (scale cost : ℕ) → 
 left-units p prices scale cost all some =
     units-with p (λ u. left_alts p prices scale cost u) IsChooser
     (λ u l.
-        let v : IsChooser (chooser_at p u) = all u (record { parts = []; alts = [] }) l in
-        let kept = λ (a : ℕ). not (is_out p prices scale cost u a) in
-        unit_with-IsChooser (chooser_at p u) (left_alts p prices scale cost u) v (some u l)
-        (omega (arith, passing-few kept (alt_count p u), v.few_alts)) (passing-there kept (alt_count p u)))
+    let v : IsChooser (chooser_at p u) = all u (record { parts = []; alts = [] }) l in
+    let kept = λ (a : ℕ). not (is_out p prices scale cost u a) in
+    unit_with-IsChooser (chooser_at p u) (left_alts p prices scale cost u) v (some u l)
+    (omega (arith, passing-few kept (alt_count p u), v.few_alts)) (passing-there kept (alt_count p u)))
 
 pub with-limits : (p : ProblemView) (alts : ℕ → List ℕ) (limits : List ℤ) → IsProblem p.units limits → IsProblem (problem_with p alts).units limits
 with-limits p alts limits v = record {

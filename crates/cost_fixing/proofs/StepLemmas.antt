@@ -1,6 +1,6 @@
 -- Steps of the loops that make what is left.
 use Rattle.std.proofs.Common.{◌≡◌, ℕ, ◌+◌, ◌-◌, ◌<◌, ◌≤◌, ◌↔◌, Bool, true, false, not, cond, List, [], ◌∷◌, ◌++◌, length, set, map, take, Some, refl, sym, ◌∙◌, ap, ap₂, subst, arith, inl, inr, pos, ℤ}
-use Rattle.std.specs.Prelude.{All, slice_set, slice_index, slice_index_or, ◌≤ℤ◌}
+use Rattle.std.specs.Prelude.{All, slice_set, slice_index, ◌≤ℤ◌}
 use Rattle.std.specs.List.{range_with_len}
 use Rattle.std.proofs.lemmas.Int.{ints}
 use Rattle.std.proofs.lemmas.Bool.{cases_Bool}
@@ -12,8 +12,8 @@ use Rattle.choice_problem.specs.declared.strips.Strip.{Strip}
 use Rattle.choice_problem.specs.declared.problems.Alt.{Alt}
 use Rattle.choice_problem.specs.Problems.{ProblemView, ChooserView, IsChooser, unit_count, alt_count, resource_count, chooser_at, alt_at, amount, problem_of}
 use Rattle.choice_problem.specs.Choices.{IsChoice}
-use Rattle.choice_problem.specs.Bounds.{AreRanges, whole_of, Closes}
-use Rattle.price_table.specs.Totals.{TotalsView, AreTotalsFor}
+use Rattle.choice_problem.specs.Bounds.{whole_of, Closes}
+use Rattle.price_table.specs.Totals.{TotalsView}
 use Rattle.cost_fixing.specs.Fixings.{fixed_at, is_out, left_alts, left_problem, unit_with, problem_with, whole_choice, LeavesSome}
 use Rattle.cost_fixing.specs.Loops.{AreWholeBut, AreAltsOf, IsNumbering, alts_in}
 use Rattle.cost_fixing.proofs.ListLemmas.{passing, passing-more, passing-few, passing-there}
@@ -35,7 +35,7 @@ but-back p u old new l h e =
 -- an answer that says whether the ranges close
 same-answer : (a b : Bool) → (a ≡ true → b ≡ true) → (b ≡ true → a ≡ true) → a ≡ b
 same-answer true b f g = sym (f refl)
-same-answer false b f g = elim (cases_Bool b) [ | inl t ↦ g t ∙ sym t | inr n ↦ sym n ]
+same-answer false b f g = elim (cases_Bool b) [ inl t ↦ g t ∙ sym t | inr n ↦ sym n ]
 
 pub answer-out : (p : ProblemView) (prices : List Price) (scale cost u a : ℕ) (old : List (ℕ × ℕ)) (t : TotalsView) (r : Bool) → AreWholeBut p u old →
     t.ranges ≡ slice_set old u (a, a) → t.scale ≡ scale → (r ≡ true ↔ Closes p t.ranges prices t.scale (Some cost)) → r ≡ is_out p prices scale cost u a
@@ -91,7 +91,7 @@ pub problem-within : (p : ProblemView) (alts : ℕ → List ℕ) (units : List C
     (length units ≡ unit_count p) × (length limits ≡ resource_count p)
 problem-within p alts units limits e f = (
   ap length e ∙ length-map-range_with_len {X = ChooserView} (λ u. unit_with (chooser_at p u) (alts u)) 0 (unit_count p),
-  ap length f ∙ length-map {B = ℤ} p.limits pos
+  ap length f ∙ length-map {B = ℤ} p.limits pos,
 )
 
 -- the same alternatives of each unit give the same problem
@@ -99,9 +99,9 @@ map-same : {X : Type 0} (f g : ℕ → X) (n : ℕ) → ((u : ℕ) → u < n →
 map-same {X} f g n h =
     ext_get_or (f 0) (map f (range_with_len 0 n)) (map g (range_with_len 0 n)) (length-map-range_with_len f 0 n ∙ sym (length-map-range_with_len g 0 n))
     (λ i l.
-        let m : i < n = omega (arith, l, length-map-range_with_len f 0 n) in
-        let s : 0 + i ≡ i = omega arith in
-        get_or-map-range_with_len f 0 n i i (f 0) m s ∙ h i m ∙ sym (get_or-map-range_with_len g 0 n i i (f 0) m s))
+    let m : i < n = omega (arith, l, length-map-range_with_len f 0 n) in
+    let s : 0 + i ≡ i = omega arith in
+    get_or-map-range_with_len f 0 n i i (f 0) m s ∙ h i m ∙ sym (get_or-map-range_with_len g 0 n i i (f 0) m s))
 
 with-same : (p : ProblemView) (f g : ℕ → List ℕ) → ((u : ℕ) → u < unit_count p → f u ≡ g u) → problem_with p f ≡ problem_with p g
 with-same p f g h =

@@ -1,5 +1,5 @@
 -- Problems with some alternatives of another one: their units, and their choices.
-use Rattle.std.proofs.Common.{◌≡◌, ℕ, ◌+◌, ◌<◌, ◌≤◌, ◌^◌, List, [], length, get_or, map, refl, sym, ◌∙◌, ap, subst, arith, None}
+use Rattle.std.proofs.Common.{◌≡◌, ℕ, ◌+◌, ◌<◌, ◌^◌, List, [], length, map, sym, ◌∙◌, ap, subst, arith, None}
 use Rattle.std.specs.Prelude.{All, slice_index, slice_index_or}
 use Rattle.std.specs.List.{range_with_len}
 use Rattle.std.specs.Option.{ForSome}
@@ -158,5 +158,5 @@ module _ (p : ProblemView) (alts : ℕ → List ℕ) where
   taken-whole y x t e =
       whole-is numbers_with y x (e ∙ sym numbers-count)
       (λ u l.
-          let l' : u < unit_count p = omega (arith, l, numbers-count) in
-          ap (λ (xs : List ℕ). slice_index xs (slice_index y u)) (numbers-at u l') ∙ t.same u l')
+      let l' : u < unit_count p = omega (arith, l, numbers-count) in
+      ap (λ (xs : List ℕ). slice_index xs (slice_index y u)) (numbers-at u l') ∙ t.same u l')

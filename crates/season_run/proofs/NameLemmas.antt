@@ -50,21 +50,21 @@ module _ (fixing : Option Fixing) (tree : List Node) (floors : List Floor) (leaf
 
   pub leaf_greatest : floor < leaf → fixed-name fixing ≤ leaf → IsGreatestName fixing tree floors leaf
   leaf_greatest lt le = greatest-of leaf (omega arith) (omega (arith, lt)) le (elim at_leaf [
-      | inl none ↦ inl none
-      | inr some ↦ inr (inl some)
-    ])
+    | inl none ↦ inl none
+    | inr some ↦ inr (inl some)
+  ])
 
   pub floor_greatest : leaf ≤ floor → fixed-name fixing ≤ floor → IsGreatestName fixing tree floors floor
   floor_greatest le less = greatest-of floor le (omega arith) less (elim at_floors.named [
-      | inl none ↦ inl none
-      | inr some ↦ inr (inr (inl some))
-    ])
+    | inl none ↦ inl none
+    | inr some ↦ inr (inr (inl some))
+  ])
 
   pub fixing_greatest : leaf ≤ fixed-name fixing → floor ≤ fixed-name fixing → IsGreatestName fixing tree floors (fixed-name fixing)
   fixing_greatest le less = greatest-of (fixed-name fixing) le less (omega arith) (elim (fixed-named fixing) [
-      | inl none ↦ inl none
-      | inr some ↦ inr (inr (inr some))
-    ])
+    | inl none ↦ inl none
+    | inr some ↦ inr (inr (inr some))
+  ])
 
 named_there : (number most : ℕ) (node : Node) → Names number node → NamesUpTo most node → number ≤ most
 named_there number most (Split unit cut seen) names upto = absurd names

@@ -182,13 +182,13 @@ open-printable : (p : ProblemView) (vectors : List (List Price)) (c : StageCert)
 open-printable p vectors c e unfixed s few proof =
     let sound : IsSound p c.vectors c.cost (whole_of p) c.tree =
     subst (λ (f : Option Fixing). IsSound (tree_problem p c.vectors f) c.vectors c.cost (whole_of (tree_problem p c.vectors f)) c.tree) unfixed proof.sound in record {
-  has_cost = same-some p c.choice c.cost proof.cost;
-  has_bound = bound-there (IsLeastOf c.cost (floor_costs p vectors (undone_ranges p c.tree) c.floors)) c.bound s.least ∙ sym (ap (λ (m : Mark). has_bound 3 m) e);
-  vector_count = few;
-  fixed_from = from-three c.fixing;
-  floor_count = AllZip-long (IsGreatestFloor p vectors) (undone_ranges p c.tree) c.floors s.greatest
-      ∙ open_count (whole_of p ∷ []) c.tree (sound_walks p c.vectors c.cost (whole_of p ∷ []) c.tree sound);
-}
+      has_cost = same-some p c.choice c.cost proof.cost;
+      has_bound = bound-there (IsLeastOf c.cost (floor_costs p vectors (undone_ranges p c.tree) c.floors)) c.bound s.least ∙ sym (ap (λ (m : Mark). has_bound 3 m) e);
+      vector_count = few;
+      fixed_from = from-three c.fixing;
+      floor_count = AllZip-long (IsGreatestFloor p vectors) (undone_ranges p c.tree) c.floors s.greatest
+          ∙ open_count (whole_of p ∷ []) c.tree (sound_walks p c.vectors c.cost (whole_of p ∷ []) c.tree sound);
+    }
 
 pub made-printable : (p : ProblemView) (fixing : Option Fixing) (o : Outcome) (c : StageCert) → IsStageEndBy p fixing o → MakesStageBy p fixing o c → IsProof p c → length c.vectors ≤ 64 → IsPrintableProof 3 c
 made-printable p fixing (ends.Optimal choice cost tree vectors) c t made proof few =

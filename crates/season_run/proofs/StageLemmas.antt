@@ -130,7 +130,8 @@ closed-proof fewer p mark choice cost fixing tree vectors c end closed best mark
       feasible = rw choice_is (found-feasible p cost choice end.found);
       cost = rw (choice_is, cost_is) (found-cost p cost choice end.found);
       vectors = kept-vectors p vectors c.vectors fixing tree c.floors kept end.listed.each;
-      fixing = rw fixing_is (stage-fixing p c mark cost fixing mark_is cost_is best (kept-fixing p vectors c.vectors fixing tree c.floors kept cost end.fixed));
+      fixing = subst (λ (f : Option Fixing). IfSome f (IsStageFixing p c)) (sym fixing_is)
+          (stage-fixing p c mark cost fixing mark_is cost_is best (kept-fixing p vectors c.vectors fixing tree c.floors kept cost end.fixed));
       sound = rw (cost_is, fixing_is, tree_is) (kept-sound p vectors c.vectors fixing tree c.floors kept fewer cost end.sound);
       marked = subst (FitsMark p c) (sym mark_is) (closed-mark p c mark choice choice_is (rw tree_is end.whole) closed);
     }

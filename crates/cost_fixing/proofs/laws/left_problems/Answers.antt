@@ -12,7 +12,7 @@ returns-clause-limits c = λ p prices scale cost v. with-limits p (λ u. left_al
 pub returns-clause-vectors : goal.returns-clause-vectors
 returns-clause-vectors c = λ p prices vector scale cost. (
   (λ v. vector-of-with p (λ u. left_alts p prices scale cost u) vector v),
-  (λ v. vector-with p (λ u. left_alts p prices scale cost u) vector v)
+  (λ v. vector-with p (λ u. left_alts p prices scale cost u) vector v),
 )
 
 pub returns-clause-tables : goal.returns-clause-tables

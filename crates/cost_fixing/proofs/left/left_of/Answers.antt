@@ -1,4 +1,4 @@
-use Rattle.std.proofs.Common.{◌≡◌, ℕ, ◌<◌, List, length, sym, ap₂, ◌∙◌, subst, true≢false}
+use Rattle.std.proofs.Common.{ℕ, ◌<◌, List, length, sym, ap₂, ◌∙◌, subst, true≢false}
 use Rattle.choice_problem.specs.Problems.{ProblemView}
 use Rattle.cost_fixing.specs.Fixings.{LeftView}
 use Rattle.cost_fixing.specs.Loops.{alts_in}

@@ -1,4 +1,4 @@
-use Rattle.std.proofs.Common.{◌≡◌, ◌+◌, ◌++◌, ◌∷◌, [], ℕ, subst, arith, List, sym, refl, ◌∙◌, ap, append_assoc, true}
+use Rattle.std.proofs.Common.{◌≡◌, ◌+◌, ◌++◌, ◌∷◌, [], ℕ, subst, arith, List, sym, ◌∙◌, ap, append_assoc, true}
 use Rattle.cert_format.specs.declared.cert.StageCert.{StageCert}
 use Rattle.series_model.specs.declared.state.UnitState.{UnitState}
 use Rattle.season_run.specs.Runs.{version_for}

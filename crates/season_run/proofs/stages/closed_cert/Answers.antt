@@ -1,5 +1,4 @@
-use Rattle.std.proofs.Common.{refl, sym, ◌∙◌, subst, Option}
-use Rattle.cost_fixing.specs.declared.fixings.Fixing.{Fixing}
+use Rattle.std.proofs.Common.{refl, sym, ◌∙◌}
 use Rattle.season_run.specs.Ends.{AreKeptOf}
 use Rattle.season_run.proofs.StageLemmas.{closed-proof, closed-kept}
 use Rattle.season_run.proofs.stages.closed_cert.Goals as goal

@@ -1,4 +1,4 @@
-use Rattle.std.proofs.Common.{◌≡◌, ◌<◌, ◌∙◌, ap, sym, subst, arith}
+use Rattle.std.proofs.Common.{◌<◌, ◌∙◌, ap, sym, subst, arith}
 use Rattle.choice_problem.specs.Problems.{unit_count}
 use Rattle.cost_fixing.specs.Fixings.{LeftView}
 use Rattle.cost_fixing.specs.Loops.{IsNumbering}
@@ -23,6 +23,6 @@ returns-clause-same c =
     rw c.new.ensures
     (whole-is alts c.loop-unit.alts.items c.args.choice.now (c.requires ∙ sym numbered.count)
     (λ u l.
-        let in_loop : u < c.loop-unit.unit =
-        omega (arith, l, numbered.count, c.loop-unit-test.false, c.units-unit-end.ensures.count, c.loop-unit.auto.unit-end, ap (λ (k : LeftView). unit_count k.problem) c.self.view_is) in
-        c.loop-unit.invariant.same u in_loop))
+    let in_loop : u < c.loop-unit.unit =
+    omega (arith, l, numbered.count, c.loop-unit-test.false, c.units-unit-end.ensures.count, c.loop-unit.auto.unit-end, ap (λ (k : LeftView). unit_count k.problem) c.self.view_is) in
+    c.loop-unit.invariant.same u in_loop))
