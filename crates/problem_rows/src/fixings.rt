@@ -89,11 +89,11 @@ fn fixings_of_small_problems(rt: HostRuntime) -> Result<(), Fail> {
 // The scale of the drawn vectors.
 const SCALE: u64 = 4;
 
-// A vector of a price for each resource, below 16: 0 is left out.
+// A vector of a price for each resource, below 8: 0 is left out.
 fn drawn_vector(alloc: Global, draws: &mut Draws) -> Result<Vector, Fail> {
     let mut items = Vec::new(alloc);
     for resource in 0..6 {
-        let price = draws.below(16) as i64;
+        let price = draws.below(8) as i64;
         if price > 0 {
             items.push(Price { resource, price })?;
         }
@@ -217,7 +217,7 @@ fn smaller_units(problem: &Problem, left: &Problem) -> u32 {
 }
 
 // In how many of the drawn units something is out, at least.
-const SMALLER: u32 = 200;
+const SMALLER: u32 = 250;
 
 #[test]
 fn what_is_left_of_drawn_problems(rt: HostRuntime) -> Result<(), Fail> {
@@ -228,7 +228,7 @@ fn what_is_left_of_drawn_problems(rt: HostRuntime) -> Result<(), Fail> {
         let problem = drawn(alloc, &mut draws)?;
         let vector = drawn_vector(alloc, &mut draws)?;
         let table = table_of(alloc, &problem, &vector)?;
-        let cost = draws.below(24);
+        let cost = draws.below(16);
         let (agrees, units) = is_left(alloc, &problem, &vector, &table, cost)?;
         assert!(rt; agrees, "{number}");
         smaller = smaller.saturating_add(units);
