@@ -1,6 +1,6 @@
 -- A certificate is valid, or has a first failing line, and never both.
 use Rattle.std.proofs.Common.{◌≡◌, ℕ, zero, suc, ◌+◌, ◌<◌, ◌≤◌, ◌^◌, ◌++◌, refl, sym, ◌∙◌, ap, subst, arith, List, [], ◌∷◌, length, get_or, drop, length-append, inl, inr, Bool, true, false}
-use Rattle.std.specs.Prelude.{codes, if◌then◌else◌, ◌&&◌, Option, Some, None, is_some, ◌↔◌}
+use Rattle.std.specs.Prelude.{codes, if◌then◌else◌, Option, ◌↔◌}
 use Rattle.std.specs.List.{AllByRecursion}
 use Rattle.std.proofs.lemmas.List.{drop_more}
 use Rattle.season_days.specs.declared.declaration.Declaration.{Declaration}

@@ -1,17 +1,16 @@
 -- The tests of a tree on the problem that a fixing leaves.
-use Rattle.std.proofs.Common.{◌≡◌, ℕ, suc, ◌+◌, ◌<◌, ◌^◌, refl, sym, ◌∙◌, ap, subst, arith, List, [], ◌∷◌, ◌++◌, length, length-append, inl, inr}
+use Rattle.std.proofs.Common.{◌≡◌, ℕ, suc, ◌+◌, ◌<◌, ◌^◌, sym, ap, subst, arith, List, [], ◌∷◌, ◌++◌, length, inl, inr}
 use Rattle.std.specs.Prelude.{Option, Some, None, All}
 use Rattle.std.specs.List.{AllByRecursion}
 use Rattle.choice_problem.specs.declared.vectors.Price.{Price}
 use Rattle.choice_problem.specs.declared.nodes.Node.{Node}
 use Rattle.choice_problem.specs.declared.nodes.Node.TheVariants.{Split, Leaf, Over, Undone}
 use Rattle.choice_problem.specs.Problems.{ProblemView}
-use Rattle.choice_problem.specs.Bounds.{IsPrice, IsVector, whole_of}
+use Rattle.choice_problem.specs.Bounds.{IsVector, whole_of}
 use Rattle.choice_problem.specs.Trees.{parts_of}
 use Rattle.cost_fixing.specs.declared.fixings.Fixing.{Fixing}
-use Rattle.cost_fixing.specs.Fixings.{FixingHolds, tree_problem}
+use Rattle.cost_fixing.specs.Fixings.{tree_problem}
 use Rattle.cert_format.specs.declared.cert.Floor.{Floor}
-use Rattle.cert_format.specs.declared.cert.Mark.TheVariants.{Optimal}
 use Rattle.cert_format.specs.declared.cert.StageCert.{StageCert}
 use Rattle.cert_format.specs.Proofs.{IsStageFixing, problem_of_tree}
 use Rattle.cert_checker.specs.declared.verdict.Reason.{Reason}

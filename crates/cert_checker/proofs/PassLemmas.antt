@@ -1,6 +1,6 @@
 -- Where no line of a stage fails, the stage is a proof.
 use Rattle.std.proofs.Common.{◌≡◌, ℕ, zero, suc, ◌+◌, ◌<◌, refl, sym, ◌∙◌, ap, subst, arith, List, [], ◌∷◌, ◌++◌, length, get_or}
-use Rattle.std.specs.Prelude.{Option, Some, None, IfSome, is_some, option_map, flat_map, All, Bool, true, false, if◌then◌else◌, ◌==◌}
+use Rattle.std.specs.Prelude.{Option, Some, None, IfSome, is_some, option_map, flat_map, All, Bool, true, false, if◌then◌else◌}
 use Rattle.std.specs.List.{AllByRecursion, AllZip}
 use Rattle.std.proofs.lemmas.List.Kept.{AllPairs-cons}
 use Rattle.choice_problem.specs.declared.vectors.Price.{Price}

@@ -1,6 +1,6 @@
 -- One more stage is read as it is spelled.
 use Rattle.std.proofs.Common.{◌≡◌, ℕ, ◌^◌, ◌<◌, true, cond, List, [], ◌∷◌, ◌++◌, Some, None, Result, Ok, Err, refl, sym, ap, subst, ◌∙◌, codes, arith, inl, inr}
-use Rattle.std.specs.Prelude.{Option, IfOk, IfSome}
+use Rattle.std.specs.Prelude.{Option, IfOk}
 use Rattle.std.specs.Str.{bytes_eq}
 use Rattle.std.proofs.lemmas.Bool.{cases_Bool}
 use Rattle.std.proofs.lemmas.Option.{cond_some}
@@ -12,7 +12,7 @@ use Rattle.cert_format.specs.declared.cert.Mark.TheVariants.{Optimal, Infeasible
 use Rattle.cert_format.specs.declared.cert.StageCert.{StageCert}
 use Rattle.cert_format.specs.declared.fault.CertFault.{CertFault}
 use Rattle.cert_format.specs.declared.rows.FixLine.{FixLine}
-use Rattle.cert_format.specs.declared.rows.FixLine.TheVariants.{Never, Maybe, Always}
+use Rattle.cert_format.specs.declared.rows.FixLine.TheVariants.{Never, Always}
 use Rattle.cert_format.specs.Lines.{Word, text_of}
 use Rattle.cert_format.specs.Private.Cuts.{cert_lines_of}
 use Rattle.cert_format.specs.Private.Words.{◌>>=◌ as ◌>>?◌, after_tag, next_by, is_end}

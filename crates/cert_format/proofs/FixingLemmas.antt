@@ -1,5 +1,5 @@
 -- The first line of a tree is read as it is spelled: that of a fixing, or the one that counts the nodes.
-use Rattle.std.proofs.Common.{◌≡◌, ℕ, ◌^◌, ◌<◌, ◌≤◌, List, [], ◌∷◌, Option, Some, None, refl, ap, subst, ◌∙◌, arith, codes, cond}
+use Rattle.std.proofs.Common.{◌≡◌, ℕ, ◌^◌, ◌<◌, List, [], ◌∷◌, Option, Some, None, refl, subst, ◌∙◌, arith, codes, cond}
 use Rattle.std.specs.Fmt.{decimal}
 use Rattle.cost_fixing.specs.declared.fixings.Fixing.{Fixing}
 use Rattle.cert_format.specs.declared.rows.FixLine.{FixLine}

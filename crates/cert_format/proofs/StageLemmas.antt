@@ -7,7 +7,6 @@ use Rattle.cert_format.specs.declared.cert.Mark.{Mark}
 use Rattle.cert_format.specs.declared.cert.StageCert.{StageCert}
 use Rattle.cert_format.specs.declared.cert.Certificate.{Certificate}
 use Rattle.cert_format.specs.declared.rows.FixLine.{FixLine}
-use Rattle.cert_format.specs.declared.rows.FixLine.TheVariants.{Never, Maybe}
 use Rattle.cert_format.specs.Private.Spots.{Spot, ◌>>=◌, line_by}
 use Rattle.cert_format.specs.Private.Rows.{fix_line, mark_row, version_row, end_row}
 use Rattle.cert_format.specs.Private.Reading.{many, choice_at, vectors_at, optional_at, tree_at, proof_at, stage_at, ended_by, ended, cert_at}

@@ -14,7 +14,7 @@ use Rattle.cert_format.specs.Private.Words.{most_small, most_large}
 use Rattle.cert_format.specs.Private.Spots.{◌>>=◌, line_by}
 use Rattle.cert_format.specs.Private.Rows.{count_row, choices_row, alternative_row, price_row, tree_row, fix_line, node_row, mark_row, version_row, end_row, extra_row, tried_row}
 use Rattle.cert_format.specs.Private.Reading.{many, alternative_at, alternatives_at, choice_at, price_at, one_vector, vector_at, vectors_at, optional_at, nodes_at, after_head, head_at, tree_at, proof_at, stage_at, ended, cert_at, extra_at}
-use Rattle.cert_format.specs.Spelling.{not_tried, count_words, choices_words, alternative_words, price_words, fixing_words, FixingFits, node_words, stage_words, is_tried, has_bound}
+use Rattle.cert_format.specs.Spelling.{not_tried, count_words, choices_words, alternative_words, price_words, node_words, stage_words, is_tried, has_bound}
 use Rattle.cert_format.proofs.RowLemmas.{count_again, choices_take, choices_again, alternative_again, price_row_again, mark_again, version_again, end_line_again}
 use Rattle.cert_format.proofs.FixingLemmas.{head_words, HeadFits, MayBegin, head_again}
 use Rattle.cert_format.proofs.NodeRowLemmas.{node_again}

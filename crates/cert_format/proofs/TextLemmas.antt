@@ -17,7 +17,7 @@ use Rattle.cert_format.specs.declared.cert.Mark.{Mark}
 use Rattle.cert_format.specs.declared.cert.Mark.TheVariants.{Optimal, Infeasible, Unsettled, NotTried}
 use Rattle.cert_format.specs.declared.cert.StageCert.{StageCert}
 use Rattle.cert_format.specs.declared.cert.Certificate.{Certificate}
-use Rattle.cert_format.specs.Spelling.{numbered, count_words, alternative_lines, price_lines, vector_lines, seen_word, undone_words, node_words, is_undone, node_lines, fixing_words, fixing_lines, optional_lines, choice_lines, stage_words, is_tried, proof_lines, stage_lines, cert_lines, NodeFits, FloorFits, FixingFits, PriceFits, VectorFits, IsLong, ProofFits, StageFitsAs, StageFits, IsCert}
+use Rattle.cert_format.specs.Spelling.{numbered, count_words, alternative_lines, price_lines, vector_lines, seen_word, undone_words, node_words, is_undone, node_lines, fixing_lines, optional_lines, choice_lines, stage_words, is_tried, proof_lines, stage_lines, cert_lines, NodeFits, FloorFits, FixingFits, PriceFits, VectorFits, IsLong, ProofFits, StageFitsAs, StageFits, IsCert}
 use Rattle.cert_format.proofs.WordLemmas.{Each, Each-weaker, IsDigit, digits_of_number}
 
 -- a byte of a word
