@@ -113,6 +113,15 @@ length|fault 6
 #[test]
 fn a_disk_fails_where_listed_or_full(rt: HostRuntime) -> Result<(), Fail> {
     let alloc = rt.alloc();
+    let mut calls = DiskCalls {
+        disk: failing_disk(alloc)?,
+    };
+    walk(alloc, &mut calls, DISK_CALLS)?;
+    assert_eq!(rt; calls.disk.bytes(), b"abcdXYZ".as_slice());
+    Ok(())
+}
+
+fn failing_disk(alloc: Global) -> Result<MemoryDisk, Fail> {
     let failing = [
         Failure::after(4, 2),
         Failure::at(8),
@@ -120,11 +129,12 @@ fn a_disk_fails_where_listed_or_full(rt: HostRuntime) -> Result<(), Fail> {
         Failure::at(15),
         Failure::at(18),
     ];
-    let disk = MemoryDisk::new(alloc, b"abcdef", 8, 99, failing.to_vec(alloc)?)?;
-    let mut calls = DiskCalls { disk };
-    walk(alloc, &mut calls, DISK_CALLS)?;
-    assert_eq!(rt; calls.disk.bytes(), b"abcdXYZ".as_slice());
-    let mut full = MemoryDisk::new(alloc, b"", 8, 1, Vec::new(alloc))?;
+    Ok(MemoryDisk::new(alloc, b"abcdef", 8, 99, failing.to_vec(alloc)?)?)
+}
+
+#[test]
+fn a_disk_fails_after_its_calls(rt: HostRuntime) -> Result<(), Fail> {
+    let mut full = MemoryDisk::new(rt.alloc(), b"", 8, 1, Vec::new(rt.alloc()))?;
     assert!(rt; full.sync().is_ok());
     assert!(rt; full.sync().is_err());
     Ok(())
@@ -150,16 +160,19 @@ fn the_system_has_a_disk(rt: HostRuntime) -> Result<(), Fail> {
         .write(true)
         .create(true)
         .open(&rt, name)?;
-    walk(
-        alloc,
-        &mut DiskCalls {
-            disk: RealDisk::new(Some(file)),
-        },
-        FILE_CALLS,
-    )?;
+    walk_file(alloc, file)?;
     fs::remove_file(&rt, name)?;
+    Ok(())
+}
+
+fn walk_file(alloc: Global, file: fs::File) -> Result<(), Fail> {
+    let disk = RealDisk::new(Some(file));
+    walk(alloc, &mut DiskCalls { disk }, FILE_CALLS)
+}
+
+#[test]
+fn a_disk_without_a_file_fails(rt: HostRuntime) {
     let mut none = RealDisk::<fs::File>::new(None);
     assert!(rt; none.length().is_err() && none.sync().is_err());
     assert_eq!(rt; none.faults(), 2);
-    Ok(())
 }

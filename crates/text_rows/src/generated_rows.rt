@@ -1,11 +1,15 @@
 //! Generated seasons. The states of the generator, the minutes and the sizes are worked by hand: an
 //! arrival's line has 44 bytes with its LF, a turnaround's 60, and the header 18.
 
+ghost use Rattle.std.specs.Prelude.{◌≤◌, length};
+ghost use Rattle.season_days.specs.Capacity.{IsDeclaration};
+
 use crate::rows::{Case, number, say, walk};
 use capacity_file::read_capacity;
 use choice_problem::MOST_UNITS;
 use scr_reader::laws::read_lines_fit;
 use scr_reader::read_all;
+use season_days::Declaration;
 use season_maker::make_season;
 use series_model::Submission;
 use series_model::laws::read_messages;
@@ -117,23 +121,35 @@ impl Case for Readings {
         let (capacity, requests) = (files.capacity.len(), files.requests.len());
         say(alloc, out, format_args!("{capacity} {requests}"))?;
         let submission = submission(alloc, &files)?;
-        for rule in submission.declaration().rules.items() {
-            let limit = rule.limit;
-            say(alloc, out, format_args!(" {limit}"))?;
-        }
-        say_units(alloc, out, &submission)
+        say_submission(alloc, out, &submission)
     }
+}
+
+fn say_submission(alloc: Global, out: &mut Vec<u8>, submission: &Submission) -> Result<(), Fail> {
+    for rule in submission.declaration().rules.items() {
+        let limit = rule.limit;
+        say(alloc, out, format_args!(" {limit}"))?;
+    }
+    say_units(alloc, out, submission)
 }
 
 /// The submission that the files make.
 fn submission(alloc: Global, files: &Files) -> Result<Submission, Fail> {
-    read_lines_fit();
-    read_messages();
     let (capacity, requests) = (files.capacity.as_slice(), files.requests.as_slice());
     if capacity.len() > 1_000_000 || requests.len() > 1_000_000 {
         return Err("too long".into());
     }
     let declaration = read_capacity(alloc, capacity)?;
+    made(alloc, declaration, requests)
+}
+
+/// The submission that requests make under a declaration.
+fn made(alloc: Global, declaration: Declaration, requests: &[u8]) -> Result<Submission, Fail>
+    requires declared { IsDeclaration declaration }
+    requires short { length requests.now ≤ 1000000 }
+{
+    read_lines_fit();
+    read_messages();
     let messages = read_all(alloc, requests)?;
     Ok(Submission::make(alloc, declaration, messages)?)
 }

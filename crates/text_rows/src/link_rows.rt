@@ -61,16 +61,19 @@ put |put 3 true
 
 #[test]
 fn a_link_comes_in_its_pieces(rt: HostRuntime) -> Result<(), Fail> {
-    let alloc = rt.alloc();
+    let mut calls = LinkCalls {
+        link: link_in_pieces(rt.alloc())?,
+    };
+    walk(rt.alloc(), &mut calls, LINK_CALLS)?;
+    assert_eq!(rt; calls.link.sent(), b"xyzz".as_slice());
+    Ok(())
+}
+
+fn link_in_pieces(alloc: Global) -> Result<MemoryLink, Fail> {
     let input = Vec::from_slice(alloc, b"abcdefgh")?;
     let sizes = [3, 0, 9].to_vec(alloc)?;
     let failing = [Failure::at(1), Failure::after(5, 1)].to_vec(alloc)?;
-    let mut calls = LinkCalls {
-        link: MemoryLink::new(alloc, input, sizes, 4, failing)?,
-    };
-    walk(alloc, &mut calls, LINK_CALLS)?;
-    assert_eq!(rt; calls.link.sent(), b"xyzz".as_slice());
-    Ok(())
+    Ok(MemoryLink::new(alloc, input, sizes, 4, failing)?)
 }
 
 fn link_of(alloc: Global, input: &[u8]) -> Result<MemoryLink, Fail>
@@ -87,6 +90,12 @@ fn two_links(alloc: Global) -> Result<Vec<MemoryLink>, Fail>
     links.push(link_of(alloc, b"one")?)?;
     links.push(link_of(alloc, b"two")?)?;
     Ok(links)
+}
+
+// A door with two links, room for so many, of which some accepts fail.
+fn door_of(alloc: Global, places: usize, failing: &[Failure]) -> Result<MemoryDoor, Fail> {
+    let failing = failing.to_vec(alloc)?;
+    Ok(MemoryDoor::new(alloc, two_links(alloc)?, places, failing)?)
 }
 
 /// Accepts a link, puts the bytes over it, and hands it back.
@@ -109,18 +118,30 @@ fn serve<D: Door>(door: &mut D, bytes: &[u8]) -> &'static str {
 // Two links, room for two; the second accept fails.
 #[test]
 fn a_door_hands_out_its_links(rt: HostRuntime) -> Result<(), Fail> {
-    let alloc = rt.alloc();
-    let failing = [Failure::at(1)].to_vec(alloc)?;
-    let mut door = MemoryDoor::new(alloc, two_links(alloc)?, 2, failing)?;
-    assert_eq!(rt; serve(&mut door, b"1"), "served");
-    assert_eq!(rt; serve(&mut door, b"-"), "no link");
-    assert_eq!(rt; serve(&mut door, b"2"), "served");
-    assert_eq!(rt; serve(&mut door, b"3"), "none");
-    assert_eq!(rt; door.faults(), 1);
-    assert_eq!(rt; door.kept().len(), 2);
-    assert_eq!(rt; door.kept()[1].sent(), b"2".as_slice());
-    // more links than there is room for
-    let mut full = MemoryDoor::new(alloc, two_links(alloc)?, 1, Vec::new(alloc))?;
+    let mut door = door_of(rt.alloc(), 2, &[Failure::at(1)])?;
+    let said = [
+        serve(&mut door, b"1"),
+        serve(&mut door, b"-"),
+        serve(&mut door, b"2"),
+        serve(&mut door, b"3"),
+    ];
+    assert_eq!(rt; said, ["served", "no link", "served", "none"]);
+    assert!(rt; door.faults() == 1 && kept_two(&door));
+    Ok(())
+}
+
+// Whether two links were kept, and the second was sent its byte.
+fn kept_two(door: &MemoryDoor) -> bool {
+    match door.kept() {
+        [_, second] => second.sent() == b"2".as_slice(),
+        _ => false,
+    }
+}
+
+// More links than there is room for.
+#[test]
+fn a_full_door_hands_out_no_link(rt: HostRuntime) -> Result<(), Fail> {
+    let mut full = door_of(rt.alloc(), 1, &[])?;
     assert_eq!(rt; serve(&mut full, b"1"), "served");
     assert_eq!(rt; serve(&mut full, b"2"), "no link");
     Ok(())
