@@ -33,7 +33,7 @@ const MOST_BYTES: usize = 17 + 256 * MOST_PAIRS as usize;
 /// Serves drawn asks over one link, then as many over eight links at once, and so on in rounds, by
 /// ledgers with a journal in memory. Then fills a journal with pairs, by four calls of its disk for
 /// each, opens it, and answers its pairs anew. Prints counts, and at full size how many that is in a
-/// second.
+/// second; of the rounds the median.
 pub fn run<R: Threads + Wait + Sync + Print + Clock>(
     rt: &R,
     alloc: Global,
@@ -59,13 +59,13 @@ fn print_kept<R: Threads + Wait + Sync + Print + Clock>(
     book: &Book,
 ) -> anyhow::Result<()> {
     let (rounds, asks) = rounds_of(size);
-    let mut one = NO_CALLS;
-    let mut many = NO_CALLS;
+    let mut one = Vec::new(alloc);
+    let mut many = Vec::new(alloc);
     for _ in 0..rounds {
         let disk = disk_of(alloc, b"", usize::MAX)?;
-        one.add(kept_over(rt, alloc, book, disk, 1, asks)?);
+        one.push(kept_over(rt, alloc, book, disk, 1, asks)?)?;
         let disk = disk_of(alloc, b"", usize::MAX)?;
-        many.add(kept_over(rt, alloc, book, disk, MANY_LINKS, asks)?);
+        many.push(kept_over(rt, alloc, book, disk, MANY_LINKS, asks)?)?;
     }
     print_links(rt, size, 1, "entries", one)?;
     print_links(rt, size, MANY_LINKS, "entries", many)

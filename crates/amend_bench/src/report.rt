@@ -37,6 +37,13 @@ impl Tally {
     }
 }
 
+/// The median of some rounds by how long they took, or no calls where there are none.
+pub fn median(rounds: Vec<Tally>) -> Tally {
+    let mut rounds = rounds;
+    rounds.sort_unstable_by_key(|round| round.nanos);
+    *rounds.get(rounds.len() / 2).unwrap_or(&NO_CALLS)
+}
+
 /// One call that began at a time and ends now.
 pub fn call_since<R: Clock>(rt: &R, start: Instant) -> anyhow::Result<Tally> {
     let nanos = u64::try_from(start.elapsed(rt)?.as_nanos()).unwrap_or(u64::MAX);

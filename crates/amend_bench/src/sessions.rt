@@ -3,7 +3,7 @@
 ghost use Rattle.std.specs.Prelude.{◌<◌};
 
 use crate::asks::{Airline, NEW_AIRLINE};
-use crate::report::{NO_CALLS, Size, Tally, calls_since, print_tally};
+use crate::report::{NO_CALLS, Size, Tally, calls_since, median, print_tally};
 use desk_links::{MemoryDoor, MemoryLink};
 use holding_book::Book;
 use scr_reader::{Header, print_header, print_item};
@@ -24,11 +24,11 @@ pub const MANY_LINKS: u32 = 8;
 const MESSAGE_ASKS: u32 = 10;
 
 // How many bytes of replies a link has room for.
-const MOST_SENT: usize = 1_000_000;
+const MOST_SENT: usize = 10_000_000;
 
 /// Serves messages of ten drawn asks over one link, then as many asks over eight links at once, and
-/// so on in rounds. Prints how many asks were answered, and at full size how many that is in a
-/// second.
+/// so on in rounds. Prints how many asks a round has, and at full size how many are answered in a
+/// second, in the median of the rounds.
 pub fn run<R: Threads + Wait + Sync + Print + Clock>(
     rt: &R,
     alloc: Global,
@@ -37,34 +37,36 @@ pub fn run<R: Threads + Wait + Sync + Print + Clock>(
 ) -> anyhow::Result<()> {
     let (rounds, asks) = rounds_of(size);
     println!(rt; "sessions of a book of {} holdings", book.count())?;
-    let mut one = NO_CALLS;
-    let mut many = NO_CALLS;
+    let mut one = Vec::new(alloc);
+    let mut many = Vec::new(alloc);
     for _ in 0..rounds {
-        one.add(asks_over(rt, alloc, book, 1, asks)?);
-        many.add(asks_over(rt, alloc, book, MANY_LINKS, asks)?);
+        one.push(asks_over(rt, alloc, book, 1, asks)?)?;
+        many.push(asks_over(rt, alloc, book, MANY_LINKS, asks)?)?;
     }
     print_links(rt, size, 1, "asks", one)?;
     print_links(rt, size, MANY_LINKS, "asks", many)
 }
 
-/// How many rounds there are, and how many asks a round has over one link, and over many together.
+/// How many rounds there are, and how many asks each has over one link, and over many together. At
+/// full size a round lasts some seconds, so that what is paid once, as the first use of each
+/// processor's cache, hardly counts.
 pub fn rounds_of(size: Size) -> (u32, u32) {
     match size {
         Size::Short => (1, 640),
-        Size::Full => (5, 2_000),
+        Size::Full => (5, 20_000),
     }
 }
 
-/// Prints what was done over so many links.
+/// Prints the median of what was done in rounds over so many links.
 pub fn print_links<R: Print>(
     rt: &R,
     size: Size,
     links: u32,
     about: &str,
-    tally: Tally,
+    rounds: Vec<Tally>,
 ) -> anyhow::Result<()> {
     print!(rt; "links {links}, ")?;
-    print_tally(rt, size, about, tally)
+    print_tally(rt, size, about, median(rounds))
 }
 
 // The asks that were answered over so many links, each its part, and how long that took.

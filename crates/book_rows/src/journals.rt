@@ -180,22 +180,20 @@ fn run_by<R: Wait>(
         &mut second,
         &mut reached,
         count,
-    );
+    )?;
     let (book, disk) = closed(alloc, ledger, first, second)?;
-    what_is_left(alloc, found, asked, reached, season, &book, &disk)
+    what_is_left(alloc, found, reached, season, &book, &disk)
 }
 
 /// What is left of a run that has ended with this book and this disk.
 fn what_is_left(
     alloc: Global,
     found: usize,
-    asked: Result<(), Fail>,
     reached: Reached,
     season: &Season,
     book: &Book,
     disk: &MemoryDisk,
 ) -> Result<Left, Fail> {
-    asked?;
     let mut held = Vec::new(alloc);
     put_holdings(alloc, &mut held, season, book.holdings())?;
     let bytes = Vec::from_slice(alloc, disk.bytes())?;

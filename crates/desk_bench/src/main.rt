@@ -31,41 +31,32 @@ const WORDS: [&str; 4] = ["stages", "reductions", "bounds", "checks"];
 const THREAD_WORDS: [&str; 5] = ["board", "turn", "searches", "seasons", "mixed"];
 
 fn main(rt: HostRuntime) -> anyhow::Result<()> {
-    let names = names_of(&rt)?;
-    run_words(&rt, &names)
-}
-
-// The words of the command line.
-fn names_of(rt: &HostRuntime) -> anyhow::Result<Vec<String>> {
-    let mut names = Vec::new(rt.alloc());
-    for word in env::args(rt)?.skip(1) {
+    let alloc = rt.alloc();
+    let mut names = Vec::new(alloc);
+    for word in env::args(&rt)?.skip(1) {
         names.push(word)?;
     }
-    Ok(names)
-}
-
-// Runs what the words ask for.
-fn run_words(rt: &HostRuntime, names: &[String]) -> anyhow::Result<()> {
     let word = names.first().map_or("", |word| word.as_str());
     if word == "short" {
-        return run_all(rt, names);
+        run_all(&rt)?;
+        for word in THREAD_WORDS {
+            run_threads(&rt, alloc, word, &names, Size::Short)?;
+        }
+        return Ok(());
     }
     match word {
         "board" | "turn" | "searches" | "seasons" | "mixed" => {
-            run_threads(rt, rt.alloc(), word, names, Size::Full)?;
+            run_threads(&rt, alloc, word, &names, Size::Full)?;
         }
-        _ => run_one(rt, word, Size::Full)?,
+        _ => run_one(&rt, word, Size::Full)?,
     }
-    memory(rt)
+    memory(&rt)
 }
 
-// Runs each benchmark at a small size.
-fn run_all(rt: &HostRuntime, names: &[String]) -> anyhow::Result<()> {
+// Runs each benchmark without threads at a small size.
+fn run_all(rt: &HostRuntime) -> anyhow::Result<()> {
     for word in WORDS {
         run_one(rt, word, Size::Short)?;
-    }
-    for word in THREAD_WORDS {
-        run_threads(rt, rt.alloc(), word, names, Size::Short)?;
     }
     Ok(())
 }
