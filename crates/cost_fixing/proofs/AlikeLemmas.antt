@@ -1,16 +1,14 @@
 -- Of problems that are alike the same alternatives are out, and what is left of them is alike.
-use Rattle.std.proofs.Common.{◌≡◌, ℕ, ◌<◌, not, List, length, Option, Some, None, sym, ◌∙◌, ap, subst, arith, pos, ◌-ℤ◌, ◌*ℤ◌, ℤ}
-use Rattle.std.specs.Prelude.{All, slice_index, slice_set, int_lt}
-use Rattle.std.specs.List.{filter, range_with_len}
-use Rattle.std.proofs.lemmas.List.Elements.{filter_agree}
+use Rattle.std.proofs.Common.{◌≡◌, ℕ, ◌-◌, ◌<◌, not, List, length, Option, Some, None, sym, ◌∙◌, ap, subst, arith, pos, ◌-ℤ◌, ◌*ℤ◌, ℤ}
+use Rattle.std.specs.Prelude.{All, slice_index, slice_set, int_lt, nat_lt}
 use Rattle.choice_problem.specs.declared.vectors.Price.{Price}
-use Rattle.choice_problem.specs.Problems.{ProblemView, unit_count, alt_count, alt_cost, alt_uses}
+use Rattle.choice_problem.specs.Problems.{ProblemView, unit_count, alt_count, resource_count, alt_cost, alt_uses}
 use Rattle.choice_problem.specs.Alike.{AreAlike}
 use Rattle.choice_problem.specs.Bounds.{whole_of, bound_of}
 use Rattle.choice_problem.specs.Trees.{vector_at}
 use Rattle.cost_fixing.specs.declared.fixings.Fixing.{Fixing}
-use Rattle.cost_fixing.specs.Fixings.{fixed_at, is_out, left_alts, problem_with, FixingHolds, tree_problem}
-use Rattle.cost_fixing.proofs.ListLemmas.{passing-there}
+use Rattle.cost_fixing.specs.Fixings.{fixed_at, is_out, uses_last, parted, left_alts, problem_with, FixingHolds, tree_problem}
+use Rattle.cost_fixing.proofs.ListLemmas.{parted-there, parted-agree}
 use Rattle.cost_fixing.proofs.WithLemmas.{with-count, with-alts, with-cost, with-uses}
 
 -- what is said of problems that are alike
@@ -27,12 +25,16 @@ out-same whole bound p q prices scale cost u a alike =
     bound p q (fixed_at p u a) prices scale alike ∙ ap (λ (w : List (ℕ × ℕ)). bound_of q w prices scale) ranges in
     ap (λ (z : ℤ). int_lt (pos scale *ℤ (pos cost -ℤ pos 1)) z) bounds
 
+last-same : (p q : ProblemView) (u a : ℕ) → AreAlike p q → u < unit_count p → a < alt_count p u → uses_last p u a ≡ uses_last q u a
+last-same p q u a alike lt la =
+    ap (λ (n : ℕ). nat_lt 0 n) (alike.uses u a (resource_count p - 1) lt la ∙ ap (λ (n : ℕ). alt_uses q u a (n - 1)) alike.resources)
+
 left-same : WholeAlike → BoundAlike → (p q : ProblemView) (prices : List Price) (scale cost u : ℕ) → AreAlike p q → u < unit_count p →
     left_alts p prices scale cost u ≡ left_alts q prices scale cost u
 left-same whole bound p q prices scale cost u alike lt =
-    filter_agree (λ a. not (is_out p prices scale cost u a)) (λ a. not (is_out q prices scale cost u a)) (λ a. ap not (out-same whole bound p q prices scale cost u a alike))
-    (range_with_len 0 (alt_count p u))
-    ∙ ap (λ (n : ℕ). filter (λ a. not (is_out q prices scale cost u a)) (range_with_len 0 n)) (alike.alts u lt)
+    parted-agree (λ a. not (is_out p prices scale cost u a)) (λ a. uses_last p u a) (λ a. not (is_out q prices scale cost u a)) (λ a. uses_last q u a) (alt_count p u)
+    (λ a la. ap not (out-same whole bound p q prices scale cost u a alike)) (λ a la. last-same p q u a alike lt la)
+    ∙ ap (λ (n : ℕ). parted (λ a. not (is_out q prices scale cost u a)) (λ a. uses_last q u a) n) (alike.alts u lt)
 
 -- the same alternatives of problems that are alike
 with-alike : (p q : ProblemView) (one other : ℕ → List ℕ) → AreAlike p q → ((u : ℕ) → u < unit_count p → one u ≡ other u) →
@@ -62,7 +64,7 @@ tree-alike whole bound p q vectors None alike = alike
 tree-alike whole bound p q vectors (Some f) alike =
     let prices = vector_at vectors f.vector in
     with-alike p q (λ u. left_alts p prices f.scale f.cost u) (λ u. left_alts q prices f.scale f.cost u) alike (λ u lt. left-same whole bound p q prices f.scale f.cost u alike lt)
-    (λ u lt. passing-there (λ a. not (is_out p prices f.scale f.cost u a)) (alt_count p u))
+    (λ u lt. parted-there (λ a. not (is_out p prices f.scale f.cost u a)) (λ a. uses_last p u a) (alt_count p u))
 
 pub holds-alike : WholeAlike → BoundAlike → (p q : ProblemView) (vectors : List (List Price)) (cost : Option ℕ) (f : Fixing) → AreAlike p q → FixingHolds p vectors cost f → FixingHolds q vectors cost f
 holds-alike whole bound p q vectors cost f alike holds = record {

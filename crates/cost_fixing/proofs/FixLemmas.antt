@@ -7,7 +7,6 @@ use Rattle.std.proofs.lemmas.Bool.{cases_lt, cases_eq, cases_Bool}
 use Rattle.std.proofs.lemmas.List.{get_or-set_same, get_or-set_other, get_or-map, length-map}
 use Rattle.std.proofs.lemmas.List.FromFn.{get_or-map-range_with_len, length-map-range_with_len}
 use Rattle.std.proofs.lemmas.List.Elements.{All-weaker}
-use Rattle.finite_sums.specs.Sums.{count_below}
 use Rattle.choice_problem.specs.declared.vectors.Price.{Price}
 use Rattle.choice_problem.specs.declared.nodes.Node.{Node}
 use Rattle.choice_problem.specs.declared.nodes.Node.TheVariants.{Split, Leaf, Over, Undone}
@@ -18,8 +17,8 @@ use Rattle.choice_problem.specs.Trees.{IsSound, IsWhole, LeafHolds, vector_at, p
 use Rattle.choice_problem.specs.Grafts.{open_ranges}
 use Rattle.choice_problem.specs.Floors.{AreFloors, IsAtMost}
 use Rattle.cost_fixing.specs.declared.fixings.Fixing.{Fixing}
-use Rattle.cost_fixing.specs.Fixings.{fixed_at, is_out, left_alts, left_problem, left_view, problem_with, whole_choice, FixingHolds, tree_problem}
-use Rattle.cost_fixing.proofs.ListLemmas.{passing-at, passing-there}
+use Rattle.cost_fixing.specs.Fixings.{fixed_at, is_out, uses_last, left_alts, left_problem, left_view, problem_with, whole_choice, FixingHolds, tree_problem}
+use Rattle.cost_fixing.proofs.ListLemmas.{parted-at, parted-there, place_in}
 use Rattle.cost_fixing.proofs.WithLemmas.{IsTakenBy, taken-cost, taken-feasible, taken-back, choice-taken, taken-whole, whole-choice, numbers_with}
 
 -- a closed bound is one that reaches the cost
@@ -78,7 +77,7 @@ whole-back p prices scale cost y f =
     let alts : ℕ → List ℕ = λ u. left_alts p prices scale cost u in
     let x = whole_choice (numbers_with p alts) y in
     let t = choice-taken p alts y f.choice in
-    let within = λ (u : ℕ) (l : u < unit_count p). passing-there (λ a. not (is_out p prices scale cost u a)) (alt_count p u) in
+    let within = λ (u : ℕ) (l : u < unit_count p). parted-there (λ a. not (is_out p prices scale cost u a)) (λ a. uses_last p u a) (alt_count p u) in
     (taken-back p alts y x t (whole-choice p alts within y f.choice) f, sym (taken-cost p alts y x t))
 
 module _ (closed : ClosedCost) (p : ProblemView) (prices : List Price) (scale cost : ℕ) (vector : IsVector p prices) where
@@ -101,7 +100,7 @@ module _ (closed : ClosedCost) (p : ProblemView) (prices : List Price) (scale co
 
   -- the places of a choice's alternatives among those that are left
   abbrev place_of : List ℕ → ℕ → ℕ
-  place_of x u = count_below (slice_index x u) (kept u)
+  place_of x u = place_in (kept u) (λ a. uses_last p u a) (alt_count p u) (slice_index x u)
 
   abbrev places_of : List ℕ → List ℕ
   places_of x = map (λ u. place_of x u) (range_with_len 0 (unit_count p))
@@ -112,8 +111,8 @@ module _ (closed : ClosedCost) (p : ProblemView) (prices : List Price) (scale co
   pub left-taken : (x : List ℕ) → IsFeasible p x → choice_cost p x < cost → IsTakenBy p alts (places_of x) x
   left-taken x f less = record {
     count = length-map-range_with_len {X = ℕ} (λ v. place_of x v) 0 (unit_count p);
-    place = λ u l. rw (places-at x u l) (passing-at (kept u) (alt_count p u) (slice_index x u) (f.choice.there u l) (ap not (none-out x u f less l))).there;
-    same = λ u l. rw (places-at x u l) (passing-at (kept u) (alt_count p u) (slice_index x u) (f.choice.there u l) (ap not (none-out x u f less l))).is;
+    place = λ u l. rw (places-at x u l) (parted-at (kept u) (λ a. uses_last p u a) (alt_count p u) (slice_index x u) (f.choice.there u l) (ap not (none-out x u f less l))).there;
+    same = λ u l. rw (places-at x u l) (parted-at (kept u) (λ a. uses_last p u a) (alt_count p u) (slice_index x u) (f.choice.there u l) (ap not (none-out x u f less l))).is;
   }
 
   -- the choice of what is left that a choice below the cost is

@@ -8,8 +8,8 @@ use Rattle.choice_problem.specs.declared.problems.Alt.{Alt}
 use Rattle.choice_problem.specs.declared.vectors.Price.{Price}
 use Rattle.choice_problem.specs.Problems.{ProblemView, ChooserView, IsChooser, IsProblem, ArePartsInRange, unit_count, alt_count, chooser_at, alt_uses, amount}
 use Rattle.price_table.specs.Tables.{TableView, PricesUnit, IsTableFor, named_price}
-use Rattle.cost_fixing.specs.Fixings.{unit_with, problem_with, left_problem, left_alts, is_out, LeavesSome}
-use Rattle.cost_fixing.proofs.ListLemmas.{range-within, passing-few, passing-there}
+use Rattle.cost_fixing.specs.Fixings.{unit_with, problem_with, left_problem, left_alts, is_out, uses_last, LeavesSome}
+use Rattle.cost_fixing.proofs.ListLemmas.{range-within, parted-few, parted-there}
 use Rattle.cost_fixing.proofs.WithLemmas.{unit_with-IsChooser, with-count, with-unit, with-alts, with-alt, with-uses}
 use Rattle.cost_fixing.proofs.FixLemmas.{vector-with}
 
@@ -28,7 +28,7 @@ left-units p prices scale cost all some =
     let v : IsChooser (chooser_at p u) = all u (record { parts = []; alts = [] }) l in
     let kept = λ (a : ℕ). not (is_out p prices scale cost u a) in
     unit_with-IsChooser (chooser_at p u) (left_alts p prices scale cost u) v (some u l)
-    (omega (arith, passing-few kept (alt_count p u), v.few_alts)) (passing-there kept (alt_count p u)))
+    (omega (arith, parted-few kept (λ a. uses_last p u a) (alt_count p u), v.few_alts)) (parted-there kept (λ a. uses_last p u a) (alt_count p u)))
 
 pub with-limits : (p : ProblemView) (alts : ℕ → List ℕ) (limits : List ℤ) → IsProblem p.units limits → IsProblem (problem_with p alts).units limits
 with-limits p alts limits v = record {
@@ -67,4 +67,4 @@ table-with p alts t within v = record {
 
 pub left-table : (p : ProblemView) (prices : List Price) (scale cost : ℕ) (t : TableView) → IsTableFor p t → IsTableFor (left_problem p prices scale cost) t
 left-table p prices scale cost t v =
-    table-with p (λ u. left_alts p prices scale cost u) t (λ u l. passing-there (λ a. not (is_out p prices scale cost u a)) (alt_count p u)) v
+    table-with p (λ u. left_alts p prices scale cost u) t (λ u l. parted-there (λ a. not (is_out p prices scale cost u a)) (λ a. uses_last p u a) (alt_count p u)) v

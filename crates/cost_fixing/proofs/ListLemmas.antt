@@ -1,11 +1,12 @@
 -- The numbers below a bound that pass a test, as a list.
-use Rattle.std.proofs.Common.{◌≡◌, ℕ, zero, suc, ◌+◌, ◌<◌, ◌≤◌, Bool, true, false, cond, List, [], ◌∷◌, ◌++◌, length, get_or, refl, ◌∙◌, ap, arith, inl, inr, add-one}
-use Rattle.std.specs.Prelude.{All, if◌then◌else◌}
+use Rattle.std.proofs.Common.{◌≡◌, ℕ, zero, suc, ◌+◌, ◌<◌, ◌≤◌, Bool, true, false, not, cond, List, [], ◌∷◌, ◌++◌, length, get_or, refl, sym, ◌∙◌, ap, ap₂, arith, inl, inr, add-one}
+use Rattle.std.specs.Prelude.{All, if◌then◌else◌, ◌&&◌}
 use Rattle.std.specs.List.{filter, range_with_len}
-use Rattle.std.proofs.lemmas.Bool.{cases_lt}
-use Rattle.std.proofs.lemmas.List.{length-append, get_or_append_left, get_or_push}
-use Rattle.std.proofs.lemmas.List.Elements.{filter-append, All-nil, All-cons, All-weaker, All-filter}
+use Rattle.std.proofs.lemmas.Bool.{cases_lt, cases_Bool}
+use Rattle.std.proofs.lemmas.List.{length-append, get_or_append_left, get_or-append-add, get_or_push}
+use Rattle.std.proofs.lemmas.List.Elements.{filter-append, All-nil, All-cons, All-append, All-weaker, All-filter}
 use Rattle.finite_sums.specs.Sums.{count_below}
+use Rattle.cost_fixing.specs.Fixings.{parted}
 
 -- one number more
 range-last : (a n : ℕ) → range_with_len a (suc n) ≡ range_with_len a n ++ (a + n) ∷ []
@@ -89,3 +90,75 @@ range-within n = All-weaker (λ x. x < 0 + n) (λ x. x < n) (λ x lt. omega (ari
 
 pub passing-there : (p : ℕ → Bool) (n : ℕ) → All (λ a. a < n) (passing p n)
 passing-there p n = All-filter p (λ a. a < n) (range_with_len 0 n) (range-within n)
+
+-- tests that agree below the bound pass the same
+pub passing-agree : (p q : ℕ → Bool) (n : ℕ) → ((a : ℕ) → a < n → p a ≡ q a) → passing p n ≡ passing q n
+passing-agree p q zero h = refl
+passing-agree p q (suc n) h =
+    let last : p n ≡ q n = h n (omega arith) in
+    passing-suc p n ∙ ap (λ (l : List ℕ). l ++ cond (p n) (n ∷ []) []) (passing-agree p q n (λ a lt. h a (omega (arith, lt))))
+    ∙ ap (λ (b : Bool). passing q n ++ cond b (n ∷ []) []) last ∙ sym (passing-suc q n)
+
+-- numbers in two parts: those that do not pass the second test come first
+abbrev pub before : (ℕ → Bool) → (ℕ → Bool) → ℕ → Bool
+before kept last a = kept a && not (last a)
+
+abbrev pub behind : (ℕ → Bool) → (ℕ → Bool) → ℕ → Bool
+behind kept last a = kept a && last a
+
+parts-one : (k l : Bool) → (if k && not l then 1 else 0) + (if k && l then 1 else 0) ≤ 1
+parts-one true true = omega arith
+parts-one true false = omega arith
+parts-one false l = omega arith
+
+parts-few : (kept last : ℕ → Bool) (n : ℕ) → length (passing (before kept last) n) + length (passing (behind kept last) n) ≤ n
+parts-few kept last zero = omega arith
+parts-few kept last (suc n) =
+    omega (
+      arith,
+      parts-few kept last n,
+      ap length (passing-suc (before kept last) n),
+      length-append (passing (before kept last) n) (cond (before kept last n) (n ∷ []) []),
+      length-one (before kept last n) n,
+      ap length (passing-suc (behind kept last) n),
+      length-append (passing (behind kept last) n) (cond (behind kept last n) (n ∷ []) []),
+      length-one (behind kept last n) n,
+      parts-one (kept n) (last n),
+    )
+
+pub parted-few : (kept last : ℕ → Bool) (n : ℕ) → length (parted kept last n) ≤ n
+parted-few kept last n = omega (arith, parts-few kept last n, length-append (passing (before kept last) n) (passing (behind kept last) n))
+
+pub parted-there : (kept last : ℕ → Bool) (n : ℕ) → All (λ a. a < n) (parted kept last n)
+parted-there kept last n =
+    All-append (λ a. a < n) (passing (before kept last) n) (passing (behind kept last) n) (passing-there (before kept last) n) (passing-there (behind kept last) n)
+
+pub parted-agree : (k l k' l' : ℕ → Bool) (n : ℕ) → ((a : ℕ) → a < n → k a ≡ k' a) → ((a : ℕ) → a < n → l a ≡ l' a) → parted k l n ≡ parted k' l' n
+parted-agree k l k' l' n same also =
+    ap₂ (λ (xs ys : List ℕ). xs ++ ys)
+    (passing-agree (before k l) (before k' l') n (λ a lt. ap₂ (λ (b c : Bool). b && not c) (same a lt) (also a lt)))
+    (passing-agree (behind k l) (behind k' l') n (λ a lt. ap₂ (λ (b c : Bool). b && c) (same a lt) (also a lt)))
+
+stands-behind : (xs ys : List ℕ) (k x : ℕ) → StandsAt ys k x → StandsAt (xs ++ ys) (length xs + k) x
+stands-behind xs ys k x s = record {
+  there = omega (arith, s.there, length-append xs ys);
+  is = get_or-append-add xs ys k 0 ∙ s.is;
+}
+
+-- where a number that is kept stands
+abbrev pub place_in : (ℕ → Bool) → (ℕ → Bool) → ℕ → ℕ → ℕ
+place_in kept last n a = cond (last a) (length (passing (before kept last) n) + count_below a (behind kept last)) (count_below a (before kept last))
+
+pub parted-at : (kept last : ℕ → Bool) (n a : ℕ) → a < n → kept a ≡ true → StandsAt (parted kept last n) (place_in kept last n a) a
+parted-at kept last n a lt is = elim (cases_Bool (last a)) [
+  | inl t ↦
+      let passes : behind kept last a ≡ true = ap₂ (λ (b c : Bool). b && c) is t in
+      let at : place_in kept last n a ≡ length (passing (before kept last) n) + count_below a (behind kept last) =
+      ap (λ (b : Bool). cond b (length (passing (before kept last) n) + count_below a (behind kept last)) (count_below a (before kept last))) t in
+      rw at (stands-behind (passing (before kept last) n) (passing (behind kept last) n) (count_below a (behind kept last)) a (passing-at (behind kept last) n a lt passes))
+  | inr f ↦
+      let passes : before kept last a ≡ true = ap₂ (λ (b c : Bool). b && not c) is f in
+      let at : place_in kept last n a ≡ count_below a (before kept last) =
+      ap (λ (b : Bool). cond b (length (passing (before kept last) n) + count_below a (behind kept last)) (count_below a (before kept last))) f in
+      rw at (stands-before (passing (before kept last) n) (passing (behind kept last) n) (count_below a (before kept last)) a (passing-at (before kept last) n a lt passes))
+]

@@ -14,9 +14,9 @@ use Rattle.choice_problem.specs.Problems.{ProblemView, ChooserView, IsChooser, u
 use Rattle.choice_problem.specs.Choices.{IsChoice}
 use Rattle.choice_problem.specs.Bounds.{whole_of, Closes}
 use Rattle.price_table.specs.Totals.{TotalsView}
-use Rattle.cost_fixing.specs.Fixings.{fixed_at, is_out, left_alts, left_problem, unit_with, problem_with, whole_choice, LeavesSome}
+use Rattle.cost_fixing.specs.Fixings.{fixed_at, is_out, uses_last, left_alts, left_problem, unit_with, problem_with, whole_choice, LeavesSome}
 use Rattle.cost_fixing.specs.Loops.{AreWholeBut, AreAltsOf, IsNumbering, alts_in}
-use Rattle.cost_fixing.proofs.ListLemmas.{passing, passing-more, passing-few, passing-there}
+use Rattle.cost_fixing.proofs.ListLemmas.{passing, passing-more, parted-few, parted-there}
 use Rattle.cost_fixing.proofs.WithLemmas.{numbers_with, numbers-at, numbers-count, with-count, with-alts, whole-number, unit_with-IsChooser}
 use Rattle.cost_fixing.proofs.FixLemmas.{out-closes, whole-at}
 
@@ -136,10 +136,10 @@ module _ (p : ProblemView) (prices : List Price) (scale cost : ℕ) where
     some = λ u l. h u (omega (arith, l, ap length e, numbers-count p lefts));
     few = λ u l.
         let at = ap (λ (bs : List (List ℕ)). length (alts_in bs u)) e ∙ ap length (numbers-at p lefts u l) in
-        omega (arith, at, passing-few (λ a. not (is_out p prices scale cost u a)) (alt_count p u));
+        omega (arith, at, parted-few (λ a. not (is_out p prices scale cost u a)) (λ a. uses_last p u a) (alt_count p u));
     there = λ u l.
         subst (λ (bs : List ℕ). All (λ a. a < alt_count p u) bs) (sym (ap (λ (bs : List (List ℕ)). alts_in bs u) e ∙ numbers-at p lefts u l))
-        (passing-there (λ a. not (is_out p prices scale cost u a)) (alt_count p u));
+        (parted-there (λ a. not (is_out p prices scale cost u a)) (λ a. uses_last p u a) (alt_count p u));
   }
 
   -- and number those of what is left

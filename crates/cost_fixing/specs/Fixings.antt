@@ -1,9 +1,9 @@
 -- Reduced-cost fixing: alternatives that no choice below a cost takes, and the problem that is left without them.
-use Rattle.std.specs.Prelude.{ℕ, ◌<◌, ◌≤◌, Bool, not, List, [], length, map, slice_index, slice_index_or, slice_set, Option, Some, None, IsSomeAnd, pos, ◌-ℤ◌, ◌*ℤ◌, int_lt}
+use Rattle.std.specs.Prelude.{ℕ, ◌<◌, ◌≤◌, ◌-◌, Bool, not, nat_lt, ◌&&◌, List, [], ◌++◌, length, map, slice_index, slice_index_or, slice_set, Option, Some, None, IsSomeAnd, pos, ◌-ℤ◌, ◌*ℤ◌, int_lt}
 use Rattle.std.specs.List.{filter, range_with_len}
 use Rattle.choice_problem.specs.declared.vectors.Price.{Price}
 use Rattle.choice_problem.specs.declared.closing.TheConstants.{SCALE_BOUND}
-use Rattle.choice_problem.specs.Problems.{ProblemView, ChooserView, unit_count, alt_count, chooser_at, alt_at}
+use Rattle.choice_problem.specs.Problems.{ProblemView, ChooserView, unit_count, alt_count, resource_count, chooser_at, alt_at, alt_uses}
 use Rattle.choice_problem.specs.Bounds.{whole_of, bound_of}
 use Rattle.choice_problem.specs.Trees.{vector_at}
 use Rattle.cost_fixing.specs.declared.fixings.Fixing.{Fixing}
@@ -17,10 +17,20 @@ abbrev pub is_out : ProblemView → List Price → ℕ → ℕ → ℕ → ℕ �
 is_out p prices scale cost u a =
     int_lt (pos scale *ℤ (pos cost -ℤ pos 1)) (bound_of p (fixed_at p u a) prices scale)
 
--- the unit's other alternatives, by rising number
+-- whether the alternative uses the last resource
+abbrev pub uses_last : ProblemView → ℕ → ℕ → Bool
+uses_last p u a = nat_lt 0 (alt_uses p u a (resource_count p - 1))
+
+-- of the numbers below a bound that pass a test, those that do not pass another one, and behind them those that do, each
+-- by rising number
+abbrev pub parted : (ℕ → Bool) → (ℕ → Bool) → ℕ → List ℕ
+parted kept last n = filter (λ a. kept a && not (last a)) (range_with_len 0 n)
+    ++ filter (λ a. kept a && last a) (range_with_len 0 n)
+
+-- the unit's other alternatives: those that do not use the last resource come first
 abbrev pub left_alts : ProblemView → List Price → ℕ → ℕ → ℕ → List ℕ
 left_alts p prices scale cost u =
-    filter (λ a. not (is_out p prices scale cost u a)) (range_with_len 0 (alt_count p u))
+    parted (λ a. not (is_out p prices scale cost u a)) (λ a. uses_last p u a) (alt_count p u)
 
 -- these alternatives of a unit alone, in this order; its parts are all kept
 abbrev pub unit_with : ChooserView → List ℕ → ChooserView

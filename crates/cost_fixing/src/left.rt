@@ -114,8 +114,9 @@ impl Left {
 }
 
 /// What is left of a problem below a cost: the alternatives with which the bound at the table's
-/// vector and the scale does not reach the cost. None where some unit has none. Two steps an
-/// alternative, and a copy of the parts.
+/// vector and the scale does not reach the cost, those that do not use the last resource before
+/// those that do. None where some unit has none. Two steps an alternative, one a strip of each that
+/// is left, and a copy of the parts.
 pub fn left_of(
     alloc: Global,
     problem: &Problem,

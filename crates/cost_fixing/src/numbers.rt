@@ -6,7 +6,7 @@ ghost use Rattle.choice_problem.specs.Problems.{unit_count, alt_count};
 ghost use Rattle.choice_problem.specs.Bounds.{whole_of};
 ghost use Rattle.price_table.specs.Tables.{IsTableFor};
 ghost use Rattle.price_table.specs.Totals.{AreTotalsFor};
-ghost use Rattle.cost_fixing.specs.Fixings.{is_out, left_alts, left_view};
+ghost use Rattle.cost_fixing.specs.Fixings.{is_out, uses_last, left_alts, left_view};
 ghost use Rattle.cost_fixing.specs.Loops.{AreWholeBut};
 
 use choice_problem::{Problem, Ranges};
@@ -37,7 +37,7 @@ impl AltNumbers {
     }
 }
 
-// The alternatives of each unit that are left, by rising number.
+// The alternatives of each unit that are left, in their order there.
 pub(crate) fn left_numbers(
     alloc: Global,
     problem: &Problem,
@@ -59,7 +59,8 @@ pub(crate) fn left_numbers(
     Ok(units)
 }
 
-// The alternatives of a unit that are left. The totals are at all alternatives, before and after.
+// The alternatives of a unit that are left, those that use the last resource behind the others. The
+// totals are at all alternatives, before and after.
 fn unit_numbers(
     alloc: Global,
     problem: &Problem,
@@ -79,13 +80,28 @@ fn unit_numbers(
         ≡ left_alts problem.now table.now.prices totals.old.scale cost unit) }
 {
     let mut numbers = Vec::new(alloc);
+    let mut last = Vec::new(alloc);
     for alt in 0..problem.alts(unit) {
         if !is_out(problem, table, totals, unit, alt, cost) {
-            numbers.push(alt)?;
+            if uses_last(problem, unit, alt) {
+                last.push(alt)?;
+            } else {
+                numbers.push(alt)?;
+            }
         }
     }
     totals.set(problem, unit, 0, problem.alts(unit) - 1, table);
+    numbers.extend_from_slice(&last)?;
     Ok(AltNumbers { numbers })
+}
+
+// Whether an alternative uses the last resource.
+fn uses_last(problem: &Problem, unit: u32, alt: u32) -> bool
+    requires unit { unit < unit_count problem.now }
+    requires alt { alt < alt_count problem.now unit }
+    ensures { result ≡ uses_last problem.now unit alt }
+{
+    problem.uses(unit, alt, problem.resources().saturating_sub(1)) > 0
 }
 
 // Whether the bound with an alternative reaches the cost. The totals are then at that alternative.

@@ -1,8 +1,8 @@
 //! How often the units together can use each resource.
 
-use crate::classes::{is_marked, set_mark};
+use crate::classes::is_marked;
 use crate::numbers::{add_at, as_number};
-use crate::outline::StripTable;
+use crate::outline::{StripTable, mark_part};
 use crate::sums::strip_sums;
 use choice_problem::{Alt, Part, Problem, Strip};
 use slot_text::Memory;
@@ -120,12 +120,6 @@ fn second_parts(alloc: Global, alts: &[Alt], parts: usize) -> Result<Vec<bool>, 
         mark_part(&mut named, alt.two);
     }
     Ok(named)
-}
-
-fn mark_part(named: &mut [bool], part: Option<u32>) {
-    if let Some(part) = part {
-        set_mark(named, part, true);
-    }
 }
 
 // Adds the named parts' strips, joined.

@@ -1,9 +1,10 @@
 //! The strips of a problem, each kept once: the strips of many parts are the same, so that what is
 //! done strip by strip is done once for all of them.
 
+use crate::classes::set_mark;
 use crate::numbers::{as_number, number_at};
 use crate::rows::Rows;
-use choice_problem::{Part, Problem, Strip};
+use choice_problem::{Alt, Part, Problem, Strip};
 use slot_text::Memory;
 use std::alloc::Global;
 
@@ -47,8 +48,8 @@ fn place_of(strip: &Strip) -> usize {
     (strip.hash_code() >> 16) as usize
 }
 
-// The strips of a problem, for each part of all units a row of their numbers, and the number of
-// each unit's first part.
+// The strips of a problem's named parts, for each part of all units a row of their numbers, and the
+// number of each unit's first part. A part that no alternative names has an empty row.
 #[derive(Drop)]
 pub(crate) struct Outline {
     pub(crate) strips: Vec<Strip>,
@@ -57,14 +58,16 @@ pub(crate) struct Outline {
 }
 
 impl Outline {
-    // The outline of a problem: one step a strip.
+    // The outline of a problem: one step a strip of a named part, and one an alternative.
     pub(crate) fn of(alloc: Global, problem: &Problem) -> Result<Outline, Memory> {
         let mut table = StripTable::new(alloc)?;
         let mut parts = Rows::new(alloc)?;
         let mut units = Vec::new(alloc);
         for unit in 0..problem.units() {
             units.push(as_number(parts.len()))?;
-            add_parts(&mut table, &mut parts, problem.unit_parts(unit))?;
+            let of_unit = problem.unit_parts(unit);
+            let named = named_parts(alloc, problem.unit_alts(unit), of_unit.len())?;
+            add_parts(&mut table, &mut parts, of_unit, &named)?;
         }
         units.push(as_number(parts.len()))?;
         Ok(Outline {
@@ -75,10 +78,34 @@ impl Outline {
     }
 }
 
+// For each part of a unit whether an alternative names it.
+fn named_parts(alloc: Global, alts: &[Alt], parts: usize) -> Result<Vec<bool>, Memory> {
+    let mut named = vec![in alloc; false; parts]?;
+    for alt in alts {
+        mark_part(&mut named, alt.one);
+        mark_part(&mut named, alt.two);
+    }
+    Ok(named)
+}
+
+// Marks a part, if there is one.
+pub(crate) fn mark_part(named: &mut [bool], part: Option<u32>) {
+    if let Some(part) = part {
+        set_mark(named, part, true);
+    }
+}
+
 // Adds a row for each part of a unit.
-fn add_parts(table: &mut StripTable, rows: &mut Rows<u32>, parts: &[Part]) -> Result<(), Memory> {
-    for part in parts {
-        add_strips(table, rows, part.strips())?;
+fn add_parts(
+    table: &mut StripTable,
+    rows: &mut Rows<u32>,
+    parts: &[Part],
+    named: &[bool],
+) -> Result<(), Memory> {
+    for (part, is_named) in parts.iter().zip(named) {
+        if *is_named {
+            add_strips(table, rows, part.strips())?;
+        }
         rows.end_row()?;
     }
     Ok(())

@@ -86,7 +86,8 @@ impl Reduced {
         as_number(self.uses.len())
     }
 
-    /// The classes that a part uses, by rising number; none if there is no such part.
+    /// The classes that a part uses, by rising number; none if there is no such part, or no
+    /// alternative names it.
     pub fn part_uses(&self, part: u32) -> &[ClassUse] {
         self.uses.row(part)
     }
