@@ -22,6 +22,7 @@ use crate::trials::Trial;
 use crate::uses::{Uses, give_back, has_both, has_uses, no_uses, take_away};
 use capacity_windows::Windows;
 use choice_problem::Part;
+use left_counts::LeftCounts;
 use scr_reader::{Line, Stop};
 use season_days::{Declaration, Kind, MINUTES_OF_DAY, Period, Rule};
 use series_model::laws::{movement_loads, requested_shift, shift_bounds};
@@ -29,15 +30,14 @@ use series_model::{Times, line_times};
 use slot_text::Memory;
 use std::alloc::Global;
 use std::marker::Model;
-use window_counts::Counts;
 
-/// A declaration, its windows, and what each resource has left, four bytes each. Contracts see the
+/// A declaration, its windows, and what each resource has left. Contracts see the
 /// declaration and what is left.
 #[derive(Drop)]
 pub(crate) struct Loads {
     declaration: Declaration,
     windows: Windows,
-    left: Counts,
+    left: LeftCounts,
 }
 
 impl Model for Loads {
@@ -65,7 +65,7 @@ impl Loads {
         Ok(Loads {
             declaration: declaration.copy(alloc)?,
             windows,
-            left: Counts::with(limits),
+            left: LeftCounts::with(alloc, limits)?,
         })
     }
 

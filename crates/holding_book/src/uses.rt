@@ -8,7 +8,7 @@ ghost use Rattle.window_counts.specs.Counts.{some_uses, both_uses};
 ghost use Rattle.holding_book.specs.Private.Uses.{book_uses_of, AreInRange, AreNone, AreUsedOnce};
 
 use choice_problem::{Part, strip_list};
-use window_counts::Counts;
+use left_counts::LeftCounts;
 
 /// The uses of the stops of a line.
 #[derive(Drop)]
@@ -28,7 +28,7 @@ pub(crate) fn no_uses() -> Uses
 }
 
 /// Gives the uses back.
-pub(crate) fn give_back(left: &mut Counts, uses: &Uses)
+pub(crate) fn give_back(left: &mut LeftCounts, uses: &Uses)
     requires there { AreInRange (length left.old) uses.now }
     requires room { HasRoom left.old (λ r. book_uses_of uses.now r) }
     ensures length { length left.new ≡ length left.old }
@@ -43,7 +43,7 @@ pub(crate) fn give_back(left: &mut Counts, uses: &Uses)
 }
 
 /// Takes the uses.
-pub(crate) fn take_away(left: &mut Counts, uses: &Uses)
+pub(crate) fn take_away(left: &mut LeftCounts, uses: &Uses)
     requires there { AreInRange (length left.old) uses.now }
     requires left { HasUses left.old (λ r. book_uses_of uses.now r) }
     ensures length { length left.new ≡ length left.old }
@@ -60,7 +60,7 @@ pub(crate) fn take_away(left: &mut Counts, uses: &Uses)
 /// Whether each number is at least what two parts use of it, of which each may be missing. A part
 /// uses each resource at most once but the night quota.
 pub(crate) fn has_uses(
-    left: &Counts,
+    left: &LeftCounts,
     one: &Option<Part>,
     two: &Option<Part>,
     night: Option<u32>,
@@ -82,7 +82,7 @@ pub(crate) fn has_uses(
 
 /// The same, where each of the two parts alone has what it uses: only what both use is looked at.
 pub(crate) fn has_both(
-    left: &Counts,
+    left: &LeftCounts,
     one: &Option<Part>,
     two: &Option<Part>,
     night: Option<u32>,
@@ -101,7 +101,7 @@ pub(crate) fn has_both(
 }
 
 // Whether each number of which a part uses something is at least 1.
-fn has_part(left: &Counts, part: &Option<Part>) -> bool
+fn has_part(left: &LeftCounts, part: &Option<Part>) -> bool
     requires { ForSome part.now (IsPartInRange (length left.now)) }
     ensures { IsTrue result
         ↔ ((r : ℕ) → 0 < some_uses part.now r → 1 ≤ slice_index left.now r) }
@@ -113,7 +113,7 @@ fn has_part(left: &Counts, part: &Option<Part>) -> bool
 }
 
 // Whether each number of which both parts use something is at least 2.
-fn has_shared(left: &Counts, one: &Option<Part>, two: &Option<Part>) -> bool
+fn has_shared(left: &LeftCounts, one: &Option<Part>, two: &Option<Part>) -> bool
     requires there { ForSome one.now (IsPartInRange (length left.now)) }
     requires few { (r : ℕ) → both_uses one.now two.now r < 2 ^ 20 }
     ensures { IsTrue result ↔ ((r : ℕ) → 0 < some_uses one.now r →
@@ -126,7 +126,7 @@ fn has_shared(left: &Counts, one: &Option<Part>, two: &Option<Part>) -> bool
 }
 
 // Whether the night quota, if there is one, has what is used of it.
-fn has_quota(left: &Counts, one: &Option<Part>, two: &Option<Part>, night: Option<u32>) -> bool
+fn has_quota(left: &LeftCounts, one: &Option<Part>, two: &Option<Part>, night: Option<u32>) -> bool
     requires few { (r : ℕ) → both_uses one.now two.now r < 2 ^ 20 }
     requires quota { ForSome night (λ r. r < length left.now) }
     ensures { IsTrue result
