@@ -2,6 +2,7 @@
 
 ghost use Rattle.std.specs.Prelude.{◌≡◌, [], ◌∷◌, map, IfOk, IfErr, false, codes};
 ghost use Rattle.clap.specs.Words.{app_of, shape_of, FailsBy, fault_of, HasMatchesOf, rule_of};
+ghost use Rattle.clap.specs.Words.{App, Shape, with_subcommand};
 ghost use Rattle.clap.specs.declared.builder.command.Command.TheViews.{out-Command};
 ghost use Rattle.command_words.specs.Words.{words_of};
 ghost use Rattle.command_words.specs.Jobs.{allocate_command, check_command};
@@ -9,7 +10,8 @@ ghost use Rattle.command_words.specs.Jobs.{amend_command, serve_command, resume_
 ghost use Rattle.command_words.specs.Jobs.{usage_command, reclear_command, recheck_command};
 ghost use Rattle.command_words.specs.Jobs.{report_command, inspect_command, make_command};
 ghost use Rattle.command_words.specs.Jobs.{trial_command};
-ghost use Rattle.command_words.specs.App.{option_arg, names_arg, command_shape, bare_app, reading_app};
+ghost use Rattle.command_words.specs.App.{option_arg, names_arg, leaf_of, args_for, command_shape};
+ghost use Rattle.command_words.specs.App.{bare_app, reading_app};
 ghost use Rattle.command_words.specs.App.{season_app, waiting_app, telling_app, desk_app};
 
 use clap::{Arg, ArgAction, ArgMatches, Command, Error};
@@ -31,14 +33,36 @@ fn names<'a>(alloc: Global) -> Arg<'a>
     Arg::new(alloc, "names").action(ArgAction::Append)
 }
 
+/// A command that searches.
+fn searching<'a>(alloc: Global, name: &'a str) -> Result<Command<'a>, AllocError>
+    ensures shape { IfOk result (λ c. shape_of c
+        ≡ leaf_of name.entry.now (args_for (codes "nodes" ∷ codes "workers" ∷ []))) }
+    ensures local { IfOk result (λ c. (out-Command c).has_globals ≡ false) }
+{
+    Command::new(alloc, name)
+        .arg(option(alloc, "nodes"))?
+        .arg(option(alloc, "workers"))?
+        .arg(names(alloc))
+}
+
+/// A command that serves clients.
+fn serving<'a>(alloc: Global, name: &'a str) -> Result<Command<'a>, AllocError>
+    ensures shape { IfOk result (λ c. shape_of c ≡ leaf_of name.entry.now
+        (args_for (codes "links" ∷ codes "port" ∷ codes "workers" ∷ []))) }
+    ensures local { IfOk result (λ c. (out-Command c).has_globals ≡ false) }
+{
+    Command::new(alloc, name)
+        .arg(option(alloc, "links"))?
+        .arg(option(alloc, "port"))?
+        .arg(option(alloc, "workers"))?
+        .arg(names(alloc))
+}
+
 fn allocate<'a>(alloc: Global) -> Result<Command<'a>, AllocError>
     ensures shape { IfOk result (λ c. shape_of c ≡ command_shape allocate_command) }
     ensures local { IfOk result (λ c. (out-Command c).has_globals ≡ false) }
 {
-    Command::new(alloc, "allocate")
-        .arg(option(alloc, "nodes"))?
-        .arg(option(alloc, "workers"))?
-        .arg(names(alloc))
+    searching(alloc, "allocate")
 }
 
 fn check<'a>(alloc: Global) -> Result<Command<'a>, AllocError>
@@ -59,22 +83,14 @@ fn serve<'a>(alloc: Global) -> Result<Command<'a>, AllocError>
     ensures shape { IfOk result (λ c. shape_of c ≡ command_shape serve_command) }
     ensures local { IfOk result (λ c. (out-Command c).has_globals ≡ false) }
 {
-    Command::new(alloc, "serve")
-        .arg(option(alloc, "links"))?
-        .arg(option(alloc, "port"))?
-        .arg(option(alloc, "workers"))?
-        .arg(names(alloc))
+    serving(alloc, "serve")
 }
 
 fn resume<'a>(alloc: Global) -> Result<Command<'a>, AllocError>
     ensures shape { IfOk result (λ c. shape_of c ≡ command_shape resume_command) }
     ensures local { IfOk result (λ c. (out-Command c).has_globals ≡ false) }
 {
-    Command::new(alloc, "resume")
-        .arg(option(alloc, "links"))?
-        .arg(option(alloc, "port"))?
-        .arg(option(alloc, "workers"))?
-        .arg(names(alloc))
+    serving(alloc, "resume")
 }
 
 fn usage<'a>(alloc: Global) -> Result<Command<'a>, AllocError>
@@ -88,10 +104,7 @@ fn reclear<'a>(alloc: Global) -> Result<Command<'a>, AllocError>
     ensures shape { IfOk result (λ c. shape_of c ≡ command_shape reclear_command) }
     ensures local { IfOk result (λ c. (out-Command c).has_globals ≡ false) }
 {
-    Command::new(alloc, "reclear")
-        .arg(option(alloc, "nodes"))?
-        .arg(option(alloc, "workers"))?
-        .arg(names(alloc))
+    searching(alloc, "reclear")
 }
 
 fn recheck<'a>(alloc: Global) -> Result<Command<'a>, AllocError>
@@ -139,56 +152,60 @@ fn bare<'a>(alloc: Global) -> Command<'a>
         .subcommand_required(true)
 }
 
+/// A desk with one command more.
+fn with<'a>(
+    desk: Result<Command<'a>, AllocError>,
+    command: Result<Command<'a>, AllocError>,
+) -> Result<Command<'a>, AllocError>
+    ensures { (app : App) (shape : Shape) → IfOk desk.entry (λ d. app_of d ≡ app)
+        → IfOk command.entry (λ c. shape_of c ≡ shape)
+        → IfOk command.entry (λ c. (out-Command c).has_globals ≡ false)
+        → IfOk result (λ c. app_of c ≡ with_subcommand app shape) }
+{
+    let desk = desk?;
+    let command = command?;
+    desk.subcommand(command)
+}
+
 /// The desk with the first of the commands that read a season's files.
 fn reading_desk<'a>(alloc: Global) -> Result<Command<'a>, AllocError>
     ensures { IfOk result (λ c. app_of c ≡ reading_app) }
 {
-    let allocate = allocate(alloc)?;
-    let check = check(alloc)?;
-    let amend = amend(alloc)?;
-    bare(alloc)
-        .subcommand(allocate)?
-        .subcommand(check)?
-        .subcommand(amend)
+    let one = with(Ok(bare(alloc)), allocate(alloc));
+    let two = with(one, check(alloc));
+    with(two, amend(alloc))
 }
 
 /// The desk with those that go on from a certificate, too.
 fn season_desk<'a>(alloc: Global) -> Result<Command<'a>, AllocError>
     ensures { IfOk result (λ c. app_of c ≡ season_app) }
 {
-    let serve = serve(alloc)?;
-    let resume = resume(alloc)?;
-    let usage = usage(alloc)?;
-    reading_desk(alloc)?
-        .subcommand(serve)?
-        .subcommand(resume)?
-        .subcommand(usage)
+    let one = with(reading_desk(alloc), serve(alloc));
+    let two = with(one, resume(alloc));
+    with(two, usage(alloc))
 }
 
 /// The desk with those of the waiting list, too.
 fn waiting_desk<'a>(alloc: Global) -> Result<Command<'a>, AllocError>
     ensures { IfOk result (λ c. app_of c ≡ waiting_app) }
 {
-    let reclear = reclear(alloc)?;
-    let recheck = recheck(alloc)?;
-    season_desk(alloc)?.subcommand(reclear)?.subcommand(recheck)
+    let one = with(season_desk(alloc), reclear(alloc));
+    with(one, recheck(alloc))
 }
 
 /// The desk with all commands that read a season's files.
 fn telling_desk<'a>(alloc: Global) -> Result<Command<'a>, AllocError>
     ensures { IfOk result (λ c. app_of c ≡ telling_app) }
 {
-    let report = report(alloc)?;
-    let inspect = inspect(alloc)?;
-    waiting_desk(alloc)?.subcommand(report)?.subcommand(inspect)
+    let one = with(waiting_desk(alloc), report(alloc));
+    with(one, inspect(alloc))
 }
 
 fn desk<'a>(alloc: Global) -> Result<Command<'a>, AllocError>
     ensures { IfOk result (λ c. app_of c ≡ desk_app) }
 {
-    let make = make(alloc)?;
-    let trial = trial(alloc)?;
-    telling_desk(alloc)?.subcommand(make)?.subcommand(trial)
+    let one = with(telling_desk(alloc), make(alloc));
+    with(one, trial(alloc))
 }
 
 /// What `clap` finds in the words.
