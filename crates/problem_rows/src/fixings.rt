@@ -14,8 +14,8 @@ use price_table::PriceTable;
 use std::alloc::Global;
 use std::test::Fail;
 
-// A fixing of a stage of some cost, with one vector in the list: the costs of the alternatives that are left of each
-// unit, or that it does not hold.
+// A fixing of a stage of some cost, with one vector in the list: the costs of the alternatives that
+// are left of each unit, or that it does not hold.
 #[derive(Drop)]
 struct FixingCase;
 
@@ -57,26 +57,28 @@ fn shown(alloc: Global, left: Option<Problem>) -> Result<String, Fail> {
     Ok(out)
 }
 
-// Two units of which one pays 3: at the price 2 the bound is 2, and 3 where either pays; so those that pay are out at cost
-// 3, and not at 4; at scale 4 the same, but with the price 9 the bound passes 2. One unit that alone passes a limit is out
-// at every cost where costs count nothing. At cost 0 all is out. A vector, a scale or a cost that a fixing may not have.
+// Two units of which one pays 3: at the price 2 the bound is 2, and 3 where either pays; so those
+// that pay are out at cost 3, and not at 4; at scale 4 the same, but with the price 9 the bound
+// passes 2. One unit that alone passes a limit is out at every cost where costs count nothing. At
+// cost 0 all is out. A vector, a scale or a cost that a fixing may not have. Of what is left of a
+// unit the alternatives that do not use the last resource stand first.
 const FIXINGS: &str = "pair | 0 2 | 1 1 3 | 3 = yes / 0 / 0
-pair | 0 2 | 1 1 4 | 3 = yes / 0 3 / 0 3
+pair | 0 2 | 1 1 4 | 3 = yes / 3 0 / 3 0
 pair | 0 2 | 1 1 2 | 2 = no
 pair | 0 8 | 1 4 3 | 3 = yes / 0 / 0
-pair | 0 8 | 1 4 4 | 0 = yes / 0 3 / 0 3
+pair | 0 8 | 1 4 4 | 0 = yes / 3 0 / 3 0
 pair | 0 9 | 1 4 3 | 3 = no
-pair | 0 9 | 1 4 4 | 3 = yes / 0 3 / 0 3
+pair | 0 9 | 1 4 4 | 3 = yes / 3 0 / 3 0
 pair | 0 2 | 0 1 3 | 3 = yes / 0 / 0
 pair | 0 2 | 0 1 0 | 0 = no
-pair | 0 2 | 0 0 0 | 0 = yes / 0 3 / 0 3
+pair | 0 2 | 0 0 0 | 0 = yes / 3 0 / 3 0
 three | 3 of 10 | 1 1 30 | 30 = no
-three | 3 of 10 | 1 1 31 | 30 = yes / 0 20 / 0 20 / 0 20
+three | 3 of 10 | 1 1 31 | 30 = yes / 0 20 / 20 0 / 20 0
 P 0 1 0 1; A 0 0 0; A 3 - -; U; L 1 | 0 1 | 1 0 9 | 3 = yes / 3
 P 0 1 0 1; A 0 0 0; U; L 1 | 0 1 | 1 0 9 | 3 = no
 L | | 1 5 0 | 0 = yes
 pair | 0 2 | 2 1 4 | 3 = no
-pair | 0 2 | 1 1048575 4 | 3 = yes / 0 3 / 0 3
+pair | 0 2 | 1 1048575 4 | 3 = yes / 3 0 / 3 0
 pair | 0 2 | 1 1048576 4 | 3 = no
 pair | 0 2 | 1 1 4 | 5 = no
 pair | 0 2 | 1 1 4 | - = no";
