@@ -1,12 +1,11 @@
 -- The bits of a mask, and what a word under it says.
 use Rattle.std.proofs.Common.{◌≡◌, ◌↔◌, ℕ, ◌+◌, ◌-◌, ◌*◌, ◌/◌, ◌%◌, ◌^◌, ◌<◌, ◌≤◌, min, true, List, slice_index, bit_and, nat_eq, sym, ap, ◌∙◌, arith, inl, inr}
 use Rattle.std.specs.Int.{bit_at}
-use Rattle.left_counts.specs.Marks.{mark_at}
+use Rattle.left_counts.specs.Private.Marks.{mark_at}
+use Rattle.std.proofs.Math.Nat.{mul_comm, mul-sub, pow-le-pow_right}
 use Rattle.std.proofs.lemmas.Bool.{cases_lt, eqb-true, eq-eqb}
-use Rattle.std.proofs.lemmas.Nat.Bits.{bit_at_and, bit_at-zero, bit_at-lt, bit_at_ones, bit_at_ones_above, bit_at_mask_inside, bit_at_mask_below, ones_shl, ones_shr, same_from_bits}
-
-both_one : (a b : ℕ) → a ≡ 1 → b ≡ 1 → min a b ≡ 1
-both_one a b e f = omega (arith, e, f)
+use Rattle.std.proofs.lemmas.Nat.{pow-add, pow_pos}
+use Rattle.std.proofs.lemmas.Nat.Bits.{bit_at_and, bit_at-zero, bit_at-lt, bit_at_mask_inside, bit_at_mask_below, bit_at_mask_above, ones_shr, same_from_bits}
 
 one_zero : (a b : ℕ) → a ≡ 0 → min a b ≡ 0
 one_zero a b e = omega (arith, e)
@@ -17,28 +16,29 @@ other_zero a b e = omega (arith, e)
 rest_zero : (a b : ℕ) → a < 2 → b ≡ 1 → min a b ≡ 0 → a ≡ 0
 rest_zero a b l e m = omega (arith, l, e, m)
 
-module _ (low high : ℕ) (some : low < high) (within : high ≤ 64) where
+-- a run of ones, moved up
+module _ (low count : ℕ) (some : 0 < count) (within : low + count ≤ 64) where
   abbrev pub mask : ℕ
-  mask = bit_and (18446744073709551615 * 2 ^ low % 18446744073709551616) (18446744073709551615 / 2 ^ (64 - high))
+  mask = 18446744073709551615 / 2 ^ (64 - count) * 2 ^ low % 18446744073709551616
 
-  mask_is : (i : ℕ) → bit_at mask i ≡ min (bit_at (2 ^ 64 - 2 ^ low) i) (bit_at (2 ^ high - 1) i)
-  mask_is i =
-      let a : 18446744073709551615 * 2 ^ low % 18446744073709551616 ≡ 2 ^ 64 - 2 ^ low = ones_shl 64 low (omega (arith, some, within)) in
-      let b : 18446744073709551615 / 2 ^ (64 - high) ≡ 2 ^ (64 - (64 - high)) - 1 = ones_shr 64 (64 - high) (omega arith) in
-      let e : 64 - (64 - high) ≡ high = omega (arith, within) in
-      let f : 2 ^ (64 - (64 - high)) - 1 ≡ 2 ^ high - 1 = ap (λ (n : ℕ). 2 ^ n - 1) e in
-      bit_at_and (18446744073709551615 * 2 ^ low % 18446744073709551616) (18446744073709551615 / 2 ^ (64 - high)) i
-      ∙ ap (λ (n : ℕ). min (bit_at n i) (bit_at (18446744073709551615 / 2 ^ (64 - high)) i)) a
-      ∙ ap (λ (n : ℕ). min (bit_at (2 ^ 64 - 2 ^ low) i) (bit_at n i)) (b ∙ f)
+  mask_is : mask ≡ 2 ^ (low + count) - 2 ^ low
+  mask_is =
+      let back : 64 - (64 - count) ≡ count = omega (arith, within) in
+      let ones : 18446744073709551615 / 2 ^ (64 - count) ≡ 2 ^ count - 1 = ones_shr 64 (64 - count) (omega arith) ∙ ap (λ (n : ℕ). 2 ^ n - 1) back in
+      let moved : (2 ^ count - 1) * 2 ^ low ≡ 2 ^ (low + count) - 2 ^ low =
+      mul_comm (2 ^ count - 1) (2 ^ low) ∙ mul-sub (2 ^ low) (2 ^ count) 1 ∙ omega (arith, pow-add 2 low count) in
+      let whole : 2 ^ (low + count) ≤ 18446744073709551616 = pow-le-pow_right (omega arith) within in
+      let small : 2 ^ (low + count) - 2 ^ low < 18446744073709551616 = omega (arith, whole, pow_pos low) in
+      ap (λ (n : ℕ). n * 2 ^ low % 18446744073709551616) ones ∙ ap (λ (n : ℕ). n % 18446744073709551616) moved ∙ omega (arith, small)
 
-  pub mask_inside : (i : ℕ) → low ≤ i → i < high → bit_at mask i ≡ 1
-  mask_inside i from to = mask_is i ∙ both_one _ _ (bit_at_mask_inside low 64 i from (omega (arith, to, within))) (bit_at_ones high i to)
+  pub mask_inside : (i : ℕ) → low ≤ i → i < low + count → bit_at mask i ≡ 1
+  mask_inside i from to = ap (λ (n : ℕ). bit_at n i) mask_is ∙ bit_at_mask_inside low (low + count) i from to
 
   pub mask_below : (i : ℕ) → i < low → bit_at mask i ≡ 0
-  mask_below i l = mask_is i ∙ one_zero _ _ (bit_at_mask_below low 64 i l)
+  mask_below i l = ap (λ (n : ℕ). bit_at n i) mask_is ∙ bit_at_mask_below low (low + count) i l
 
-  pub mask_above : (i : ℕ) → high ≤ i → bit_at mask i ≡ 0
-  mask_above i l = mask_is i ∙ other_zero _ _ (bit_at_ones_above high i l)
+  pub mask_above : (i : ℕ) → low + count ≤ i → bit_at mask i ≡ 0
+  mask_above i l = ap (λ (n : ℕ). bit_at n i) mask_is ∙ bit_at_mask_above low (low + count) i l
 
 module _ (word m low high : ℕ) (inside : (i : ℕ) → low ≤ i → i < high → bit_at m i ≡ 1)
     (below : (i : ℕ) → i < low → bit_at m i ≡ 0) (above : (i : ℕ) → high ≤ i → bit_at m i ≡ 0) where
@@ -66,3 +66,18 @@ mark_in_word words at i l =
     let word : (at / 64 * 64 + i) / 64 ≡ at / 64 = omega (arith, l) in
     let bit : (at / 64 * 64 + i) % 64 ≡ i = omega (arith, l) in
     ap (λ (n : ℕ). bit_at (slice_index words n) ((at / 64 * 64 + i) % 64)) word ∙ ap (λ (n : ℕ). bit_at (slice_index words (at / 64)) n) bit
+
+-- places from one to another in one word, as bits of that word
+module _ (words : List ℕ) (start end : ℕ) (some : start < end) (same : start / 64 ≡ (end - 1) / 64) where
+  one_word : start % 64 + (end - start) ≤ 64
+  one_word = omega (arith, some, same)
+
+  pub bits_clear : ((r : ℕ) → start ≤ r → r < end → mark_at words r ≡ 0) → (i : ℕ) → start % 64 ≤ i → i < start % 64 + (end - start) → bit_at (slice_index words (start / 64)) i ≡ 0
+  bits_clear h i from to =
+      sym (mark_in_word words start i (omega (arith, to, one_word)))
+      ∙ h (start / 64 * 64 + i) (omega (arith, from)) (omega (arith, to, some))
+
+  pub places_clear : ((i : ℕ) → start % 64 ≤ i → i < start % 64 + (end - start) → bit_at (slice_index words (start / 64)) i ≡ 0) → (r : ℕ) → start ≤ r → r < end → mark_at words r ≡ 0
+  places_clear h r from to =
+      let word : start / 64 ≡ r / 64 = omega (arith, from, to, same) in
+      ap (λ (n : ℕ). bit_at (slice_index words n) (r % 64)) (sym word) ∙ h (r % 64) (omega (arith, from, word)) (omega (arith, from, to, word))

@@ -17,7 +17,7 @@ pub struct LeftCounts {
 
 impl Model for LeftCounts {
     ghost use Rattle.std.specs.Prelude.{List, ℕ};
-    ghost use Rattle.left_counts.specs.Marks.{AreMarks};
+    ghost use Rattle.left_counts.specs.Private.Marks.{AreMarks};
 
     ghost Value = { List ℕ };
 

@@ -3,7 +3,7 @@
 ghost use Rattle.std.specs.Prelude.{◌≡◌, ◌↔◌, ℕ, ◌*◌, ◌^◌, ◌<◌, ◌≤◌, length, IsTrue};
 ghost use Rattle.choice_problem.specs.Strips.{strip_uses, part_uses, IsStripInRange, IsPartInRange};
 ghost use Rattle.choice_problem.specs.Loops.{run_uses};
-ghost use Rattle.left_counts.specs.Marks.{mark_at, AreRenewed};
+ghost use Rattle.left_counts.specs.Private.Marks.{mark_at, AreRenewed};
 
 use crate::words::{are_clear, set_mark};
 use choice_problem::{Part, Strip};

@@ -1,6 +1,6 @@
 use Rattle.std.proofs.Common.{◌≡◌, ℕ, ◌<◌, take}
 use Rattle.choice_problem.specs.Strips.{part_uses}
-use Rattle.left_counts.specs.Marks.{mark_at}
+use Rattle.left_counts.specs.Private.Marks.{mark_at}
 use Rattle.left_counts.proofs.marks.part_is_clear.Given as goal
 
 abbrev pub invariant-loop-strip : goal.invariant-loop-strip

@@ -1,6 +1,6 @@
 use Rattle.std.proofs.Common.{◌≡◌, length, take}
 use Rattle.choice_problem.specs.Strips.{part_uses}
-use Rattle.left_counts.specs.Marks.{AreRenewed}
+use Rattle.left_counts.specs.Private.Marks.{AreRenewed}
 use Rattle.left_counts.proofs.marks.renew_part.Given as goal
 
 abbrev pub invariant-loop-strip : goal.invariant-loop-strip

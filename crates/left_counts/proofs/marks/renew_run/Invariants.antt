@@ -1,6 +1,6 @@
 use Rattle.std.proofs.Common.{◌≡◌, length}
 use Rattle.choice_problem.specs.Loops.{run_uses}
-use Rattle.left_counts.specs.Marks.{AreRenewed}
+use Rattle.left_counts.specs.Private.Marks.{AreRenewed}
 use Rattle.left_counts.proofs.marks.renew_run.Given as goal
 
 abbrev pub invariant-loop-at : goal.invariant-loop-at

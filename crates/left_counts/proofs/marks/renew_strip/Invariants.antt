@@ -1,7 +1,7 @@
 use Rattle.std.proofs.Common.{◌≡◌, length}
 use Rattle.finite_sums.specs.Sums.{count_below}
 use Rattle.choice_problem.specs.Strips.{is_in_run}
-use Rattle.left_counts.specs.Marks.{AreRenewed}
+use Rattle.left_counts.specs.Private.Marks.{AreRenewed}
 use Rattle.left_counts.proofs.marks.renew_strip.Given as goal
 
 abbrev pub invariant-loop-i : goal.invariant-loop-i

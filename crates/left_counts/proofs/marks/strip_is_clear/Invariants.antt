@@ -1,7 +1,7 @@
 use Rattle.std.proofs.Common.{◌≡◌, ℕ, ◌<◌}
 use Rattle.finite_sums.specs.Sums.{count_below}
 use Rattle.choice_problem.specs.Strips.{is_in_run}
-use Rattle.left_counts.specs.Marks.{mark_at}
+use Rattle.left_counts.specs.Private.Marks.{mark_at}
 use Rattle.left_counts.proofs.marks.strip_is_clear.Given as goal
 
 abbrev pub invariant-loop-i : goal.invariant-loop-i

@@ -1,13 +1,11 @@
-use Rattle.std.proofs.Common.{◌+◌, ◌*◌, ◌/◌, ◌∙◌, sym, arith}
-use Rattle.left_counts.proofs.BitLemmas.{mark_in_word}
+use Rattle.left_counts.proofs.BitLemmas.{bits_clear, places_clear}
 use Rattle.left_counts.proofs.words.are_clear.Goals as goal
 
-pub returns-then-not-has_none : goal.returns-then-not-has_none
-returns-then-not-has_none c =
-    let at = c.loop-at.at in
-    let from = c.loop-at.invariant.from in (
-      λ t. absurd (cc t),
-      λ h. c.if-not-has_none.ensures.1 (λ i low high.
-          sym (mark_in_word c.args.words.now at i (omega (arith, high, c.min-count.ensures)))
-          ∙ h (at / 64 * 64 + i) (omega (arith, from, low)) (omega (arith, high, c.min-count.ensures, c.loop-at-test.true))),
+pub returns : goal.returns
+returns c =
+    let words = c.args.words.now in
+    let some = c.if-start-end.false in
+    let same = c.if-start-end-2.false in (
+      λ clear. places_clear words c.args.start c.args.end some same (c.has_none.ensures.0 clear),
+      λ clear. c.has_none.ensures.1 (bits_clear words c.args.start c.args.end some same clear),
     )

@@ -1,6 +1,6 @@
 use Rattle.std.proofs.Common.{◌≡◌, ℕ, ◌-◌, ◌<◌, ◌≤◌}
-use Rattle.left_counts.specs.Marks.{mark_at}
-use Rattle.left_counts.proofs.words.are_clear.Given as goal
+use Rattle.left_counts.specs.Private.Marks.{mark_at}
+use Rattle.left_counts.proofs.words.are_clear_across.Given as goal
 
 abbrev pub invariant-loop-at : goal.invariant-loop-at
 invariant-loop-at l = record {

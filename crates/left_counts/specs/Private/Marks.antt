@@ -1,4 +1,4 @@
--- The marks of full resources, in words of 64 bits: contracts of private functions alone cite them.
+-- The marks of full resources, in words of 64 bits.
 use Rattle.std.specs.Prelude.{◌≡◌, ℕ, ◌*◌, ◌/◌, ◌%◌, ◌^◌, ◌<◌, ◌≤◌, ◌==◌, if◌then◌else◌, List, length, slice_index}
 use Rattle.std.specs.Int.{bit_at}
 
