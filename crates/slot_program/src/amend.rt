@@ -12,7 +12,7 @@ ghost use Rattle.slot_program.specs.Desk.{world_of};
 ghost use Rattle.slot_program.specs.Ends.{IsDone, JobStops};
 
 use crate::files::{LONGEST_FILE, read_file};
-use crate::season::{read_certificate, read_season};
+use crate::season::read_proved;
 use crate::stop::{Answer, Stop};
 use crate::writes::write_one;
 use amend_run::amend_messages;
@@ -50,10 +50,9 @@ pub(crate) fn amend<C: Cabinet>(
         (C.files cabinet.new) }
 {
     file_changes();
-    let submission = read_season(alloc, names, cabinet)?;
-    let certificate = read_certificate(alloc, names, &submission, cabinet)?;
+    let proved = read_proved(alloc, names, cabinet)?;
     let asks = read_file(alloc, names, 3, LONGEST_FILE, cabinet)?;
-    let output = amend_output(alloc, &submission, &certificate, &asks)?;
+    let output = amend_output(alloc, &proved.submission, &proved.certificate, &asks)?;
     write_one(names, 4, &output.answers, cabinet)?;
     Ok(Answer {
         status: 0,

@@ -9,7 +9,7 @@ ghost use Rattle.slot_program.specs.Desk.{world_of};
 ghost use Rattle.slot_program.specs.Ends.{IsDone, JobStops};
 ghost use Rattle.slot_program.specs.Reasons.{IsReported};
 
-use crate::season::{read_certificate, read_season};
+use crate::season::read_proved;
 use crate::stop::{Answer, Stop};
 use crate::writes::write_two;
 use cert_format::Certificate;
@@ -47,9 +47,8 @@ pub(crate) fn report<C: Cabinet>(
         (name_at names.now 3 ∷ name_at names.now 4 ∷ []) (C.files cabinet.new) }
 {
     file_changes();
-    let submission = read_season(alloc, names, cabinet)?;
-    let certificate = read_certificate(alloc, names, &submission, cabinet)?;
-    let output = report_output(alloc, &submission, &certificate)?;
+    let proved = read_proved(alloc, names, cabinet)?;
+    let output = report_output(alloc, &proved.submission, &proved.certificate)?;
     write_two(names, 3, &output.report, &output.page, cabinet)?;
     Ok(Answer {
         status: 0,

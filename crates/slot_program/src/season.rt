@@ -108,6 +108,42 @@ pub(crate) fn read_certificate<C: Cabinet>(
     Ok(certificate)
 }
 
+/// A season, and a certificate of it, which is valid.
+#[derive(Drop)]
+pub(crate) struct Proved {
+    pub submission: Submission,
+    pub certificate: Certificate,
+}
+
+/// Reads a season and a certificate of it, which is valid: the first steps of a job.
+pub(crate) fn read_proved<C: Cabinet>(
+    alloc: Global,
+    names: &NameList,
+    cabinet: &mut C,
+) -> Result<Proved, Stop>
+    ensures found { IfOk result (λ proved. (capacity requests certificate : NamedBytes)
+        × IsSeasonOf capacity.bytes requests.bytes proved.submission
+        × SpellsCert certificate.bytes proved.certificate
+        × SpellsAlone certificate.bytes proved.certificate × ((steps : List Step) →
+        Leads (world_of C.files C.fault_count C.log cabinet.old)
+        (season_steps names.now (certificate_steps names.now steps))
+        (capacity ∷ requests ∷ certificate ∷ []) steps
+        (world_of C.files C.fault_count C.log cabinet.new))) }
+    ensures valid { IfOk result (λ proved. IsValid proved.submission proved.certificate) }
+    ensures stop { IfErr result (λ stop. (steps : List Step) →
+        StopLeads names.now (world_of C.files C.fault_count C.log cabinet.old)
+        (season_steps names.now (certificate_steps names.now steps)) stop
+        (world_of C.files C.fault_count C.log cabinet.new)) }
+    ensures unchanged { C.files cabinet.new ≡ C.files cabinet.old }
+{
+    let submission = read_season(alloc, names, cabinet)?;
+    let certificate = read_certificate(alloc, names, &submission, cabinet)?;
+    Ok(Proved {
+        submission,
+        certificate,
+    })
+}
+
 /// How many lines a text has.
 fn count_lines(text: &[u8]) -> u32
     requires { length text.now ≤ LONGEST_FILE }

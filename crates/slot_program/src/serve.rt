@@ -1,6 +1,6 @@
 //! Serving clients from the book of a certificate.
 
-ghost use Rattle.std.specs.Prelude.{◌≡◌, ◌≤◌, ◌<◌, ◌+◌, ◌^◌, ◌∷◌, [], ℕ, List, All, Option, true};
+ghost use Rattle.std.specs.Prelude.{◌≡◌, ◌≤◌, ◌<◌, ◌+◌, ◌^◌, ◌∷◌, [], ℕ, List, All, Option, true, false};
 ghost use Rattle.std.specs.Prelude.{IfOk, IfErr, length, map};
 ghost use Rattle.desk_outside.specs.Files.{ChangesOnly};
 ghost use Rattle.desk_disk.specs.Disks.{DiskView};
@@ -11,16 +11,19 @@ ghost use Rattle.wasg_stages.specs.Valid.{IsValid};
 ghost use Rattle.holding_book.specs.Starts.{start_book};
 ghost use Rattle.holding_book.specs.Asks.{CanAsk};
 ghost use Rattle.holding_book.specs.Histories.{IsLegal};
+ghost use Rattle.scr_replies.specs.History.{HasEntryLines, history_text};
 ghost use Rattle.session_desk.specs.declared.doors.TheConstants.{MOST_DOORS};
 ghost use Rattle.command_words.specs.declared.job.Job.TheVariants.{Serve as ServeJob};
 ghost use Rattle.slot_program.specs.Jobs.{name_at};
 ghost use Rattle.slot_program.specs.Outside.{doors_change};
 ghost use Rattle.slot_program.specs.Services.{ServesLegally, IsWorker, AreWorkers};
-ghost use Rattle.slot_program.specs.Services.{is_full_end, is_broken_end, some_ended};
+ghost use Rattle.slot_program.specs.Services.{is_full_end, is_broken_end, is_memory_end};
+ghost use Rattle.slot_program.specs.Services.{some_ended, served_status, served_lines};
+ghost use Rattle.slot_program.specs.Services.{links_total};
 ghost use Rattle.slot_program.specs.Desk.{world_of};
 ghost use Rattle.slot_program.specs.Ends.{IsDoneBy, JobStopsBy};
 
-use crate::season::{read_certificate, read_season};
+use crate::season::read_proved;
 use crate::service_lines::{links_total, served_lines, service_status};
 use crate::stop::{Answer, Stop};
 use crate::writes::write_one;
@@ -32,6 +35,7 @@ use desk_outside::laws::file_changes;
 use holding_book::laws::{answer_lines, replays_fit};
 use holding_book::{Book, Entry};
 use scr_replies::history_text;
+use season_days::Season;
 use series_model::Submission;
 use session_desk::{DoorWork, serve_doors};
 use slot_ledger::{Beside, Nothing};
@@ -81,9 +85,16 @@ pub(crate) fn serve<R: Threads + Wait + Sync, C: Cabinet, D: Door + Drop, G: Gat
     ensures doors { length doors.new.items ≡ length doors.old.items }
 {
     file_changes();
-    let submission = read_season(alloc, names, cabinet)?;
-    let certificate = read_certificate(alloc, names, &submission, cabinet)?;
-    let output = service_output(rt, alloc, &submission, &certificate, links, doors, gate)?;
+    let proved = read_proved(alloc, names, cabinet)?;
+    let output = service_output(
+        rt,
+        alloc,
+        &proved.submission,
+        &proved.certificate,
+        links,
+        doors,
+        gate,
+    )?;
     write_one(names, 3, &output.recorded, cabinet)?;
     Ok(output.answer)
 }
@@ -114,9 +125,29 @@ fn service_output<R: Threads + Wait + Sync, D: Door + Drop, G: Gate>(
     let book = Book::of(alloc, submission, certificate)?;
     let _declaration = book.declaration();
     let (history, works, _) = served(rt, alloc, book, Nothing, links, MOST_ENTRIES, doors, gate)?;
-    let status = service_status(&works)?;
-    let recorded = history_text(alloc, &season, &history)?;
-    let text = served_lines(alloc, history.len(), links_total(&works))?;
+    let output = tell_served(alloc, &season, &history, &works)?;
+    Ok(output)
+}
+
+/// What is recorded and said of clients that were served by one history.
+fn tell_served(
+    alloc: Global,
+    season: &Season,
+    history: &[Entry],
+    works: &[DoorWork],
+) -> Result<ServiceOutput, Memory>
+    requires lines { All (HasEntryLines season.now) history.now }
+    requires few { length works.now ≤ MOST_DOORS }
+    ensures recorded { IfOk result (λ output.
+        output.recorded.items ≡ history_text season.now history.now) }
+    ensures status { IfOk result (λ output. output.answer.status ≡ served_status works.now) }
+    ensures memory { IfOk result (λ _. some_ended is_memory_end works.now ≡ false) }
+    ensures printed { IfOk result (λ output. output.answer.text.items
+        ≡ served_lines (length history.now) (links_total works.now)) }
+{
+    let status = service_status(works)?;
+    let recorded = history_text(alloc, season, history)?;
+    let text = served_lines(alloc, history.len(), links_total(works))?;
     Ok(ServiceOutput {
         recorded,
         answer: Answer {

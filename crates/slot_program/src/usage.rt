@@ -11,16 +11,17 @@ ghost use Rattle.usage_watch.specs.Reports.{SaysOperated};
 ghost use Rattle.command_words.specs.Words.{Word};
 ghost use Rattle.command_words.specs.declared.job.Job.TheVariants.{Usage as UsageJob};
 ghost use Rattle.slot_program.specs.Judgements.{NamedBytes, IsSeasonOf, reports_form, next_season};
+ghost use Rattle.slot_program.specs.Steps.{Step, reads, judges};
 ghost use Rattle.slot_program.specs.Jobs.{name_at};
-ghost use Rattle.slot_program.specs.Desk.{world_of};
+ghost use Rattle.slot_program.specs.Desk.{World, world_of};
 ghost use Rattle.slot_program.specs.Ends.{IsDone, JobStops};
-ghost use Rattle.slot_program.specs.Leads.{AcceptsAlone};
-ghost use Rattle.slot_program.specs.Stops.{IsJudged};
+ghost use Rattle.slot_program.specs.Leads.{Leads, AcceptsAlone};
+ghost use Rattle.slot_program.specs.Stops.{IsJudged, StopLeads};
 ghost use Rattle.slot_program.specs.Usages.{IsWatched, next_header, usage_line};
 ghost use Rattle.slot_program.specs.declared.files.TheConstants.{LONGEST_FILE as MOST_BYTES};
 
 use crate::files::{LONGEST_FILE, read_file};
-use crate::season::{read_certificate, read_season};
+use crate::season::read_proved;
 use crate::stop::{Answer, Stop};
 use crate::writes::write_one;
 use capacity_file::laws::one_answer;
@@ -64,17 +65,52 @@ pub(crate) fn usage<C: Cabinet>(
 {
     file_changes();
     read_items_can_be_asked();
-    let submission = read_season(alloc, names, cabinet)?;
-    let certificate = read_certificate(alloc, names, &submission, cabinet)?;
-    let bytes = read_file(alloc, names, 3, LONGEST_FILE, cabinet)?;
-    let operated = judge_reports(alloc, 3, &submission, &bytes)?;
-    let next = judge_next(&submission)?;
-    let output = usage_output(alloc, &submission, &certificate, &operated, next)?;
+    let proved = read_proved(alloc, names, cabinet)?;
+    let operated = read_reports(alloc, names, &proved.submission, cabinet)?;
+    let next = judge_next(&proved.submission)?;
+    let output = usage_output(
+        alloc,
+        &proved.submission,
+        &proved.certificate,
+        &operated,
+        next,
+    )?;
     write_one(names, 4, &output.next, cabinet)?;
     Ok(Answer {
         status: 0,
         text: output.text.into_bytes(),
     })
+}
+
+/// Reads the reports of a job, which follow its certificate.
+fn read_reports<C: Cabinet>(
+    alloc: Global,
+    names: &NameList,
+    submission: &Submission,
+    cabinet: &mut C,
+) -> Result<OperatedList, Stop>
+    ensures found { IfOk result (λ reports. (w : World) (all steps : List Step)
+        (capacity requests certificate : NamedBytes) →
+        IsSeasonOf capacity.bytes requests.bytes submission.now →
+        Leads w all (capacity ∷ requests ∷ certificate ∷ []) (reads (name_at names.now 3) MOST_BYTES
+        ∷ judges reports_form (name_at names.now 3) ∷ steps)
+        (world_of C.files C.fault_count C.log cabinet.old) →
+        (text : NamedBytes)
+        × SaysOperated submission.now.declaration.season text.bytes reports
+        × Leads w all (capacity ∷ requests ∷ certificate ∷ text ∷ []) steps
+        (world_of C.files C.fault_count C.log cabinet.new)) }
+    ensures stop { IfErr result (λ stop. (w : World) (all steps : List Step)
+        (capacity requests certificate : NamedBytes) →
+        IsSeasonOf capacity.bytes requests.bytes submission.now →
+        Leads w all (capacity ∷ requests ∷ certificate ∷ []) (reads (name_at names.now 3) MOST_BYTES
+        ∷ judges reports_form (name_at names.now 3) ∷ steps)
+        (world_of C.files C.fault_count C.log cabinet.old) →
+        StopLeads names.now w all stop (world_of C.files C.fault_count C.log cabinet.new)) }
+    ensures unchanged { C.files cabinet.new ≡ C.files cabinet.old }
+{
+    let bytes = read_file(alloc, names, 3, LONGEST_FILE, cabinet)?;
+    let operated = judge_reports(alloc, 3, submission, &bytes)?;
+    Ok(operated)
 }
 
 /// The reports of a text.

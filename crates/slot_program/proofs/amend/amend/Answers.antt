@@ -7,7 +7,7 @@ use Rattle.holding_book.specs.Starts.{start_book}
 use Rattle.slot_program.specs.Amendments.{AmendsLegally}
 use Rattle.slot_program.specs.Judgements.{NamedBytes}
 use Rattle.slot_program.specs.Steps.{Step, reads}
-use Rattle.slot_program.specs.Jobs.{name_at, certificate_steps, amend_steps, one_file, IsAmendment}
+use Rattle.slot_program.specs.Jobs.{name_at, amend_steps, one_file, IsAmendment}
 use Rattle.slot_program.specs.Outside.{still}
 use Rattle.slot_program.specs.Desk.{World, world_of}
 use Rattle.slot_program.specs.declared.files.TheConstants.{LONGEST_FILE}
@@ -18,37 +18,19 @@ use Rattle.slot_program.proofs.amend.amend.Goals as goal
 abbrev last : List Word → List Step
 last names = reads (name_at names 3) LONGEST_FILE ∷ []
 
-pub returns-in_err-submission-clause-stop : goal.returns-in_err-submission-clause-stop
-returns-in_err-submission-clause-stop g c =
+pub returns-in_err-proved-clause-stop : goal.returns-in_err-proved-clause-stop
+returns-in_err-proved-clause-stop g c =
     let w : World = world_of g.C.Cabinet.files g.C.Cabinet.fault_count g.C.Cabinet.log c.args.cabinet.now in
-    let v : World = world_of g.C.Cabinet.files g.C.Cabinet.fault_count g.C.Cabinet.log c.read_season.new.cabinet in
+    let v : World = world_of g.C.Cabinet.files g.C.Cabinet.fault_count g.C.Cabinet.log c.read_proved.new.cabinet in
     let names = c.args.names.now in
     let p = err_from_is_err_and c.from_residual.result c.from_residual.ensures.1 in
-    rw (p.1, p.2) (stop_job names (Amend names) w v c.in_err-submission.field-0.0 (c.in_err-submission.ensures.stop (certificate_steps names (last names))))
+    rw (p.1, p.2) (stop_job names (Amend names) w v c.in_err-proved.field-0.0 (c.in_err-proved.ensures.stop (last names)))
 
-pub returns-in_err-submission-clause-others : goal.returns-in_err-submission-clause-others
-returns-in_err-submission-clause-others g c =
+pub returns-in_err-proved-clause-others : goal.returns-in_err-proved-clause-others
+returns-in_err-proved-clause-others g c =
     let files = g.C.Cabinet.files in
     let names : List Word = name_at c.args.names.now 4 ∷ [] in
-    c.file_changes.ensures.unchanged (files c.args.cabinet.now) (files c.read_season.new.cabinet) names c.read_season.ensures.unchanged
-
-pub returns-in_err-certificate-clause-stop : goal.returns-in_err-certificate-clause-stop
-returns-in_err-certificate-clause-stop g c =
-    let w : World = world_of g.C.Cabinet.files g.C.Cabinet.fault_count g.C.Cabinet.log c.args.cabinet.now in
-    let v : World = world_of g.C.Cabinet.files g.C.Cabinet.fault_count g.C.Cabinet.log c.read_certificate.new.cabinet in
-    let names = c.args.names.now in
-    let p = err_from_is_err_and c.from_residual-in_err-certificate.result c.from_residual-in_err-certificate.ensures.1 in
-    let s = c.in_ok-submission.ensures.found in
-    rw (p.1, p.2) (stop_job names (Amend names) w v c.in_err-certificate.field-0.0
-    (c.in_err-certificate.ensures.stop w (amend_steps names) (last names) s.0 s.1 s.2 (s.3 (certificate_steps names (last names)))))
-
-pub returns-in_err-certificate-clause-others : goal.returns-in_err-certificate-clause-others
-returns-in_err-certificate-clause-others g c =
-    let files = g.C.Cabinet.files in
-    let names : List Word = name_at c.args.names.now 4 ∷ [] in
-    c.file_changes.ensures.chained (files c.args.cabinet.now) (files c.read_season.new.cabinet) (files c.read_certificate.new.cabinet) names
-    (c.file_changes.ensures.unchanged (files c.args.cabinet.now) (files c.read_season.new.cabinet) names c.read_season.ensures.unchanged)
-    (c.file_changes.ensures.unchanged (files c.read_season.new.cabinet) (files c.read_certificate.new.cabinet) names c.read_certificate.ensures.unchanged)
+    c.file_changes.ensures.unchanged (files c.args.cabinet.now) (files c.read_proved.new.cabinet) names c.read_proved.ensures.unchanged
 
 pub returns-in_err-asks-clause-stop : goal.returns-in_err-asks-clause-stop
 returns-in_err-asks-clause-stop g c =
@@ -56,20 +38,17 @@ returns-in_err-asks-clause-stop g c =
     let v : World = world_of g.C.Cabinet.files g.C.Cabinet.fault_count g.C.Cabinet.log c.read_file.new.cabinet in
     let names = c.args.names.now in
     let p = err_from_is_err_and c.from_residual-in_err-asks.result c.from_residual-in_err-asks.ensures.1 in
-    let s = c.in_ok-submission.ensures.found in
-    let f = c.in_ok-certificate.ensures.found w (amend_steps names) (last names) s.0 s.1 s.2 (s.3 (certificate_steps names (last names))) in
+    let s = c.in_ok-proved.ensures.found in
     rw (p.1, p.2) (stop_job names (Amend names) w v c.in_err-asks.field-0.0
-    (c.in_err-asks.ensures.stop w (amend_steps names) (s.0 ∷ s.1 ∷ f.0 ∷ []) [] f.2))
+    (c.in_err-asks.ensures.stop w (amend_steps names) (s.0 ∷ s.1 ∷ s.2 ∷ []) [] (s.6 (last names))))
 
 pub returns-in_err-asks-clause-others : goal.returns-in_err-asks-clause-others
 returns-in_err-asks-clause-others g c =
     let files = g.C.Cabinet.files in
     let names : List Word = name_at c.args.names.now 4 ∷ [] in
-    c.file_changes.ensures.chained (files c.args.cabinet.now) (files c.read_season.new.cabinet) (files c.read_file.new.cabinet) names
-    (c.file_changes.ensures.unchanged (files c.args.cabinet.now) (files c.read_season.new.cabinet) names c.read_season.ensures.unchanged)
-    (c.file_changes.ensures.chained (files c.read_season.new.cabinet) (files c.read_certificate.new.cabinet) (files c.read_file.new.cabinet) names
-    (c.file_changes.ensures.unchanged (files c.read_season.new.cabinet) (files c.read_certificate.new.cabinet) names c.read_certificate.ensures.unchanged)
-    (c.file_changes.ensures.unchanged (files c.read_certificate.new.cabinet) (files c.read_file.new.cabinet) names c.read_file.ensures.unchanged))
+    c.file_changes.ensures.chained (files c.args.cabinet.now) (files c.read_proved.new.cabinet) (files c.read_file.new.cabinet) names
+    (c.file_changes.ensures.unchanged (files c.args.cabinet.now) (files c.read_proved.new.cabinet) names c.read_proved.ensures.unchanged)
+    (c.file_changes.ensures.unchanged (files c.read_proved.new.cabinet) (files c.read_file.new.cabinet) names c.read_file.ensures.unchanged)
 
 pub returns-in_err-output-clause-stop : goal.returns-in_err-output-clause-stop
 returns-in_err-output-clause-stop g c =
@@ -77,91 +56,82 @@ returns-in_err-output-clause-stop g c =
     let v : World = world_of g.C.Cabinet.files g.C.Cabinet.fault_count g.C.Cabinet.log c.read_file.new.cabinet in
     let names = c.args.names.now in
     let p = err_from_is_err_and c.from_residual-in_err-output.result c.from_residual-in_err-output.ensures.1 in
-    let s = c.in_ok-submission.ensures.found in
-    let f = c.in_ok-certificate.ensures.found w (amend_steps names) (last names) s.0 s.1 s.2 (s.3 (certificate_steps names (last names))) in
+    let s = c.in_ok-proved.ensures.found in
     let fourth : NamedBytes = record { name = name_at names 3; bytes = c.in_ok-asks.asks.items } in
-    rw (p.1, p.2) (λ o. memory_read w v v (amend_steps names) (s.0 ∷ s.1 ∷ f.0 ∷ fourth ∷ []) []
-    (c.in_ok-asks.ensures.leads w (amend_steps names) (s.0 ∷ s.1 ∷ f.0 ∷ []) [] f.2) refl)
+    rw (p.1, p.2) (λ o. memory_read w v v (amend_steps names) (s.0 ∷ s.1 ∷ s.2 ∷ fourth ∷ []) []
+    (c.in_ok-asks.ensures.leads w (amend_steps names) (s.0 ∷ s.1 ∷ s.2 ∷ []) [] (s.6 (last names))) refl)
 
 pub returns-in_err-output-clause-others : goal.returns-in_err-output-clause-others
 returns-in_err-output-clause-others g c =
     let files = g.C.Cabinet.files in
     let names : List Word = name_at c.args.names.now 4 ∷ [] in
-    c.file_changes.ensures.chained (files c.args.cabinet.now) (files c.read_season.new.cabinet) (files c.read_file.new.cabinet) names
-    (c.file_changes.ensures.unchanged (files c.args.cabinet.now) (files c.read_season.new.cabinet) names c.read_season.ensures.unchanged)
-    (c.file_changes.ensures.chained (files c.read_season.new.cabinet) (files c.read_certificate.new.cabinet) (files c.read_file.new.cabinet) names
-    (c.file_changes.ensures.unchanged (files c.read_season.new.cabinet) (files c.read_certificate.new.cabinet) names c.read_certificate.ensures.unchanged)
-    (c.file_changes.ensures.unchanged (files c.read_certificate.new.cabinet) (files c.read_file.new.cabinet) names c.read_file.ensures.unchanged))
+    c.file_changes.ensures.chained (files c.args.cabinet.now) (files c.read_proved.new.cabinet) (files c.read_file.new.cabinet) names
+    (c.file_changes.ensures.unchanged (files c.args.cabinet.now) (files c.read_proved.new.cabinet) names c.read_proved.ensures.unchanged)
+    (c.file_changes.ensures.unchanged (files c.read_proved.new.cabinet) (files c.read_file.new.cabinet) names c.read_file.ensures.unchanged)
 
 pub returns-in_err-write_one-clause-stop : goal.returns-in_err-write_one-clause-stop
 returns-in_err-write_one-clause-stop g c =
     let w : World = world_of g.C.Cabinet.files g.C.Cabinet.fault_count g.C.Cabinet.log c.args.cabinet.now in
     let names = c.args.names.now in
-    let s = c.in_ok-submission.ensures.found in
-    let f = c.in_ok-certificate.ensures.found w (amend_steps names) (last names) s.0 s.1 s.2 (s.3 (certificate_steps names (last names))) in
+    let s = c.in_ok-proved.ensures.found in
     let out = c.in_ok-output.output in
     let fourth : NamedBytes = record { name = name_at names 3; bytes = c.in_ok-asks.asks.items } in
-    let book = start_book c.in_ok-submission.submission c.in_ok-certificate.certificate in
-    let work : IsAmendment names s.0.bytes s.1.bytes f.0.bytes c.in_ok-asks.asks.items (one_file names 4 c.deref-2.result.now) 0 (string_bytes out.text) =
+    let book = start_book c.in_ok-proved.proved.submission c.in_ok-proved.proved.certificate in
+    let work : IsAmendment names s.0.bytes s.1.bytes s.2.bytes c.in_ok-asks.asks.items (one_file names 4 c.deref-2.result.now) 0 (string_bytes out.text) =
     record {
-      season = c.in_ok-submission.submission;
-      proved = c.in_ok-certificate.certificate;
+      season = c.in_ok-proved.proved.submission;
+      proved = c.in_ok-proved.proved.certificate;
       answers = out.answers.items;
-      made = s.2;
-      spelled = f.1;
-      valid = c.in_ok-certificate.ensures.valid;
+      made = s.3;
+      spelled = s.4;
+      valid = c.in_ok-proved.ensures.valid;
       output = subst (λ (l : List ℕ). AmendsLegally book l out.answers.items (string_bytes out.text)) c.deref.ensures.value c.in_ok-output.ensures;
       written = ap (λ (l : List ℕ). one_file names 4 l) c.deref-2.ensures.value;
       status_is = refl;
     } in
     let p = err_from_is_err_and c.from_residual-in_err-write_one.result c.from_residual-in_err-write_one.ensures.1 in
-    rw (p.1, p.2) (λ o. c.in_err-write_one.ensures.stop (Amend names) w (still o) (s.0 ∷ s.1 ∷ f.0 ∷ fourth ∷ []) 0 (string_bytes out.text) refl
-    (c.in_ok-asks.ensures.leads w (amend_steps names) (s.0 ∷ s.1 ∷ f.0 ∷ []) [] f.2) (refl, work))
+    rw (p.1, p.2) (λ o. c.in_err-write_one.ensures.stop (Amend names) w (still o) (s.0 ∷ s.1 ∷ s.2 ∷ fourth ∷ []) 0 (string_bytes out.text) refl
+    (c.in_ok-asks.ensures.leads w (amend_steps names) (s.0 ∷ s.1 ∷ s.2 ∷ []) [] (s.6 (last names))) (refl, work))
 
 pub returns-in_err-write_one-clause-others : goal.returns-in_err-write_one-clause-others
 returns-in_err-write_one-clause-others g c =
     let files = g.C.Cabinet.files in
     let names : List Word = name_at c.args.names.now 4 ∷ [] in
-    c.file_changes.ensures.chained (files c.args.cabinet.now) (files c.read_season.new.cabinet) (files c.write_one.new.cabinet) names
-    (c.file_changes.ensures.unchanged (files c.args.cabinet.now) (files c.read_season.new.cabinet) names c.read_season.ensures.unchanged)
-    (c.file_changes.ensures.chained (files c.read_season.new.cabinet) (files c.read_file.new.cabinet) (files c.write_one.new.cabinet) names
-    (c.file_changes.ensures.chained (files c.read_season.new.cabinet) (files c.read_certificate.new.cabinet) (files c.read_file.new.cabinet) names
-    (c.file_changes.ensures.unchanged (files c.read_season.new.cabinet) (files c.read_certificate.new.cabinet) names c.read_certificate.ensures.unchanged)
-    (c.file_changes.ensures.unchanged (files c.read_certificate.new.cabinet) (files c.read_file.new.cabinet) names c.read_file.ensures.unchanged))
-    c.write_one.ensures.others)
+    c.file_changes.ensures.chained (files c.args.cabinet.now) (files c.read_file.new.cabinet) (files c.write_one.new.cabinet) names
+    (c.file_changes.ensures.chained (files c.args.cabinet.now) (files c.read_proved.new.cabinet) (files c.read_file.new.cabinet) names
+    (c.file_changes.ensures.unchanged (files c.args.cabinet.now) (files c.read_proved.new.cabinet) names c.read_proved.ensures.unchanged)
+    (c.file_changes.ensures.unchanged (files c.read_proved.new.cabinet) (files c.read_file.new.cabinet) names c.read_file.ensures.unchanged))
+    c.write_one.ensures.others
 
 pub returns-clause-done : goal.returns-clause-done
 returns-clause-done g c =
     let w : World = world_of g.C.Cabinet.files g.C.Cabinet.fault_count g.C.Cabinet.log c.args.cabinet.now in
     let names = c.args.names.now in
-    let s = c.in_ok-submission.ensures.found in
-    let f = c.in_ok-certificate.ensures.found w (amend_steps names) (last names) s.0 s.1 s.2 (s.3 (certificate_steps names (last names))) in
+    let s = c.in_ok-proved.ensures.found in
     let out = c.in_ok-output.output in
     let fourth : NamedBytes = record { name = name_at names 3; bytes = c.in_ok-asks.asks.items } in
-    let book = start_book c.in_ok-submission.submission c.in_ok-certificate.certificate in
-    let work : IsAmendment names s.0.bytes s.1.bytes f.0.bytes c.in_ok-asks.asks.items (one_file names 4 c.deref-2.result.now) 0 (string_bytes out.text) =
+    let book = start_book c.in_ok-proved.proved.submission c.in_ok-proved.proved.certificate in
+    let work : IsAmendment names s.0.bytes s.1.bytes s.2.bytes c.in_ok-asks.asks.items (one_file names 4 c.deref-2.result.now) 0 (string_bytes out.text) =
     record {
-      season = c.in_ok-submission.submission;
-      proved = c.in_ok-certificate.certificate;
+      season = c.in_ok-proved.proved.submission;
+      proved = c.in_ok-proved.proved.certificate;
       answers = out.answers.items;
-      made = s.2;
-      spelled = f.1;
-      valid = c.in_ok-certificate.ensures.valid;
+      made = s.3;
+      spelled = s.4;
+      valid = c.in_ok-proved.ensures.valid;
       output = subst (λ (l : List ℕ). AmendsLegally book l out.answers.items (string_bytes out.text)) c.deref.ensures.value c.in_ok-output.ensures;
       written = ap (λ (l : List ℕ). one_file names 4 l) c.deref-2.ensures.value;
       status_is = refl;
     } in
-    λ o. rw c.into_bytes.ensures.value (c.in_ok-write_one.ensures.done (Amend names) w (still o) (s.0 ∷ s.1 ∷ f.0 ∷ fourth ∷ []) 0 (string_bytes out.text) refl
-    (c.in_ok-asks.ensures.leads w (amend_steps names) (s.0 ∷ s.1 ∷ f.0 ∷ []) [] f.2) (refl, work))
+    λ o. rw c.into_bytes.ensures.value (c.in_ok-write_one.ensures.done (Amend names) w (still o) (s.0 ∷ s.1 ∷ s.2 ∷ fourth ∷ []) 0 (string_bytes out.text) refl
+    (c.in_ok-asks.ensures.leads w (amend_steps names) (s.0 ∷ s.1 ∷ s.2 ∷ []) [] (s.6 (last names))) (refl, work))
 
 pub returns-clause-others : goal.returns-clause-others
 returns-clause-others g c =
     let files = g.C.Cabinet.files in
     let names : List Word = name_at c.args.names.now 4 ∷ [] in
-    c.file_changes.ensures.chained (files c.args.cabinet.now) (files c.read_season.new.cabinet) (files c.write_one.new.cabinet) names
-    (c.file_changes.ensures.unchanged (files c.args.cabinet.now) (files c.read_season.new.cabinet) names c.read_season.ensures.unchanged)
-    (c.file_changes.ensures.chained (files c.read_season.new.cabinet) (files c.read_file.new.cabinet) (files c.write_one.new.cabinet) names
-    (c.file_changes.ensures.chained (files c.read_season.new.cabinet) (files c.read_certificate.new.cabinet) (files c.read_file.new.cabinet) names
-    (c.file_changes.ensures.unchanged (files c.read_season.new.cabinet) (files c.read_certificate.new.cabinet) names c.read_certificate.ensures.unchanged)
-    (c.file_changes.ensures.unchanged (files c.read_certificate.new.cabinet) (files c.read_file.new.cabinet) names c.read_file.ensures.unchanged))
-    c.write_one.ensures.others)
+    c.file_changes.ensures.chained (files c.args.cabinet.now) (files c.read_file.new.cabinet) (files c.write_one.new.cabinet) names
+    (c.file_changes.ensures.chained (files c.args.cabinet.now) (files c.read_proved.new.cabinet) (files c.read_file.new.cabinet) names
+    (c.file_changes.ensures.unchanged (files c.args.cabinet.now) (files c.read_proved.new.cabinet) names c.read_proved.ensures.unchanged)
+    (c.file_changes.ensures.unchanged (files c.read_proved.new.cabinet) (files c.read_file.new.cabinet) names c.read_file.ensures.unchanged))
+    c.write_one.ensures.others

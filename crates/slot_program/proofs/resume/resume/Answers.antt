@@ -2,125 +2,98 @@ use Rattle.std.proofs.Common.{[], ◌∷◌, ℕ, List, refl, ap}
 use Rattle.std.proofs.lemmas.Result.{err_from_is_err_and}
 use Rattle.command_words.specs.Words.{Word}
 use Rattle.command_words.specs.declared.job.Job.TheVariants.{Resume}
-use Rattle.slot_program.specs.Jobs.{name_at, certificate_steps, serve_steps, one_file, IsResumption}
+use Rattle.slot_program.specs.Jobs.{name_at, one_file, IsResumption}
 use Rattle.slot_program.specs.Outside.{OutsideChange, outside_change}
 use Rattle.slot_program.specs.Desk.{World, world_of}
 use Rattle.slot_program.proofs.EndLemmas.{stop_job_by}
 use Rattle.slot_program.proofs.ResumeLemmas.{stop_resumed}
 use Rattle.slot_program.proofs.resume.resume.Goals as goal
 
-pub returns-in_err-submission-clause-stop : goal.returns-in_err-submission-clause-stop
-returns-in_err-submission-clause-stop g c =
+pub returns-in_err-proved-clause-stop : goal.returns-in_err-proved-clause-stop
+returns-in_err-proved-clause-stop g c =
     let w : World = world_of g.C.Cabinet.files g.C.Cabinet.fault_count g.C.Cabinet.log c.args.cabinet.now in
-    let v : World = world_of g.C.Cabinet.files g.C.Cabinet.fault_count g.C.Cabinet.log c.read_season.new.cabinet in
+    let v : World = world_of g.C.Cabinet.files g.C.Cabinet.fault_count g.C.Cabinet.log c.read_proved.new.cabinet in
     let names = c.args.names.now in
     let p = err_from_is_err_and c.from_residual.result c.from_residual.ensures.1 in
-    rw (p.1, p.2) (λ port workers. stop_job_by names (Resume names c.args.links port workers) w (outside_change g.D.Door.view g.K.Disk.view c.args.doors.now.items c.args.disk.now c.args.doors.now.items c.args.disk.now) v c.in_err-submission.field-0.0 refl
-    (c.in_err-submission.ensures.stop (certificate_steps names [])))
-
-pub returns-in_err-certificate-clause-stop : goal.returns-in_err-certificate-clause-stop
-returns-in_err-certificate-clause-stop g c =
-    let w : World = world_of g.C.Cabinet.files g.C.Cabinet.fault_count g.C.Cabinet.log c.args.cabinet.now in
-    let v : World = world_of g.C.Cabinet.files g.C.Cabinet.fault_count g.C.Cabinet.log c.read_certificate.new.cabinet in
-    let names = c.args.names.now in
-    let p = err_from_is_err_and c.from_residual-in_err-certificate.result c.from_residual-in_err-certificate.ensures.1 in
-    let s = c.in_ok-submission.ensures.found in
-    rw (p.1, p.2) (λ port workers. stop_job_by names (Resume names c.args.links port workers) w (outside_change g.D.Door.view g.K.Disk.view c.args.doors.now.items c.args.disk.now c.args.doors.now.items c.args.disk.now) v c.in_err-certificate.field-0.0 refl
-    (c.in_err-certificate.ensures.stop w (serve_steps names) [] s.0 s.1 s.2 (s.3 (certificate_steps names []))))
+    rw (p.1, p.2) (λ port workers. stop_job_by names (Resume names c.args.links port workers) w (outside_change g.D.Door.view g.K.Disk.view c.args.doors.now.items c.args.disk.now c.args.doors.now.items c.args.disk.now) v c.in_err-proved.field-0.0 refl
+    (c.in_err-proved.ensures.stop []))
 
 pub returns-in_err-output-clause-stop : goal.returns-in_err-output-clause-stop
 returns-in_err-output-clause-stop g c =
     let w : World = world_of g.C.Cabinet.files g.C.Cabinet.fault_count g.C.Cabinet.log c.args.cabinet.now in
-    let v : World = world_of g.C.Cabinet.files g.C.Cabinet.fault_count g.C.Cabinet.log c.read_certificate.new.cabinet in
+    let v : World = world_of g.C.Cabinet.files g.C.Cabinet.fault_count g.C.Cabinet.log c.read_proved.new.cabinet in
     let change : OutsideChange = outside_change g.D.Door.view g.K.Disk.view c.args.doors.now.items c.args.disk.now c.resumed_output.new.doors.items c.resumed_output.new.disk in
     let names = c.args.names.now in
     let p = err_from_is_err_and c.from_residual-in_err-output.result c.from_residual-in_err-output.ensures.1 in
-    let s = c.in_ok-submission.ensures.found in
-    let f = c.in_ok-certificate.ensures.found w (serve_steps names) [] s.0 s.1 s.2 (s.3 (certificate_steps names [])) in
-    rw (p.1, p.2) (λ port workers. stop_resumed names c.args.links port workers w v s.0 s.1 f.0 f.2 change c.in_ok-submission.submission s.2 c.resumed_output.ensures.year c.in_err-output.field-0.0 c.in_err-output.ensures.stop)
+    let s = c.in_ok-proved.ensures.found in
+    rw (p.1, p.2) (λ port workers. stop_resumed names c.args.links port workers w v s.0 s.1 s.2 (s.6 []) change c.in_ok-proved.proved.submission s.3 c.resumed_output.ensures.year c.in_err-output.field-0.0 c.in_err-output.ensures.stop)
 
 -- the work, by what was served
 pub returns-in_err-write_one-clause-stop : goal.returns-in_err-write_one-clause-stop
 returns-in_err-write_one-clause-stop g c =
     let w : World = world_of g.C.Cabinet.files g.C.Cabinet.fault_count g.C.Cabinet.log c.args.cabinet.now in
     let names = c.args.names.now in
-    let s = c.in_ok-submission.ensures.found in
-    let f = c.in_ok-certificate.ensures.found w (serve_steps names) [] s.0 s.1 s.2 (s.3 (certificate_steps names [])) in
+    let s = c.in_ok-proved.ensures.found in
     let out = c.in_ok-output.output in
-    let work : IsResumption names c.args.links s.0.bytes s.1.bytes f.0.bytes (one_file names 4 c.deref.result.now) (outside_change g.D.Door.view g.K.Disk.view c.args.doors.now.items c.args.disk.now c.resumed_output.new.doors.items c.resumed_output.new.disk) out.answer.status out.answer.text.items =
+    let work : IsResumption names c.args.links s.0.bytes s.1.bytes s.2.bytes (one_file names 4 c.deref.result.now) (outside_change g.D.Door.view g.K.Disk.view c.args.doors.now.items c.args.disk.now c.resumed_output.new.doors.items c.resumed_output.new.disk) out.answer.status out.answer.text.items =
     record {
-      season = c.in_ok-submission.submission;
-      proved = c.in_ok-certificate.certificate;
+      season = c.in_ok-proved.proved.submission;
+      proved = c.in_ok-proved.proved.certificate;
       recorded = out.recorded.items;
-      made = s.2;
+      made = s.3;
       year = c.resumed_output.ensures.year;
-      spelled = f.1;
-      valid = c.in_ok-certificate.ensures.valid;
+      spelled = s.4;
+      valid = c.in_ok-proved.ensures.valid;
       output = c.in_ok-output.ensures.served;
       written = ap (λ (l : List ℕ). one_file names 4 l) c.deref.ensures.value;
     } in
     let p = err_from_is_err_and c.from_residual-in_err-write_one.result c.from_residual-in_err-write_one.ensures.1 in
-    rw (p.1, p.2) (λ port workers. c.in_err-write_one.ensures.stop (Resume names c.args.links port workers) w (outside_change g.D.Door.view g.K.Disk.view c.args.doors.now.items c.args.disk.now c.resumed_output.new.doors.items c.resumed_output.new.disk) (s.0 ∷ s.1 ∷ f.0 ∷ []) out.answer.status out.answer.text.items refl f.2 work)
+    rw (p.1, p.2) (λ port workers. c.in_err-write_one.ensures.stop (Resume names c.args.links port workers) w (outside_change g.D.Door.view g.K.Disk.view c.args.doors.now.items c.args.disk.now c.resumed_output.new.doors.items c.resumed_output.new.disk) (s.0 ∷ s.1 ∷ s.2 ∷ []) out.answer.status out.answer.text.items refl (s.6 []) work)
 
 pub returns-clause-done : goal.returns-clause-done
 returns-clause-done g c =
     let w : World = world_of g.C.Cabinet.files g.C.Cabinet.fault_count g.C.Cabinet.log c.args.cabinet.now in
     let names = c.args.names.now in
-    let s = c.in_ok-submission.ensures.found in
-    let f = c.in_ok-certificate.ensures.found w (serve_steps names) [] s.0 s.1 s.2 (s.3 (certificate_steps names [])) in
+    let s = c.in_ok-proved.ensures.found in
     let out = c.in_ok-output.output in
-    let work : IsResumption names c.args.links s.0.bytes s.1.bytes f.0.bytes (one_file names 4 c.deref.result.now) (outside_change g.D.Door.view g.K.Disk.view c.args.doors.now.items c.args.disk.now c.resumed_output.new.doors.items c.resumed_output.new.disk) out.answer.status out.answer.text.items =
+    let work : IsResumption names c.args.links s.0.bytes s.1.bytes s.2.bytes (one_file names 4 c.deref.result.now) (outside_change g.D.Door.view g.K.Disk.view c.args.doors.now.items c.args.disk.now c.resumed_output.new.doors.items c.resumed_output.new.disk) out.answer.status out.answer.text.items =
     record {
-      season = c.in_ok-submission.submission;
-      proved = c.in_ok-certificate.certificate;
+      season = c.in_ok-proved.proved.submission;
+      proved = c.in_ok-proved.proved.certificate;
       recorded = out.recorded.items;
-      made = s.2;
+      made = s.3;
       year = c.resumed_output.ensures.year;
-      spelled = f.1;
-      valid = c.in_ok-certificate.ensures.valid;
+      spelled = s.4;
+      valid = c.in_ok-proved.ensures.valid;
       output = c.in_ok-output.ensures.served;
       written = ap (λ (l : List ℕ). one_file names 4 l) c.deref.ensures.value;
     } in
-    λ port workers. c.in_ok-write_one.ensures.done (Resume names c.args.links port workers) w (outside_change g.D.Door.view g.K.Disk.view c.args.doors.now.items c.args.disk.now c.resumed_output.new.doors.items c.resumed_output.new.disk) (s.0 ∷ s.1 ∷ f.0 ∷ []) out.answer.status out.answer.text.items refl f.2 work
+    λ port workers. c.in_ok-write_one.ensures.done (Resume names c.args.links port workers) w (outside_change g.D.Door.view g.K.Disk.view c.args.doors.now.items c.args.disk.now c.resumed_output.new.doors.items c.resumed_output.new.disk) (s.0 ∷ s.1 ∷ s.2 ∷ []) out.answer.status out.answer.text.items refl (s.6 []) work
 
-pub returns-in_err-submission-clause-others : goal.returns-in_err-submission-clause-others
-returns-in_err-submission-clause-others g c =
+pub returns-in_err-proved-clause-others : goal.returns-in_err-proved-clause-others
+returns-in_err-proved-clause-others g c =
     let files = g.C.Cabinet.files in
     let names : List Word = name_at c.args.names.now 4 ∷ [] in
-    c.file_changes.ensures.unchanged (files c.args.cabinet.now) (files c.read_season.new.cabinet) names c.read_season.ensures.unchanged
-
-pub returns-in_err-certificate-clause-others : goal.returns-in_err-certificate-clause-others
-returns-in_err-certificate-clause-others g c =
-    let files = g.C.Cabinet.files in
-    let names : List Word = name_at c.args.names.now 4 ∷ [] in
-    c.file_changes.ensures.chained (files c.args.cabinet.now) (files c.read_season.new.cabinet) (files c.read_certificate.new.cabinet) names
-    (c.file_changes.ensures.unchanged (files c.args.cabinet.now) (files c.read_season.new.cabinet) names c.read_season.ensures.unchanged)
-    (c.file_changes.ensures.unchanged (files c.read_season.new.cabinet) (files c.read_certificate.new.cabinet) names c.read_certificate.ensures.unchanged)
+    c.file_changes.ensures.unchanged (files c.args.cabinet.now) (files c.read_proved.new.cabinet) names c.read_proved.ensures.unchanged
 
 pub returns-in_err-output-clause-others : goal.returns-in_err-output-clause-others
 returns-in_err-output-clause-others g c =
     let files = g.C.Cabinet.files in
     let names : List Word = name_at c.args.names.now 4 ∷ [] in
-    c.file_changes.ensures.chained (files c.args.cabinet.now) (files c.read_season.new.cabinet) (files c.read_certificate.new.cabinet) names
-    (c.file_changes.ensures.unchanged (files c.args.cabinet.now) (files c.read_season.new.cabinet) names c.read_season.ensures.unchanged)
-    (c.file_changes.ensures.unchanged (files c.read_season.new.cabinet) (files c.read_certificate.new.cabinet) names c.read_certificate.ensures.unchanged)
+    c.file_changes.ensures.unchanged (files c.args.cabinet.now) (files c.read_proved.new.cabinet) names c.read_proved.ensures.unchanged
 
 pub returns-in_err-write_one-clause-others : goal.returns-in_err-write_one-clause-others
 returns-in_err-write_one-clause-others g c =
     let files = g.C.Cabinet.files in
     let names : List Word = name_at c.args.names.now 4 ∷ [] in
-    c.file_changes.ensures.chained (files c.args.cabinet.now) (files c.read_certificate.new.cabinet) (files c.write_one.new.cabinet) names
-    (c.file_changes.ensures.chained (files c.args.cabinet.now) (files c.read_season.new.cabinet) (files c.read_certificate.new.cabinet) names
-    (c.file_changes.ensures.unchanged (files c.args.cabinet.now) (files c.read_season.new.cabinet) names c.read_season.ensures.unchanged)
-    (c.file_changes.ensures.unchanged (files c.read_season.new.cabinet) (files c.read_certificate.new.cabinet) names c.read_certificate.ensures.unchanged))
+    c.file_changes.ensures.chained (files c.args.cabinet.now) (files c.read_proved.new.cabinet) (files c.write_one.new.cabinet) names
+    (c.file_changes.ensures.unchanged (files c.args.cabinet.now) (files c.read_proved.new.cabinet) names c.read_proved.ensures.unchanged)
     c.write_one.ensures.others
 
 pub returns-clause-others : goal.returns-clause-others
 returns-clause-others g c =
     let files = g.C.Cabinet.files in
     let names : List Word = name_at c.args.names.now 4 ∷ [] in
-    c.file_changes.ensures.chained (files c.args.cabinet.now) (files c.read_certificate.new.cabinet) (files c.write_one.new.cabinet) names
-    (c.file_changes.ensures.chained (files c.args.cabinet.now) (files c.read_season.new.cabinet) (files c.read_certificate.new.cabinet) names
-    (c.file_changes.ensures.unchanged (files c.args.cabinet.now) (files c.read_season.new.cabinet) names c.read_season.ensures.unchanged)
-    (c.file_changes.ensures.unchanged (files c.read_season.new.cabinet) (files c.read_certificate.new.cabinet) names c.read_certificate.ensures.unchanged))
+    c.file_changes.ensures.chained (files c.args.cabinet.now) (files c.read_proved.new.cabinet) (files c.write_one.new.cabinet) names
+    (c.file_changes.ensures.unchanged (files c.args.cabinet.now) (files c.read_proved.new.cabinet) names c.read_proved.ensures.unchanged)
     c.write_one.ensures.others

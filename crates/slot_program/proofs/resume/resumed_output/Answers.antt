@@ -35,7 +35,7 @@ use Rattle.slot_program.proofs.resume.resumed_output.Goals as goal
 -- ---- what is asked of the calls
 
 -- In these answers `term` ties the season that is handed on to that of the submission; derefs are those
--- of the pairs, of the works, of the history, and of the works again.
+-- of the pairs, of the history, and of the works.
 pub replayed-requires-clause-fit : goal.replayed-requires-clause-fit
 unfolding start_book
 replayed-requires-clause-fit g c =
@@ -85,16 +85,16 @@ served-requires-clause-takes g c = λ κs lives n ask lt fit.
     let book : c.in_ok-book.book.book.declaration.season ≡ s.declaration.season = ap (λ (d : Declaration). d.season) c.in_ok-book.ensures.declaration ∙ ap (λ (b : SlotBook). b.declaration.season) c.in_ok-start.ensures in
     (omega (arith, lt, c.requires.few), subst (λ (t : Term). IsFitItem t ask) (book ∙ sym (began ∙ term)) fit)
 
-pub history_text-requires : goal.history_text-requires
+pub tell_resumed-requires-clause-lines : goal.tell_resumed-requires-clause-lines
 unfolding start_book
-history_text-requires g c =
+tell_resumed-requires-clause-lines g c =
     let b = c.in_ok-book.book.book in
     let given : b.declaration.season ≡ c.args.submission.now.declaration.season = ap (λ (d : Declaration). d.season) c.in_ok-book.ensures.declaration ∙ ap (λ (x : SlotBook). x.declaration.season) c.in_ok-start.ensures in
     let season : b.declaration.season ≡ c.declaration.result.now.season = given ∙ sym (ap (λ (d : Declaration). d.season) c.declaration.ensures.value) in
     let all : All (HasEntryLines c.declaration.result.now.season) c.in_ok-history.history.items =
     subst (λ (t : Term). All (HasEntryLines t) c.in_ok-history.history.items) season
     (c.answer_lines.ensures.history b c.in_ok-history.history.items c.declaration-after.ensures.book c.in_ok-history.ensures.legal c.in_ok-history.ensures.asked) in
-    subst (λ (l : List Entry). All (HasEntryLines c.declaration.result.now.season) l) (sym c.deref-3.ensures.value) all
+    subst (λ (l : List Entry). All (HasEntryLines c.declaration.result.now.season) l) (sym c.deref-2.ensures.value) all
 
 -- ---- where it stops
 
@@ -130,8 +130,6 @@ returns-clause-served g c =
     let failed : is_some (failed_ask k (asks_of h) k.failure kept.disk) ≡ is_some k.failure = is_failed k (asks_of h) k.failure kept.disk in
     let can : All (CanAskEntry start.declaration) h = subst (λ (d : Declaration). All (CanAskEntry d) h) (c.in_ok-book.ensures.declaration ∙ ap (λ (b : SlotBook). b.declaration) same) c.in_ok-history.ensures.asked in
     let found : c.len.result ≡ length pairs = search rules in
-    let entries : c.len-2.result ≡ length h = search rules in
-    let links : c.links_total.result ≡ links_total works = c.links_total.ensures ∙ ap (λ (l : List DoorWork). links_total l) c.deref-4.ensures.value in
     record {
       before = o.0;
       after = g.K.Disk.view c.into_disk.result;
@@ -154,12 +152,13 @@ returns-clause-served g c =
         few = subst (λ (n : ℕ). n + length h ≤ MOST_ENTRIES) count c.in_ok-history.ensures.few;
         callers = subst (λ (n : ℕ). All (λ (e : Entry). e.caller < n) h) (sym (length-map c.args.doors.now.items g.D.Door.view)) c.in_ok-history.ensures.callers;
         workers = subst (λ (b : SlotBook). AreWorkers (IsWorker EndsBroken b c.args.links h) 0 ds works es) after c.in_ok-history.ensures.workers;
-        remembered = subst (λ (l : List DoorWork). some_ended is_memory_end l ≡ false) c.deref-2.ensures.value c.in_ok-status.ensures.memory;
+        remembered = subst (λ (l : List DoorWork). some_ended is_memory_end l ≡ false) c.deref-3.ensures.value c.in_ok-output.ensures.memory;
         full = λ some. subst (λ (n : ℕ). n + length h ≡ MOST_ENTRIES) count (c.in_ok-history.ensures.full some);
       };
       broken = λ some. let b = c.in_ok-history.ensures.broken some in failed ∙ broken_failed h k.failure b.0 b.2.0 b.1 b.2.1;
-      recorded_is = c.in_ok-recorded.ensures ∙ (ap (λ (d : Declaration). history_text d.season c.deref-3.result.now) c.declaration.ensures.value ∙ ap (λ (l : List Entry). history_text s.declaration.season l) c.deref-3.ensures.value);
-      status_is = c.in_ok-status.ensures.status ∙ (ap (λ (b : Bool). resumed_status b c.deref-2.result.now) (failure ∙ sym failed) ∙ ap (λ (l : List DoorWork). resumed_status (is_some (failed_ask k (asks_of h) k.failure kept.disk)) l) c.deref-2.ensures.value);
-      printed = rw c.into_bytes.ensures.value (c.in_ok-text.ensures
-          ∙ (ap (λ (n : ℕ). resumed_lines n c.len-2.result c.links_total.result) found ∙ (ap (λ (n : ℕ). resumed_lines (length pairs) n c.links_total.result) entries ∙ ap (λ (n : ℕ). resumed_lines (length pairs) (length h) n) links)));
+      recorded_is = c.in_ok-output.ensures.recorded ∙ (ap (λ (d : Declaration). history_text d.season c.deref-2.result.now) c.declaration.ensures.value ∙ ap (λ (l : List Entry). history_text s.declaration.season l) c.deref-2.ensures.value);
+      status_is = c.in_ok-output.ensures.status ∙ (ap (λ (b : Bool). resumed_status b c.deref-3.result.now) (failure ∙ sym failed) ∙ ap (λ (l : List DoorWork). resumed_status (is_some (failed_ask k (asks_of h) k.failure kept.disk)) l) c.deref-3.ensures.value);
+      printed = c.in_ok-output.ensures.printed
+          ∙ (ap (λ (n : ℕ). resumed_lines n (length c.deref-2.result.now) (links_total c.deref-3.result.now)) found
+          ∙ (ap (λ (l : List Entry). resumed_lines (length pairs) (length l) (links_total c.deref-3.result.now)) c.deref-2.ensures.value ∙ ap (λ (l : List DoorWork). resumed_lines (length pairs) (length h) (links_total l)) c.deref-3.ensures.value));
     }

@@ -27,16 +27,16 @@ served-requires-clause-holdings g c =
     let most : MOST_UNITS ≡ 4096 = refl in
     omega (arith, held, few, units, most, c.units-units.ensures.few)
 
-pub history_text-requires : goal.history_text-requires
+pub tell_served-requires-clause-lines : goal.tell_served-requires-clause-lines
 unfolding start_book
-history_text-requires g c =
+tell_served-requires-clause-lines g c =
     let b = c.in_ok-book.book.book in
     let given : b.declaration.season ≡ c.args.submission.now.declaration.season = ap (λ (x : SlotBook). x.declaration.season) c.in_ok-book.ensures in
     let season : b.declaration.season ≡ c.declaration.result.now.season = given ∙ sym (ap (λ (d : Declaration). d.season) c.declaration.ensures.value) in
     let all : All (HasEntryLines c.declaration.result.now.season) c.in_ok-history.history.items =
     subst (λ (t : Term). All (HasEntryLines t) c.in_ok-history.history.items) season
     (c.answer_lines.ensures.history b c.in_ok-history.history.items c.declaration-declaration.ensures.book c.in_ok-history.ensures.legal c.in_ok-history.ensures.asked) in
-    subst (λ (l : List Entry). All (HasEntryLines c.declaration.result.now.season) l) (sym c.deref-2.ensures.value) all
+    subst (λ (l : List Entry). All (HasEntryLines c.declaration.result.now.season) l) (sym c.deref.ensures.value) all
 
 pub returns-clause-served : goal.returns-clause-served
 unfolding start_book
@@ -47,8 +47,6 @@ returns-clause-served g c =
     let h = c.in_ok-history.history.items in
     let works = c.in_ok-history.works.items in
     let s = c.args.submission.now in
-    let entries : c.len.result ≡ length h = search rules in
-    let links : c.links_total.result ≡ links_total works = c.links_total.ensures ∙ ap (λ (l : List DoorWork). links_total l) c.deref-3.ensures.value in
     let ds = map g.D.Door.view c.args.doors.now.items in
     let es = map g.D.Door.view c.served.new.doors.items in
     let fits : FitsThroughout b h = fits_throughout b h c.replays_fit.ensures.declaration c.replays_fit.ensures.book c.declaration-declaration.ensures.book c.in_ok-history.ensures.asked in
@@ -63,10 +61,10 @@ returns-clause-served g c =
         few = c.in_ok-history.ensures.few;
         callers = subst (λ (n : ℕ). All (λ (e : Entry). e.caller < n) h) (sym (length-map c.args.doors.now.items g.D.Door.view)) c.in_ok-history.ensures.callers;
         workers = subst (λ (x : SlotBook). AreWorkers (IsWorker never_breaks x c.args.links h) 0 ds works es) same c.in_ok-history.ensures.workers;
-        remembered = subst (λ (l : List DoorWork). some_ended is_memory_end l ≡ false) c.deref.ensures.value c.in_ok-status.ensures.memory;
+        remembered = subst (λ (l : List DoorWork). some_ended is_memory_end l ≡ false) c.deref-2.ensures.value c.in_ok-output.ensures.memory;
         full = c.in_ok-history.ensures.full;
       };
-      recorded_is = c.in_ok-recorded.ensures ∙ (ap (λ (d : Declaration). history_text d.season c.deref-2.result.now) c.declaration.ensures.value ∙ ap (λ (l : List Entry). history_text s.declaration.season l) c.deref-2.ensures.value);
-      status_is = c.in_ok-status.ensures.status ∙ ap (λ (l : List DoorWork). served_status l) c.deref.ensures.value;
-      printed = rw c.into_bytes.ensures.value (c.in_ok-text.ensures ∙ (ap (λ (n : ℕ). served_lines n c.links_total.result) entries ∙ ap (λ (n : ℕ). served_lines (length h) n) links));
+      recorded_is = c.in_ok-output.ensures.recorded ∙ (ap (λ (d : Declaration). history_text d.season c.deref.result.now) c.declaration.ensures.value ∙ ap (λ (l : List Entry). history_text s.declaration.season l) c.deref.ensures.value);
+      status_is = c.in_ok-output.ensures.status ∙ ap (λ (l : List DoorWork). served_status l) c.deref-2.ensures.value;
+      printed = c.in_ok-output.ensures.printed ∙ (ap (λ (l : List Entry). served_lines (length l) (links_total c.deref-2.result.now)) c.deref.ensures.value ∙ ap (λ (l : List DoorWork). served_lines (length h) (links_total l)) c.deref-2.ensures.value);
     }
