@@ -10,11 +10,11 @@ ghost use Rattle.command_words.specs.declared.job.Job.TheVariants.{Recheck as Re
 ghost use Rattle.slot_program.specs.Judgements.{NamedBytes, IsSeasonOf, SpellsCert, SpellsExtra};
 ghost use Rattle.slot_program.specs.Judgements.{extra_form, valid_extra};
 ghost use Rattle.slot_program.specs.Jobs.{name_at};
-ghost use Rattle.slot_program.specs.Desk.{world_of};
+ghost use Rattle.slot_program.specs.Desk.{World, world_of};
 ghost use Rattle.slot_program.specs.Ends.{IsDone, JobStops};
 ghost use Rattle.slot_program.specs.Leads.{AcceptsAlone};
 ghost use Rattle.slot_program.specs.Stops.{IsJudged};
-ghost use Rattle.slot_program.specs.Waits.{SpellsAlone, IsLeftBy, ExtraAlone};
+ghost use Rattle.slot_program.specs.Waits.{SpellsAlone, IsLeftBy, IsLeft, ExtraAlone};
 ghost use Rattle.slot_program.specs.declared.files.TheConstants.{LONGEST_CERT_FILE as MOST_BYTES};
 
 use crate::check::yes;
@@ -47,9 +47,31 @@ pub(crate) fn recheck<C: Cabinet>(
     ensures unchanged { C.files cabinet.new ≡ C.files cabinet.old }
 {
     let left = read_waiting(alloc, names, cabinet)?;
+    let answer = recheck_left(alloc, names, &left, cabinet)?;
+    Ok(answer)
+}
+
+/// Reads a stage of the lines that asks left waiting, which is valid; or else says why not.
+fn recheck_left<C: Cabinet>(
+    alloc: Global,
+    names: &NameList,
+    left: &Left,
+    cabinet: &mut C,
+) -> Result<Answer, Stop>
+    requires { All (LineFits left.now.book.book.declaration.season) left.now.waiting }
+    ensures done { IfOk result (λ a. (w : World) → IsLeft w names.now left.now.submission
+        left.now.book.book left.now.waiting left.now.header
+        (world_of C.files C.fault_count C.log cabinet.old) → IsDone (RecheckJob names.now) w
+        a.status a.text.items (world_of C.files C.fault_count C.log cabinet.new)) }
+    ensures stop { IfErr result (λ stop. (w : World) → IsLeft w names.now left.now.submission
+        left.now.book.book left.now.waiting left.now.header
+        (world_of C.files C.fault_count C.log cabinet.old) → JobStops names.now
+        (RecheckJob names.now) w stop (world_of C.files C.fault_count C.log cabinet.new)) }
+    ensures unchanged { C.files cabinet.new ≡ C.files cabinet.old }
+{
     let bytes = read_file(alloc, names, 4, LONGEST_CERT_FILE, cabinet)?;
     let stage = judge_extra(alloc, 4, bytes)?;
-    judge_stage(alloc, &left, &stage)?;
+    judge_stage(alloc, left, &stage)?;
     let text = yes(alloc)?;
     Ok(Answer {
         status: 0,

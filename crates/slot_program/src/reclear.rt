@@ -8,7 +8,9 @@ ghost use Rattle.cert_format.specs.declared.cert.Mark.TheVariants.{Infeasible, U
 ghost use Rattle.scr_replies.specs.SeasonReplies.{IsAnswerable};
 ghost use Rattle.wait_list.specs.Waiting.{allotted_states};
 ghost use Rattle.command_words.specs.declared.job.Job.TheVariants.{Reclear as ReclearJob};
-ghost use Rattle.slot_program.specs.Jobs.{name_at};
+ghost use Rattle.slot_program.specs.Judgements.{NamedBytes};
+ghost use Rattle.slot_program.specs.Jobs.{name_at, reclear_steps, two_files, IsReclearing};
+ghost use Rattle.slot_program.specs.Leads.{Leads};
 ghost use Rattle.slot_program.specs.Desk.{world_of};
 ghost use Rattle.slot_program.specs.Ends.{IsDone, JobStops};
 ghost use Rattle.slot_program.specs.Reclearing.{waiting_replies, waiting_text, IsWaitingOutput};
@@ -65,10 +67,39 @@ pub(crate) fn reclear<R: Threads + Sync, C: Cabinet, G: Gate>(
         (name_at names.now 4 ∷ name_at names.now 5 ∷ []) (C.files cabinet.new) }
 {
     file_changes();
-    let left = read_waiting(alloc, names, cabinet)?;
-    let output = reclear_output(rt, alloc, &left, nodes, workers, gate)?;
+    let output = read_output(rt, alloc, names, nodes, workers, cabinet, gate)?;
     write_two(names, 4, &output.extra, &output.replies, cabinet)?;
     Ok(output.answer)
+}
+
+/// Reads what asks leave, searches the stage of the lines that wait, and gives what is written and
+/// said of it.
+fn read_output<R: Threads + Sync, C: Cabinet, G: Gate>(
+    rt: &R,
+    alloc: Global,
+    names: &NameList,
+    nodes: u32,
+    workers: u32,
+    cabinet: &mut C,
+    gate: &G,
+) -> Result<ReclearOutput, Stop>
+    requires nodes { (1 ≤ nodes) × (nodes ≤ 1000000) }
+    requires workers { (1 ≤ workers) × (workers ≤ 16) }
+    ensures found { IfOk result (λ output. (capacity requests certificate asks : NamedBytes)
+        × IsReclearing names.now nodes capacity.bytes requests.bytes certificate.bytes asks.bytes
+        (two_files names.now 4 output.extra.items output.replies.items) output.answer.status
+        output.answer.text.items
+        × Leads (world_of C.files C.fault_count C.log cabinet.old) (reclear_steps names.now)
+        (capacity ∷ requests ∷ certificate ∷ asks ∷ []) []
+        (world_of C.files C.fault_count C.log cabinet.new)) }
+    ensures stop { IfErr result (λ stop. JobStops names.now (ReclearJob names.now nodes workers)
+        (world_of C.files C.fault_count C.log cabinet.old) stop
+        (world_of C.files C.fault_count C.log cabinet.new)) }
+    ensures unchanged { C.files cabinet.new ≡ C.files cabinet.old }
+{
+    let left = read_waiting(alloc, names, cabinet)?;
+    let output = reclear_output(rt, alloc, &left, nodes, workers, gate)?;
+    Ok(output)
 }
 
 /// Searches the stage of the lines that wait, and gives what is written and said of it.

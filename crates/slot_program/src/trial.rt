@@ -1,6 +1,6 @@
 //! A generated season run in memory, and its certificate checked.
 
-ghost use Rattle.std.specs.Prelude.{◌≡◌, ◌≤◌, ◌↔◌, [], length, IfOk, IsTrue};
+ghost use Rattle.std.specs.Prelude.{◌≡◌, ◌≤◌, ◌↔◌, [], ℕ, length, IfOk, IsTrue};
 ghost use Rattle.std.specs.String.{string_bytes};
 ghost use Rattle.choice_problem.specs.declared.problems.TheConstants.{MOST_UNITS};
 ghost use Rattle.cert_format.specs.Printable.{IsPrintable};
@@ -41,10 +41,25 @@ pub(crate) fn trial<R: Threads + Sync, G: Gate>(
     requires { units ≤ MOST_UNITS }
     ensures { IfOk result (λ a. IsTrial number units [] a.status a.text.items) }
 {
-    settled_run();
     let submission = generate(alloc, number, units)?;
-    let proved = run_season(rt, alloc, &submission, TRIAL_NODES, 1, gate)?;
-    if !is_valid(alloc, &submission, &proved)? {
+    let answer = try_season(rt, alloc, &submission, gate)?;
+    Ok(answer)
+}
+
+/// Runs a season with one worker, checks its certificate, and says so.
+fn try_season<R: Threads + Sync, G: Gate>(
+    rt: &R,
+    alloc: Global,
+    submission: &Submission,
+    gate: &G,
+) -> Result<Answer, Memory>
+    ensures { IfOk result (λ a. (number units : ℕ) →
+        IsSeasonOf (generated_capacity units) (generated_requests number units) submission.now →
+        IsTrial number units [] a.status a.text.items) }
+{
+    settled_run();
+    let proved = run_season(rt, alloc, submission, TRIAL_NODES, 1, gate)?;
+    if !is_valid(alloc, submission, &proved)? {
         unreachable!()
     }
     let text = trial_text(alloc, &proved)?;

@@ -2,110 +2,53 @@ use Rattle.std.proofs.Common.{[], ◌∷◌, List, refl}
 use Rattle.std.proofs.lemmas.Result.{err_from_is_err_and}
 use Rattle.command_words.specs.declared.job.Job.TheVariants.{Reclear}
 use Rattle.command_words.specs.Words.{Word}
-use Rattle.slot_program.specs.Judgements.{NamedBytes}
-use Rattle.slot_program.specs.Jobs.{name_at, reclear_steps, two_files, IsReclearing}
+use Rattle.slot_program.specs.Jobs.{name_at}
 use Rattle.slot_program.specs.Outside.{still}
 use Rattle.slot_program.specs.Desk.{World, world_of}
-use Rattle.slot_program.proofs.LeadLemmas.{memory_read}
-use Rattle.slot_program.proofs.EndLemmas.{stop_job}
-use Rattle.slot_program.proofs.WaitingLemmas.{recleared_of}
 use Rattle.slot_program.proofs.reclear.reclear.Goals as goal
-
-pub returns-in_err-left-clause-stop : goal.returns-in_err-left-clause-stop
-returns-in_err-left-clause-stop g c =
-    let w : World = world_of g.C.Cabinet.files g.C.Cabinet.fault_count g.C.Cabinet.log c.args.cabinet.now in
-    let v : World = world_of g.C.Cabinet.files g.C.Cabinet.fault_count g.C.Cabinet.log c.read_waiting.new.cabinet in
-    let names = c.args.names.now in
-    let p = err_from_is_err_and c.from_residual.result c.from_residual.ensures.1 in
-    rw (p.1, p.2) (stop_job names (Reclear names c.args.nodes c.args.workers) w v c.in_err-left.field-0.0 (c.in_err-left.ensures.stop []))
-
-pub returns-in_err-left-clause-others : goal.returns-in_err-left-clause-others
-returns-in_err-left-clause-others g c =
-    let files = g.C.Cabinet.files in
-    let names : List Word = name_at c.args.names.now 4 ∷ name_at c.args.names.now 5 ∷ [] in
-    c.file_changes.ensures.unchanged (files c.args.cabinet.now) (files c.read_waiting.new.cabinet) names c.read_waiting.ensures.unchanged
-
-pub reclear_output-requires-clause-spelled : goal.reclear_output-requires-clause-spelled
-reclear_output-requires-clause-spelled g c = λ κs lives. let is = c.in_ok-left.ensures.left in is.left.spelled
-
-pub reclear_output-requires-clause-header : goal.reclear_output-requires-clause-header
-reclear_output-requires-clause-header g c = λ κs lives. let is = c.in_ok-left.ensures.left in is.left.of_season
 
 pub returns-in_err-output-clause-stop : goal.returns-in_err-output-clause-stop
 returns-in_err-output-clause-stop g c =
-    let w : World = world_of g.C.Cabinet.files g.C.Cabinet.fault_count g.C.Cabinet.log c.args.cabinet.now in
-    let v : World = world_of g.C.Cabinet.files g.C.Cabinet.fault_count g.C.Cabinet.log c.read_waiting.new.cabinet in
-    let is = c.in_ok-left.ensures.left in
-    let p = err_from_is_err_and c.from_residual-in_err-output.result c.from_residual-in_err-output.ensures.1 in
-    rw (p.1, p.2) (λ o. memory_read w v v (reclear_steps c.args.names.now) (is.capacity ∷ is.requests ∷ is.certificate ∷ is.asks ∷ []) [] (is.leads []) refl)
+    let p = err_from_is_err_and c.from_residual.result c.from_residual.ensures.1 in
+    rw (p.1, p.2) c.in_err-output.ensures.stop
 
 pub returns-in_err-output-clause-others : goal.returns-in_err-output-clause-others
 returns-in_err-output-clause-others g c =
     let files = g.C.Cabinet.files in
     let names : List Word = name_at c.args.names.now 4 ∷ name_at c.args.names.now 5 ∷ [] in
-    c.file_changes.ensures.unchanged (files c.args.cabinet.now) (files c.read_waiting.new.cabinet) names c.read_waiting.ensures.unchanged
+    c.file_changes.ensures.unchanged (files c.args.cabinet.now) (files c.read_output.new.cabinet) names c.read_output.ensures.unchanged
 
 pub returns-in_err-write_two-clause-stop : goal.returns-in_err-write_two-clause-stop
 returns-in_err-write_two-clause-stop g c =
     let w : World = world_of g.C.Cabinet.files g.C.Cabinet.fault_count g.C.Cabinet.log c.args.cabinet.now in
-    let names = c.args.names.now in
-    let is = c.in_ok-left.ensures.left in
-    let left = c.in_ok-left.left in
+    let s = c.in_ok-output.ensures.found in
     let out = c.in_ok-output.output in
-    let files : List NamedBytes = is.capacity ∷ is.requests ∷ is.certificate ∷ is.asks ∷ [] in
-    let work : IsReclearing names c.args.nodes is.capacity.bytes is.requests.bytes is.certificate.bytes is.asks.bytes (two_files names 4 out.extra.items out.replies.items) out.answer.status out.answer.text.items =
-    record {
-      season = left.submission;
-      proved = is.proved;
-      extra = out.extra.items;
-      replies = out.replies.items;
-      made = is.made;
-      spelled = is.spelled;
-      valid = is.valid;
-      output = recleared_of left.submission is.proved is.asks.bytes left.book.book left.waiting left.header c.args.nodes out.extra.items out.replies.items out.answer.status out.answer.text.items is.left c.in_ok-output.ensures;
-      written = refl;
-    } in
     let one = c.deref.ensures.value in
     let two = c.deref-2.ensures.value in
     let p = err_from_is_err_and c.from_residual-in_err-write_two.result c.from_residual-in_err-write_two.ensures.1 in
-    rw (p.1, p.2) (λ o. c.in_err-write_two.ensures.stop (Reclear names c.args.nodes c.args.workers) w (still o) files out.answer.status out.answer.text.items refl (is.leads [])
-    (refl, rw (one, two) work))
+    rw (p.1, p.2) (λ o. c.in_err-write_two.ensures.stop (Reclear c.args.names.now c.args.nodes c.args.workers) w (still o) (s.0 ∷ s.1 ∷ s.2 ∷ s.3 ∷ []) out.answer.status out.answer.text.items refl s.5
+    (refl, rw (one, two) s.4))
 
 pub returns-in_err-write_two-clause-others : goal.returns-in_err-write_two-clause-others
 returns-in_err-write_two-clause-others g c =
     let files = g.C.Cabinet.files in
     let names : List Word = name_at c.args.names.now 4 ∷ name_at c.args.names.now 5 ∷ [] in
-    c.file_changes.ensures.chained (files c.args.cabinet.now) (files c.read_waiting.new.cabinet) (files c.write_two.new.cabinet) names
-    (c.file_changes.ensures.unchanged (files c.args.cabinet.now) (files c.read_waiting.new.cabinet) names c.read_waiting.ensures.unchanged) c.write_two.ensures.others
+    c.file_changes.ensures.chained (files c.args.cabinet.now) (files c.read_output.new.cabinet) (files c.write_two.new.cabinet) names
+    (c.file_changes.ensures.unchanged (files c.args.cabinet.now) (files c.read_output.new.cabinet) names c.read_output.ensures.unchanged) c.write_two.ensures.others
 
 pub returns-clause-done : goal.returns-clause-done
 returns-clause-done g c =
     let w : World = world_of g.C.Cabinet.files g.C.Cabinet.fault_count g.C.Cabinet.log c.args.cabinet.now in
-    let names = c.args.names.now in
-    let is = c.in_ok-left.ensures.left in
-    let left = c.in_ok-left.left in
+    let s = c.in_ok-output.ensures.found in
     let out = c.in_ok-output.output in
-    let files : List NamedBytes = is.capacity ∷ is.requests ∷ is.certificate ∷ is.asks ∷ [] in
-    let work : IsReclearing names c.args.nodes is.capacity.bytes is.requests.bytes is.certificate.bytes is.asks.bytes (two_files names 4 out.extra.items out.replies.items) out.answer.status out.answer.text.items =
-    record {
-      season = left.submission;
-      proved = is.proved;
-      extra = out.extra.items;
-      replies = out.replies.items;
-      made = is.made;
-      spelled = is.spelled;
-      valid = is.valid;
-      output = recleared_of left.submission is.proved is.asks.bytes left.book.book left.waiting left.header c.args.nodes out.extra.items out.replies.items out.answer.status out.answer.text.items is.left c.in_ok-output.ensures;
-      written = refl;
-    } in
     let one = c.deref.ensures.value in
     let two = c.deref-2.ensures.value in
-    λ o. c.in_ok-write_two.ensures.done (Reclear names c.args.nodes c.args.workers) w (still o) files out.answer.status out.answer.text.items refl (is.leads [])
-    (refl, rw (one, two) work)
+    λ o. c.in_ok-write_two.ensures.done (Reclear c.args.names.now c.args.nodes c.args.workers) w (still o) (s.0 ∷ s.1 ∷ s.2 ∷ s.3 ∷ []) out.answer.status out.answer.text.items refl s.5
+    (refl, rw (one, two) s.4)
 
 pub returns-clause-others : goal.returns-clause-others
 returns-clause-others g c =
     let files = g.C.Cabinet.files in
     let names : List Word = name_at c.args.names.now 4 ∷ name_at c.args.names.now 5 ∷ [] in
-    c.file_changes.ensures.chained (files c.args.cabinet.now) (files c.read_waiting.new.cabinet) (files c.write_two.new.cabinet) names
-    (c.file_changes.ensures.unchanged (files c.args.cabinet.now) (files c.read_waiting.new.cabinet) names c.read_waiting.ensures.unchanged) c.write_two.ensures.others
+    c.file_changes.ensures.chained (files c.args.cabinet.now) (files c.read_output.new.cabinet) (files c.write_two.new.cabinet) names
+    (c.file_changes.ensures.unchanged (files c.args.cabinet.now) (files c.read_output.new.cabinet) names c.read_output.ensures.unchanged) c.write_two.ensures.others

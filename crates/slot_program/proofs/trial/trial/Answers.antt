@@ -1,25 +1,4 @@
-use Rattle.std.proofs.Common.{◌≡◌, ℕ, refl, sym, ap, ◌∙◌, subst}
-use Rattle.season_run.specs.Runs.{IsRun}
-use Rattle.slot_program.specs.StageLines.{marks_status}
-use Rattle.slot_program.specs.Jobs.{IsSettledStatus}
-use Rattle.slot_program.specs.declared.trial.TheConstants.{TRIAL_NODES}
-use Rattle.slot_program.proofs.StageLemmas.{settled_marks}
 use Rattle.slot_program.proofs.trial.trial.Goals as goal
 
 pub returns : goal.returns
-returns g c =
-    let season = c.in_ok-submission.submission in
-    let cert = c.in_ok-proved.proved in
-    let run : IsRun season TRIAL_NODES cert = c.in_ok-proved.ensures.run in
-    let status : c.marks_status-status.result ≡ marks_status cert.stages = c.marks_status-status.ensures ∙ ap marks_status c.items.ensures in
-    record {
-      season = season;
-      proved = cert;
-      made = c.in_ok-submission.ensures;
-      run = run;
-      valid = run.valid;
-      written = refl;
-      printed = rw c.into_bytes.ensures.value c.in_ok-text.ensures;
-      status_is = status;
-      settled = λ enough. subst (λ (n : ℕ). IsSettledStatus n) (sym status) (settled_marks cert.stages (c.settled_run.ensures season TRIAL_NODES cert run enough));
-    }
+returns g c = c.in_ok-answer.ensures c.args.number c.args.units c.in_ok-submission.ensures
