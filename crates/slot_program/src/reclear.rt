@@ -43,8 +43,8 @@ struct ReclearOutput {
     answer: Answer,
 }
 
-/// Reads a season, a certificate of it, which is valid, and asks; answers them, searches the stage of
-/// the lines that wait, and writes it and then the replies. All memory is taken before the first
+/// Reads a season, a certificate of it, which is valid, and asks; answers them, searches the stage
+/// of the lines that wait, and writes it and then the replies. All memory is taken before the first
 /// write.
 pub(crate) fn reclear<R: Threads + Sync, C: Cabinet, G: Gate>(
     rt: &R,

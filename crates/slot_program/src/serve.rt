@@ -1,7 +1,7 @@
 //! Serving clients from the book of a certificate.
 
-ghost use Rattle.std.specs.Prelude.{◌≡◌, ◌≤◌, ◌<◌, ◌+◌, ◌^◌, ◌∷◌, [], ℕ, List, All, Option, true, false};
-ghost use Rattle.std.specs.Prelude.{IfOk, IfErr, length, map};
+ghost use Rattle.std.specs.Prelude.{◌≡◌, ◌≤◌, ◌<◌, ◌+◌, ◌^◌, ◌∷◌, [], ℕ, List, All, Option};
+ghost use Rattle.std.specs.Prelude.{true, false, IfOk, IfErr, length, map};
 ghost use Rattle.desk_outside.specs.Files.{ChangesOnly};
 ghost use Rattle.desk_disk.specs.Disks.{DiskView};
 ghost use Rattle.turn_lock.specs.History.{StartsWith};
