@@ -17,7 +17,7 @@ use std::sync::atomic::{AtomicBool, AtomicU64, Ordering};
 use std::time::Duration;
 
 /// How long a time slice lasts while another busy link waits.
-const SLICE_MILLIS: u64 = 40;
+const SLICE_MILLIS: u64 = 200;
 
 /// The line of busy links.
 #[derive(Drop)]
