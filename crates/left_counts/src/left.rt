@@ -1,6 +1,6 @@
 //! What is left, with its marks.
 
-use crate::marks::{part_is_clear, renew_part, renew_run};
+use crate::marks::{clear_part, mark_part, mark_run, part_is_clear};
 use choice_problem::{Part, strip_list};
 use slot_text::Memory;
 use std::alloc::Global;
@@ -39,7 +39,7 @@ impl LeftCounts {
         let resources = counts.len();
         let mut full = vec![in alloc; 0; resources / 64 + 1]?;
         let left = Counts::with(counts);
-        renew_run(&mut full, &left, 0, resources);
+        mark_run(&mut full, &left, 0, resources);
         Ok(LeftCounts { left, full })
     }
 
@@ -53,7 +53,8 @@ impl LeftCounts {
         })
     }
 
-    /// Gives the uses of a part back: two steps a use. No count reaches 2^32.
+    /// Gives the uses of a part back: one step a use, and one more in runs with a full resource. No
+    /// count reaches 2^32.
     pub fn add(&mut self, part: &Part)
         requires there { IsPartInRange (length self.old) part.now }
         requires room { HasRoom self.old (λ r. part_uses part.now r) }
@@ -61,7 +62,7 @@ impl LeftCounts {
         ensures uses { GrowsBy self.old self.new (λ r. part_uses part.now r) }
     {
         self.left.add(part);
-        renew_part(&mut self.full, &self.left, part);
+        clear_part(&mut self.full, part);
     }
 
     /// Takes the uses of a part, which are left: two steps a use.
@@ -72,7 +73,7 @@ impl LeftCounts {
         ensures uses { GrowsBy self.new self.old (λ r. part_uses part.now r) }
     {
         self.left.take(part);
-        renew_part(&mut self.full, &self.left, part);
+        mark_part(&mut self.full, &self.left, part);
     }
 
     /// Whether each resource that the part uses has something left: one step for each run of the

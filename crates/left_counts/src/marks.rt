@@ -3,7 +3,7 @@
 ghost use Rattle.std.specs.Prelude.{◌≡◌, ◌↔◌, ℕ, ◌*◌, ◌^◌, ◌<◌, ◌≤◌, length, IsTrue};
 ghost use Rattle.choice_problem.specs.Strips.{strip_uses, part_uses, IsStripInRange, IsPartInRange};
 ghost use Rattle.choice_problem.specs.Loops.{run_uses};
-ghost use Rattle.left_counts.specs.Private.Marks.{mark_at, AreRenewed};
+ghost use Rattle.left_counts.specs.Private.Marks.{mark_at, AreCleared, AreMarked};
 
 use crate::words::{are_clear, set_mark};
 use choice_problem::{Part, Strip};
@@ -36,44 +36,83 @@ fn strip_is_clear(words: &[u64], strip: &Strip) -> bool
     true
 }
 
-/// Marks the resources that the part uses and of which nothing is left, and takes the marks of the
-/// others that it uses away.
-pub(crate) fn renew_part(words: &mut [u64], left: &Counts, part: &Part)
+/// Marks what the part uses and of which nothing is left: one step a use.
+pub(crate) fn mark_part(words: &mut [u64], left: &Counts, part: &Part)
     requires there { IsPartInRange (length left.now) part.now }
     requires room { length left.now ≤ 64 * length words.old }
     requires few { length left.now < 2 ^ 32 }
     ensures length { length words.new ≡ length words.old }
-    ensures marks { AreRenewed left.now (λ r. part_uses part.now r) words.old words.new }
+    ensures marks { AreMarked left.now (λ r. part_uses part.now r) words.old words.new }
 {
     for strip in part.strips() {
-        renew_strip(words, left, strip);
+        mark_strip(words, left, strip);
     }
 }
 
 // The same of a strip.
-fn renew_strip(words: &mut [u64], left: &Counts, strip: &Strip)
+fn mark_strip(words: &mut [u64], left: &Counts, strip: &Strip)
     requires there { IsStripInRange (length left.now) strip.now }
     requires room { length left.now ≤ 64 * length words.old }
     requires few { length left.now < 2 ^ 32 }
     ensures length { length words.new ≡ length words.old }
-    ensures marks { AreRenewed left.now (λ r. strip_uses strip.now r) words.old words.new }
+    ensures marks { AreMarked left.now (λ r. strip_uses strip.now r) words.old words.new }
 {
     for i in 0..strip.times {
         let (start, end) = strip.run(i);
-        renew_run(words, left, start as usize, end as usize);
+        mark_run(words, left, start as usize, end as usize);
     }
 }
 
 /// The same from one resource to another.
-pub(crate) fn renew_run(words: &mut [u64], left: &Counts, start: usize, end: usize)
+pub(crate) fn mark_run(words: &mut [u64], left: &Counts, start: usize, end: usize)
     requires ordered { start ≤ end }
     requires there { end ≤ length left.now }
     requires room { length left.now ≤ 64 * length words.old }
     requires few { length left.now < 2 ^ 32 }
     ensures length { length words.new ≡ length words.old }
-    ensures marks { AreRenewed left.now (λ r. run_uses start end r) words.old words.new }
+    ensures marks { AreMarked left.now (λ r. run_uses start end r) words.old words.new }
 {
     for at in start..end {
-        set_mark(words, at, left.count(at as u32) == 0);
+        if left.count(at as u32) == 0 {
+            set_mark(words, at, true);
+        }
+    }
+}
+
+/// Takes the marks of what the part uses away: one step for each run and each word of it, and one
+/// more a use where something was marked.
+pub(crate) fn clear_part(words: &mut [u64], part: &Part)
+    requires { IsPartInRange (64 * length words.old) part.now }
+    ensures length { length words.new ≡ length words.old }
+    ensures marks { AreCleared (λ r. part_uses part.now r) words.old words.new }
+{
+    for strip in part.strips() {
+        clear_strip(words, strip);
+    }
+}
+
+// The same of a strip.
+fn clear_strip(words: &mut [u64], strip: &Strip)
+    requires { IsStripInRange (64 * length words.old) strip.now }
+    ensures length { length words.new ≡ length words.old }
+    ensures marks { AreCleared (λ r. strip_uses strip.now r) words.old words.new }
+{
+    for i in 0..strip.times {
+        let (start, end) = strip.run(i);
+        if !are_clear(words, start as usize, end as usize) {
+            clear_run(words, start as usize, end as usize);
+        }
+    }
+}
+
+// The same from one resource to another.
+fn clear_run(words: &mut [u64], start: usize, end: usize)
+    requires ordered { start ≤ end }
+    requires there { end ≤ 64 * length words.old }
+    ensures length { length words.new ≡ length words.old }
+    ensures marks { AreCleared (λ r. run_uses start end r) words.old words.new }
+{
+    for at in start..end {
+        set_mark(words, at, false);
     }
 }

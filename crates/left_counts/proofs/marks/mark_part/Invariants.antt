@@ -1,10 +1,10 @@
 use Rattle.std.proofs.Common.{◌≡◌, length, take}
 use Rattle.choice_problem.specs.Strips.{part_uses}
-use Rattle.left_counts.specs.Private.Marks.{AreRenewed}
-use Rattle.left_counts.proofs.marks.renew_part.Given as goal
+use Rattle.left_counts.specs.Private.Marks.{AreMarked}
+use Rattle.left_counts.proofs.marks.mark_part.Given as goal
 
 abbrev pub invariant-loop-strip : goal.invariant-loop-strip
 invariant-loop-strip l = record {
   length : length l.words ≡ length l.fn.words;
-  marks : AreRenewed l.left (λ r. part_uses (take l.strip-index l.strip-items) r) l.fn.words l.words;
+  marks : AreMarked l.left (λ r. part_uses (take l.strip-index l.strip-items) r) l.fn.words l.words;
 }
