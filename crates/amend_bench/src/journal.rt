@@ -32,8 +32,8 @@ const MOST_BYTES: usize = 17 + 256 * MOST_PAIRS as usize;
 
 /// Serves drawn asks over one link, then as many over eight links at once, and so on in rounds, by
 /// ledgers with a journal in memory. Then fills a journal with pairs, by four calls of its disk for
-/// each, opens it, and answers its pairs anew. Prints counts, and at full size how many that is in a
-/// second; of the rounds the median.
+/// each, opens it, and answers its pairs anew. Prints counts, and at full size how many that is in
+/// a second; of the rounds the median.
 pub fn run<R: Threads + Wait + Sync + Print + Clock>(
     rt: &R,
     alloc: Global,

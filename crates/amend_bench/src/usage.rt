@@ -45,7 +45,8 @@ fn time_reports<R: Print + Clock>(
     print_tally(rt, size, "reports", tally)
 }
 
-// What the book keeps by the reports, unless there is too much of one of them, or no season follows.
+// What the book keeps by the reports, unless there is too much of one of them, or no season
+// follows.
 fn watched(alloc: Global, book: &Book, text: &[u8]) -> anyhow::Result<Option<Usage>> {
     if text.len() > MOST_BYTES || book.count() > 100_000 {
         return Ok(None);

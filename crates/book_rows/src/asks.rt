@@ -7,10 +7,10 @@ use std::test::Fail;
 
 // New requests. The window from 0600 to 0659 holds two arrivals a day. The third gets 0700, at 30
 // minutes a date; 0555 would displace 35. Then all that is not U by the clock: a clash comes before
-// any search, with an offered series too, on one date alone, and whatever is asked with code B. With
-// shifts of at most 25 minutes the window holds all of them. Two shifts displace the same: the lower
-// number, which is the earlier time, is offered, and the other one where the earlier does not fit.
-// An F is not for a book.
+// any search, with an offered series too, on one date alone, and whatever is asked with code B.
+// With shifts of at most 25 minutes the window holds all of them. Two shifts displace the same: the
+// lower number, which is the earlier time, is offered, and the other one where the earlier does not
+// fit. An F is not for a book.
 const NEW: &str = "\
 CAP ARR 60 0600 0600 1234567 2|FBA001 0610|0;;; = HBA001 0610
 NBA002 0620 = KBA002 0620
@@ -215,11 +215,11 @@ book = HBA001 0610;HBA003 0620
 CBA001 0610;LBA001 0640 = KBA001 0640
 book = HBA003 0620;HBA001 0640";
 
-// An offer takes its slots as a confirmed series does. Of the windows of an hour that begin from 0600
-// to 0700 the series at 0610 uses the first three, and the offer at 0710 all others, so that only
-// times below 0600 and from 0800 on are left. Then two windows of an hour: the offer at 0700 is the
-// last of its hour, and the next request is offered 0555. What is declined in part is free again on
-// those dates, and what is accepted stays taken.
+// An offer takes its slots as a confirmed series does. Of the windows of an hour that begin from
+// 0600 to 0700 the series at 0610 uses the first three, and the offer at 0710 all others, so that
+// only times below 0600 and from 0800 on are left. Then two windows of an hour: the offer at 0700
+// is the last of its hour, and the next request is offered 0555. What is declined in part is free
+// again on those dates, and what is accepted stays taken.
 const OFFERS: &str = "\
 CAP ARR 60 0600 0700 1234567 1|FBA001 0610|0;;; = HBA001 0610
 NBA002 0650 = UBA002 0650;OBA002 0710
@@ -309,10 +309,11 @@ book = HBA002 05APR05APR 0000060 0500;HBA002 06APR06APR 0000007 0440;\
     HBA004 BA005 25OCT25OCT 0000060 180320 JFK2200 00301JFK JJ;OBA006 05MAY06MAY 1200000 2255";
 
 // Books of certificates. A stage that is open gives what it has, or nothing; after one without any
-// allotment nothing is given, and all slots are free. A pair at other times than its historic ones is
-// confirmed where they are the requested ones, and else offered with the data of the request; at its
-// historic times it is confirmed with the data of the historic line. A new entrant that is refused in
-// the third stage has what the fourth gives, and without a third stage all stand in the fourth.
+// allotment nothing is given, and all slots are free. A pair at other times than its historic ones
+// is confirmed where they are the requested ones, and else offered with the data of the request; at
+// its historic times it is confirmed with the data of the historic line. A new entrant that is
+// refused in the third stage has what the fourth gives, and without a third stage all stand in the
+// fourth.
 const STARTS: &str = "\
 CAP ARR 60 0600 0600 1234567 1|FBA001 30MAR30MAR 0000007 0610;NBA002 30MAR30MAR 0000007 0630\
     |0;;;30:18 = HBA001 30MAR30MAR 0000007 0610;OBA002 30MAR30MAR 0000007 0700

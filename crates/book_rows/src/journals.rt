@@ -385,8 +385,8 @@ fn fronts_are_resumed<R: Wait>(
 }
 
 /// A stop while the journal is made or one of its first three slots is written: the file has any
-/// length from the old one on, and other bytes than the slot's. A desk that opens it finds the pairs
-/// that were answered, and ends with the same book and the same journal.
+/// length from the old one on, and other bytes than the slot's. A desk that opens it finds the
+/// pairs that were answered, and ends with the same book and the same journal.
 #[test]
 fn each_torn_slot_is_resumed(rt: HostRuntime) -> Result<(), Fail> {
     let alloc = rt.alloc();

@@ -1,5 +1,5 @@
-//! Sessions over links in memory, by a ledger of one caller, with a journal or without: how each one
-//! ends, and what it was sent.
+//! Sessions over links in memory, by a ledger of one caller, with a journal or without: how each
+//! one ends, and what it was sent.
 
 ghost use Rattle.std.specs.Prelude.{◌≡◌, IfOk};
 ghost use Rattle.turn_lock.specs.Seats.{IsAtRest};

@@ -8,10 +8,10 @@ use std::alloc::Global;
 use std::test::Fail;
 
 /// Walks the rows, and appends those of which something else is found than they want. A row with
-/// strokes begins a new season, and has a star before it where it is not the first: the lines of the
-/// capacity file, the requests, and the stages of the certificate; wanted are the holdings. `book`
-/// wants the holdings as they are by now. Every other row is an ask, and wants the lines of the
-/// answer.
+/// strokes begins a new season, and has a star before it where it is not the first: the lines of
+/// the capacity file, the requests, and the stages of the certificate; wanted are the holdings.
+/// `book` wants the holdings as they are by now. Every other row is an ask, and wants the lines of
+/// the answer.
 pub(crate) fn walk(alloc: Global, rows: &str, wrong: &mut String) -> Result<(), Fail> {
     for season in rows.split('*') {
         walk_season(alloc, season, wrong)?;

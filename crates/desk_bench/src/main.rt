@@ -61,7 +61,8 @@ fn run_all(rt: &HostRuntime) -> anyhow::Result<()> {
     Ok(())
 }
 
-// Runs the benchmark without threads that a word names. Where it names none, prints the words that do.
+// Runs the benchmark without threads that a word names. Where it names none, prints the words that
+// do.
 fn run_one(rt: &HostRuntime, word: &str, size: Size) -> anyhow::Result<()> {
     let alloc = rt.alloc();
     match word {

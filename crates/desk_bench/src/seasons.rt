@@ -120,8 +120,8 @@ fn run_and_check<R: Threads + Sync + Print + Clock>(
     judge(rt, alloc, size, name, season, &cert)
 }
 
-// Prints the stages of a season, and the verdict on its certificate; of a valid one the bytes of its
-// report.
+// Prints the stages of a season, and the verdict on its certificate; of a valid one the bytes of
+// its report.
 fn judge<R: Print + Clock>(
     rt: &R,
     alloc: Global,

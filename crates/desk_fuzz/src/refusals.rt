@@ -141,8 +141,8 @@ fn is_open(bytes: &[u8], slot: Option<u64>) -> bool {
     }
 }
 
-/// How many slots at the front of a journal have open gates: none in a file that is made anew, of no
-/// more than the first gate.
+/// How many slots at the front of a journal have open gates: none in a file that is made anew, of
+/// no more than the first gate.
 pub fn open_slots(journal: &[u8]) -> u64 {
     let mut gate = JOURNAL.len();
     let mut count = 0_u64;

@@ -13,7 +13,8 @@ use price_table::{PriceTable, Totals, bound, closes};
 use std::alloc::Global;
 use std::test::Fail;
 
-// Adds the prices of a vector: `N of PRICE` where the first resources have one price, else each resource and price.
+// Adds the prices of a vector: `N of PRICE` where the first resources have one price, else each
+// resource and price.
 fn add_prices(alloc: Global, out: &mut String, vector: &Vector) -> Result<(), Fail> {
     let items = vector.items();
     match items.first() {
@@ -148,10 +149,10 @@ fn shown(alloc: Global, problem: &Problem, ranges: &Ranges, vector: &Vector) -> 
     Ok(out)
 }
 
-// A window at half past six; three units that exclude each other, at the root and on both sides of a split; two units by
-// their limits; four units; a problem of nothing; six resources in four classes, two of which are used alike and have other
-// limits; 20,000 resources in one class, whose prices together pass 2^40 at the ninth step, so that the steps begin again on
-// each resource.
+// A window at half past six; three units that exclude each other, at the root and on both sides of
+// a split; two units by their limits; four units; a problem of nothing; six resources in four
+// classes, two of which are used alike and have other limits; 20,000 resources in one class, whose
+// prices together pass 2^40 at the ninth step, so that the steps begin again on each resource.
 const VECTORS: &str = "window 1 | | root = 1 of 32768 | 30720 30 by 1
 window 210 | | root = 210 of 32768 | 6451200 6300 by 1
 three | | node = 3 of 10240 | 30720 30 by 1
@@ -171,8 +172,8 @@ fn vectors_of_small_problems(rt: HostRuntime) -> Result<(), Fail> {
     walk(rt.alloc(), &mut JudgedCase, VECTORS)
 }
 
-// Floors at one price for all resources: a bound of 15,000 is rounded up to 15, and one of 3 to 1; at the root vector both
-// sides of a split have the floor 30.
+// Floors at one price for all resources: a bound of 15,000 is rounded up to 15, and one of 3 to 1;
+// at the root vector both sides of a split have the floor 30.
 const FLOORS: &str = "three | 0 0 | 3 of 10240 = 3 of 10240 | 30720 30 by 1
 three | 1 1 | 3 of 10240 = 3 of 10240 | 30720 30 by 1
 three | 0 1 | 3 of 5120 = 3 of 5120 | 15360 15 by 1
@@ -188,8 +189,8 @@ fn floors_are_rounded_up(rt: HostRuntime) -> Result<(), Fail> {
     walk(rt.alloc(), &mut JudgedCase, FLOORS)
 }
 
-// Whether the bound of a table, the totals that are kept and the leaf that prices each alternative anew close for the same
-// costs below 80.
+// Whether the bound of a table, the totals that are kept and the leaf that prices each alternative
+// anew close for the same costs below 80.
 fn agree(alloc: Global, row: &str, prices: &str) -> Result<bool, Fail> {
     let problem = problem(alloc, piece(row, 0))?;
     let scale = seen(piece(row, 2)).unwrap_or(SCALE_BOUND);

@@ -297,7 +297,8 @@ fn nodes_are_counted(rt: HostRuntime) -> Result<(), Fail> {
     Ok(())
 }
 
-// Whether three nodes of a tree count, and the greatest vector that its leaves and some others name.
+// Whether three nodes of a tree count, and the greatest vector that its leaves and some others
+// name.
 fn are_counted(tree: &Tree) -> bool
     requires { length tree.now ≤ 5 }
 {

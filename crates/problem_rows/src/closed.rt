@@ -24,8 +24,8 @@ fn start(alloc: Global, problem: &Problem, text: &str) -> Result<Option<Choice>,
     }
 }
 
-// What closes a row's problem within its budget, from its start: the cost of a best choice, or that there is none, and how
-// many nodes prove it.
+// What closes a row's problem within its budget, from its start: the cost of a best choice, or that
+// there is none, and how many nodes prove it.
 #[derive(Drop)]
 struct ClosedCase;
 
@@ -56,16 +56,18 @@ fn shown(alloc: Global, ending: &Ending) -> Result<String, Fail> {
     Ok(text)
 }
 
-// In turn: two units at one place, of which one pays, also from the choice that both pay; no unit; a unit with one
-// alternative, which fits, and which does not; two such units at one place, which are too many. A limit of 0. A quota of 2
-// that a unit of three dates passes alone: at no price is its bound more than 3, so that it takes a split; the same beside
-// a unit that keeps within it. Three units after a quota of 3, each with alternatives that use 2 of it and others in turn, so
-// that a split by uses is several of ranges; with one node too few, where another tree is found; and with too few for that.
-// Four units of equal costs for two places. Four units after three places. Two units of which the second needs more what
-// both want. Three units of which each finds its own place. Two units of which one finds a place, for 3, and the other pays
-// 9. A window that is full on three dates. Three units of which each two exclude each other: no vector shows more than 30,
-// so that a leaf is not enough, and a tree has no two nodes; with one more place; with no way out, where one leaf shows that
-// there is none.
+// In turn: two units at one place, of which one pays, also from the choice that both pay; no unit;
+// a unit with one alternative, which fits, and which does not; two such units at one place, which
+// are too many. A limit of 0. A quota of 2 that a unit of three dates passes alone: at no price is
+// its bound more than 3, so that it takes a split; the same beside a unit that keeps within it.
+// Three units after a quota of 3, each with alternatives that use 2 of it and others in turn, so
+// that a split by uses is several of ranges; with one node too few, where another tree is found;
+// and with too few for that. Four units of equal costs for two places. Four units after three
+// places. Two units of which the second needs more what both want. Three units of which each finds
+// its own place. Two units of which one finds a place, for 3, and the other pays
+// 9. A window that is full on three dates. Three units of which each two exclude each other: no
+// vector shows more than 30, so that a leaf is not enough, and a tree has no two nodes; with one
+// more place; with no way out, where one leaf shows that there is none.
 const CLOSED: &str = "pair | 9 = 3 by 1
 pair | 9 | 1 1 = 3 by 1
 pair | 1 = 3 by 1

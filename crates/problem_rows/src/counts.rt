@@ -49,7 +49,8 @@ fn add_counts(alloc: Global, out: &mut String, counts: &Counts) -> Result<(), Fa
     Ok(())
 }
 
-// The counts of nothing, then with each of two parts added, of which a copy is kept, then with the first one taken away.
+// The counts of nothing, then with each of two parts added, of which a copy is kept, then with the
+// first one taken away.
 #[derive(Drop)]
 struct StepCase;
 
@@ -78,8 +79,8 @@ fn add_steps(alloc: Global, out: &mut String, first: &Part, second: &Part) -> Re
     add_counts(alloc, out, &counts)
 }
 
-// Runs that overlap, and one resource four times beside another once. Runs apart, strips of no width, and two strips on the
-// same resources.
+// Runs that overlap, and one resource four times beside another once. Runs apart, strips of no
+// width, and two strips on the same resources.
 const STEPS: &str =
     "0 2 1 3 0 0 0 0 | 2 1 0 4 5 1 0 1 = 0 0 0 0 0 0, 1 2 2 1 0 0, 1 2 6 1 0 1, 0 0 4 0 0 1,
 0 1 3 2 4 0 1 2 | 0 6 0 1 3 3 3 1 = 0 0 0 0 0 0, 1 0 0 1 0 0, 2 1 1 3 2 2, 1 1 1 2 2 2,";
@@ -89,8 +90,8 @@ fn counts_follow_what_is_added_and_taken(rt: HostRuntime) -> Result<(), Fail> {
     walk(rt.alloc(), &mut StepCase, STEPS)
 }
 
-// Whether the second of two parts fits beside the first one, and the lowest resource that the first one alone takes above
-// its limit.
+// Whether the second of two parts fits beside the first one, and the lowest resource that the first
+// one alone takes above its limit.
 #[derive(Drop)]
 struct FittingCase;
 
@@ -131,8 +132,8 @@ fn parts_fit_up_to_the_limit(rt: HostRuntime) -> Result<(), Fail> {
     walk(rt.alloc(), &mut FittingCase, LIMITS)
 }
 
-// Whether what is left has one use for a part, and two for each resource that it shares with another
-// part; the same of the numbers copied over other counts.
+// Whether what is left has one use for a part, and two for each resource that it shares with
+// another part; the same of the numbers copied over other counts.
 #[derive(Drop)]
 struct LeftCase;
 

@@ -150,7 +150,8 @@ fn feasible_cost(alloc: Global, problem: &Problem, choice: &Choice) -> Result<Op
     }
 }
 
-// Whether a choice is one of what is left at the same cost and back again, where it costs less than the cost.
+// Whether a choice is one of what is left at the same cost and back again, where it costs less than
+// the cost.
 fn is_kept(
     alloc: Global,
     problem: &Problem,
@@ -179,7 +180,8 @@ fn are_kept(alloc: Global, problem: &Problem, left: &Left, cost: u64) -> Result<
     Ok(true)
 }
 
-// Whether the least cost of what is left is that of the whole problem, where that is below the cost.
+// Whether the least cost of what is left is that of the whole problem, where that is below the
+// cost.
 fn least_agrees(least: Option<u64>, left: Option<u64>, cost: u64) -> bool {
     match least {
         Some(known) if known < cost => left == least,

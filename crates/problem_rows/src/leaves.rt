@@ -70,8 +70,8 @@ fn over(problem: &Problem, ranges: &Ranges, resource: u32) -> Option<bool>
     }
 }
 
-// Whether a leaf of a row closes: the problem, the ranges, the prices, the scale, and what was seen. With the scale `over`,
-// whether resource 0 is over.
+// Whether a leaf of a row closes: the problem, the ranges, the prices, the scale, and what was
+// seen. With the scale `over`, whether resource 0 is over.
 fn closed(alloc: Global, row: &str) -> Result<Option<bool>, Fail> {
     let problem = problem(alloc, piece(row, 0))?;
     closed_in(alloc, &problem, row)
@@ -87,8 +87,9 @@ fn closed_in(alloc: Global, problem: &Problem, row: &str) -> Result<Option<bool>
     Ok(closes(problem, &ranges, &vector, scale, seen(piece(row, 4))))
 }
 
-// No prices: the bound is the least costs, 0. Ten for each use: 20 a unit, less 30 for the limits. Scale 0: two uses of a
-// resource with limit 1, or one, or none. A problem of nothing closes for 0 alone.
+// No prices: the bound is the least costs, 0. Ten for each use: 20 a unit, less 30 for the limits.
+// Scale 0: two uses of a resource with limit 1, or one, or none. A problem of nothing closes for 0
+// alone.
 const LEAVES: &str = "three | | | 1 | 0 = yes
 three | | | 1 | 1 = no
 three | | | 0 | - = no
@@ -125,8 +126,8 @@ fn leaves_of_small_problems(rt: HostRuntime) -> Result<(), Fail> {
     walk(rt.alloc(), &mut LeafCase, LEAVES)
 }
 
-// Of a unit that uses a strip, with resource 1 at a limit: whether its use fits, whether resource 1 is over, and the first
-// cost for which a price of 3 on it does not close.
+// Of a unit that uses a strip, with resource 1 at a limit: whether its use fits, whether resource 1
+// is over, and the first cost for which a price of 3 on it does not close.
 #[derive(Drop)]
 struct EdgeCase;
 
@@ -192,8 +193,8 @@ fn first_span(ranges: &Ranges) -> Option<(u32, u32)> {
     }
 }
 
-// Whether the first unit has two alternatives in whole ranges, and the right ones in their two parts, and in a copy that is
-// set.
+// Whether the first unit has two alternatives in whole ranges, and the right ones in their two
+// parts, and in a copy that is set.
 fn are_cut(alloc: Global, whole: &Ranges) -> Result<bool, Fail> {
     if whole.len() == 0 || whole.low(0) != 0 || whole.high(0) != 1 {
         return Ok(false);

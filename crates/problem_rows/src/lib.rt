@@ -1,4 +1,5 @@
-//! Tests of the crates on problems of units and alternatives: small problems worked by hand, as tables of rows.
+//! Tests of the crates on problems of units and alternatives: small problems worked by hand, as
+//! tables of rows.
 #![tactic(auto)]
 
 #[cfg(test)]

@@ -33,7 +33,8 @@ fn drawn_costs(alloc: Global, draws: &mut Draws) -> Result<(Option<u64>, Option<
     Ok((known_cost(alloc, &problem)?, want))
 }
 
-// The cost of the choice that is known where a tree may have no node, if there is one that is feasible.
+// The cost of the choice that is known where a tree may have no node, if there is one that is
+// feasible.
 fn known_cost(alloc: Global, problem: &Problem) -> Result<Option<u64>, Fail> {
     match closing_search(alloc, problem, None, 0)? {
         Ending::Closed(_) => Ok(None),

@@ -11,11 +11,13 @@ use price_table::{PriceTable, price_table};
 use std::alloc::Global;
 use std::test::Fail;
 
-// Clauses are divided by `;`. `P` is a part: of each strip the first resource, the width, the gap and the times. `A` is an
-// alternative: its cost and the numbers of two parts. `U` ends a unit, whose parts and alternatives stand before it. `L` has
-// the limits, `M` their number and one limit for all.
+// Clauses are divided by `;`. `P` is a part: of each strip the first resource, the width, the gap
+// and the times. `A` is an alternative: its cost and the numbers of two parts. `U` ends a unit,
+// whose parts and alternatives stand before it. `L` has the limits, `M` their number and one limit
+// for all.
 
-// Three units of which each two exclude each other: each uses two of three resources with limit 1, or pays 20.
+// Three units of which each two exclude each other: each uses two of three resources with limit 1,
+// or pays 20.
 const THREE: &str =
     "P 0 1 0 1 1 1 0 1; A 0 0 -; A 20 - -; U; P 1 1 0 1 2 1 0 1; A 0 0 -; A 20 - -; U; P 0 1 0 1 2 1 0 1; A 0 0 -; A 20 - -; U; L 1 1 1";
 
@@ -27,12 +29,13 @@ const TWO: &str =
 const FOUR: &str =
     "P 0 1 1 1; P 1 1 1 1; P 2 1 1 1; A 0 0 -; A 1 1 -; A 4 2 -; A 30 - -; U; P 0 1 1 1; P 1 1 1 1; P 2 1 1 1; A 0 0 -; A 1 1 -; A 4 2 -; A 30 - -; U; P 0 1 1 1; P 1 1 1 1; P 2 1 1 1; A 0 0 -; A 1 1 -; A 4 2 -; A 30 - -; U; P 0 1 1 1; P 1 1 1 1; P 2 1 1 1; A 0 0 -; A 1 1 -; A 4 2 -; A 30 - -; U; L 1 1 1";
 
-// Two units that use the first of two resources twice and the second once, or the first once, or each once, or nothing.
+// Two units that use the first of two resources twice and the second once, or the first once, or
+// each once, or nothing.
 const DOUBLED: &str =
     "P 0 1 0 1; P 0 2 0 1; A 0 0 1; A 3 0 -; A 4 - 1; A 9 - -; U; P 0 1 0 1; P 0 2 0 1; A 0 0 1; A 3 0 -; A 4 - 1; A 9 - -; U; L 1 1";
 
-// Two units with three shifts of an arrival and of a departure, each in two windows of one movement; a departure is not
-// before its arrival. The last alternative has no times.
+// Two units with three shifts of an arrival and of a departure, each in two windows of one
+// movement; a departure is not before its arrival. The last alternative has no times.
 const TURNAROUNDS: &str =
     "P 0 2 0 1; P 1 2 0 1; P 2 2 0 1; P 1 2 0 1; P 2 2 0 1; P 3 2 0 1; A 2 0 3; A 1 0 4; A 2 0 5; A 0 1 4; A 1 1 5; A 2 2 5; A 9 - -; U; P 1 2 0 1; P 2 2 0 1; P 3 2 0 1; P 2 2 0 1; P 3 2 0 1; P 4 2 0 1; A 2 0 3; A 1 0 4; A 2 0 5; A 0 1 4; A 1 1 5; A 2 2 5; A 9 - -; U; L 1 1 1 1 1 1 1 1 1 1 1 1 1 1 1";
 
@@ -156,7 +159,8 @@ fn even_limits(alloc: Global, numbers: &[i128]) -> Result<Vec<i64>, Fail> {
     Ok(limits)
 }
 
-/// The problem of a text: a name, or clauses, or a name and further clauses. None where it is not allowed.
+/// The problem of a text: a name, or clauses, or a name and further clauses. None where it is not
+/// allowed.
 pub(crate) fn read_problem(alloc: Global, text: &str) -> Result<Option<Problem>, Fail> {
     let (name, rest) = text.split_once(';').unwrap_or((text, ""));
     let mut draft = Draft {
@@ -198,8 +202,9 @@ pub(crate) fn problem(alloc: Global, text: &str) -> Result<Problem, Fail> {
     }
 }
 
-// A unit on so many dates, whose times lie 5 minutes apart, the requested one in the middle; from half an hour before to
-// 25 minutes after it they use a window that is full on each date: resource r is the window on date r.
+// A unit on so many dates, whose times lie 5 minutes apart, the requested one in the middle; from
+// half an hour before to 25 minutes after it they use a window that is full on each date: resource
+// r is the window on date r.
 fn window(alloc: Global, dates: u32) -> Result<Option<Problem>, Fail> {
     let alts = window_alts(alloc, dates)?;
     let parts = window_parts(alloc, dates)?;
@@ -240,7 +245,8 @@ fn window_parts(alloc: Global, dates: u32) -> Result<Vec<Part>, Fail> {
     Ok(vec![in alloc; Part::new(vec![in alloc; strip]?)]?)
 }
 
-/// The whole ranges, narrowed to these: the least and the greatest alternative of each of the first units.
+/// The whole ranges, narrowed to these: the least and the greatest alternative of each of the first
+/// units.
 pub(crate) fn ranges(alloc: Global, problem: &Problem, text: &str) -> Result<Ranges, Fail>
     ensures { IfOk result (AreRanges problem.now) }
 {
@@ -277,7 +283,8 @@ fn narrow(problem: &Problem, ranges: &mut Ranges, unit: u32, spans: &[i128])
     }
 }
 
-/// The vector of a text: resources and prices, or `N of PRICE`, the same price for each of the first resources.
+/// The vector of a text: resources and prices, or `N of PRICE`, the same price for each of the
+/// first resources.
 pub(crate) fn vector(alloc: Global, text: &str) -> Result<Vector, Fail> {
     let mut items = Vec::new(alloc);
     if let Some((count, price)) = text.split_once(" of ") {

@@ -60,10 +60,11 @@ fn add_uses(alloc: Global, out: &mut String, kept: &Reduced, part: u32) -> Resul
     Ok(())
 }
 
-// In turn: three resources with two users each. A limit that holds both users, and one that does not. Equal users, of which
-// the least limit stands for all. Users among those of another with as low a limit, and with a higher one. Uses on three
-// dates in one resource. Parts of one unit that follow one another, whose unit uses the resource once, in a unit alone and
-// in two. Two parts of one alternative, and a part with one strip twice. A resource in the middle of runs.
+// In turn: three resources with two users each. A limit that holds both users, and one that does
+// not. Equal users, of which the least limit stands for all. Users among those of another with as
+// low a limit, and with a higher one. Uses on three dates in one resource. Parts of one unit that
+// follow one another, whose unit uses the resource once, in a unit alone and in two. Two parts of
+// one alternative, and a part with one strip twice. A resource in the middle of runs.
 const KEPT: &str =
     "three = 0 to 1: 0-1*1 2-3*1 1 to 1: 0-1*1 1-2*1 2 to 1: 1-2*1 2-3*1 / 0*1 1*1, 1*1 2*1, 0*1 2*1,
 P 0 1 0 1; A 0 0 -; U; P 0 1 0 1; A 0 0 -; U; L 2 = /,,

@@ -53,8 +53,8 @@ fn keep_all(problem: &Problem, program: &Program<'_>, relaxation: &mut Relaxatio
     }
 }
 
-// How a relaxation of ranges ends: solved, with the value in thousandths and the bound of its vector; or without a
-// solution, and whether a ray shows it.
+// How a relaxation of ranges ends: solved, with the value in thousandths and the bound of its
+// vector; or without a solution, and whether a ray shows it.
 fn ending(
     alloc: Global,
     problem: &Problem,
@@ -111,7 +111,8 @@ fn flags(alloc: Global, text: &str) -> Result<Vec<bool>, Fail> {
     Ok(flags)
 }
 
-// How a row's relaxation ends on all alternatives, and how a copy ends on the ranges of the row, if it has some.
+// How a row's relaxation ends on all alternatives, and how a copy ends on the ranges of the row, if
+// it has some.
 #[derive(Drop)]
 struct RelaxedCase;
 
@@ -175,10 +176,11 @@ fn ending_on(
     ending(alloc, problem, program, relaxation, &ranges)
 }
 
-// In turn: one of two units makes room, the cheaper one; whichever of them is kept from it, the other one does. Four units
-// of equal costs for two places. A unit with one alternative, which fits, and which does not. A limit of 0, with the
-// alternative that uses it, and with it left out. A quota of 2 that a unit of three dates passes alone: a third of it makes
-// room; with it left out, all of it. All alternatives left out. Three units of which each two exclude each other: each
+// In turn: one of two units makes room, the cheaper one; whichever of them is kept from it, the
+// other one does. Four units of equal costs for two places. A unit with one alternative, which
+// fits, and which does not. A limit of 0, with the alternative that uses it, and with it left out.
+// A quota of 2 that a unit of three dates passes alone: a third of it makes room; with it left out,
+// all of it. All alternatives left out. Three units of which each two exclude each other: each
 // makes room by half; and with no way out there is no solution. A problem of nothing.
 const RELAXED: &str =
     "P 0 1 1 1; A 0 0 -; A 10 - -; U; P 0 1 1 1; A 0 0 -; A 7 - -; U; L 1 | | = 7000 7168

@@ -13,14 +13,15 @@ use std::test::Fail;
 // line, or a whole text. Semicolons stand between lines, and between stages.
 //
 // A historic series has its times; of two in one window neither has any. A request in a window that
-// is used has 0700, which is number 18 of those from 0530 to 0730; where the stage has no allotment,
-// or a refusal costs less, none. A turnaround from 0630 to 0715 has 0555 and 0715: of 0530 and 0535
-// there are 25 pairs, then 24, 23 and 22, and 0555 begins with 0635. Of a pair the historic times
-// are number 1; confirmed or refused is its L line. Of four new entrants two are refused in stage 3,
-// and one of these in stage 4. A pair that asks for 2300 in place of 0630 on the next date may have
-// 2325, number 5, or the historic times, number 12. With a night between, arrivals are from 2200 to
-// 2355 and departures from 0000 to 0110, so 2205 and 0020 are number 19. Alone a departure has 0635,
-// number 13. Two messages have their own units, and one without items its header alone.
+// is used has 0700, which is number 18 of those from 0530 to 0730; where the stage has no
+// allotment, or a refusal costs less, none. A turnaround from 0630 to 0715 has 0555 and 0715: of
+// 0530 and 0535 there are 25 pairs, then 24, 23 and 22, and 0555 begins with 0635. Of a pair the
+// historic times are number 1; confirmed or refused is its L line. Of four new entrants two are
+// refused in stage 3, and one of these in stage 4. A pair that asks for 2300 in place of 0630 on
+// the next date may have 2325, number 5, or the historic times, number 12. With a night between,
+// arrivals are from 2200 to 2355 and departures from 0000 to 0110, so 2205 and 0020 are number 19.
+// Alone a departure has 0635, number 13. Two messages have their own units, and one without items
+// its header alone.
 const ROWS: &str = "\
 FLEX 60;REFUSE NONE;CAP ARR 60 0600 0600 1234567 1|FBA001 30MAR25OCT 1234567 180320 JFK0610 J|0;;;\
     |KBA001 30MAR25OCT 1234567 180320 JFK0610 J

@@ -16,25 +16,25 @@ use std::test::Fail;
 
 // Rows: in one line the lines of a capacity file below the ground time, those of a message, and the
 // four stages, each with a proof; and then the report. A stage is `-` where it has no unit, `kept`
-// where one keeps its times, `none` where one window rules out all, or `untried`; else its cost, the
-// numbers of its choice, the nodes of its tree, and the prices of a vector, if it has one; `open`
-// before the cost.
+// where one keeps its times, `none` where one window rules out all, or `untried`; else its cost,
+// the numbers of its choice, the nodes of its tree, and the prices of a vector, if it has one;
+// `open` before the cost.
 //
 // A historic series has its times. Two in one window leave none of them any. A request at 0630 in a
-// window that is used has 0700: the eleven times from 0605 to 0655 would have cost less, and all are
-// in the window; with 25 minutes of flexibility it has none, and where a refusal costs 20 minutes it
-// is refused. A turnaround from 0630 to 0715 has 0555 and 0715 at 35 minutes a date; what would have
-// cost less arrives in the window, ten arrivals with 1, 3, 5, 7, 8, 8, 8, 6, 4 and 2 departures, of
-// which the ground time leaves out some. Of a pair the window of the requested time is used. Of four
-// new entrants stage 3 takes two of the half, rounded up, of three; stage 4 one of the one that is
-// left. A window over midnight holds two. At night, from 0435 to 0455, the quota is used up. An OPEN
-// stage that gave 0730 has lines of times that fit, and of the refusal.
+// window that is used has 0700: the eleven times from 0605 to 0655 would have cost less, and all
+// are in the window; with 25 minutes of flexibility it has none, and where a refusal costs 20
+// minutes it is refused. A turnaround from 0630 to 0715 has 0555 and 0715 at 35 minutes a date;
+// what would have cost less arrives in the window, ten arrivals with 1, 3, 5, 7, 8, 8, 8, 6, 4 and
+// 2 departures, of which the ground time leaves out some. Of a pair the window of the requested
+// time is used. Of four new entrants stage 3 takes two of the half, rounded up, of three; stage 4
+// one of the one that is left. A window over midnight holds two. At night, from 0435 to 0455, the
+// quota is used up. An OPEN stage that gave 0730 has lines of times that fit, and of the refusal.
 //
-// Over midnight a departure at 0010 on the next date, and one alone, go to 0020; airlines are in the
-// order of bytes. A pair that asks for 2300 in place of 0630 on the next date, where nothing may
-// leave from 2300 on, has the historic times. Of windows that begin each five minutes the lowest is
-// told, and of two dates one is barred. The first of the days with three in a window is told, not
-// the day with two, and then the quota.
+// Over midnight a departure at 0010 on the next date, and one alone, go to 0020; airlines are in
+// the order of bytes. A pair that asks for 2300 in place of 0630 on the next date, where nothing
+// may leave from 2300 on, has the historic times. Of windows that begin each five minutes the
+// lowest is told, and of two dates one is barred. The first of the days with three in a window is
+// told, not the day with two, and then the quota.
 const ROWS: &str = "\
 FLEX 60;REFUSE NONE;CAP ARR 60 0600 0600 1234567 1|FBA001 30MAR25OCT 1234567 180320 JFK0610 \
     J|kept|-|-|-

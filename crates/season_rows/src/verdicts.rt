@@ -10,8 +10,8 @@ use std::alloc::Global;
 use std::test::Fail;
 
 // A season: the lines of its capacity file below the ground time, and those of its message below
-// the header, with semicolons between; a certificate of it; and rows, each with the verdict where some lines of the
-// certificate stand for others.
+// the header, with semicolons between; a certificate of it; and rows, each with the verdict where
+// some lines of the certificate stand for others.
 type Season = (&'static str, &'static str, &'static str, &'static str);
 
 const BASE: &str = "FLEX 60;REFUSE NONE;CAP ARR 60 0600 0600 1234567 1";
@@ -424,10 +424,11 @@ YES|20 35 STAGE 4 OPEN/CHOICES 3/C 0 0/C 1 1/C 2 1/COST 40/VECTORS 0/TREE 3/S 0 
 NO 28 SPLIT|20 35 STAGE 4 OPEN/CHOICES 3/C 0 0/C 1 1/C 2 1/COST 40/VECTORS 0/TREE 3/S 0 2 -/U/U",
 );
 
-// The three turnarounds with a fixing. With the first one served the first vector gives 40,960, which is
-// above 1024 × 39 = 39,936 and not above 1024 × 40: so a cost of 40 leaves its refusal alone, and then the
-// second vector gives 61,440 - 20,480 = 40,960. What the certificate chooses is out itself, which is
-// no matter. A cost of 41 leaves all alternatives, of which the second vector gives 20,480.
+// The three turnarounds with a fixing. With the first one served the first vector gives 40,960,
+// which is above 1024 × 39 = 39,936 and not above 1024 × 40: so a cost of 40 leaves its refusal
+// alone, and then the second vector gives 61,440 - 20,480 = 40,960. What the certificate chooses is
+// out itself, which is no matter. A cost of 41 leaves all alternatives, of which the second vector
+// gives 20,480.
 const FIXED: Season = (
     "FLEX 0;REFUSE 10;CAP TOT 10 0600 0600 1234567 1;CAP TOT 10 0700 0700 1234567 1;CAP TOT 10 0800 0800 1234567 1",
     "NBA001 BA011 30MAR 7 180320 JFK0600 0700JFK JJ;NBA002 BA012 30MAR 7 180320 JFK0700 0800JFK JJ;NBA003 BA013 30MAR 7 180320 JFK0600 0800JFK JJ",

@@ -14,12 +14,13 @@ use season_days::{Day, Declaration, Kind, MINUTES_OF_DAY, Period};
 use std::alloc::Global;
 use std::test::Fail;
 
-// Rows: a declaration's season and lines on a line with a stroke, and with a star where it is not the
-// first; and below it questions, each with its answer. `arrivals` and `departures` give the resources that the movements of a stop use, each
-// as often as it holds one: by a minute of the day, so many days after the dates of a period, its
-// first and last day, and its weekdays as a set of bits. `arrival` and `departure` give the
-// resources that hold one movement, by its day and minute, and `held` how many of a list of
-// arrivals a resource holds. `window` numbers a line's window by line, day and start.
+// Rows: a declaration's season and lines on a line with a stroke, and with a star where it is not
+// the first; and below it questions, each with its answer. `arrivals` and `departures` give the
+// resources that the movements of a stop use, each as often as it holds one: by a minute of the
+// day, so many days after the dates of a period, its first and last day, and its weekdays as a set
+// of bits. `arrival` and `departure` give the resources that hold one movement, by its day and
+// minute, and `held` how many of a list of arrivals a resource holds. `window` numbers a line's
+// window by line, day and start.
 const ROWS: &str = "\
 S25/CAP ARR 60 2330 2330 1234567 1
 declared 210

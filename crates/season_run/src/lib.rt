@@ -1,5 +1,5 @@
-//! The run of a season: the four stages of initial allocation one after the other, each searched and
-//! proved, and the certificate that they make.
+//! The run of a season: the four stages of initial allocation one after the other, each searched
+//! and proved, and the certificate that they make.
 #![tactic(auto)]
 
 mod floors;

@@ -25,14 +25,16 @@ use worker_gate::Gate;
 /// The certificate of a season: each stage is allotted after those before it, by a search of at
 /// most `budget` nodes with so many workers, each of which passes the gate before a visit.
 ///
-/// Where stages 3 and 4 are OPTIMAL and stage 4 costs something, and the budget is above 64, another
-/// choice of stage 3 of the same cost is looked for once (`tied_choice`), and taken where stage 4
-/// after it is OPTIMAL and costs less. Which of a stage's best choices is taken is in no clause.
+/// Where stages 3 and 4 are OPTIMAL and stage 4 costs something, and the budget is above 64,
+/// another choice of stage 3 of the same cost is looked for once (`tied_choice`), and taken where
+/// stage 4 after it is OPTIMAL and costs less. Which of a stage's best choices is taken is in no
+/// clause.
 ///
-/// The certificate is valid, and of version 2, or 3 where some stage has a fixing. A stage may stay OPEN where its search spends the
-/// budget: it then states a bound, and `settled_run` says with which budget none does. A budget of
-/// at most 64 (`SMALL_BUDGET`) is spent on the search by visits alone, with the vectors of that
-/// search; that it begins with the greedy choice is not in the clauses.
+/// The certificate is valid, and of version 2, or 3 where some stage has a fixing. A stage may stay
+/// OPEN where its search spends the budget: it then states a bound, and `settled_run` says with
+/// which budget none does. A budget of at most 64 (`SMALL_BUDGET`) is spent on the search by visits
+/// alone, with the vectors of that search; that it begins with the greedy choice is not in the
+/// clauses.
 pub fn run_season<R: Threads + Sync, G: Gate>(
     rt: &R,
     alloc: Global,

@@ -22,13 +22,13 @@ use slot_text::Memory;
 use std::alloc::Global;
 
 /// The stage that the end of a search on its problem makes: its choice, cost and tree, its vectors
-/// up to the last one that a leaf or a floor names, and where nodes are undone the floor of each and
-/// the stated bound, by all vectors of the search.
+/// up to the last one that a leaf or a floor names, and where nodes are undone the floor of each
+/// and the stated bound, by all vectors of the search.
 ///
-/// One step a node and what its ranges change; for each undone node one a unit and a vector, and for
-/// each unit whose range has changed since the one before, one an alternative in it for each vector.
-/// Beside what the outcome has it takes, where nodes are undone, a price table and 24 bytes a unit
-/// for each vector, 24 bytes a unit, and 16 an undone node.
+/// One step a node and what its ranges change; for each undone node one a unit and a vector, and
+/// for each unit whose range has changed since the one before, one an alternative in it for each
+/// vector. Beside what the outcome has it takes, where nodes are undone, a price table and 24 bytes
+/// a unit for each vector, 24 bytes a unit, and 16 an undone node.
 pub fn stage_cert(alloc: Global, problem: &Problem, end: StageEnd) -> Result<StageCert, Memory>
     requires { IsStageEnd problem.now end }
     ensures stage { IfOk result (λ c. MakesStage problem.now end c) }

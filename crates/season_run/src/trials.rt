@@ -21,17 +21,17 @@ use worker_gate::Gate;
 /// this search with so many visits.
 pub const SMALL_BUDGET: u32 = 64;
 
-/// How the searches of a stage ended, and the fixing of the problem that the tree is one of, if that
-/// is not the whole problem.
+/// How the searches of a stage ended, and the fixing of the problem that the tree is one of, if
+/// that is not the whole problem.
 #[derive(Drop)]
 pub struct StageEnd {
     pub outcome: Outcome,
     pub fixing: Option<Fixing>,
 }
 
-// Searches the problem of a stage: a small one first by a few visits of the prescribed search; then,
-// where the budget has more, by free splits; and where that closes nothing, by the prescribed search
-// with the whole budget, from what is known by then.
+// Searches the problem of a stage: a small one first by a few visits of the prescribed search;
+// then, where the budget has more, by free splits; and where that closes nothing, by the prescribed
+// search with the whole budget, from what is known by then.
 pub(crate) fn settle_stage<R: Threads + Sync, G: Gate>(
     rt: &R,
     alloc: Global,
@@ -148,8 +148,8 @@ fn found_choice(_problem: &Problem, outcome: Outcome) -> Option<Choice>
     }
 }
 
-// The prescribed search with the whole budget, from the cheaper of the greedy choice and one that is
-// known, if there is one, and with a vector of prices.
+// The prescribed search with the whole budget, from the cheaper of the greedy choice and one that
+// is known, if there is one, and with a vector of prices.
 fn search_known<R: Threads + Sync, G: Gate>(
     rt: &R,
     alloc: Global,

@@ -169,8 +169,8 @@ fn put_counts(alloc: Global, out: &mut Vec<u8>, submission: &Submission) -> Resu
     Ok(())
 }
 
-/// What is said of a season: its counts, what rules out stage 1, and where all requests together are
-/// above the declared limits.
+/// What is said of a season: its counts, what rules out stage 1, and where all requests together
+/// are above the declared limits.
 pub(crate) fn inspection_text(alloc: Global, submission: &Submission) -> Result<Vec<u8>, Memory>
     ensures { IfOk result (λ text. text.items ≡ inspection_text submission.now) }
 {

@@ -95,9 +95,9 @@ fn doors_for<R: Net<Listener = TcpListener, Stream = TcpStream>>(
 
 /// So many doors at a port.
 ///
-/// The port is bound here, before any file is read, so that clients may connect at once. It is bound
-/// on 127.0.0.1 alone: who reaches it may change any airline's slots, so identity and encryption
-/// belong to a proxy on the same machine. Where it could not be bound each accept fails.
+/// The port is bound here, before any file is read, so that clients may connect at once. It is
+/// bound on 127.0.0.1 alone: who reaches it may change any airline's slots, so identity and
+/// encryption belong to a proxy on the same machine. Where it could not be bound each accept fails.
 fn bound_doors<R: Net<Listener = TcpListener, Stream = TcpStream>>(
     rt: &R,
     alloc: Global,

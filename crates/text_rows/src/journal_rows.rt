@@ -344,8 +344,8 @@ fn is_torn(
     Ok(reopened(alloc, season, &laid[..place])? == done)
 }
 
-/// Whether the file stands for the old pairs with each value of the two bytes behind the gate, which
-/// is closed.
+/// Whether the file stands for the old pairs with each value of the two bytes behind the gate,
+/// which is closed.
 fn stop_in_two_bytes(
     alloc: Global,
     season: &Season,

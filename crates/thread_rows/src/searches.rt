@@ -73,7 +73,8 @@ fn payer(alloc: Global, strips: &[Strip], price: u64) -> Result<Chooser, Fail> {
     unit(alloc, strips, alts)
 }
 
-// Three units of which each two exclude each other: each uses two of three resources with limit 1, or pays 20.
+// Three units of which each two exclude each other: each uses two of three resources with limit 1,
+// or pays 20.
 fn three(alloc: Global) -> Result<Problem, Fail> {
     let mut units = Vec::new(alloc);
     for (one, two) in [(0, 1), (1, 2), (0, 2)] {
@@ -82,8 +83,8 @@ fn three(alloc: Global) -> Result<Problem, Fail> {
     evenly(alloc, units, 1, 3)
 }
 
-// One unit on so many dates, whose times lie 5 minutes apart, the requested one in the middle; from half an hour before to
-// 25 minutes after it they use a window that is full on each date.
+// One unit on so many dates, whose times lie 5 minutes apart, the requested one in the middle; from
+// half an hour before to 25 minutes after it they use a window that is full on each date.
 fn shifted(alloc: Global, dates: u32) -> Result<Problem, Fail> {
     let strip = Strip {
         first: 0,
@@ -115,7 +116,8 @@ fn after(place: u32, count: u32) -> u32 {
     if next == count { 0 } else { next }
 }
 
-// So many units in a ring, each of which excludes the next one and the one after it, or pays a price of its own.
+// So many units in a ring, each of which excludes the next one and the one after it, or pays a
+// price of its own.
 fn ring(alloc: Global, count: u32) -> Result<Problem, Fail> {
     let mut units = Vec::new(alloc);
     for place in 0..count {
@@ -251,7 +253,8 @@ fn searched_by_name<R: Threads + Sync>(
     searched(rt, alloc, &problem, budget, workers, tree)
 }
 
-// What is found by several workers is what one finds: the least costs are those of all choices, tried one by one.
+// What is found by several workers is what one finds: the least costs are those of all choices,
+// tried one by one.
 #[test]
 fn any_number_of_workers(rt: HostRuntime) -> Result<(), Fail> {
     for (count, want) in [(5, "OPTIMAL 85"), (8, "OPTIMAL 126"), (12, "OPTIMAL 172")] {
@@ -426,7 +429,8 @@ fn feasible(alloc: Global, problem: &Problem, alts: &[u32]) -> Result<Choice, Fa
     Ok(choice)
 }
 
-// A vector of the price 1 for each of two resources shows at scale 0 that three units have no room in two places.
+// A vector of the price 1 for each of two resources shows at scale 0 that three units have no room
+// in two places.
 #[test]
 fn a_vector_handed_in(rt: HostRuntime) -> Result<(), Fail> {
     let problem = places(rt.alloc())?;
@@ -450,7 +454,8 @@ fn price_of_one(resource: u32) -> Price {
     Price { resource, price: 1 }
 }
 
-// The cost of a choice that is handed in is recorded by the first visit, and the result costs no more.
+// The cost of a choice that is handed in is recorded by the first visit, and the result costs no
+// more.
 #[test]
 fn a_choice_handed_in(rt: HostRuntime) -> Result<(), Fail> {
     let problem = ring(rt.alloc(), 5)?;
@@ -470,7 +475,8 @@ fn with_choice<R: Threads + Sync>(
     outcome_text(alloc, problem, &outcome, true)
 }
 
-// Holds each of two workers at its first node until the other has come to so many of its own, for a limited number of turns.
+// Holds each of two workers at its first node until the other has come to so many of its own, for a
+// limited number of turns.
 #[derive(Drop)]
 struct Meeting {
     wanted: [u64; 2],
@@ -577,9 +583,10 @@ fn recorded(node: &Node) -> i64 {
     }
 }
 
-// Worker 0 begins when worker 1 has come to its first node, and worker 1 goes on when worker 0 has come to its sixth: in
-// either of the first two pieces it has then posted a cost below that of the greedy choice, 17. So one of their first nodes
-// records 17, and the other, at which worker 1 stood, less.
+// Worker 0 begins when worker 1 has come to its first node, and worker 1 goes on when worker 0 has
+// come to its sixth: in either of the first two pieces it has then posted a cost below that of the
+// greedy choice, 17. So one of their first nodes records 17, and the other, at which worker 1
+// stood, less.
 #[test]
 fn a_worker_reads_what_another_posted(rt: HostRuntime) -> Result<(), Fail> {
     let alloc = rt.alloc();

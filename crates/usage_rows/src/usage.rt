@@ -1,5 +1,5 @@
-//! Worked rows of the usage watch: reports that are read, series that keep precedence, and the lines
-//! of the next season.
+//! Worked rows of the usage watch: reports that are read, series that keep precedence, and the
+//! lines of the next season.
 
 ghost use Rattle.std.specs.Prelude.{◌≡◌};
 ghost use Rattle.scr_reader.specs.Printed.{LineFits};
@@ -153,9 +153,9 @@ fn print_one(alloc: Global, header: &Header, line: Line) -> Result<Vec<u8>, Memo
     print_next(alloc, header, &[line])
 }
 
-// Summer 2025 has 30 weeks from Sunday 30 March, summer 2026 has 30 from 29 March. Summer 2018 has 31
-// weeks from 25 March, and summer 2019 has 30, to 26 October. Winter 2023 begins on 29 October, and its
-// day 123 is 29 February; winter 2024 begins on 27 October, and its day 123 is 27 February.
+// Summer 2025 has 30 weeks from Sunday 30 March, summer 2026 has 30 from 29 March. Summer 2018 has
+// 31 weeks from 25 March, and summer 2019 has 30, to 26 October. Winter 2023 begins on 29 October,
+// and its day 123 is 29 February; winter 2024 begins on 27 October, and its day 123 is 27 February.
 const WATCHED: &[u8] = b"\
 S25;FBA001 30MAR25OCT 1234567 180320 JFK0610 J;OPER ARR BA001 30MAR07SEP 1234567|7 1;SCR;S26;15OCT;LHR;FBA001 29MAR24OCT 0000007 180320 JFK0610 J;;
 S25;FBA001 30MAR25OCT 1234567 180320 JFK0610 J|7 0

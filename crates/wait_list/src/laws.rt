@@ -19,8 +19,8 @@ use cert_format::season_bytes;
 use wasg_stages::laws::{problem_choices, proven_claims};
 
 /// A proof of the waiting stage shows what its mark claims: the allotment of an OPTIMAL one
-/// displaces least of all that fit what the book leaves, and none of an OPEN one displaces less than
-/// its bound.
+/// displaces least of all that fit what the book leaves, and none of an OPEN one displaces less
+/// than its bound.
 pub fn waiting_marks()
     ensures { (b : SlotBook) (lines : List LineValue) (c : StageCertValue) →
         IsWaitingProof b lines c → WaitingMarkHolds b lines c }
@@ -51,8 +51,8 @@ pub fn extra_bytes()
     season_bytes();
 }
 
-/// What the waiting stage allots fits beside the book: all holdings, those that are offered too, and
-/// the allotted lines together pass no limit. So does the choice of a stage that has a proof.
+/// What the waiting stage allots fits beside the book: all holdings, those that are offered too,
+/// and the allotted lines together pass no limit. So does the choice of a stage that has a proof.
 pub fn allotted_fit()
     ensures allotment { (b : SlotBook) (lines : List LineValue) (times : List TimesValue) →
         BookFits b → IsWaitingAllotment b lines times → FitsBesideBook b lines times }

@@ -19,8 +19,8 @@ use std::alloc::Global;
 use wasg_stages::allotment_problem;
 
 /// The problem of the waiting stage beside a book: each line that waits is a unit of group N, which
-/// may be refused, and of each resource there is what all holdings leave of its limit. Each line has
-/// a spelling in the book's season, as those of `Waiting::of` have.
+/// may be refused, and of each resource there is what all holdings leave of its limit. Each line
+/// has a spelling in the book's season, as those of `Waiting::of` have.
 ///
 /// One step a resource, and the time of listing the alternatives of the lines: what is left is what
 /// the book keeps, and nothing that it holds is listed.
