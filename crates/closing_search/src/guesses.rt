@@ -260,7 +260,7 @@ impl Guesses {
     // Takes a greater guess, after a tree of so many steps.
     fn rise(&mut self, steps: u64) {
         let more = if steps > FEW_STEPS {
-            self.gap / 4
+            self.gap / 8
         } else {
             self.gap
         };

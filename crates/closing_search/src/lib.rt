@@ -23,6 +23,7 @@ mod quotas;
 mod regrets;
 mod rounding;
 mod rules;
+mod scores;
 mod searched;
 mod sides;
 mod spans;

@@ -11,7 +11,7 @@ use std::num::saturating_f64_to_i64;
 // How many splits are looked at, after how many without a better one the rest is not, and by how many pivots for each part.
 const LOOKED_AT: usize = 32;
 
-const LOOKED_ON: u32 = 12;
+const LOOKED_ON: u32 = 8;
 
 const LOOK_PIVOTS: u32 = 8;
 
@@ -46,6 +46,7 @@ pub(crate) fn best_split(
             break;
         }
         let (low, high) = gains_of(alloc, task, state, open, &candidate.split, &mut part)?;
+        state.scores.note(candidate.split.unit, low, high);
         idle = idle.saturating_add(1);
         if low * high > most {
             most = low * high;
@@ -60,7 +61,7 @@ pub(crate) fn best_split(
 }
 
 // The splits by the uses of quotas that have prices, where there are some, else those by numbers; those of the units of the
-// smallest greatest share come first.
+// greatest scores come first, and of these those of the smallest greatest share.
 fn candidates(
     alloc: Global,
     task: &Task<'_>,
@@ -79,13 +80,19 @@ fn candidates(
     if found.is_empty() {
         add_splits(task, relaxation, shares, None, &mut found)?;
     }
-    found.sort_unstable_by_key(|candidate| (candidate.rank, candidate.place));
+    let mean = state.scores.mean();
+    for candidate in found.iter_mut() {
+        candidate.order = state.scores.order(candidate.split.unit, mean);
+    }
+    found.sort_unstable_by_key(|candidate| (candidate.order, candidate.rank, candidate.place));
     Ok(found)
 }
 
-// A split that is looked at, the rank of its unit's greatest share, and its place among those that were found.
+// A split that is looked at, the order by its unit's score, the rank of its unit's greatest share, and its place among those
+// that were found.
 #[derive(Clone, Copy)]
 struct Candidate {
+    order: u64,
     rank: u64,
     place: usize,
     split: Split,
@@ -111,6 +118,7 @@ fn add_splits(
             };
             if let Some(split) = split {
                 found.push(Candidate {
+                    order: 0,
                     rank: rank_of(most),
                     place: found.len(),
                     split,

@@ -4,6 +4,7 @@ use crate::allowed::Allowed;
 use crate::entries::Entry;
 use crate::pricings::{Pricing, closing};
 use crate::rules::Rule;
+use crate::scores::Scores;
 use choice_problem::{Choice, Problem, Vector, cost_of, fits};
 use reduced_problem::Reduced;
 use relaxed_problem::{Ended, Program, Relaxation, Work};
@@ -70,6 +71,8 @@ pub(crate) struct State {
     pub(crate) is_by_quotas: bool,
     // The alternatives that may be taken before any split.
     pub(crate) base: Allowed,
+    // What splits gained so far.
+    pub(crate) scores: Scores,
 }
 
 impl State {
@@ -91,6 +94,7 @@ impl State {
             work: Work::new(alloc, task.program)?,
             is_by_quotas: !task.quotas.is_empty(),
             base: allowed.copy(alloc)?,
+            scores: Scores::none(alloc, task.problem.units())?,
         };
         let none = Vector::new(Vec::new(alloc));
         let unpriced = Pricing::new(alloc, task, &state.base, none, 1)?;
