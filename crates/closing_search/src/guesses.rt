@@ -13,14 +13,24 @@ use price_table::{PriceTable, bound, price_table};
 use slot_text::Memory;
 use std::alloc::Global;
 
-// The most guesses, and the most steps of the relaxations of all their trees.
-const MOST_GUESSES: u32 = 24;
+// The most trees of all guesses, and the most steps of the relaxations of all of them.
+const MOST_GUESSES: u32 = 96;
 
 const ALL_STEPS: u64 = 4_000_000_000;
 
-// The most steps of the tree of a guess, and of one after which the guess rises fast.
+// The most steps of the tree of a guess.
 const GUESS_STEPS: u64 = 1_000_000_000;
 
+// The most visits of the first two trees of a guess, of which one splits by uses of quotas first and one by numbers alone, and
+// of two more where both came to this end.
+const FIRST_VISITS: u32 = 600;
+
+const MORE_VISITS: u32 = 20_000;
+
+// How many trees a guess has.
+const WAYS: u32 = 4;
+
+// The most steps of a tree after which the guess rises fast.
 const FEW_STEPS: u64 = 100_000_000;
 
 // The first guess is above the bound by one part in so many, and no guess by more than the bound.
@@ -37,9 +47,17 @@ pub(crate) struct Guesses {
     steps: u64,
     // Whether the best choice is best, as far as a tree showed it that could not be listed.
     is_best: bool,
-    // Whether trees split by the uses of quotas first, and whether both ways were tried.
-    is_by_quotas: bool,
+    // How many trees the guess has had.
+    ways: u32,
     is_over: bool,
+}
+
+/// What guesses came to: what may close the problem, the best choice that is known, and whether a tree showed that it is best.
+#[derive(Drop)]
+pub(crate) struct Guessed {
+    pub(crate) found: Option<Found>,
+    pub(crate) best: Option<Choice>,
+    pub(crate) is_best: bool,
 }
 
 /// Looks for a tree of what a fixing at the vector leaves, and for choices on the way, from a choice that is known, if one is.
@@ -49,7 +67,7 @@ pub(crate) fn close_by_guesses(
     vector: &Vector,
     best: Option<Choice>,
     most: u32,
-) -> Result<(Option<Found>, Option<Choice>), Memory>
+) -> Result<Guessed, Memory>
     requires { IsVector problem.now vector.now }
 {
     let table = price_table(alloc, problem, vector)?;
@@ -60,10 +78,10 @@ pub(crate) fn close_by_guesses(
         }
         let found = close_at(alloc, problem, vector, &table, &mut guesses, most)?;
         if found.is_some() {
-            return Ok((found, guesses.into_best()));
+            return Ok(guesses.with(found));
         }
     }
-    Ok((None, guesses.into_best()))
+    Ok(guesses.with(None))
 }
 
 // What the bound of a problem at a vector of the search's scale gives as a cost.
@@ -92,7 +110,7 @@ fn close_at(
         return Ok(None);
     };
     let start = guesses.start_in(alloc, &left, cost)?;
-    let limit = guesses.limit();
+    let (visits, limit) = guesses.limits();
     let is_known = start.is_some();
     let grown = grow_left(
         alloc,
@@ -100,7 +118,8 @@ fn close_at(
         start,
         cost,
         limit,
-        guesses.is_by_quotas,
+        visits,
+        guesses.ways % 2 == 0,
         most,
     )?;
     let Grown {
@@ -115,6 +134,7 @@ fn close_at(
         choice,
         is_known,
         is_ended,
+        !is_ended && steps > 0,
         limit.saturating_sub(steps),
     );
     match found {
@@ -173,7 +193,7 @@ impl Guesses {
             gap: bound / FIRST_PART + 1,
             steps: ALL_STEPS,
             is_best: false,
-            is_by_quotas: true,
+            ways: 0,
             is_over: false,
         };
         guesses.take(problem, best);
@@ -199,8 +219,14 @@ impl Guesses {
         }
     }
 
-    fn into_best(self) -> Option<Choice> {
-        self.best
+    // What the guesses came to.
+    fn with(self, found: Option<Found>) -> Guessed {
+        let Guesses { best, is_best, .. } = self;
+        Guessed {
+            found,
+            best,
+            is_best,
+        }
     }
 
     // The next guess: at most one more than the cost of the best choice.
@@ -225,34 +251,45 @@ impl Guesses {
         }
     }
 
-    // How many steps the next tree may take.
-    fn limit(&self) -> u64 {
-        if self.is_best {
-            self.steps
+    // How many visits and how many steps the next tree may take.
+    fn limits(&self) -> (u32, u64) {
+        let visits = if self.ways < 2 {
+            FIRST_VISITS
         } else {
-            self.steps.min(GUESS_STEPS)
+            MORE_VISITS
+        };
+        if self.is_best {
+            (visits, self.steps)
+        } else {
+            (visits, self.steps.min(GUESS_STEPS))
         }
     }
 
-    // Notes what a tree of so many steps showed, which began with the best choice or not, and whether it ended.
+    // Notes what a tree of so many steps showed, which began with the best choice or not: whether it ended, or was stopped by
+    // its visits.
     fn learn(
         &mut self,
         problem: &Problem,
         choice: Option<Choice>,
         is_known: bool,
         is_ended: bool,
+        is_stopped: bool,
         steps: u64,
     ) {
         let is_better = self.take(problem, choice);
         self.steps = self.steps.saturating_sub(steps);
         if self.steps == 0 {
             self.is_over = true;
-        } else if is_known && !is_better {
-            self.is_over = !self.is_by_quotas;
-            self.is_by_quotas = false;
-        } else if is_ended && is_better {
-            self.is_best = true;
-        } else if !is_better {
+        } else if is_better {
+            self.is_best = is_ended;
+            self.ways = 0;
+        } else if is_stopped && self.ways.saturating_add(1) < WAYS {
+            self.ways = self.ways.saturating_add(1);
+        } else if is_known {
+            self.is_best = self.is_best || is_ended;
+            self.is_over = is_ended || self.ways % 2 == 1;
+            self.ways = self.ways.saturating_add(1);
+        } else {
             self.rise(steps);
         }
     }
@@ -265,6 +302,7 @@ impl Guesses {
             self.gap
         };
         self.gap = self.gap.saturating_add(more).saturating_add(1);
+        self.ways = 0;
         if self.gap > self.bound.saturating_add(self.bound) {
             self.is_over = true;
         }

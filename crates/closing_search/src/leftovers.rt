@@ -13,10 +13,8 @@ use relaxed_problem::{End, Program, Relaxation};
 use slot_text::Memory;
 use std::alloc::Global;
 
-// The most pivots of the first relaxation, and the most nodes that are visited.
+// The most pivots of the first relaxation.
 const FIRST_PIVOTS: u32 = 50_000;
-
-const MOST_VISITS: u32 = 2_000;
 
 /// What a tree came to: what may close the problem, the best choice that is below the guess, whether it ended, and how many
 /// steps are left.
@@ -35,6 +33,7 @@ pub(crate) fn grow_left(
     start: Option<Choice>,
     guess: u64,
     steps: u64,
+    visits: u32,
     is_by_quotas: bool,
     most: u32,
 ) -> Result<Grown, Memory> {
@@ -66,7 +65,7 @@ pub(crate) fn grow_left(
     } else {
         state.cost = Some(guess);
     }
-    grow(alloc, &task, &mut state, MOST_VISITS.min(most))?;
+    grow(alloc, &task, &mut state, visits.min(most))?;
     grown_of(alloc, &task, state, most)
 }
 

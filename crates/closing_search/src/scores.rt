@@ -4,7 +4,8 @@ use slot_text::Memory;
 use std::alloc::Global;
 use std::num::{nearest_i64_to_f64, saturating_f64_to_i64};
 
-/// For each unit a mean of the scores of its splits, of which later ones count more; less than 0 where none was looked at.
+/// For each unit a mean of the scores of its splits, of which later ones count more; less than 0
+/// where none was looked at.
 #[derive(Drop)]
 pub(crate) struct Scores {
     means: Vec<f64>,
@@ -58,12 +59,7 @@ impl Scores {
     }
 }
 
-// A score of two gains, in which the less one counts most (Linderoth and Savelsbergh 1999, "A computational study of search
-// strategies for mixed integer programming").
+// A score of two gains, in which the less one counts most.
 fn score_of(low: f64, high: f64) -> f64 {
-    if low < high {
-        (5.0 * low + high) / 6.0
-    } else {
-        (low + 5.0 * high) / 6.0
-    }
+    low * high / (low + high)
 }

@@ -8,7 +8,7 @@ ghost use Rattle.closing_search.specs.Closed.{IsEnding, EndsAtMost};
 use crate::accepted::{Found, accepted, known_best};
 use crate::barred::barred_alts;
 use crate::closed::Ending;
-use crate::guesses::close_by_guesses;
+use crate::guesses::{Guessed, close_by_guesses};
 use crate::quotas::quotas_of;
 use crate::states::{NEVER, Task};
 use crate::trees::{FEW_VISITS, MOST_NODES, first_tree, further_trees};
@@ -125,8 +125,13 @@ fn settled(
     if end == End::Infeasible || most <= FEW_VISITS {
         return further_trees(alloc, task, root, end, best, most);
     }
-    let (found, best) = close_by_guesses(alloc, task.problem, vector, best, most)?;
-    if found.is_some() {
+    let guessed = close_by_guesses(alloc, task.problem, vector, best, most)?;
+    let Guessed {
+        found,
+        best,
+        is_best,
+    } = guessed;
+    if found.is_some() || is_best {
         return Ok((found, best));
     }
     further_trees(alloc, task, root, end, best, most)

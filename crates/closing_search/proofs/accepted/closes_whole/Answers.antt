@@ -1,6 +1,5 @@
-use Rattle.std.proofs.Common.{rules, subst, List}
+use Rattle.std.proofs.Common.{rules, subst}
 use Rattle.std.specs.Prelude.{IsTrue, All}
-use Rattle.choice_problem.specs.declared.vectors.Price.{Price}
 use Rattle.choice_problem.specs.Bounds.{IsVector}
 use Rattle.closing_search.proofs.AcceptedLemmas.{closes-whole}
 use Rattle.closing_search.proofs.accepted.closes_whole.Goals as goal
