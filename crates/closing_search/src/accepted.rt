@@ -18,8 +18,9 @@ use cost_fixing::{Fixing, fixed_best, fixing_problem, left_problems};
 use slot_text::Memory;
 use std::alloc::Global;
 
-// A tree that was found, with the vectors that its leaves name, the fixing of the problem that it is a tree of, if there is
-// one, and the choice that it is to prove best, if any. Nothing is known of them.
+// A tree that was found, with the vectors that its leaves name, the fixing of the problem that it
+// is a tree of, if there is one, and the choice that it is to prove best, if any. Nothing is known
+// of them.
 #[derive(Drop)]
 pub(crate) struct Found {
     pub(crate) choice: Option<Choice>,
@@ -182,8 +183,8 @@ fn is_within(problem: &Problem, start: &Option<Choice>, cost: u64) -> bool
     }
 }
 
-// Whether the tree keeps the limits on nodes, vectors and prices, the fixing holds, if there is one, and the tree of what it
-// leaves is whole and sound for the cost, or for none.
+// Whether the tree keeps the limits on nodes, vectors and prices, the fixing holds, if there is
+// one, and the tree of what it leaves is whole and sound for the cost, or for none.
 fn closes_whole(
     alloc: Global,
     problem: &Problem,
@@ -205,7 +206,8 @@ fn closes_whole(
     is_sound(alloc, problem, cost, fixing, tree, vectors)
 }
 
-// Whether the fixing holds, if there is one, and a tree of what it leaves is whole and sound for the cost, or for none.
+// Whether the fixing holds, if there is one, and a tree of what it leaves is whole and sound for
+// the cost, or for none.
 fn is_sound(
     alloc: Global,
     problem: &Problem,

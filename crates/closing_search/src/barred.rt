@@ -6,7 +6,8 @@ use reduced_problem::Reduced;
 use slot_text::Memory;
 use std::alloc::Global;
 
-/// Of each alternative, unit after unit, whether a part of it uses a resource of limit 0, where not all of its unit do.
+/// Of each alternative, unit after unit, whether a part of it uses a resource of limit 0, where not
+/// all of its unit do.
 pub(crate) fn barred_alts(
     alloc: Global,
     problem: &Problem,

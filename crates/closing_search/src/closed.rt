@@ -3,12 +3,12 @@
 use choice_problem::{Choice, Tree, Vector, VectorList};
 use cost_fixing::Fixing;
 
-/// A best choice of a problem, or that it has none, with the tree that proves it and the vectors that the leaves of the
-/// tree name by their numbers, from 1.
+/// A best choice of a problem, or that it has none, with the tree that proves it and the vectors
+/// that the leaves of the tree name by their numbers, from 1.
 #[derive(Drop)]
 pub enum Closed {
-    /// The choice is feasible and has the cost, and the tree proves that no choice costs less: a tree of the problem that the
-    /// fixing leaves, where there is one.
+    /// The choice is feasible and has the cost, and the tree proves that no choice costs less: a
+    /// tree of the problem that the fixing leaves, where there is one.
     Optimal {
         choice: Choice,
         cost: u64,
@@ -28,8 +28,8 @@ pub enum Closed {
 pub enum Ending {
     /// The problem is closed.
     Closed(Closed),
-    /// It is not closed. The choice, if there is one, is the best one that is known; and the vector is that of a relaxation
-    /// of the whole problem, whose bound is mostly good.
+    /// It is not closed. The choice, if there is one, is the best one that is known; and the vector
+    /// is that of a relaxation of the whole problem, whose bound is mostly good.
     Open {
         best: Option<Choice>,
         vector: Vector,

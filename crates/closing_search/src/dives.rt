@@ -1,4 +1,5 @@
-//! Choices that a relaxation leads to, where some of its units after the other keep the alternative of which it takes most.
+//! Choices that a relaxation leads to, where some of its units after the other keep the alternative
+//! of which it takes most.
 
 use crate::rounding::rounded;
 use crate::states::{State, Task};
@@ -7,8 +8,8 @@ use slot_text::Memory;
 use std::alloc::Global;
 use std::num::saturating_f64_to_i64;
 
-// How many times units are given their alternatives; one unit of how many of those with shares at a time; and the pivots of
-// each time.
+// How many times units are given their alternatives; one unit of how many of those with shares at a
+// time; and the pivots of each time.
 const ROUNDS: u32 = 400;
 
 const PART: usize = 8;
@@ -38,8 +39,8 @@ pub(crate) fn dive(
     Ok(())
 }
 
-// Gives the first units their alternatives, or the first one alone, or takes this alternative away from it. Answers whether
-// a relaxation is solved then.
+// Gives the first units their alternatives, or the first one alone, or takes this alternative away
+// from it. Answers whether a relaxation is solved then.
 fn go_on(
     alloc: Global,
     task: &Task<'_>,
@@ -76,7 +77,8 @@ struct Leader {
     alt: u32,
 }
 
-// Of each unit of which several alternatives are taken, the one of which most is: those of the greatest shares first.
+// Of each unit of which several alternatives are taken, the one of which most is: those of the
+// greatest shares first.
 fn leaders_of(alloc: Global, shares: &[Share]) -> Result<Vec<Leader>, Memory> {
     let mut leaders = Vec::new(alloc);
     let mut last: Option<Share> = None;

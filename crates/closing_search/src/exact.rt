@@ -19,7 +19,8 @@ pub(crate) struct Tables {
     pub(crate) listed: Vec<PriceTable>,
 }
 
-// Whether the bound of a vector at a scale closes ranges for a cost, or for none. The vector may be one that is not listed.
+// Whether the bound of a vector at a scale closes ranges for a cost, or for none. The vector may be
+// one that is not listed.
 fn leaf_holds(
     problem: &Problem,
     ranges: &Ranges,
@@ -101,8 +102,8 @@ fn passes(
     Ok(goes_on)
 }
 
-/// Whether the nodes are one whole tree that is sound for the cost, or for none, with the tables' vectors: one step an
-/// alternative in range for each leaf.
+/// Whether the nodes are one whole tree that is sound for the cost, or for none, with the tables'
+/// vectors: one step an alternative in range for each leaf.
 pub(crate) fn is_proof(
     alloc: Global,
     problem: &Problem,

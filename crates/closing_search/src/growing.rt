@@ -12,7 +12,8 @@ use std::alloc::Global;
 // The most pivots of one node.
 const NODE_PIVOTS: u32 = 20_000;
 
-/// Visits open nodes, the last one first, until none is left, so many were visited, or one stays open.
+/// Visits open nodes, the last one first, until none is left, so many were visited, or one stays
+/// open.
 pub(crate) fn grow(
     alloc: Global,
     task: &Task<'_>,

@@ -1,5 +1,6 @@
-//! Trees of what fixings leave below guesses of the least cost. Below a low guess few alternatives are left, and a tree of them
-//! in which cheaper choices alone are looked for ends soon: with none, and then the guess rises; or with a best one.
+//! Trees of what fixings leave below guesses of the least cost. Below a low guess few alternatives
+//! are left, and a tree of them in which cheaper choices alone are looked for ends soon: with none,
+//! and then the guess rises; or with a best one.
 
 ghost use Rattle.choice_problem.specs.Bounds.{IsVector};
 ghost use Rattle.price_table.specs.Tables.{IsTableFor};
@@ -21,8 +22,8 @@ const ALL_STEPS: u64 = 4_000_000_000;
 // The most steps of the tree of a guess.
 const GUESS_STEPS: u64 = 1_000_000_000;
 
-// The most visits of the first two trees of a guess, of which one splits by uses of quotas first and one by numbers alone, and
-// of two more where both came to this end.
+// The most visits of the first two trees of a guess, of which one splits by uses of quotas first
+// and one by numbers alone, and of two more where both came to this end.
 const FIRST_VISITS: u32 = 600;
 
 const MORE_VISITS: u32 = 20_000;
@@ -36,8 +37,8 @@ const FEW_STEPS: u64 = 100_000_000;
 // The first guess is above the bound by one part in so many, and no guess by more than the bound.
 const FIRST_PART: u64 = 1_000;
 
-/// What is known between guesses: the best choice and its cost, if there is one; how much the next guess is above the bound of
-/// the problem; how many steps are left; and what the trees showed.
+/// What is known between guesses: the best choice and its cost, if there is one; how much the next
+/// guess is above the bound of the problem; how many steps are left; and what the trees showed.
 #[derive(Drop)]
 pub(crate) struct Guesses {
     best: Option<Choice>,
@@ -52,7 +53,8 @@ pub(crate) struct Guesses {
     is_over: bool,
 }
 
-/// What guesses came to: what may close the problem, the best choice that is known, and whether a tree showed that it is best.
+/// What guesses came to: what may close the problem, the best choice that is known, and whether a
+/// tree showed that it is best.
 #[derive(Drop)]
 pub(crate) struct Guessed {
     pub(crate) found: Option<Found>,
@@ -60,7 +62,8 @@ pub(crate) struct Guessed {
     pub(crate) is_best: bool,
 }
 
-/// Looks for a tree of what a fixing at the vector leaves, and for choices on the way, from a choice that is known, if one is.
+/// Looks for a tree of what a fixing at the vector leaves, and for choices on the way, from a
+/// choice that is known, if one is.
 pub(crate) fn close_by_guesses(
     alloc: Global,
     problem: &Problem,
@@ -157,7 +160,8 @@ fn whole_choice(
     }
 }
 
-// What was found, with the best choice of the whole problem and with the fixing, whose vector stands behind the others.
+// What was found, with the best choice of the whole problem and with the fixing, whose vector
+// stands behind the others.
 fn fixed_found(
     alloc: Global,
     guesses: &Guesses,
@@ -265,8 +269,8 @@ impl Guesses {
         }
     }
 
-    // Notes what a tree of so many steps showed, which began with the best choice or not: whether it ended, or was stopped by
-    // its visits.
+    // Notes what a tree of so many steps showed, which began with the best choice or not: whether
+    // it ended, or was stopped by its visits.
     fn learn(
         &mut self,
         problem: &Problem,

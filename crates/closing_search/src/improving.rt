@@ -9,14 +9,16 @@ use relaxed_problem::{End, Relaxation};
 use slot_text::Memory;
 use std::alloc::Global;
 
-// How great reduced costs are tried in turn, as parts of the first relaxation's value, and by how many nodes and steps.
+// How great reduced costs are tried in turn, as parts of the first relaxation's value, and by how
+// many nodes and steps.
 const WIDTHS: [f64; 3] = [0.0005, 0.002, 0.008];
 
 const FEW_NODES: u32 = 100;
 
 const FEW_STEPS: u64 = 300_000_000;
 
-// The part of the value that is tried where no choice is known, and by how many nodes and steps it is tried at last.
+// The part of the value that is tried where no choice is known, and by how many nodes and steps it
+// is tried at last.
 const WIDEST: f64 = 0.05;
 
 const MANY_NODES: u32 = 1_000;
@@ -26,8 +28,9 @@ const MANY_STEPS: u64 = 1_000_000_000;
 // The most pivots of a first relaxation of few alternatives.
 const FIRST_PIVOTS: u32 = 20_000;
 
-/// Looks for better choices, where the first relaxation is solved: first of all units by their reduced costs; then by trees
-/// over the alternatives of small reduced costs, and at last over all that a better choice can take.
+/// Looks for better choices, where the first relaxation is solved: first of all units by their
+/// reduced costs; then by trees over the alternatives of small reduced costs, and at last over all
+/// that a better choice can take.
 pub(crate) fn improve(
     alloc: Global,
     task: &Task<'_>,
@@ -52,7 +55,8 @@ fn gap_of(state: &State, root: &Relaxation) -> f64 {
     state.enough() - root.value()
 }
 
-// Looks for a better choice of alternatives of reduced costs of at most so much, by so many nodes and steps.
+// Looks for a better choice of alternatives of reduced costs of at most so much, by so many nodes
+// and steps.
 fn search_near(
     alloc: Global,
     task: &Task<'_>,

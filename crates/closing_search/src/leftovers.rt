@@ -16,8 +16,8 @@ use std::alloc::Global;
 // The most pivots of the first relaxation.
 const FIRST_PIVOTS: u32 = 50_000;
 
-/// What a tree came to: what may close the problem, the best choice that is below the guess, whether it ended, and how many
-/// steps are left.
+/// What a tree came to: what may close the problem, the best choice that is below the guess,
+/// whether it ended, and how many steps are left.
 #[derive(Drop)]
 pub(crate) struct Grown {
     pub(crate) found: Option<Found>,
@@ -26,7 +26,8 @@ pub(crate) struct Grown {
     pub(crate) steps: u64,
 }
 
-/// Grows a tree in which choices below the guess alone are looked for, or below a start, by so many steps.
+/// Grows a tree in which choices below the guess alone are looked for, or below a start, by so many
+/// steps.
 pub(crate) fn grow_left(
     alloc: Global,
     problem: &Problem,

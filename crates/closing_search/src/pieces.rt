@@ -8,7 +8,8 @@ use choice_problem::Node;
 use slot_text::Memory;
 use std::alloc::Global;
 
-// A part of the tree that is to be made: an entry of the grown tree, the ranges, and their bounds at the vectors.
+// A part of the tree that is to be made: an entry of the grown tree, the ranges, and their bounds
+// at the vectors.
 #[derive(Drop)]
 struct Piece {
     entry: u32,
@@ -16,9 +17,10 @@ struct Piece {
     values: Vec<i64>,
 }
 
-/// The nodes, in preorder, of a tree of ranges whose leaves the vectors close, at most so many, and the vectors that the
-/// leaves name, as bits; none where an entry is open or so many nodes do not suffice. A split by uses becomes at most as many
-/// splits of ranges as the alternatives of its two parts take turns there, and what follows it stands in each of these ranges.
+/// The nodes, in preorder, of a tree of ranges whose leaves the vectors close, at most so many, and
+/// the vectors that the leaves name, as bits; none where an entry is open or so many nodes do not
+/// suffice. A split by uses becomes at most as many splits of ranges as the alternatives of its two
+/// parts take turns there, and what follows it stands in each of these ranges.
 pub(crate) fn nodes_of(
     alloc: Global,
     task: &Task<'_>,
@@ -74,8 +76,8 @@ fn named_by(node: Node) -> u128 {
     }
 }
 
-// The node of a piece, if there is one: a leaf, by a vector among the used ones where one of them closes it; or a split,
-// whose parts become pieces.
+// The node of a piece, if there is one: a leaf, by a vector among the used ones where one of them
+// closes it; or a split, whose parts become pieces.
 fn make(
     alloc: Global,
     task: &Task<'_>,

@@ -7,8 +7,8 @@ use relaxed_problem::Column;
 use slot_text::Memory;
 use std::alloc::Global;
 
-/// For each unit the place of the alternative that it takes among the program's columns, or `NO_PLACE`, and how often these
-/// use the classes: within their limits.
+/// For each unit the place of the alternative that it takes among the program's columns, or
+/// `NO_PLACE`, and how often these use the classes: within their limits.
 #[derive(Drop)]
 pub(crate) struct Placing {
     places: Vec<u32>,
@@ -30,8 +30,8 @@ impl Placing {
         })
     }
 
-    // Lets the units take in this order the alternatives of least weight that fit. Answers the place in the order of the
-    // first unit that finds none.
+    // Lets the units take in this order the alternatives of least weight that fit. Answers the
+    // place in the order of the first unit that finds none.
     pub(crate) fn place_all(
         &mut self,
         task: &Task<'_>,
@@ -46,8 +46,8 @@ impl Placing {
         Ok(None)
     }
 
-    // Lets each unit in turn take the cheapest alternative that fits beside those of the others. Answers whether this
-    // changed some.
+    // Lets each unit in turn take the cheapest alternative that fits beside those of the others.
+    // Answers whether this changed some.
     pub(crate) fn move_all(&mut self, task: &Task<'_>, costs: &[f64]) -> Result<bool, Memory> {
         let mut is_changed = false;
         for unit in 0..task.program.units() {
@@ -73,7 +73,8 @@ impl Placing {
         Ok(Some(Choice::new(alts)))
     }
 
-    // Lets a unit that has none take the alternative of least weight that fits. Answers whether one does.
+    // Lets a unit that has none take the alternative of least weight that fits. Answers whether one
+    // does.
     fn place(&mut self, task: &Task<'_>, unit: u32, weights: &[f64]) -> Result<bool, Memory> {
         self.find_rooms(task, unit)?;
         let first = task.program.first_column(unit);

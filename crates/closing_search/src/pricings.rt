@@ -9,8 +9,8 @@ use reduced_problem::{Class, Reduced};
 use slot_text::Memory;
 use std::alloc::Global;
 
-/// A vector and the scale of its bound, with what the parts of all units and the limits cost at its prices, and for each unit
-/// the least priced cost of its alternatives that the search may take.
+/// A vector and the scale of its bound, with what the parts of all units and the limits cost at its
+/// prices, and for each unit the least priced cost of its alternatives that the search may take.
 #[derive(Drop)]
 pub(crate) struct Pricing {
     pub(crate) vector: Vector,
@@ -21,7 +21,8 @@ pub(crate) struct Pricing {
 }
 
 impl Pricing {
-    // The costs at a vector's prices, where these alternatives may be taken. It names resources of classes alone.
+    // The costs at a vector's prices, where these alternatives may be taken. It names resources of
+    // classes alone.
     pub(crate) fn new(
         alloc: Global,
         task: &Task<'_>,
@@ -97,8 +98,8 @@ impl Pricing {
         }
     }
 
-    // The least priced cost of a unit's alternatives that may be taken: that of all that the search may take, where no split
-    // took some away.
+    // The least priced cost of a unit's alternatives that may be taken: that of all that the search
+    // may take, where no split took some away.
     fn least(&self, problem: &Problem, reduced: &Reduced, unit: u32, allowed: &Allowed) -> i64 {
         match self.leasts.get(unit as usize) {
             Some(least) if !allowed.is_cut(unit) => *least,
@@ -128,7 +129,8 @@ impl Pricing {
         total.saturating_sub(self.limits)
     }
 
-    /// The bound after a split of a unit, where it was this before with the unit's alternatives from another set.
+    /// The bound after a split of a unit, where it was this before with the unit's alternatives
+    /// from another set.
     pub(crate) fn moved(
         &self,
         value: i64,

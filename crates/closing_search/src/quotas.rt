@@ -4,7 +4,8 @@ use reduced_problem::{Reduced, UserRun};
 use slot_text::Memory;
 use std::alloc::Global;
 
-/// The numbers of the classes that some part uses more than once: quotas that hold for many dates together.
+/// The numbers of the classes that some part uses more than once: quotas that hold for many dates
+/// together.
 pub(crate) fn quotas_of(alloc: Global, reduced: &Reduced) -> Result<Vec<u32>, Memory> {
     let mut quotas = Vec::new(alloc);
     for (number, _) in (0..).zip(reduced.classes()) {

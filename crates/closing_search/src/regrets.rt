@@ -12,9 +12,9 @@ const ATTEMPTS: u32 = 64;
 
 const MOVES: u32 = 8;
 
-/// Takes a choice: the units by falling regret, which is the difference of their two least reduced costs, each take the
-/// alternative of least reduced cost that fits, and then move to the cheapest one that does. Where a unit finds none, it
-/// comes first in the next attempt.
+/// Takes a choice: the units by falling regret, which is the difference of their two least reduced
+/// costs, each take the alternative of least reduced cost that fits, and then move to the cheapest
+/// one that does. Where a unit finds none, it comes first in the next attempt.
 pub(crate) fn place_by(
     alloc: Global,
     task: &Task<'_>,

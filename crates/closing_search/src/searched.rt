@@ -22,19 +22,22 @@ use std::alloc::Global;
 // The most pivots of the first relaxation.
 const ROOT_PIVOTS: u32 = 50_000;
 
-/// A best choice of the problem, or that it has none, with a tree of at most `budget` nodes that proves it; or what is known
-/// where this was not found, of which nothing is promised: neither that a problem of some kind is closed, nor how much is
-/// tried, nor how good the choice and the vector are.
+/// A best choice of the problem, or that it has none, with a tree of at most `budget` nodes that
+/// proves it; or what is known where this was not found, of which nothing is promised: neither that
+/// a problem of some kind is closed, nor how much is tried, nor how good the choice and the vector
+/// are.
 ///
 /// A start is a feasible choice: what is answered costs no more.
 ///
-/// It is a branch and bound by the linear relaxation over the resources that matter. A node is closed by a vector that
-/// is there already, or by its own prices or ray, rounded; else it is split where the relaxation takes shares of several
-/// alternatives, at the unit whose two parts gain most in some pivots (strong branching: Applegate, Bixby, Chvátal and Cook
-/// 1995, "Finding cuts in the TSP"), by its uses of a quota where these differ (branching on sets: Beale and Tomlin 1970,
-/// "Special facilities in a general mathematical programming system for non-convex problems using ordered sets of
-/// variables"). In the end a tree whose splits cut ranges is made of it. Its work is bounded by counts of nodes and pivots,
-/// and the same problem, start and budget give the same answer. The test at its end takes one step an alternative for each leaf.
+/// It is a branch and bound by the linear relaxation over the resources that matter. A node is
+/// closed by a vector that is there already, or by its own prices or ray, rounded; else it is split
+/// where the relaxation takes shares of several alternatives, at the unit whose two parts gain most
+/// in some pivots (strong branching: Applegate, Bixby, Chvátal and Cook 1995, "Finding cuts in the
+/// TSP"), by its uses of a quota where these differ (branching on sets: Beale and Tomlin 1970,
+/// "Special facilities in a general mathematical programming system for non-convex problems using
+/// ordered sets of variables"). In the end a tree whose splits cut ranges is made of it. Its work
+/// is bounded by counts of nodes and pivots, and the same problem, start and budget give the same
+/// answer. The test at its end takes one step an alternative for each leaf.
 pub fn closing_search(
     alloc: Global,
     problem: &Problem,
@@ -103,7 +106,8 @@ fn searched(
     })
 }
 
-// Looks for a small tree first, then for one of what a fixing leaves, and at last for better choices.
+// Looks for a small tree first, then for one of what a fixing leaves, and at last for better
+// choices.
 fn settled(
     alloc: Global,
     task: &Task<'_>,

@@ -7,9 +7,9 @@ use crate::states::Task;
 use slot_text::Memory;
 use std::alloc::Global;
 
-/// A unit's range, and for each of its alternatives whether it is in the high part of a split, and whether it may stay
-/// where the range goes on in the low part and in the high part: where it is of the other part, each vector that is needed
-/// there must close it.
+/// A unit's range, and for each of its alternatives whether it is in the high part of a split, and
+/// whether it may stay where the range goes on in the low part and in the high part: where it is of
+/// the other part, each vector that is needed there must close it.
 #[derive(Drop)]
 pub(crate) struct Sides {
     unit: u32,
@@ -42,8 +42,8 @@ impl Sides {
         })
     }
 
-    // Takes a vector in that is needed in the low part, or in the high part, or in both: alternatives stay where it closes
-    // them. The value is its bound on the range.
+    // Takes a vector in that is needed in the low part, or in the high part, or in both:
+    // alternatives stay where it closes them. The value is its bound on the range.
     pub(crate) fn test(
         &mut self,
         task: &Task<'_>,
@@ -65,8 +65,8 @@ impl Sides {
         }
     }
 
-    // Of the places where the range changes its part, the one that is nearest to the middle, if it does; and whether else
-    // all of it goes on in the low part.
+    // Of the places where the range changes its part, the one that is nearest to the middle, if it
+    // does; and whether else all of it goes on in the low part.
     pub(crate) fn turn(&self) -> (Option<u32>, bool) {
         let (low, high) = self.span;
         let middle = low.saturating_add(high) / 2;

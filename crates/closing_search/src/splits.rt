@@ -1,5 +1,5 @@
-//! Where a search splits a node: at a unit of whose alternatives the relaxation takes shares, so that both parts have a
-//! greater bound.
+//! Where a search splits a node: at a unit of whose alternatives the relaxation takes shares, so
+//! that both parts have a greater bound.
 
 use crate::rules::{Rule, uses_of_part};
 use crate::states::{NEVER, Open, State, Task};
@@ -8,7 +8,8 @@ use slot_text::Memory;
 use std::alloc::Global;
 use std::num::saturating_f64_to_i64;
 
-// How many splits are looked at, after how many without a better one the rest is not, and by how many pivots for each part.
+// How many splits are looked at, after how many without a better one the rest is not, and by how
+// many pivots for each part.
 const LOOKED_AT: usize = 32;
 
 const LOOKED_ON: u32 = 8;
@@ -26,9 +27,10 @@ pub(crate) struct Split {
     pub(crate) is_low_first: bool,
 }
 
-/// The split of a node whose relaxation is solved; none where it takes one alternative of each unit. Where the relaxation
-/// takes shares of alternatives that use a quota differently, the split is by their uses: the other alternatives of a unit
-/// make up for a split by numbers, but not for one by uses.
+/// The split of a node whose relaxation is solved; none where it takes one alternative of each
+/// unit. Where the relaxation takes shares of alternatives that use a quota differently, the split
+/// is by their uses: the other alternatives of a unit make up for a split by numbers, but not for
+/// one by uses.
 pub(crate) fn best_split(
     alloc: Global,
     task: &Task<'_>,
@@ -60,8 +62,9 @@ pub(crate) fn best_split(
     Ok(best)
 }
 
-// The splits by the uses of quotas that have prices, where there are some, else those by numbers; those of the units of the
-// greatest scores come first, and of these those of the smallest greatest share.
+// The splits by the uses of quotas that have prices, where there are some, else those by numbers;
+// those of the units of the greatest scores come first, and of these those of the smallest greatest
+// share.
 fn candidates(
     alloc: Global,
     task: &Task<'_>,
@@ -88,8 +91,8 @@ fn candidates(
     Ok(found)
 }
 
-// A split that is looked at, the order by its unit's score, the rank of its unit's greatest share, and its place among those
-// that were found.
+// A split that is looked at, the order by its unit's score, the rank of its unit's greatest share,
+// and its place among those that were found.
 #[derive(Clone, Copy)]
 struct Candidate {
     order: u64,
@@ -98,7 +101,8 @@ struct Candidate {
     split: Split,
 }
 
-// Adds the splits of the units of which the relaxation takes several alternatives: by the uses of a class, or by numbers.
+// Adds the splits of the units of which the relaxation takes several alternatives: by the uses of a
+// class, or by numbers.
 fn add_splits(
     task: &Task<'_>,
     relaxation: &Relaxation,
@@ -129,7 +133,8 @@ fn add_splits(
     Ok(())
 }
 
-// The split of a unit by its uses of a class that comes nearest to halves of its shares, if these use it differently.
+// The split of a unit by its uses of a class that comes nearest to halves of its shares, if these
+// use it differently.
 fn split_by_uses(task: &Task<'_>, group: &[Share], class: u32) -> Option<Split> {
     let mut found = None;
     let mut nearest = 0.5;
@@ -253,7 +258,8 @@ fn cut_between(task: &Task<'_>, relaxation: &Relaxation, from: &Share, to: &Shar
     cut
 }
 
-// What the value of the relaxation gains in the low and in the high part, as far as some pivots show it.
+// What the value of the relaxation gains in the low and in the high part, as far as some pivots
+// show it.
 fn gains_of(
     alloc: Global,
     task: &Task<'_>,

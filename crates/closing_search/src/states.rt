@@ -12,19 +12,20 @@ use slot_text::Memory;
 use std::alloc::Global;
 use std::num::nearest_i64_to_f64;
 
-// How many steps a pivot takes beside one for each alternative, and how many pivots it takes to begin.
+// How many steps a pivot takes beside one for each alternative, and how many pivots it takes to
+// begin.
 const STEPS_APART: u64 = 5_000;
 
 const STARTING: u64 = 4;
 
-// The most vectors, that without prices among them: as many as bits tell which of them are used. And how many there may be
-// while those of split nodes are taken in.
+// The most vectors, that without prices among them: as many as bits tell which of them are used.
+// And how many there may be while those of split nodes are taken in.
 const MOST_PRICINGS: usize = 128;
 
 const MOST_TAKEN: usize = 64;
 
-/// The problem, its resources that matter, those of which some part uses several, and the alternatives that take part in the
-/// relaxations.
+/// The problem, its resources that matter, those of which some part uses several, and the
+/// alternatives that take part in the relaxations.
 #[derive(Drop)]
 pub(crate) struct Task<'a> {
     pub(crate) problem: &'a Problem,
@@ -46,8 +47,8 @@ impl Task<'_> {
     }
 }
 
-/// An open node: its entry, the alternatives that may be taken, their bounds at the vectors that there were when it was made,
-/// and a relaxation from which to go on.
+/// An open node: its entry, the alternatives that may be taken, their bounds at the vectors that
+/// there were when it was made, and a relaxation from which to go on.
 #[derive(Drop)]
 pub(crate) struct Open {
     pub(crate) entry: u32,
@@ -56,9 +57,10 @@ pub(crate) struct Open {
     pub(crate) relaxation: Relaxation,
 }
 
-/// The tree so far; its open nodes, those to be searched first last; the vectors that close leaves and those of split nodes,
-/// the one without prices first; the best choice; how many steps of relaxations may still be made, and the numbers of these
-/// steps; and whether splits by the uses of quotas come first.
+/// The tree so far; its open nodes, those to be searched first last; the vectors that close leaves
+/// and those of split nodes, the one without prices first; the best choice; how many steps of
+/// relaxations may still be made, and the numbers of these steps; and whether splits by the uses of
+/// quotas come first.
 #[derive(Drop)]
 pub(crate) struct State {
     pub(crate) entries: Vec<Entry>,
@@ -149,8 +151,9 @@ impl State {
         }
     }
 
-    // Counts the steps of a solution over a program: of its pivots, of what is done once for all of them, and of changes of
-    // keys, each of which takes one for each unit and for each alternative of one.
+    // Counts the steps of a solution over a program: of its pivots, of what is done once for all of
+    // them, and of changes of keys, each of which takes one for each unit and for each alternative
+    // of one.
     pub(crate) fn spend(&mut self, program: &Program<'_>, ended: Ended) {
         let alternatives = program.columns().len() as u64;
         let units = u64::from(program.units());
@@ -170,7 +173,8 @@ impl State {
         }
     }
 
-    // Takes in the vector of a node that is split, if there is one: it may close ranges that the node becomes in the end.
+    // Takes in the vector of a node that is split, if there is one: it may close ranges that the
+    // node becomes in the end.
     pub(crate) fn take_pricing(&mut self, pricing: Option<Pricing>) -> Result<(), Memory> {
         match pricing {
             Some(pricing) if self.pricings.len() < MOST_TAKEN => {
@@ -181,7 +185,8 @@ impl State {
         }
     }
 
-    // Whether the prices of a solved relaxation can be of use: they may close its node, or there is room for them.
+    // Whether the prices of a solved relaxation can be of use: they may close its node, or there is
+    // room for them.
     pub(crate) fn wants_prices(&self, value: f64) -> bool {
         value > self.enough() - 1.0 || self.pricings.len() < MOST_TAKEN
     }
@@ -192,8 +197,8 @@ impl State {
         pricing.closes(value, self.cost)
     }
 
-    // Closes a node by a new vector that does. Where there is no room for it, the entry stays open, and the search goes on
-    // for better choices alone.
+    // Closes a node by a new vector that does. Where there is no room for it, the entry stays open,
+    // and the search goes on for better choices alone.
     pub(crate) fn close_by(&mut self, open: &Open, pricing: Pricing) -> Result<(), Memory> {
         if self.pricings.len() < MOST_PRICINGS {
             let vector = u32::try_from(self.pricings.len()).unwrap_or(u32::MAX);
@@ -221,7 +226,8 @@ impl State {
         Ok(number)
     }
 
-    // The value above which a relaxation shows that no choice in its ranges is cheaper than the best one.
+    // The value above which a relaxation shows that no choice in its ranges is cheaper than the
+    // best one.
     pub(crate) fn enough(&self) -> f64 {
         match self.cost {
             Some(cost) => number_of(cost) - 0.98,

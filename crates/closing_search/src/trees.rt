@@ -14,7 +14,8 @@ use std::alloc::Global;
 /// The most nodes of a tree.
 pub(crate) const MOST_NODES: u32 = 40_000;
 
-// The most steps of the relaxations of all trees but the first one, and of that; how many trees are tried.
+// The most steps of the relaxations of all trees but the first one, and of that; how many trees are
+// tried.
 const TREE_STEPS: u64 = 2_000_000_000;
 
 const FIRST_STEPS: u64 = 20_000_000;
@@ -69,8 +70,8 @@ pub(crate) fn further_trees(
 /// With at most so many nodes no fixing is tried, and trees of the whole problem are.
 pub(crate) const FEW_VISITS: u32 = 64;
 
-// A tree and the best choice. Where a tree does not close, the next one is grown with the best choice that was found; and
-// where no better one was found, with splits by numbers alone.
+// A tree and the best choice. Where a tree does not close, the next one is grown with the best
+// choice that was found; and where no better one was found, with splits by numbers alone.
 fn grow_trees(
     alloc: Global,
     task: &Task<'_>,

@@ -5,7 +5,8 @@ use choice_problem::{Alt, Choice, Node, Problem, VectorList};
 use slot_text::Memory;
 use std::alloc::Global;
 
-/// The choice of each unit's cheapest alternative, and a leaf that closes all of them without prices.
+/// The choice of each unit's cheapest alternative, and a leaf that closes all of them without
+/// prices.
 pub(crate) fn unpriced(alloc: Global, problem: &Problem) -> Result<Found, Memory> {
     let mut alts = Vec::with_capacity(alloc, problem.units() as usize)?;
     let mut cost: u64 = 0;
