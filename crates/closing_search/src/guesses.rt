@@ -17,19 +17,15 @@ use std::alloc::Global;
 // The most trees of all guesses, and the most steps of the relaxations of all of them.
 const MOST_GUESSES: u32 = 96;
 
-const ALL_STEPS: u64 = 4_000_000_000;
+const ALL_STEPS: u64 = 6_000_000_000;
 
-// The most steps of the tree of a guess.
-const GUESS_STEPS: u64 = 1_000_000_000;
-
-// The most visits of the first two trees of a guess, of which one splits by uses of quotas first
-// and one by numbers alone, and of two more where both came to this end.
-const FIRST_VISITS: u32 = 600;
-
-const MORE_VISITS: u32 = 20_000;
-
-// How many trees a guess has.
-const WAYS: u32 = 4;
+// The most visits and steps of the trees of a guess: one that splits by uses of quotas first; where its visits stopped it, a
+// short one by numbers alone; and where that one did not end, one by quotas with more visits.
+const LIMITS: [(u32, u64); 3] = [
+    (600, 1_000_000_000),
+    (600, 100_000_000),
+    (20_000, 1_000_000_000),
+];
 
 // The most steps of a tree after which the guess rises fast.
 const FEW_STEPS: u64 = 100_000_000;
@@ -48,8 +44,10 @@ pub(crate) struct Guesses {
     steps: u64,
     // Whether the best choice is best, as far as a tree showed it that could not be listed.
     is_best: bool,
-    // How many trees the guess has had.
-    ways: u32,
+    // How many trees the guess has had, and whether they look at more splits, for fewer vectors: after a tree that showed the
+    // best choice and could not be listed.
+    ways: usize,
+    is_thorough: bool,
     is_over: bool,
 }
 
@@ -122,7 +120,8 @@ fn close_at(
         cost,
         limit,
         visits,
-        guesses.ways % 2 == 0,
+        guesses.ways != 1,
+        guesses.is_thorough,
         most,
     )?;
     let Grown {
@@ -198,6 +197,7 @@ impl Guesses {
             steps: ALL_STEPS,
             is_best: false,
             ways: 0,
+            is_thorough: false,
             is_over: false,
         };
         guesses.take(problem, best);
@@ -257,15 +257,14 @@ impl Guesses {
 
     // How many visits and how many steps the next tree may take.
     fn limits(&self) -> (u32, u64) {
-        let visits = if self.ways < 2 {
-            FIRST_VISITS
-        } else {
-            MORE_VISITS
+        let (visits, steps) = match LIMITS.get(self.ways) {
+            Some(limits) => *limits,
+            None => (0, 0),
         };
-        if self.is_best {
+        if (self.is_best || self.is_thorough) && self.ways != 1 {
             (visits, self.steps)
         } else {
-            (visits, self.steps.min(GUESS_STEPS))
+            (visits, self.steps.min(steps))
         }
     }
 
@@ -287,15 +286,23 @@ impl Guesses {
         } else if is_better {
             self.is_best = is_ended;
             self.ways = 0;
-        } else if is_stopped && self.ways.saturating_add(1) < WAYS {
+        } else if is_ended && is_known {
+            self.is_best = true;
+            self.look_on();
+        } else if !is_ended && (self.ways == 1 || (self.ways == 0 && is_stopped)) {
             self.ways = self.ways.saturating_add(1);
         } else if is_known {
-            self.is_best = self.is_best || is_ended;
-            self.is_over = is_ended || self.ways % 2 == 1;
-            self.ways = self.ways.saturating_add(1);
+            self.look_on();
         } else {
             self.rise(steps);
         }
+    }
+
+    // Goes on with trees that look at more splits, or ends.
+    fn look_on(&mut self) {
+        self.is_over = self.is_thorough;
+        self.is_thorough = true;
+        self.ways = 0;
     }
 
     // Takes a greater guess, after a tree of so many steps.

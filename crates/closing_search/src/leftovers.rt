@@ -36,6 +36,7 @@ pub(crate) fn grow_left(
     steps: u64,
     visits: u32,
     is_by_quotas: bool,
+    is_thorough: bool,
     most: u32,
 ) -> Result<Grown, Memory> {
     let reduced = Reduced::of(alloc, problem)?;
@@ -61,6 +62,7 @@ pub(crate) fn grow_left(
     let mut state = State::new(alloc, &task, &root, Allowed::all(alloc, problem)?, steps)?;
     state.spend(&program, ended);
     state.is_by_quotas = is_by_quotas && state.is_by_quotas;
+    state.is_thorough = is_thorough;
     if let Some(start) = start {
         state.take(alloc, problem, start)?;
     } else {

@@ -30,8 +30,8 @@ pub(crate) fn nodes_of(
     if has_open(&state.entries) {
         return Ok(None);
     }
-    let mut used = 0;
     let mut nodes = Vec::new(alloc);
+    let mut closing = Vec::new(alloc);
     let mut pieces = Vec::new(alloc);
     pieces.push(whole(alloc, task, state)?)?;
     let closers = closers_of(alloc, state)?;
@@ -39,19 +39,77 @@ pub(crate) fn nodes_of(
         let Some(piece) = pieces.pop() else {
             break;
         };
-        match make(alloc, task, state, &closers, piece, used, &mut pieces)? {
-            Some(node) => {
-                used |= named_by(node);
-                nodes.push(node)?;
-            }
+        closing.push(piece.closing(state))?;
+        match make(alloc, task, state, &closers, piece, &mut pieces)? {
+            Some(node) => nodes.push(node)?,
             None => return Ok(None),
         }
     }
-    Ok(if pieces.is_empty() {
-        Some((nodes, used))
-    } else {
-        None
-    })
+    if !pieces.is_empty() {
+        return Ok(None);
+    }
+    let used = cover(state, &mut nodes, &mut closing);
+    Ok(Some((nodes, used)))
+}
+
+// Lets few vectors close the leaves: in turn the one that closes most of those which none closes yet. Answers them as bits.
+fn cover(state: &State, nodes: &mut [Node], closing: &mut [u128]) -> u128 {
+    let mut used = 0;
+    for _ in 0..state.pricings.len() {
+        let Some(vector) = most_closing(closing) else {
+            break;
+        };
+        used |= bit_of(vector);
+        close_leaves(state, nodes, closing, vector);
+    }
+    used
+}
+
+// The vector that closes most pieces, the lowest of several; none where none closes any.
+fn most_closing(closing: &[u128]) -> Option<u32> {
+    let mut found = None;
+    let mut most: u32 = 0;
+    for vector in 0..128 {
+        let count = closed_by(closing, vector);
+        if count > most {
+            most = count;
+            found = Some(vector);
+        }
+    }
+    found
+}
+
+// How many pieces a vector closes.
+fn closed_by(closing: &[u128], vector: u32) -> u32 {
+    let mut count: u32 = 0;
+    for bits in closing {
+        if *bits & bit_of(vector) != 0 {
+            count = count.saturating_add(1);
+        }
+    }
+    count
+}
+
+// Lets the leaves that a vector closes name it, of those that are in the list still, and takes them out of it.
+fn close_leaves(state: &State, nodes: &mut [Node], closing: &mut [u128], vector: u32) {
+    for (node, bits) in nodes.iter_mut().zip(closing.iter_mut()) {
+        if *bits & bit_of(vector) != 0 {
+            *bits = 0;
+            *node = leaf_by(state, vector);
+        }
+    }
+}
+
+// A leaf that a vector closes.
+fn leaf_by(state: &State, vector: u32) -> Node {
+    Node::Leaf {
+        vector,
+        scale: match state.pricings.get(vector as usize) {
+            Some(pricing) => u64::from(pricing.scale),
+            None => 0,
+        },
+        seen: state.cost,
+    }
 }
 
 // The first entry on all alternatives.
@@ -68,27 +126,17 @@ fn whole(alloc: Global, task: &Task<'_>, state: &State) -> Result<Piece, Memory>
     })
 }
 
-// The vector that a leaf names, as a bit.
-fn named_by(node: Node) -> u128 {
-    match node {
-        Node::Leaf { vector, .. } => bit_of(vector),
-        _ => 0,
-    }
-}
-
-// The node of a piece, if there is one: a leaf, by a vector among the used ones where one of them
-// closes it; or a split, whose parts become pieces.
+// The node of a piece, if there is one: a leaf, where a vector closes it; or a split, whose parts become pieces.
 fn make(
     alloc: Global,
     task: &Task<'_>,
     state: &State,
     closers: &[u128],
     mut piece: Piece,
-    used: u128,
     pieces: &mut Vec<Piece>,
 ) -> Result<Option<Node>, Memory> {
-    if let Some(leaf) = piece.leaf(state, used) {
-        return Ok(Some(leaf));
+    if piece.closing(state) != 0 {
+        return Ok(Some(leaf_by(state, 0)));
     }
     let Some((unit, cut)) = piece.settle(alloc, task, state, closers)? else {
         return Ok(None);
@@ -162,28 +210,15 @@ pub(crate) fn bit_of(vector: u32) -> u128 {
 }
 
 impl Piece {
-    // The leaf that closes the piece, if a vector does.
-    fn leaf(&self, state: &State, used: u128) -> Option<Node> {
-        let vector = match self.closing(state, used) {
-            Some(vector) => vector,
-            None => self.closing(state, u128::MAX)?,
-        };
-        let pricing = state.pricings.get(vector as usize)?;
-        Some(Node::Leaf {
-            vector,
-            scale: u64::from(pricing.scale),
-            seen: state.cost,
-        })
-    }
-
-    // The first of these vectors that closes the piece.
-    fn closing(&self, state: &State, vectors: u128) -> Option<u32> {
+    // The vectors that close the piece, as bits.
+    fn closing(&self, state: &State) -> u128 {
+        let mut bits = 0;
         for (number, (pricing, value)) in (0..).zip(state.pricings.iter().zip(&self.values)) {
-            if vectors & bit_of(number) != 0 && pricing.closes(*value, state.cost) {
-                return Some(number);
+            if pricing.closes(*value, state.cost) {
+                bits |= bit_of(number);
             }
         }
-        None
+        bits
     }
 
     // The piece with another range of a unit, and no bounds yet.

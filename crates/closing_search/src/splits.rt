@@ -8,13 +8,34 @@ use slot_text::Memory;
 use std::alloc::Global;
 use std::num::saturating_f64_to_i64;
 
-// How many splits are looked at, after how many without a better one the rest is not, and by how
-// many pivots for each part.
-const LOOKED_AT: usize = 32;
+// How many splits are looked at, after how many without a better one the rest is not, and by how many pivots for each part.
+#[derive(Clone, Copy)]
+struct Looks {
+    most: usize,
+    idle: u32,
+    pivots: u32,
+}
 
-const LOOKED_ON: u32 = 8;
+const FEW_LOOKS: Looks = Looks {
+    most: 32,
+    idle: 8,
+    pivots: 8,
+};
 
-const LOOK_PIVOTS: u32 = 8;
+const MANY_LOOKS: Looks = Looks {
+    most: 200,
+    idle: 60,
+    pivots: 50,
+};
+
+// How the splits of a tree are looked at.
+fn looks_of(state: &State) -> Looks {
+    if state.is_thorough {
+        MANY_LOOKS
+    } else {
+        FEW_LOOKS
+    }
+}
 
 // A share that counts as the whole.
 const WHOLE: f64 = 0.999999;
@@ -43,8 +64,9 @@ pub(crate) fn best_split(
     let mut best = None;
     let mut most = -1.0;
     let mut idle: u32 = 0;
-    for candidate in candidates.iter().take(LOOKED_AT) {
-        if idle >= LOOKED_ON {
+    let looks = looks_of(state);
+    for candidate in candidates.iter().take(looks.most) {
+        if idle >= looks.idle {
             break;
         }
         let (low, high) = gains_of(alloc, task, state, open, &candidate.split, &mut part)?;
@@ -287,8 +309,9 @@ fn part_gain(
 ) -> Result<f64, Memory> {
     let enough = state.enough();
     let value = open.relaxation.value();
+    let pivots = looks_of(state).pivots;
     let work = &mut state.work;
-    let ended = part.solve_by(alloc, task.program, work, LOOK_PIVOTS, enough)?;
+    let ended = part.solve_by(alloc, task.program, work, pivots, enough)?;
     state.spend(task.program, ended);
     let most = if enough < value + MOST_GAIN {
         enough - value

@@ -71,6 +71,7 @@ pub(crate) struct State {
     pub(crate) steps: u64,
     pub(crate) work: Work,
     pub(crate) is_by_quotas: bool,
+    pub(crate) is_thorough: bool,
     // The alternatives that may be taken before any split.
     pub(crate) base: Allowed,
     // What splits gained so far.
@@ -95,6 +96,7 @@ impl State {
             steps,
             work: Work::new(alloc, task.program)?,
             is_by_quotas: !task.quotas.is_empty(),
+            is_thorough: false,
             base: allowed.copy(alloc)?,
             scores: Scores::none(alloc, task.problem.units())?,
         };
