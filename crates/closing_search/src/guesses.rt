@@ -19,8 +19,9 @@ const MOST_GUESSES: u32 = 96;
 
 const ALL_STEPS: u64 = 6_000_000_000;
 
-// The most visits and steps of the trees of a guess: one that splits by uses of quotas first; where its visits stopped it, a
-// short one by numbers alone; and where that one did not end, one by quotas with more visits.
+// The most visits and steps of the trees of a guess: one that splits by uses of quotas first; where
+// its visits stopped it, a short one by numbers alone; and where that one did not end, one by
+// quotas with more visits.
 const LIMITS: [(u32, u64); 3] = [
     (600, 1_000_000_000),
     (600, 100_000_000),
@@ -44,8 +45,8 @@ pub(crate) struct Guesses {
     steps: u64,
     // Whether the best choice is best, as far as a tree showed it that could not be listed.
     is_best: bool,
-    // How many trees the guess has had, and whether they look at more splits, for fewer vectors: after a tree that showed the
-    // best choice and could not be listed.
+    // How many trees the guess has had, and whether they look at more splits, for fewer vectors:
+    // after a tree that showed the best choice and could not be listed.
     ways: usize,
     is_thorough: bool,
     is_over: bool,

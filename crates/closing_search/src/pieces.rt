@@ -52,7 +52,8 @@ pub(crate) fn nodes_of(
     Ok(Some((nodes, used)))
 }
 
-// Lets few vectors close the leaves: in turn the one that closes most of those which none closes yet. Answers them as bits.
+// Lets few vectors close the leaves: in turn the one that closes most of those which none closes
+// yet. Answers them as bits.
 fn cover(state: &State, nodes: &mut [Node], closing: &mut [u128]) -> u128 {
     let mut used = 0;
     for _ in 0..state.pricings.len() {
@@ -90,7 +91,8 @@ fn closed_by(closing: &[u128], vector: u32) -> u32 {
     count
 }
 
-// Lets the leaves that a vector closes name it, of those that are in the list still, and takes them out of it.
+// Lets the leaves that a vector closes name it, of those that are in the list still, and takes them
+// out of it.
 fn close_leaves(state: &State, nodes: &mut [Node], closing: &mut [u128], vector: u32) {
     for (node, bits) in nodes.iter_mut().zip(closing.iter_mut()) {
         if *bits & bit_of(vector) != 0 {
@@ -126,7 +128,8 @@ fn whole(alloc: Global, task: &Task<'_>, state: &State) -> Result<Piece, Memory>
     })
 }
 
-// The node of a piece, if there is one: a leaf, where a vector closes it; or a split, whose parts become pieces.
+// The node of a piece, if there is one: a leaf, where a vector closes it; or a split, whose parts
+// become pieces.
 fn make(
     alloc: Global,
     task: &Task<'_>,

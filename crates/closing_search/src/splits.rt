@@ -8,7 +8,8 @@ use slot_text::Memory;
 use std::alloc::Global;
 use std::num::saturating_f64_to_i64;
 
-// How many splits are looked at, after how many without a better one the rest is not, and by how many pivots for each part.
+// How many splits are looked at, after how many without a better one the rest is not, and by how
+// many pivots for each part.
 #[derive(Clone, Copy)]
 struct Looks {
     most: usize,
