@@ -100,8 +100,12 @@ impl<'a, 'b, R: Wait, G: LineGate, B: Beside> Responder for Amending<'a, 'b, R, 
     ghost stopped = { λ a pass fault.
         StopsAt B.read B.broken a.ledger.now.origin.start.most pass.seen fault };
 
-    fn set_busy(&self, busy: bool) {
-        self.slices.set_busy(busy);
+    fn piece_came(&self, whole: bool) {
+        self.slices.piece_came(whole);
+    }
+
+    fn piece_done(&self, whole: bool) {
+        self.slices.piece_done(whole);
     }
 
     fn answer(

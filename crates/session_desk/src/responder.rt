@@ -57,8 +57,11 @@ pub(crate) trait Responder {
     /// What is known of a pass with which an ask was refused.
     ghost stopped: { Self → Self.Pass → AnswerFault → Type 0 };
 
-    /// Says whether the link is busy: whether more input is mostly at hand behind what was taken.
-    fn set_busy(&self, busy: bool);
+    /// A piece of input has come. Behind a whole one more is mostly at hand.
+    fn piece_came(&self, whole: bool);
+
+    /// All messages that the piece completed have been answered.
+    fn piece_done(&self, whole: bool);
 
     /// Answers the message of these lines. Its text is for the client.
     fn answer(

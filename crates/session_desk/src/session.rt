@@ -80,11 +80,13 @@ pub(crate) fn serve<R: Wait, A: Responder, L: Link>(
             Ok(0) => return end_of(&pending),
             Ok(n) => {
                 let (bytes, _) = piece.split_at(n);
-                responder.set_busy(n == LONGEST_PIECE);
+                let whole = n == LONGEST_PIECE;
+                responder.piece_came(whole);
                 match read_piece(alloc, responder, pass, link, &mut pending, bytes) {
                     Ok(()) => {}
                     Err(fault) => return Err(fault),
                 }
+                responder.piece_done(whole);
             }
         }
     }

@@ -1,9 +1,10 @@
 //! Busy links are served in time slices, round robin.
 //!
-//! A link is busy while it gives whole pieces of input, behind which more is mostly at hand. The
-//! asks of one busy link are answered for a time slice, then those of the next, so that the counts
-//! of the book stay in the cache of one processor. A link that is not busy never waits here. What is
-//! answered does not depend on time slices, so contracts do not see them.
+//! A link is busy from a whole piece of input on, behind which more is mostly at hand, until a
+//! shorter one has been answered. The asks of one busy link are answered for a time slice, then
+//! those of the next, so that the counts of the book stay in the cache of one processor. A link that
+//! is not busy never waits here. What is answered does not depend on time slices, so contracts do
+//! not see them.
 //!
 //! No link waits for ever. A ticket is drawn only by a link that then waits until its slice has
 //! come, and nobody waits here who has the turn, so no ticket in the line is without a link. Whoever
@@ -90,11 +91,22 @@ impl<'a> LinkSlices<'a> {
         }
     }
 
-    /// Says whether the link is busy. If it is not, its slice ends, if it has it.
-    pub(crate) fn set_busy(&self, busy: bool) {
-        self.busy.store(busy, Ordering::SeqCst);
+    /// A piece of input has come. From a whole one on the link is busy.
+    pub(crate) fn piece_came(&self, whole: bool) {
+        if whole {
+            self.busy.store(true, Ordering::SeqCst);
+        }
+    }
+
+    /// A piece has been answered, or the link has ended. Behind a piece that is not whole the link
+    /// is not busy, and its slice ends, if it has it.
+    pub(crate) fn piece_done(&self, whole: bool) {
+        if whole {
+            return;
+        }
+        self.busy.store(false, Ordering::SeqCst);
         let ticket = self.ticket.load(Ordering::SeqCst);
-        if !busy && self.line.is_slice_of(ticket) {
+        if self.line.is_slice_of(ticket) {
             self.line.end(ticket);
         }
     }

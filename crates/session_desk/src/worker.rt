@@ -101,7 +101,7 @@ fn serve_next<R: Wait, A: Responder, D: Door>(
         }),
         Ok(Some(mut link)) => {
             let ended = serve(rt, alloc, responder, pass, &mut link);
-            responder.set_busy(false);
+            responder.piece_done(false);
             door.finish(link);
             work_after(&ended)
         }
