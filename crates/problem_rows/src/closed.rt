@@ -4,7 +4,7 @@ ghost use Rattle.std.specs.Prelude.{IfOk, IfSome};
 ghost use Rattle.choice_problem.specs.Choices.{IsFeasible};
 
 use crate::choices::choice;
-use crate::draws::{CHOICES, Draws, drawn, numbered};
+use crate::draws::{Draws, choices_of, drawn, numbered};
 use crate::problems::problem;
 use crate::texts::{Case, number, piece, walk};
 use choice_problem::{Choice, Problem, cost_of, fits};
@@ -105,7 +105,7 @@ fn problems_are_closed(rt: HostRuntime) -> Result<(), Fail> {
 
 // The cost of the choice of a number, if it is feasible.
 fn cost_at(alloc: Global, problem: &Problem, number: u32) -> Result<Option<u64>, Fail> {
-    let choice = numbered(alloc, number)?;
+    let choice = numbered(alloc, problem, number)?;
     cost_if_feasible(alloc, problem, &choice)
 }
 
@@ -125,7 +125,7 @@ pub(crate) fn cost_if_feasible(
 /// The least cost of a feasible choice, of all that there are.
 pub(crate) fn least_cost(alloc: Global, problem: &Problem) -> Result<Option<u64>, Fail> {
     let mut least: Option<u64> = None;
-    for number in 0..CHOICES {
+    for number in 0..choices_of(problem) {
         if let Some(cost) = cost_at(alloc, problem, number)? {
             least = Some(least.map_or(cost, |other| other.min(cost)));
         }
@@ -133,8 +133,8 @@ pub(crate) fn least_cost(alloc: Global, problem: &Problem) -> Result<Option<u64>
     Ok(least)
 }
 
-// The cost that closes a problem, or that it has no choice; none where it stays open.
-fn closed_cost(ending: &Ending) -> Option<Option<u64>> {
+/// The cost that closes a problem, or that it has no choice; none where it stays open.
+pub(crate) fn closed_cost(ending: &Ending) -> Option<Option<u64>> {
     match ending {
         Ending::Open { .. } => None,
         Ending::Closed(Closed::Optimal { cost, .. }) => Some(Some(*cost)),

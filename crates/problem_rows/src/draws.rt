@@ -101,16 +101,22 @@ fn drawn_part(draws: &mut Draws) -> Option<u32> {
     }
 }
 
-/// How many choices four units have of the first four alternatives each.
-pub(crate) const CHOICES: u32 = 256;
+/// How many choices a problem has with one of the first four alternatives of each unit.
+pub(crate) fn choices_of(problem: &Problem) -> u32 {
+    let mut count: u32 = 1;
+    for _ in 0..problem.units() {
+        count = count.saturating_mul(4);
+    }
+    count
+}
 
-/// The choice of a number: a digit to the base 4 for each of four units.
-pub(crate) fn numbered(alloc: Global, number: u32) -> Result<Choice, Fail> {
-    let items = vec![in alloc;
-        number % 4,
-        number / 4 % 4,
-        number / 16 % 4,
-        number / 64 % 4,
-    ]?;
+/// The choice of a number: a digit to the base 4 for each unit of a problem.
+pub(crate) fn numbered(alloc: Global, problem: &Problem, number: u32) -> Result<Choice, Fail> {
+    let mut items = Vec::new(alloc);
+    let mut rest = number;
+    for _ in 0..problem.units() {
+        items.push(rest % 4)?;
+        rest /= 4;
+    }
     Ok(Choice::new(items))
 }

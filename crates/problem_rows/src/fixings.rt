@@ -3,7 +3,7 @@
 ghost use Rattle.price_table.specs.Tables.{IsTableFor};
 
 use crate::closed::least_cost;
-use crate::draws::{CHOICES, Draws, drawn, numbered};
+use crate::draws::{Draws, choices_of, drawn, numbered};
 use crate::problems::{problem, table_of, vector};
 use crate::texts::{Case, numbers, piece, seen, small_at, walk};
 use choice_problem::{
@@ -171,8 +171,8 @@ fn is_kept(
 }
 
 fn are_kept(alloc: Global, problem: &Problem, left: &Left, cost: u64) -> Result<bool, Fail> {
-    for number in 0..CHOICES {
-        let choice = numbered(alloc, number)?;
+    for number in 0..choices_of(problem) {
+        let choice = numbered(alloc, problem, number)?;
         if choice.is_for(problem) && !is_kept(alloc, problem, left, &choice, cost)? {
             return Ok(false);
         }

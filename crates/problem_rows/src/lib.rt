@@ -17,6 +17,8 @@ mod fixings;
 #[cfg(test)]
 mod leaves;
 #[cfg(test)]
+mod many_vectors;
+#[cfg(test)]
 mod open;
 #[cfg(test)]
 mod problems;

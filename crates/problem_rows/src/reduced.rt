@@ -1,6 +1,6 @@
 //! Reductions: which resources are kept, who uses them, and what the parts use.
 
-use crate::draws::{CHOICES, Draws, drawn, numbered};
+use crate::draws::{Draws, choices_of, drawn, numbered};
 use crate::problems::problem;
 use crate::texts::{Case, walk};
 use choice_problem::{Alt, Problem, fits};
@@ -138,7 +138,7 @@ fn fits_classes(problem: &Problem, kept: &Reduced, choice: &[u32]) -> bool {
 // Whether each choice of a drawn problem fits exactly where it is within the limits of all classes.
 fn agrees(alloc: Global, problem: &Problem) -> Result<bool, Fail> {
     let kept = Reduced::of(alloc, problem)?;
-    for number in 0..CHOICES {
+    for number in 0..choices_of(problem) {
         if !agrees_at(alloc, problem, &kept, number)? {
             return Ok(false);
         }
@@ -148,7 +148,7 @@ fn agrees(alloc: Global, problem: &Problem) -> Result<bool, Fail> {
 
 // The same of the choice of a number, if it is one.
 fn agrees_at(alloc: Global, problem: &Problem, kept: &Reduced, number: u32) -> Result<bool, Fail> {
-    let choice = numbered(alloc, number)?;
+    let choice = numbered(alloc, problem, number)?;
     if !choice.is_for(problem) {
         return Ok(true);
     }

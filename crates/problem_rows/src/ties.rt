@@ -1,6 +1,6 @@
 //! Ties of drawn problems, of which one is met after the other, beside all ties that there are.
 
-use crate::draws::{Draws, drawn};
+use crate::draws::{Draws, choices_of, drawn, numbered};
 use choice_problem::{Alt, Choice, Chooser, Part, Problem, cost_of, fits};
 use std::alloc::Global;
 use std::test::Fail;
@@ -9,31 +9,9 @@ use tied_choice::tied_choice;
 // The units of the first problem come first.
 const FIRST_UNITS: u32 = 2;
 
-// The choice of a number: a digit to the base 4 for each unit.
-fn digits(alloc: Global, problem: &Problem, number: u32) -> Result<Choice, Fail> {
-    let mut items = Vec::new(alloc);
-    let mut rest = number;
-    for _ in 0..problem.units() {
-        items.push(rest % 4)?;
-        rest /= 4;
-    }
-    Ok(Choice::new(items))
-}
-
-// How many numbers there are for a problem of up to four units.
-fn numbers_of(problem: &Problem) -> u32 {
-    match problem.units() {
-        0 => 1,
-        1 => 4,
-        2 => 16,
-        3 => 64,
-        _ => 256,
-    }
-}
-
 // The cost of the choice of a number, if it is feasible.
 fn cost_at(alloc: Global, problem: &Problem, number: u32) -> Result<Option<u64>, Fail> {
-    let choice = digits(alloc, problem, number)?;
+    let choice = numbered(alloc, problem, number)?;
     if choice.is_for(problem) && fits(alloc, problem, &choice)? {
         Ok(Some(cost_of(problem, &choice)))
     } else {
@@ -44,7 +22,7 @@ fn cost_at(alloc: Global, problem: &Problem, number: u32) -> Result<Option<u64>,
 // The lowest number of a choice that costs least, and what it costs, if there is one.
 fn least_of(alloc: Global, problem: &Problem) -> Result<Option<(u32, u64)>, Fail> {
     let mut least: Option<(u32, u64)> = None;
-    for number in 0..numbers_of(problem) {
+    for number in 0..choices_of(problem) {
         if let Some(cost) = cost_at(alloc, problem, number)? {
             if least.is_none_or(|(_, other)| cost < other) {
                 least = Some((number, cost));
@@ -180,9 +158,9 @@ fn best_after(
     cost: u64,
 ) -> Result<Option<u64>, Fail> {
     let mut best: Option<u64> = None;
-    for number in 0..numbers_of(first) {
+    for number in 0..choices_of(first) {
         if cost_at(alloc, first, number)? == Some(cost) {
-            let choice = digits(alloc, first, number)?;
+            let choice = numbered(alloc, first, number)?;
             best = lesser(best, cost_after(alloc, both, &choice)?);
         }
     }
@@ -224,7 +202,7 @@ fn meet_next(
     number: u32,
     cost: u64,
 ) -> Result<Option<Costs>, Fail> {
-    let chosen = digits(alloc, first, number)?;
+    let chosen = numbered(alloc, first, number)?;
     let Some(before) = cost_after(alloc, both, &chosen)? else {
         return Ok(None);
     };
@@ -276,7 +254,7 @@ fn tie_before(
     if !chosen.is_for(first) || !fits(alloc, first, chosen)? {
         return Ok(None);
     }
-    let next_chosen = digits(alloc, next, number)?;
+    let next_chosen = numbered(alloc, next, number)?;
     let is_first = first_marks(alloc, both)?;
     let tie = tied_choice(alloc, first, chosen, next, &next_chosen, both, &is_first)?;
     Ok(tie)

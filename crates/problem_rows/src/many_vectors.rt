@@ -1,0 +1,88 @@
+//! Drawn problems whose trees take more vectors than a list may have: what fixings leave closes
+//! them.
+
+use crate::closed::{closed_cost, least_cost};
+use crate::draws::Draws;
+use choice_problem::{Alt, Chooser, Part, Problem, Strip};
+use closing_search::{Closed, Ending, closing_search};
+use std::alloc::Global;
+use std::test::Fail;
+
+// How many of the drawn problems a fixing closes, at least.
+const FIXED: u32 = 15;
+
+// A part that uses up to 9 of each of six resources.
+fn drawn_part(alloc: Global, draws: &mut Draws) -> Result<Part, Fail> {
+    let mut strips = Vec::new(alloc);
+    for first in 0..6 {
+        strips.push(Strip {
+            first,
+            width: 1,
+            gap: 0,
+            times: draws.below(10) as u32,
+        })?;
+    }
+    Ok(Part::new(strips))
+}
+
+// A unit with three alternatives of a part each, which cost up to 2, and one without a part, which
+// costs 9.
+fn drawn_unit(alloc: Global, draws: &mut Draws) -> Result<Chooser, Fail> {
+    let mut parts = Vec::new(alloc);
+    let mut alts = Vec::new(alloc);
+    for part in 0..3 {
+        parts.push(drawn_part(alloc, draws)?)?;
+        alts.push(Alt {
+            cost: draws.below(3),
+            one: Some(part),
+            two: None,
+        })?;
+    }
+    alts.push(Alt {
+        cost: 9,
+        one: None,
+        two: None,
+    })?;
+    if !Chooser::allows(&parts, &alts) {
+        return Err("unit".into());
+    }
+    Ok(Chooser::new(parts, alts))
+}
+
+// Six units, and 16 of each resource: of 27 that they use in the mean.
+fn drawn_tight(alloc: Global, draws: &mut Draws) -> Result<Problem, Fail> {
+    let mut units = Vec::new(alloc);
+    for _ in 0..6 {
+        units.push(drawn_unit(alloc, draws)?)?;
+    }
+    let limits = vec![in alloc; 16; 6]?;
+    if !Problem::allows(&units, &limits) {
+        return Err("problem".into());
+    }
+    Ok(Problem::new(units, limits))
+}
+
+fn has_fixing(ending: &Ending) -> bool {
+    match ending {
+        Ending::Closed(Closed::Optimal { fixing, .. }) => fixing.is_some(),
+        _ => false,
+    }
+}
+
+#[test]
+fn problems_of_many_vectors_are_closed(rt: HostRuntime) -> Result<(), Fail> {
+    let alloc = rt.alloc();
+    let mut draws = Draws { last: 7 };
+    let mut fixed: u32 = 0;
+    for number in 0..100 {
+        let problem = drawn_tight(alloc, &mut draws)?;
+        let ending = closing_search(alloc, &problem, None, 1_000)?;
+        let want = least_cost(alloc, &problem)?;
+        assert!(rt; closed_cost(&ending) == Some(want), "{number}");
+        if has_fixing(&ending) {
+            fixed = fixed.saturating_add(1);
+        }
+    }
+    assert!(rt; fixed >= FIXED, "{fixed}");
+    Ok(())
+}
