@@ -34,8 +34,8 @@ pub record AreStageVectors (p : ProblemView) (vectors : List (List Price)) : Typ
   pub few_prices : price_count (drop 1 vectors) ≤ MOST_PRICES
 
 -- A whole tree, sound for the cost of a feasible choice, or for none without one: it proves the
--- mark, by whatever search it was found. Where there is a fixing, it holds, and the tree is one of the
--- problem that it leaves
+-- mark, by whatever search it was found. Where there is a fixing, it holds, and the tree is one of
+-- the problem that it leaves
 pub record IsClosedEnd (p : ProblemView) (vectors : List (List Price)) (fixing : Option Fixing)
     (cost : Option ℕ) (best : Option (List ℕ)) (tree : List Node) : Type 0 where
   pub found : IsBestFound p cost best
@@ -52,8 +52,8 @@ pub record IsOpenEnd (p : ProblemView) (vectors : List (List Price)) (cost : Opt
   pub root : 1 ≤ length vectors
   pub undone : IsWhole tree → ⊥
 
--- a stage's search ends with a tree that proves its mark, or with a driven one; there is a fixing at
--- most where a best choice was found
+-- a stage's search ends with a tree that proves its mark, or with a driven one; there is a fixing
+-- at most where a best choice was found
 abbrev pub IsStageEndBy : ProblemView → Option Fixing → Outcome → Type 0
 IsStageEndBy p fixing (ends.Optimal choice cost tree vectors) =
     IsClosedEnd p vectors fixing (Some cost) (Some choice) tree
@@ -94,8 +94,8 @@ pub record IsLeastOf (cost : Option ℕ) (numbers : List ℕ) (least : ℕ) : Ty
   pub below : All (λ n. least ≤ n) numbers
   pub reached : (cost ≡ Some least) ⊎ Contains numbers least
 
--- each undone node has the greatest floor that these vectors give on its ranges, and the bound is the
--- least of the cost and of the floors
+-- each undone node has the greatest floor that these vectors give on its ranges, and the bound is
+-- the least of the cost and of the floors
 pub record AreStated (p : ProblemView) (vectors : List (List Price)) (cost : Option ℕ)
     (tree : List Node) (floors : List Floor) (bound : Option ℕ) : Type 0 where
   pub greatest : AllZip (IsGreatestFloor p vectors) (undone_ranges p tree) floors

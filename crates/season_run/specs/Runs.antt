@@ -32,8 +32,8 @@ use Rattle.season_run.specs.Searches.{IsEndOfSearches, listed_vectors}
 
 -- An OPEN stage has a driven tree, with exactly as many nodes as the budget and with undone nodes.
 -- Its vectors are those of its search, the root vector first, up to the last one that it names; its
--- floors are the greatest that all vectors of the search give, and its bound is the least of them and
--- of its cost.
+-- floors are the greatest that all vectors of the search give, and its bound is the least of them
+-- and of its cost.
 pub record IsOpenStage (p : ProblemView) (budget : ℕ) (searched : List (List Price))
     (c : StageCert) : Type 0 where
   pub spent : node_count c.tree ≡ budget
@@ -51,16 +51,16 @@ OpensAs p budget searched c Infeasible = Unit {0}
 OpensAs p budget searched c Unsettled = IsOpenStage p budget searched c
 OpensAs p budget searched c NotTried = ⊥
 
--- with a small budget the tree is driven, whatever the mark is, and one of the whole problem; and the
--- first vector, if there is one, is the root vector
+-- with a small budget the tree is driven, whatever the mark is, and one of the whole problem; and
+-- the first vector, if there is one, is the root vector
 pub record IsSmallRun (p : ProblemView) (c : StageCert) : Type 0 where
   pub unfixed : c.fixing ≡ None
   pub driven : IsDriven p c.vectors c.cost c.tree
   pub root : 0 < length c.vectors → IsRootVector p (vector_at c.vectors 1)
 
--- The stage is made of the end of the problem's searches, each of which goes on from the best choice
--- that the searches before it found. Its tree has at most the budget's nodes, and no vector is listed
--- behind the last one that is named.
+-- The stage is made of the end of the problem's searches, each of which goes on from the best
+-- choice that the searches before it found. Its tree has at most the budget's nodes, and no vector
+-- is listed behind the last one that is named.
 pub record IsStageRun (p : ProblemView) (budget : ℕ) (c : StageCert) : Type 0 where
   pub proof : IsProof p c
   pub nodes : node_count c.tree ≤ budget
@@ -110,9 +110,9 @@ version_for [] = 2
 version_for (c ∷ certs) = option_map_or (λ f. 3) c.fixing (version_for certs)
 
 -- The certificate of a run: of version 2, or 3 where some stage has a fixing, and valid, so that a
--- stage is NOT TRIED exactly where stage 1 or stage 2 before it has no allotment and each other stage
--- has a proof; each stage that was tried ended within the budget; and each stage is within the limits
--- of a season's stages.
+-- stage is NOT TRIED exactly where stage 1 or stage 2 before it has no allotment and each other
+-- stage has a proof; each stage that was tried ended within the budget; and each stage is within
+-- the limits of a season's stages.
 pub record IsRun (s : SubmissionView) (budget : ℕ) (c : Certificate) : Type 0 where
   pub version : c.version ≡ version_for c.stages
   pub valid : IsValid s c

@@ -1,5 +1,5 @@
--- Which searches the problem of a stage gets, and what each hands on to the next one: the best choice
--- that is known, and a vector.
+-- Which searches the problem of a stage gets, and what each hands on to the next one: the best
+-- choice that is known, and a vector.
 use Rattle.std.specs.Prelude.{◌≡◌, ◌⊎◌, ℕ, ◌<◌, ◌≤◌, List, [], ◌∷◌, Option, Some, None, IfSome}
 use Rattle.choice_problem.specs.declared.vectors.Price.{Price}
 use Rattle.choice_problem.specs.Problems.{ProblemView, unit_count}
@@ -49,9 +49,9 @@ pub record IsVisitedEnd (p : ProblemView) (given : List (List Price)) (budget : 
   pub outcome : IsOutcome p given budget end.outcome
   pub whole : end.fixing ≡ None
 
--- What follows a search by free splits. Where it closed the problem, that is the end; else the search
--- by visits has the whole budget, from the best choice that is known by then and with a vector of the
--- relaxation
+-- What follows a search by free splits. Where it closed the problem, that is the end; else the
+-- search by visits has the whole budget, from the best choice that is known by then and with a
+-- vector of the relaxation
 abbrev pub FollowsFree : ProblemView → ℕ → Ending → StageEnd → Type 0
 FollowsFree p budget (free.Closed answer) end = end ≡ closed_end answer
 FollowsFree p budget (free.Open best vector) end = IsVisitedEnd p (vector ∷ []) budget end
@@ -65,17 +65,17 @@ pub record IsFreeSearch (p : ProblemView) (budget : ℕ) (known : Option (List �
   pub keeps : IfSome known (λ x. EndsAtMost p (choice_cost p x) ending)
   pub follows : FollowsFree p budget ending end
 
--- first a search by 64 visits; where it leaves nodes undone, a search by free splits from the choice
--- that it found, if any
+-- first a search by 64 visits; where it leaves nodes undone, a search by free splits from the
+-- choice that it found, if any
 pub record IsSmallFirst (p : ProblemView) (budget : ℕ) (end : StageEnd) : Type 0 where
   pub first : Outcome
   pub visits : IsOutcome p [] 64 first
   pub follows : (IsSettled first × (end ≡ visited_end first))
       ⊎ ((IsSettled first → ⊥) × IsFreeSearch p budget (found_choice first) end)
 
--- The end of the searches of a problem. With a budget of at most 64 there is one, by visits and with
--- no vectors of other searches. With a greater one, a problem of at most 64 units is first given to 64
--- visits, and a larger one at once to free splits
+-- The end of the searches of a problem. With a budget of at most 64 there is one, by visits and
+-- with no vectors of other searches. With a greater one, a problem of at most 64 units is first
+-- given to 64 visits, and a larger one at once to free splits
 pub record IsEndOfSearches (p : ProblemView) (budget : ℕ) (end : StageEnd) : Type 0 where
   pub small : budget ≤ 64 → IsVisitedEnd p [] budget end
   pub few_units : 64 < budget → unit_count p ≤ 64 → IsSmallFirst p budget end

@@ -101,8 +101,8 @@ IsDrivenEnd p (ends.Infeasible tree vectors) = IsDrivenBy p vectors None tree
 IsDrivenEnd p (ends.Spent best tree vectors) =
     IsDrivenBy p vectors (option_map (choice_cost p) best) tree
 
--- what the trial of a stage gives: an end of a search within the budget, that of a driven tree where
--- the budget is small, and a whole tree where the budget is enough for the problem's choices
+-- what the trial of a stage gives: an end of a search within the budget, that of a driven tree
+-- where the budget is small, and a whole tree where the budget is enough for the problem's choices
 pub record IsTrialEnd (p : ProblemView) (budget : ℕ) (end : StageEnd) : Type 0 where
   pub ended : IsStageEnd p end
   pub nodes : TakesNodes budget end.outcome
@@ -118,7 +118,8 @@ pub record FitsSeason (c : StageCert) : Type 0 where
   pub printable : IsPrintableStage 3 c
   pub limits : IsWithinLimits c
 
--- the stages so far, each after the choices of those before it: what is still to come completes them
+-- the stages so far, each after the choices of those before it: what is still to come completes
+-- them
 pub record AreRunSoFar (s : SubmissionView) (budget stage : ℕ) (states : List UnitState)
     (follows : Bool) (certs : List StageCert) : Type 0 where
   pub earlier : List (Option (List ℕ))
