@@ -1,4 +1,5 @@
--- What a stage of a waiting list proves of the slots that a book leaves, and what a check of it says.
+-- What a stage of a waiting list proves of the slots that a book leaves, and what a check of it
+-- says.
 use Rattle.std.specs.Prelude.{ℕ, List, ◌++◌}
 use Rattle.season_days.specs.Capacity.{capacity_of}
 use Rattle.scr_reader.specs.declared.line.Line.{Line}
@@ -21,8 +22,8 @@ use Rattle.wait_list.specs.Waiting.{waiting_units, waiting_terms, IsWaitingProbl
 
 -- ---- allotments
 
--- one alternative for each waiting line, and no resource holds more of their movements than the book
--- leaves
+-- one alternative for each waiting line, and no resource holds more of their movements than the
+-- book leaves
 abbrev pub IsWaitingAllotment : SlotBook → List Line → List Times → Type 0
 IsWaitingAllotment b lines times =
     IsFeasibleAllotment (waiting_terms b.declaration) (waiting_units lines) (left_of b) times

@@ -1,5 +1,5 @@
--- The waiting list of a book: the asks for new slots that were answered that there are none, and the
--- problem of what they can still be given beside the book.
+-- The waiting list of a book: the asks for new slots that were answered that there are none, and
+-- the problem of what they can still be given beside the book.
 use Rattle.std.specs.Prelude.{ℕ, ◌||◌, not, nat_lt, Bool, if◌then◌else◌, List, [], ◌∷◌, ◌++◌, length, map, drop, slice_get, slice_index_or, option_map, Option, Some, None, Result, Ok, Err}
 use Rattle.std.specs.Option.{unwrap_or}
 use Rattle.std.specs.List.{list_any}
@@ -54,8 +54,8 @@ waiting_after b waiting (entry ∷ history) =
     waiting_after b (with_line b waiting (unmet_line entry)) history
 
 -- The lines that wait at the end of a history, beside the book that it left: of the unmet asks in
--- their order each that clashes with no holding and with no line kept before it. An ask whose flight
--- came into the book later waits no more.
+-- their order each that clashes with no holding and with no line kept before it. An ask whose
+-- flight came into the book later waits no more.
 unfoldable pub waiting_lines : SlotBook → List Entry → List Line
 waiting_lines b history = waiting_after b [] history
 

@@ -23,8 +23,8 @@ use std::thread::Threads;
 use worker_gate::Gate;
 
 /// Searches the problem of the waiting stage as a stage of a season is searched: of at most
-/// `budget` nodes, with so many workers, each of which passes the gate before a visit. What it gives
-/// can be printed as one more stage, and has a proof.
+/// `budget` nodes, with so many workers, each of which passes the gate before a visit. What it
+/// gives can be printed as one more stage, and has a proof.
 pub fn reclear<R: Threads + Sync, G: Gate>(
     rt: &R,
     alloc: Global,
