@@ -1,4 +1,5 @@
--- Lists of places of resources that are looked at, each as often as it comes. Contracts of private functions alone cite them.
+-- Lists of places of resources that are looked at, each as often as it comes. Contracts of private
+-- functions alone cite them.
 use Rattle.std.specs.Prelude.{◌≡◌, ℕ, ◌+◌, ◌<◌, ◌≤◌, ◌==◌, List, length, slice_index, count_by}
 
 -- how often the number comes in the list

@@ -70,12 +70,14 @@ IsClosingLeaf p root further ranges seen node.Undone = ⊥
 abbrev pub NoneOver : ProblemView → List (ℕ × ℕ) → Type 0
 NoneOver p ranges = (r : ℕ) → r < resource_count p → IsOver p ranges r → ⊥
 
--- nothing that goes without prices closes the ranges: no resource is over, and vector 0 does not close
+-- nothing that goes without prices closes the ranges: no resource is over, and vector 0 does not
+-- close
 pub record NeedsPrices (p : ProblemView) (ranges : List (ℕ × ℕ)) (seen : Option ℕ) : Type 0 where
   pub none_over : NoneOver p ranges
   pub no_zero : Closes p ranges [] 1 seen → ⊥
 
--- the closing leaf: of the lowest resource that is over, where there is one, and else of the first vector that closes
+-- the closing leaf: of the lowest resource that is over, where there is one, and else of the first
+-- vector that closes
 abbrev pub ClosesBy : ProblemView → List Price → List (List Price) → List (ℕ × ℕ) → Option ℕ →
     Node → Type 0
 ClosesBy p root further ranges seen (node.Over r) = IsFirstOver p ranges r
@@ -84,7 +86,8 @@ ClosesBy p root further ranges seen (node.Leaf vector scale recorded) =
 ClosesBy p root further ranges seen (node.Split unit cut recorded) = ⊥
 ClosesBy p root further ranges seen node.Undone = ⊥
 
--- the choice of each unit's first cheapest alternative fits, and its leaf is vector 0 at scale 1 with its cost
+-- the choice of each unit's first cheapest alternative fits, and its leaf is vector 0 at scale 1
+-- with its cost
 pub record IsFound (p : ProblemView) (ranges : List (ℕ × ℕ)) (x : List ℕ)
     (leaf : Node) : Type 0 where
   pub cheapest : IsCheapest p ranges x
@@ -104,7 +107,8 @@ IsFoundOrSplit p ranges (answer.Close leaf) = ⊥
 IsFoundOrSplit p ranges (answer.Found x leaf) = IsFound p ranges x leaf
 IsFoundOrSplit p ranges (answer.Split unit cut) = IsSplit p ranges unit cut
 
--- the answer of a visit with what was seen, the root vector and further vectors: the first case that applies
+-- the answer of a visit with what was seen, the root vector and further vectors: the first case
+-- that applies
 abbrev pub IsVisit : ProblemView → List Price → List (List Price) → List (ℕ × ℕ) → Option ℕ →
     Visit → Type 0
 IsVisit p root further ranges seen (answer.Close leaf) = ClosesBy p root further ranges seen leaf

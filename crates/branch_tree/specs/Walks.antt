@@ -37,8 +37,8 @@ abbrev pub AreLimitsAt : ProblemView → List ℕ → List ℕ → Type 0
 AreLimitsAt p listed limits = (i : ℕ) → i < length listed → slice_index limits i
     ≡ limit_of p (slice_index listed i)
 
--- what a walk keeps of its ranges: each unit's first cheapest alternative, what these cost, what they use and the least
--- loads, both of the listed resources, and room to count in
+-- what a walk keeps of its ranges: each unit's first cheapest alternative, what these cost, what
+-- they use and the least loads, both of the listed resources, and room to count in
 pub record IsKept (p : ProblemView) (ranges : List (ℕ × ℕ)) (alts : List ℕ) (cost : ℕ)
     (loads least zeros listed : List ℕ) : Type 0 where
   pub valid : AreRanges p ranges
@@ -54,8 +54,9 @@ pub record IsKept (p : ProblemView) (ranges : List (ℕ × ℕ)) (alts : List �
   pub zeros_count : length zeros ≡ length listed
   pub zeros_are : AreZero zeros
 
--- the same, where each resource that can be passed is listed or equal to a lower listed one, with the ranks and
--- limits of the listed resources, and what each unit uses of them whatever it takes of its range
+-- the same, where each resource that can be passed is listed or equal to a lower listed one, with
+-- the ranks and limits of the listed resources, and what each unit uses of them whatever it takes
+-- of its range
 pub record IsKeptWith (p : ProblemView) (ranges : List (ℕ × ℕ)) (alts : List ℕ) (cost : ℕ)
     (loads least zeros passable ranks limits : List ℕ) (lists : List (List ℕ)) : Type 0 where
   pub kept : IsKept p ranges alts cost loads least zeros passable
