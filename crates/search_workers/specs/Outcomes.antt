@@ -32,8 +32,8 @@ pub record AreFurther (p : ProblemView) (vectors : List (List Price)) : Type 0 w
   pub few_prices : price_count vectors ≤ MOST_PRICES
 
 -- at most 64 vectors for the problem, of which the first is the root vector and the others together
--- have at most 1,000,000 prices. Those that were handed in follow the root vector, as far as the list
--- goes
+-- have at most 1,000,000 prices. Those that were handed in follow the root vector, as far as the
+-- list goes
 pub record AreListed (p : ProblemView) (given vectors : List (List Price)) : Type 0 where
   pub few : length vectors ≤ MOST_VECTORS
   pub each : All (IsVector p) vectors
@@ -68,8 +68,8 @@ abbrev pub IsJoinedBy : List (List Price) → List Price → List (List Price) �
 IsJoinedBy vectors vector after = (HasRoomFor vectors vector × (after ≡ vectors ++ vector ∷ []))
     ⊎ ((HasRoomFor vectors vector → ⊥) × (after ≡ vectors))
 
--- a round that ended with this tree, of fewer visits than the budget and with undone nodes, gives the
--- vector of the first of these
+-- a round that ended with this tree, of fewer visits than the budget and with undone nodes, gives
+-- the vector of the first of these
 pub record IsRoundVector (p : ProblemView) (budget : ℕ) (tree : List Node)
     (vector : List Price) : Type 0 where
   pub visits_left : node_count tree < budget
@@ -78,8 +78,8 @@ pub record IsRoundVector (p : ProblemView) (budget : ℕ) (tree : List Node)
   pub undone : open_ranges (whole_of p ∷ []) tree ≡ first ∷ others
   pub vector_is : IsNodeVector p first vector
 
--- the list after all rounds that ended with these trees, each of more nodes than the one before: each
--- of them was joined by its vector
+-- the list after all rounds that ended with these trees, each of more nodes than the one before:
+-- each of them was joined by its vector
 abbrev pub AreJoined : ProblemView → ℕ → ℕ → List (List Price) → List (List Node) →
     List (List Price) → Type 0
 AreJoined p budget nodes vectors [] after = after ≡ vectors
@@ -107,8 +107,8 @@ pub record AreNamedOf (p : ProblemView) (given : List (List Price)) (budget : �
   pub last : EndsAtNamed vectors tree
 
 -- What a search with a budget of visits answers. Best and none: the whole tree proves it, and the
--- vectors are listed that it names. Spent: as many visits were made as the budget has, and some node
--- is undone; all vectors of the search are listed
+-- vectors are listed that it names. Spent: as many visits were made as the budget has, and some
+-- node is undone; all vectors of the search are listed
 abbrev pub IsOutcome : ProblemView → List (List Price) → ℕ → Outcome → Type 0
 IsOutcome p given budget (Optimal choice cost tree vectors) =
     IsSearched p given vectors (Some cost) (Some choice) tree × IsWhole tree

@@ -36,7 +36,8 @@ shares (w ∷ ws) = w.seat.view.share + shares ws
 abbrev pub AreApart : List ℕ → Type 0
 AreApart pieces = (x : ℕ) → count_by (λ y. y == x) pieces ≤ 1
 
--- the tree before some visits became the tree after them, as many as numbers were taken, and the least cost did not rise
+-- the tree before some visits became the tree after them, as many as numbers were taken, and the
+-- least cost did not rise
 pub record AreVisitsMade (s : Setting) (taken : ℕ) (was cost : Option ℕ) (best : Option (List ℕ))
     (before tree : List Node) : Type 0 where
   pub so_far : IsSoFar s cost best tree
@@ -50,7 +51,8 @@ pub record IsRound (s : Setting) (rest taken : ℕ) (was cost : Option ℕ) (bes
   pub within : taken ≤ rest
   pub progress : (taken ≡ rest) ⊎ (1 ≤ taken)
 
--- a round that ended with this tree: its vector joined the list, or no visit is left or no node undone
+-- a round that ended with this tree: its vector joined the list, or no visit is left or no node
+-- undone
 abbrev pub IsRoundJoined : ProblemView → ℕ → List Node → List (List Price) → List (List Price) →
     Type 0
 IsRoundJoined p budget tree vectors after =

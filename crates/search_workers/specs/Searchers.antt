@@ -27,8 +27,8 @@ HasProgress view nodes = (view.no_number_left ≡ true) ⊎ (1 ≤ node_count no
 abbrev pub pieces_of : List Done → List ℕ
 pieces_of done = map (λ d. d.piece) done
 
--- What a worker has: its nodes are those of the trees that it made, each on the ranges of its piece. A tree has a node that
--- counts, unless no number was left.
+-- What a worker has: its nodes are those of the trees that it made, each on the ranges of its
+-- piece. A tree has a node that counts, unless no number was left.
 pub record IsSearcher (s : Setting) (pieces : List (List (ℕ × ℕ))) (view : View) (cost : Option ℕ)
     (best : Option (List ℕ)) (done : List Done) : Type 0 where
   pub work : IsWork s view.worker best (made done)

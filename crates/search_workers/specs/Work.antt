@@ -20,9 +20,9 @@ abbrev pub IsRecorded : Option ℕ → List Node → Type 0
 IsRecorded None nodes = Unit {0}
 IsRecorded (Some cost) nodes = (node : Node) × Contains nodes node × Records (Some cost) node
 
--- What a worker has done: the nodes that it entered, in whatever trees they stand, and the best choice that it found. What
--- it posted is the cost of that choice and is recorded; no node records less than it has seen; each number that it took is
--- one node.
+-- What a worker has done: the nodes that it entered, in whatever trees they stand, and the best
+-- choice that it found. What it posted is the cost of that choice and is recorded; no node records
+-- less than it has seen; each number that it took is one node.
 pub record IsWork (s : Setting) (w : Worker) (best : Option (List ℕ))
     (nodes : List Node) : Type 0 where
   pub found : IsBestFound s.problem w.best best
@@ -55,7 +55,8 @@ IsKeeping p (Some x) v w cost after best kept = Posted v (choice_cost p x) w
     × (after ≡ lesser cost (Some (choice_cost p x)))
     × (kept ≡ lesser_choice cost (Some (choice_cost p x)) best (Some x))
 
--- the nodes of the tree are undone or of the list, those of the list are in the tree but for undone ones, and as many count
+-- the nodes of the tree are undone or of the list, those of the list are in the tree but for undone
+-- ones, and as many count
 pub record IsMadeOf (tree nodes : List Node) : Type 0 where
   pub from_list : (node : Node) → Contains tree node → (node ≡ Undone) ⊎ Contains nodes node
   pub in_tree : (node : Node) → Contains nodes node → (node ≡ Undone) ⊎ Contains tree node
@@ -66,7 +67,8 @@ abbrev pub all_nodes : List (List Node) → List Node
 all_nodes [] = []
 all_nodes (tree ∷ trees) = tree ++ all_nodes trees
 
--- The search so far: a best choice and its cost, and a tree on all alternatives that is driven for the cost
+-- The search so far: a best choice and its cost, and a tree on all alternatives that is driven for
+-- the cost
 pub record IsSoFar (s : Setting) (cost : Option ℕ) (best : Option (List ℕ))
     (tree : List Node) : Type 0 where
   pub found : IsBestFound s.problem cost best
@@ -80,7 +82,8 @@ with_undone_parts (Leaf vector scale seen) = Leaf vector scale seen ∷ []
 with_undone_parts (Over resource) = Over resource ∷ []
 with_undone_parts Undone = Undone ∷ []
 
--- what is known at the start: the cost of the greedy choice, and the best choice with its cost, from the greedy one down
+-- what is known at the start: the cost of the greedy choice, and the best choice with its cost,
+-- from the greedy one down
 pub record IsStart (p : ProblemView) (start : Start) : Type 0 where
   pub greedy_is : IsGreedyCost p start.greedy
   pub found : IsBestFound p start.cost start.best

@@ -47,8 +47,8 @@ pub(crate) fn look(
     }
 }
 
-// Where no cost is known, the leaf of the first vector that was handed in and closes the ranges at scale 0: there is no
-// feasible choice within them.
+// Where no cost is known, the leaf of the first vector that was handed in and closes the ranges at
+// scale 0: there is no feasible choice within them.
 fn leaf_without_cost(task: &Task<'_>, ranges: &Ranges, seen: Option<u64>) -> Option<Node>
     requires { AreRanges task.now.problem ranges.now }
     ensures { IfSome result (λ leaf. IsLook task.now ranges.now seen leaf None) }

@@ -58,8 +58,8 @@ fn with_undone_parts(alloc: Global, node: Node) -> Result<Vec<Node>, Memory>
     Ok(tree)
 }
 
-// Visits open parts, the shallowest first, until enough are open, none is, or the budget is spent. It says how many visits
-// there were in all.
+// Visits open parts, the shallowest first, until enough are open, none is, or the budget is spent.
+// It says how many visits there were in all.
 pub(crate) fn open_parts<'a>(
     alloc: Global,
     task: &Task<'a>,

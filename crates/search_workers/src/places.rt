@@ -12,7 +12,8 @@ use price_table::{Totals, set_kept, totals_of};
 use slot_text::Memory;
 use std::alloc::Global;
 
-// A walk, and the totals of each vector at its ranges: what a visit asks is kept while the ranges change.
+// A walk, and the totals of each vector at its ranges: what a visit asks is kept while the ranges
+// change.
 #[derive(Drop)]
 pub(crate) struct Place<'a> {
     pub(crate) walk: Walk<'a>,

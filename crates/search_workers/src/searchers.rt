@@ -30,8 +30,8 @@ pub(crate) struct Done {
     pub(crate) tree: Vec<Node>,
 }
 
-// A worker: its number, its seat at the board, the best choice that it found with its cost, the trees that it made, and
-// whether it wanted memory.
+// A worker: its number, its seat at the board, the best choice that it found with its cost, the
+// trees that it made, and whether it wanted memory.
 #[derive(Drop)]
 pub(crate) struct Searcher {
     pub(crate) number: u32,
@@ -133,7 +133,8 @@ impl Searcher {
         Ok(())
     }
 
-    // Posts the cost of a choice that was found, and keeps the choice if it is cheaper than the best one.
+    // Posts the cost of a choice that was found, and keeps the choice if it is cheaper than the
+    // best one.
     fn keep_found(&mut self, board: &Board, problem: &Problem, found: Option<Choice>)
         requires own { IsSeatOf board.now self.old.seat }
         requires found { IfSome found (IsFeasible problem.now) }
@@ -170,7 +171,8 @@ impl Searcher {
         self.best = Some(choice);
     }
 
-    // Visits until the tree is done, no number is left, or there were as many visits as one piece gets.
+    // Visits until the tree is done, no number is left, or there were as many visits as one piece
+    // gets.
     fn visit_on<'a, G: Gate>(
         &mut self,
         alloc: Global,
@@ -275,7 +277,8 @@ impl Searcher {
     {
         let walk = task.walk_at(alloc, pieces[0].copy(alloc)?)?;
         let mut place = Place::new(alloc, task, walk)?;
-        // Pieces are claimed in rising order: those below this number are gone, so that the loop ends.
+        // Pieces are claimed in rising order: those below this number are gone, so that the loop
+        // ends.
         let mut _next = 0u64;
         while let Some(piece) = self.seat.claim(board) {
             self.search_piece(alloc, gate, board, task, &mut place, pieces, piece)?;

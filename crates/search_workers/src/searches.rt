@@ -34,11 +34,13 @@ use std::alloc::Global;
 use std::thread::Threads;
 use worker_gate::Gate;
 
-/// Searches a problem with at most `budget` visits, by `workers` workers on threads of their own, from the greedy choice.
-/// Each worker passes `gate` before a visit. Where no thread can be made, the workers go one after another.
+/// Searches a problem with at most `budget` visits, by `workers` workers on threads of their own,
+/// from the greedy choice. Each worker passes `gate` before a visit. Where no thread can be made,
+/// the workers go one after another.
 ///
-/// Memory: for each worker, and twice more, what a `Walk` takes; for each worker 24 bytes a unit and a vector, and the ranges
-/// of its open parts; for each vector a price table; and the tree twice, at 24 bytes a node.
+/// Memory: for each worker, and twice more, what a `Walk` takes; for each worker 24 bytes a unit
+/// and a vector, and the ranges of its open parts; for each vector a price table; and the tree
+/// twice, at 24 bytes a node.
 pub fn search<R: Threads + Sync, G: Gate>(
     rt: &R,
     alloc: Global,
@@ -55,9 +57,9 @@ pub fn search<R: Threads + Sync, G: Gate>(
     search_from(rt, alloc, problem, budget, workers, gate, None, none)
 }
 
-/// The same from the cheaper of the greedy choice and one that is handed in, whose cost the first visit records, and with
-/// further vectors, which have the numbers from 2 on. Where no choice is known, they are also tried at scale 0 on ranges
-/// that a visit would split.
+/// The same from the cheaper of the greedy choice and one that is handed in, whose cost the first
+/// visit records, and with further vectors, which have the numbers from 2 on. Where no choice is
+/// known, they are also tried at scale 0 on ranges that a visit would split.
 pub fn search_from<R: Threads + Sync, G: Gate>(
     rt: &R,
     alloc: Global,
@@ -91,7 +93,8 @@ pub fn search_from<R: Threads + Sync, G: Gate>(
     )
 }
 
-// What is answered where no visit may be made: the greedy choice, if there is one, and nothing searched.
+// What is answered where no visit may be made: the greedy choice, if there is one, and nothing
+// searched.
 fn unvisited(
     alloc: Global,
     problem: &Problem,

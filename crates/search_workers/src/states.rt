@@ -17,7 +17,8 @@ pub(crate) struct State {
     pub(crate) best: Option<Choice>,
 }
 
-// What is known before the first visit: the cost of the greedy choice, and the best choice with its cost.
+// What is known before the first visit: the cost of the greedy choice, and the best choice with its
+// cost.
 #[derive(Drop)]
 pub(crate) struct Start {
     pub(crate) greedy: Option<u64>,

@@ -13,9 +13,9 @@ use slot_text::Memory;
 use std::alloc::Global;
 use std::marker::Model;
 
-// A walk of the problem, from which those of the workers are copied, the cost of the greedy choice, and the tables of the
-// vectors: the root vector, those that were handed in, and those that rounds added. Contracts see the problem, the cost
-// and the vectors.
+// A walk of the problem, from which those of the workers are copied, the cost of the greedy choice,
+// and the tables of the vectors: the root vector, those that were handed in, and those that rounds
+// added. Contracts see the problem, the cost and the vectors.
 #[derive(Drop)]
 pub(crate) struct Task<'a> {
     walk: Walk<'a>,
