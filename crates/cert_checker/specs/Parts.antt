@@ -37,8 +37,8 @@ bound_part p c = bound_tests c.bound ++ vectors_part p c
 abbrev pub cost_part : ProblemView → StageCert → List (List Test)
 cost_part p c = cost_tests c.cost ++ bound_part p c
 
--- a stage without its fixing: the tests of its tree on the problem that the fixing leaves are those of
--- this one
+-- a stage without its fixing: the tests of its tree on the problem that the fixing leaves are those
+-- of this one
 abbrev pub unfixed : StageCert → StageCert
 unfixed c = record c { fixing = None }
 

@@ -1,4 +1,5 @@
-//! The line of a stage's tree, and the lines of its nodes, on the problem that the tree is a tree of.
+//! The line of a stage's tree, and the lines of its nodes, on the problem that the tree is a tree
+//! of.
 
 ghost use Rattle.std.specs.Prelude.{◌≡◌, ◌↔◌, ◌+◌, ◌<◌, ◌≤◌, ◌^◌, [], ◌∷◌, true, false, None, Some, All, IsTrue, IfOk, MatchOption, length};
 ghost use Rattle.std.specs.List.{AllByRecursion};
