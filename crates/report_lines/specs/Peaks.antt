@@ -1,5 +1,5 @@
--- The day on which the windows of one capacity line and start are used most, or are above a limit by
--- most; and the least that the units of a stage use of a resource, whatever they are given.
+-- The day on which the windows of one capacity line and start are used most, or are above a limit
+-- by most; and the least that the units of a stage use of a resource, whatever they are given.
 use Rattle.std.specs.Prelude.{ℕ, suc, ◌+◌, ◌-◌, ◌*◌, ◌==◌, Bool, nat_lt, min, if◌then◌else◌, List, [], ◌∷◌, ◌++◌, length, map, filter, sum_by, Option, Some, None, codes, ◌≡◌, ◌<◌, slice_index}
 use Rattle.season_days.specs.Capacity.{declared_resources}
 use Rattle.std.specs.Fmt.{decimal}

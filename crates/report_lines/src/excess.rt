@@ -1,5 +1,5 @@
-//! Where a load is above a limit: for each capacity line and start the first day on which it is so by
-//! most.
+//! Where a load is above a limit: for each capacity line and start the first day on which it is so
+//! by most.
 
 ghost use Rattle.std.specs.Prelude.{◌≡◌, ◌++◌, ◌+◌, ◌*◌, ◌<◌, ◌≤◌, ◌^◌, ℕ, length, sum_by, OnOk, IfSome, Some, slice_get};
 ghost use Rattle.std.specs.List.{range_with_len};
@@ -139,8 +139,8 @@ impl<'a> ExcessLists<'a> {
         Ok(())
     }
 
-    // Appends the line of a start of a capacity line, the first of whose windows has this number, if
-    // the window is above on a day.
+    // Appends the line of a start of a capacity line, the first of whose windows has this number,
+    // if the window is above on a day.
     fn put_start(
         self,
         alloc: Global,
@@ -222,7 +222,8 @@ impl<'a> ExcessLists<'a> {
         requires count { length self.limits.now ≡ declared_resources windows.now }
         ensures { OnOk result ((e : ExcessValue) → IsExcess e self.entry →
             out.new.items ≡ out.old.items
-            ++ quota_excess e windows.now.night (sum_by (windows_of windows.now) windows.now.rules)) }
+            ++ quota_excess e windows.now.night
+            (sum_by (windows_of windows.now) windows.now.rules)) }
     {
         let Some(quota) = windows.night() else {
             return Ok(());

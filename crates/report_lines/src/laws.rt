@@ -12,10 +12,10 @@ ghost use Rattle.report_lines.specs.Peaks.{Excess, is_above, excess_lines, stage
 
 /// Lines on what is above a limit. There is none exactly where no window, and not the night quota,
 /// is above its limit (`told`). Each one that even the least load of a stage puts above the stage's
-/// limit rules out all allotments of the stage (`over`). In stage 1 these are all that can rule them
-/// out, since a historic series has one alternative: where no line says so, all historic series can
-/// have their times (`first`). So `over_lines` of stage 1 has a line exactly where that stage has no
-/// allotment.
+/// limit rules out all allotments of the stage (`over`). In stage 1 these are all that can rule
+/// them out, since a historic series has one alternative: where no line says so, all historic
+/// series can have their times (`first`). So `over_lines` of stage 1 has a line exactly where that
+/// stage has no allotment.
 pub fn ruled_out()
     ensures told { (c : Capacity) (e : Excess) →
         ((r : ℕ) → r < declared_resources c → is_above e r ≡ false) ↔ (excess_lines c e ≡ []) }

@@ -1,5 +1,5 @@
-//! Lines of reports on a season's capacity: what was declared, where a load is above a limit, and the
-//! greatest loads; and the words of which such lines are made.
+//! Lines of reports on a season's capacity: what was declared, where a load is above a limit, and
+//! the greatest loads; and the words of which such lines are made.
 #![tactic(auto)]
 
 mod appends;

@@ -36,8 +36,8 @@ fn with_day(found: Option<Peak>, is_one: bool, day: u32, load: u32) -> Option<Pe
     }
 }
 
-// The greatest load of the windows of a start on days of these weekdays, where this is the window of
-// the first day.
+// The greatest load of the windows of a start on days of these weekdays, where this is the window
+// of the first day.
 fn peak_of(
     season: &Season,
     loads: &[u32],
