@@ -75,7 +75,8 @@ abbrev pub timed_decision : SlotUnit → Times → Decision
 timed_decision unit times =
     if are_same times (line_times unit.request) then Kept else moved_decision unit.historic times
 
--- no allotment, no slots, or slots at some times: a pair whose two lines name the same times is kept
+-- no allotment, no slots, or slots at some times: a pair whose two lines name the same times is
+-- kept
 abbrev pub decision_of : SlotUnit → Option Times → Decision
 decision_of unit None = Unallotted
 decision_of unit (Some refused_times) = Refused

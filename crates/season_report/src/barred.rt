@@ -2,8 +2,9 @@
 
 use series_model::Times;
 
-/// The lowest resource that an alternative would put above its limit, how often the alternative uses
-/// that, and on how many dates a window that it puts above its limit holds one of its movements.
+/// The lowest resource that an alternative would put above its limit, how often the alternative
+/// uses that, and on how many dates a window that it puts above its limit holds one of its
+/// movements.
 #[derive(Clone, Copy, Debug, PartialEq, Eq)]
 pub struct Barred {
     pub resource: u32,
@@ -11,8 +12,8 @@ pub struct Barred {
     pub dates: u32,
 }
 
-/// An alternative that costs less than the one that was given, what it costs, and what bars it: none
-/// where it fits while all others keep theirs.
+/// An alternative that costs less than the one that was given, what it costs, and what bars it:
+/// none where it fits while all others keep theirs.
 #[derive(Clone, Copy, Debug, PartialEq, Eq)]
 pub struct Cheaper {
     pub times: Times,

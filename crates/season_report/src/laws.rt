@@ -19,12 +19,12 @@ use wasg_stages::laws::{valid_choices, valid_marks};
 
 /// The reasons of a valid certificate; stages count from 1, and their places from 0.
 ///
-/// In a stage that is marked OPTIMAL no line says that an alternative fits: each one that costs less
-/// than the one that its unit was given is barred while all others keep theirs, since otherwise an
-/// allotment would displace less. A resource that bars an alternative is used by it. Where stage 1
-/// has no allotment a line says which window rules out all, since a historic series has one
-/// alternative; that each such line of any stage does so by itself is `report_lines::laws::ruled_out`.
-/// What all stages gave is nowhere above a declared limit.
+/// In a stage that is marked OPTIMAL no line says that an alternative fits: each one that costs
+/// less than the one that its unit was given is barred while all others keep theirs, since
+/// otherwise an allotment would displace less. A resource that bars an alternative is used by it.
+/// Where stage 1 has no allotment a line says which window rules out all, since a historic series
+/// has one alternative; that each such line of any stage does so by itself is
+/// `report_lines::laws::ruled_out`. What all stages gave is nowhere above a declared limit.
 pub fn optimal_reasons()
     ensures none_fits { (s : SubmissionView) (c : CertificateValue) (place : ℕ)
         (block : StageCertValue) →
@@ -40,7 +40,8 @@ pub fn optimal_reasons()
         IsValid s c → slice_get c.stages 0 ≡ Some block → block.mark ≡ Infeasible →
         HasOverLine s.declaration 1 (states_before s c 1) }
     ensures within { (s : SubmissionView) (c : CertificateValue) (r : ℕ) →
-        IsValid s c → s.declaration.share ≤ 100 → r < declared_resources (capacity_of s.declaration) →
+        IsValid s c → s.declaration.share ≤ 100 →
+        r < declared_resources (capacity_of s.declaration) →
         earlier_load s.declaration (states_before s c 5) r
         ≤ window_limit (capacity_of s.declaration) r }
 {

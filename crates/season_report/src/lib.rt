@@ -2,8 +2,8 @@
 //! unit why it was given nothing cheaper.
 //!
 //! The answer stands in the certificate: in an optimal stage each cheaper alternative of each unit
-//! is barred by a window, or by the night quota, while all others keep their times. The report names
-//! the lowest of these windows, on how many dates, and by how much.
+//! is barred by a window, or by the night quota, while all others keep their times. The report
+//! names the lowest of these windows, on how many dates, and by how much.
 #![tactic(auto)]
 
 mod airlines;

@@ -464,7 +464,8 @@ fn put_found(
     ensures text { OnOk result ((others : List ℕ) → length others ≡ length counts.old →
         GrowsBy others counts.old (λ r. alt_uses tried.entry.problem.now place taken r) →
         out.new.items ≡ out.old.items
-        ++ found_reasons tried.entry place unit.now.request (alt_cost tried.entry.problem.now place taken)
+        ++ found_reasons tried.entry place unit.now.request
+        (alt_cost tried.entry.problem.now place taken)
         others (options_of tried.entry.declaration.now unit.now)) }
     ensures counts { OnOk result (counts.new ≡ counts.old) }
 {
@@ -479,8 +480,8 @@ fn put_found(
 }
 
 /// Appends the lines of one unit of a stage, which took its alternative of the choice. The counts
-/// are those of all units, and are so again after it. Four steps for each use of an alternative that
-/// costs less.
+/// are those of all units, and are so again after it. Four steps for each use of an alternative
+/// that costs less.
 pub(crate) fn put_unit_reasons(
     alloc: Global,
     out: &mut Vec<u8>,

@@ -139,8 +139,8 @@ fn put_stage(
     Ok(())
 }
 
-/// Appends what is told of each stage, and to the text of each unit its reasons, stage by stage; the
-/// loads, all 0 before, then have all that the stages gave.
+/// Appends what is told of each stage, and to the text of each unit its reasons, stage by stage;
+/// the loads, all 0 before, then have all that the stages gave.
 ///
 /// Beside the texts one stage's problem is kept at a time. The time is that of
 /// `wasg_stages::problem_after` for each stage, and that of the lines.

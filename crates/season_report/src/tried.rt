@@ -1,5 +1,5 @@
-//! A stage that was tried: the reasons of its units, or, where it has no allotment, the windows that
-//! rule out all.
+//! A stage that was tried: the reasons of its units, or, where it has no allotment, the windows
+//! that rule out all.
 
 ghost use Rattle.std.specs.Prelude.{◌≡◌, ◌++◌, ◌∷◌, ◌<◌, ◌≤◌, ◌^◌, All, List, length, drop, OnOk, IfOk, IfSome, Some};
 ghost use Rattle.choice_problem.specs.declared.problems.TheConstants.{MOST_UNITS};
@@ -47,7 +47,8 @@ fn put_state_reasons(
         ≡ stage_units tried.stage (state.now ∷ rest)) }
     ensures text { OnOk result (text.new.items ≡ text.old.items ++ first_reasons
         (told_stage tried.entry states.now choice.now) place state.now
-        (drop place (stage_times tried.entry.declaration.now tried.entry.stage states.now choice.now))) }
+        (drop place
+        (stage_times tried.entry.declaration.now tried.entry.stage states.now choice.now))) }
     ensures place { IfOk result (λ next. next ≡ place_after tried.entry.stage place state.now) }
     ensures counts { OnOk result (counts.new ≡ counts.old) }
 {
