@@ -112,8 +112,7 @@ abbrev pub unit_reasons : AllottedStage → ℕ → SlotUnit → Times → List 
 unit_reasons a place unit given =
     flat_map (row_line a place unit.request) (unit_rows a place unit given)
 
--- ---- the lines of all units of a season, one text a unit, which is empty for units of other
--- stages
+-- ---- the lines of all units, one text a unit, which is empty for units of other stages
 
 abbrev pub reasons_from : AllottedStage → ℕ → List UnitState → List Times → List (List ℕ)
 reasons_from a place [] times = []
