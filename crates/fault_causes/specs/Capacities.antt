@@ -81,7 +81,8 @@ IsBadLineCause line cause =
 -- the word of a line that stands twice
 abbrev pub IsTwiceCause : List ℕ → Cause → Type 0
 IsTwiceCause line cause =
-    (word : LineWord) × IsSomeAnd (slice_get (fields_of line) 0) (λ text. text ≡ line_word_text word)
+    (word : LineWord)
+    × IsSomeAnd (slice_get (fields_of line) 0) (λ text. text ≡ line_word_text word)
     × (cause ≡ causes.Twice word)
 
 -- ---- the cause of a fault

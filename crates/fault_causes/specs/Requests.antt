@@ -119,7 +119,8 @@ HaveDatesForm text first last =
     ⊎ ((front back : List ℕ) × HasDateForm front first × HasDateForm back last
     × (text ≡ front ++ back))
 
--- one of them does not exist; or one lies outside the season; or else the second is before the first
+-- one of them does not exist; or one lies outside the season; or else the second is before the
+-- first
 abbrev pub IsDatesFlaw : Term → ℕ × ℕ → ℕ × ℕ → Flaw → Type 0
 IsDatesFlaw season first last flaws.Date = IsRealDate season first × IsRealDate season last → ⊥
 IsDatesFlaw season first last flaws.Outside = IsRealDate season first × IsRealDate season last
@@ -134,8 +135,8 @@ IsPeriodFlaw season text flaw =
 
 -- ---- what is wrong with a field, where those before it are good
 
--- the field has the form, and a value that is not allowed, for which this word stands; or it has not
--- the form
+-- the field has the form, and a value that is not allowed, for which this word stands; or it has
+-- not the form
 abbrev pub IsFlawOrForm : Type 0 → Flaw → Flaw → Type 0
 IsFlawOrForm HasItsForm word flaw =
     (HasItsForm × (flaw ≡ word)) ⊎ ((HasItsForm → ⊥) × (flaw ≡ flaws.Form))

@@ -18,7 +18,8 @@ pub(crate) struct Standing<'a> {
     pub season: &'a [u8],
 }
 
-// Whether the second line of the message is an address, with this one behind those that stand above.
+// Whether the second line of the message is an address, with this one behind those that stand
+// above.
 fn next_address(above: u32, address: bool, line: &[u8]) -> bool
     ensures { result ≡ address_next above address line.now }
 {
