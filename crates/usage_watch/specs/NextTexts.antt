@@ -21,8 +21,8 @@ next_items number [] = []
 next_items number (line ∷ lines) =
     record { line = number; item = One line } ∷ next_items (number + 1) lines
 
--- the message of the lines: the season stands on the second line of its text, and the items begin on
--- the fifth
+-- the message of the lines: the season stands on the second line of its text, and the items begin
+-- on the fifth
 abbrev pub next_message : Header → List Line → Message
 next_message header lines = record {
   line = 2;

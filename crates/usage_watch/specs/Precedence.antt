@@ -43,8 +43,8 @@ is_stop_reported season reports kind None day = true
 is_stop_reported season reports kind (Some stop) day =
     is_reported season reports kind stop.flight day
 
--- A date of a line is operated where each movement of the line has a report for it. The departure of
--- a turnaround is reported for the date of its arrival, also where it leaves nights later.
+-- A date of a line is operated where each movement of the line has a report for it. The departure
+-- of a turnaround is reported for the date of its arrival, also where it leaves nights later.
 abbrev pub is_operated : Term → List Operated → Line → ℕ → Bool
 is_operated season reports line day =
     is_stop_reported season reports Arr line.arrival day

@@ -20,7 +20,8 @@ IsOneKind Arr = Unit {0}
 IsOneKind Dep = Unit {0}
 IsOneKind Tot = ⊥
 
--- the line says the report: the word OPER, the kind, the flight, the dates and the days of operation
+-- the line says the report: the word OPER, the kind, the flight, the dates and the days of
+-- operation
 pub record IsReport (season : Term) (line : List ℕ) (report : Operated) : Type 0 where
   pub short : length line ≤ LONGEST_LINE
   pub trimmed : IsTrimmed line

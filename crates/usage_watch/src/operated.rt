@@ -4,9 +4,9 @@ use scr_reader::Flight;
 use season_days::{Kind, Period};
 use std::marker::Model;
 
-/// A report: on each date of the period the arrival, or the departure, of the flight took place. The
-/// departure of a turnaround is reported for the dates of its arrival. The kind of a report that was
-/// read is never `Tot`.
+/// A report: on each date of the period the arrival, or the departure, of the flight took place.
+/// The departure of a turnaround is reported for the dates of its arrival. The kind of a report
+/// that was read is never `Tot`.
 #[derive(Clone, Copy, Debug, PartialEq, Eq)]
 pub struct Operated {
     pub kind: Kind,
