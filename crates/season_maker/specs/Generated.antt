@@ -59,7 +59,8 @@ pub record IsGeneratedDeclaration (units : ℕ) (d : Declaration) : Type 0 where
 abbrev pub whole_season : Period
 whole_season = record { first = record { 0 = 0 }; last = record { 0 = 209 }; days = 127 }
 
--- a flight of the airline XY or XZ from or to JFK, at a minute of the day, with the service letter J
+-- a flight of the airline XY or XZ from or to JFK, at a minute of the day, with the service letter
+-- J
 abbrev pub airline_xy : List ℕ
 airline_xy = 88 ∷ 89 ∷ 0 ∷ []
 
@@ -101,9 +102,10 @@ minute_drawn number draw = 420 + 5 * drawn number draw 36
 abbrev pub stay_drawn : ℕ → ℕ → ℕ
 stay_drawn number draw = 45 + 5 * drawn number draw 12
 
--- A historic arrival, a new one, one of a new entrant, and a new turnaround, in turn. Draws are made
--- in the order of the units: a historic arrival needs none, the next three units need 1, 1 and 2 of
--- them. So the unit's own number is that of its draw, and a turnaround has the one after it too.
+-- A historic arrival, a new one, one of a new entrant, and a new turnaround, in turn. Draws are
+-- made in the order of the units: a historic arrival needs none, the next three units need 1, 1 and
+-- 2 of them. So the unit's own number is that of its draw, and a turnaround has the one after it
+-- too.
 abbrev pub unit_line : ℕ → ℕ → Line
 unit_line number unit =
     if unit % 4 == 0 then arrival_line F unit (360 + 5 * (unit % 192))
