@@ -40,9 +40,9 @@ AreStages d units earlier (c ∷ certs) =
     IsStageAs d units earlier c (is_tried c.mark)
     × AreStages d units (earlier ++ c.choice ∷ []) certs
 
--- a valid certificate of a submission: it has its form (one of the three versions, four stages, from
--- version 2 on a bound for each OPEN stage and a floor for each undone node, and fixings in version 3
--- alone), and each of its stages is tried exactly where it may be, and then has a proof
+-- a valid certificate of a submission: it has its form (one of the three versions, four stages,
+-- from version 2 on a bound for each OPEN stage and a floor for each undone node, and fixings in
+-- version 3 alone), and each of its stages is tried exactly where it may be, and then has a proof
 pub record IsValid (s : SubmissionView) (c : Certificate) : Type 0 where
   pub form : IsPrintable c
   pub stages : AreStages s.declaration s.units [] c.stages
