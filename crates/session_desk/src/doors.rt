@@ -252,9 +252,9 @@ fn serve_all<R: Threads + Wait + Sync, G: Gate, B: Beside + Send, D: Door>(
 /// their order. Hands out the one history, what each worker did, and what was kept beside.
 ///
 /// Each worker serves at most so many links of its door, and the history holds at most so many
-/// entries. Links that mostly have more input at hand are served in time slices, round robin; others
-/// go between. It waits until all workers have ended. The doors stay, in their order, also where
-/// memory runs out before they are served.
+/// entries. Links that mostly have more input at hand are served in time slices, round robin;
+/// others go between. It waits until all workers have ended. The doors stay, in their order, also
+/// where memory runs out before they are served.
 pub fn serve_doors<R: Threads + Wait + Sync, G: Gate, B: Beside + Send, D: Door + Drop>(
     rt: &R,
     alloc: Global,

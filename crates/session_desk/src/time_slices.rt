@@ -2,16 +2,16 @@
 //!
 //! A link is busy from a whole piece of input on, behind which more is mostly at hand, until a
 //! shorter one has been answered. The asks of one busy link are answered for a time slice, then
-//! those of the next, so that the counts of the book stay in the cache of one processor. A link that
-//! is not busy never waits here. What is answered does not depend on time slices, so contracts do
-//! not see them.
+//! those of the next, so that the counts of the book stay in the cache of one processor. A link
+//! that is not busy never waits here. What is answered does not depend on time slices, so contracts
+//! do not see them.
 //!
 //! No link waits for ever. A ticket is drawn only by a link that then waits until its slice has
-//! come, and nobody waits here who has the turn, so no ticket in the line is without a link. Whoever
-//! has the slice gives it up when its link is no longer busy, and at the end of its link. Where it
-//! does not, as for a client that is silent or takes nothing of its replies, the next in line, which
-//! sleeps for a slice at most, takes it over; the other then draws a new ticket for its next ask.
-//! So the link at place `n` of the line waits for at most `n` slices.
+//! come, and nobody waits here who has the turn, so no ticket in the line is without a link.
+//! Whoever has the slice gives it up when its link is no longer busy, and at the end of its link.
+//! Where it does not, as for a client that is silent or takes nothing of its replies, the next in
+//! line, which sleeps for a slice at most, takes it over; the other then draws a new ticket for its
+//! next ask. So the link at place `n` of the line waits for at most `n` slices.
 
 use std::sync::Wait;
 use std::sync::atomic::{AtomicBool, AtomicU64, Ordering};
