@@ -7,7 +7,7 @@
 //! at the same time the greatest pivot comes first.
 
 use crate::leaving::Work;
-use crate::programs::{Column, Program};
+use crate::programs::Program;
 use crate::relaxations::Relaxation;
 use crate::slots::{
     LEAST_PIVOT, NOTHING, PASSED, above_zero, is_set, place_after, size_of_number, value_at,
@@ -144,10 +144,9 @@ impl Relaxation {
 
     // The cost of an alternative with its parts, and how it moves.
     fn base_at(&self, program: &Program<'_>, work: &Work, place: u32) -> Base {
-        let column = program.column(place);
         Base {
-            cost: self.cost_at(program, &column, place),
-            step: work.at(column.one, column.two),
+            cost: self.cost_at(program, place),
+            step: work.at(program.pair(place)),
         }
     }
 
@@ -179,11 +178,11 @@ impl Relaxation {
     ) -> Entering {
         let mut first = other;
         let start = program.first_column(unit);
-        for (number, column) in program.unit_columns(unit).iter().enumerate() {
-            let fall = base.step - work.at(column.one, column.two);
+        for (number, pair) in program.unit_pairs(unit).iter().enumerate() {
+            let fall = base.step - work.at(*pair);
             if fall > LEAST_PIVOT {
                 let at = place_after(start, number);
-                self.offer_alternative(program, column, at, base, fall, &mut first);
+                self.offer_alternative(program, unit, at, base, fall, &mut first);
             }
         }
         first
@@ -193,14 +192,14 @@ impl Relaxation {
     fn offer_alternative(
         &self,
         program: &Program<'_>,
-        column: &Column,
+        unit: u32,
         at: u32,
         base: Base,
         fall: f64,
         first: &mut Entering,
     ) {
-        let cost = above_zero(self.cost_at(program, column, at) - base.cost);
-        if first.wants(cost, fall) && !self.is_out(column, at) {
+        let cost = above_zero(self.cost_at(program, at) - base.cost);
+        if first.wants(cost, fall) && !self.is_out(unit, at) {
             let _is_first = first.offer(Entering {
                 entry: Entry::Alternative(at),
                 length: cost / fall,

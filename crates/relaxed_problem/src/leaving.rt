@@ -2,6 +2,7 @@
 //! of its violation and the square of the length of its direction.
 
 use crate::entering::Entering;
+use crate::named::Pair;
 use crate::programs::Program;
 use crate::relaxations::Relaxation;
 use crate::slots::{
@@ -64,7 +65,7 @@ impl Leaving {
 /// Numbers that one step of a relaxation of a program computes and the next one overwrites.
 #[derive(Drop)]
 pub struct Work {
-    // A number for each part: uses of a class, or a price. All are 0 between two uses.
+    // A number for each named part: uses of a class, or a price. All are 0 between two uses.
     pub(crate) parts: Vec<f64>,
     // Whether a unit has a part with such a number.
     pub(crate) touched: Vec<bool>,
@@ -103,8 +104,8 @@ impl Work {
     }
 
     // The sum of the numbers of an alternative's parts.
-    pub(crate) fn at(&self, one: u32, two: u32) -> f64 {
-        value_at(&self.parts, one as usize) + value_at(&self.parts, two as usize)
+    pub(crate) fn at(&self, pair: Pair) -> f64 {
+        value_at(&self.parts, pair.one as usize) + value_at(&self.parts, pair.two as usize)
     }
 
     // Whether some alternatives of a unit may have parts of a lower number than its key's, which is
@@ -117,9 +118,8 @@ impl Work {
     // Sets the prices of the parts to those of one class, and marks the units.
     pub(crate) fn add_price(&mut self, program: &Program<'_>, class: u32, price: f64) {
         program.add_price(class, price, &mut self.parts);
-        for run in program.reduced().users(class) {
-            let unit = program.part_unit(run.first);
-            put_flag(&mut self.touched, unit as usize, true);
+        for run in program.users(class) {
+            put_flag(&mut self.touched, run.unit as usize, true);
         }
     }
 
@@ -251,7 +251,7 @@ impl Relaxation {
         work: &mut Work,
         class: u32,
     ) -> Result<Vec<f64>, Memory> {
-        let users = program.reduced().users(class).len();
+        let users = program.users(class).len();
         let weights = if users / MANY_USERS > self.basics.len() {
             self.looked_up(alloc, program, class)?
         } else {
@@ -272,9 +272,8 @@ impl Relaxation {
         program.add_price(class, 1.0, &mut work.parts);
         let mut weights = Vec::with_capacity(alloc, self.basics.len())?;
         for place in &self.basics {
-            let column = program.column(*place);
-            let key = program.column(self.key_place(column.unit));
-            weights.push(work.at(key.one, key.two) - work.at(column.one, column.two))?;
+            let key = program.pair(self.key_place(program.column(*place).unit));
+            weights.push(work.at(key) - work.at(program.pair(*place)))?;
         }
         program.clear_users(class, &mut work.parts);
         Ok(weights)

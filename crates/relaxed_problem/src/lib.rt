@@ -12,6 +12,7 @@
 mod entering;
 mod inverses;
 mod leaving;
+mod named;
 mod programs;
 mod relaxations;
 mod slots;

@@ -1,5 +1,6 @@
 //! The alternatives that take part in a relaxation.
 
+use crate::named::{NamedParts, NamedRun, Pair};
 use crate::slots::{add, is_set, number_or_max, place_after, value_at};
 use choice_problem::{Alt, Problem};
 use reduced_problem::{ClassUse, Reduced};
@@ -46,7 +47,8 @@ pub struct Program<'a> {
     firsts: Vec<u32>,
     barred: Vec<Barred>,
     limits: Vec<f64>,
-    part_units: Vec<u32>,
+    // The parts that the alternatives name, numbered without the others.
+    named: NamedParts,
 }
 
 impl<'a> Program<'a> {
@@ -66,7 +68,7 @@ impl<'a> Program<'a> {
             firsts: Vec::new(alloc),
             barred: Vec::new(alloc),
             limits: limits_of(alloc, reduced)?,
-            part_units: Vec::new(alloc),
+            named: NamedParts::none(alloc),
         };
         let mut seen: usize = 0;
         for unit in 0..problem.units() {
@@ -76,7 +78,9 @@ impl<'a> Program<'a> {
             seen = seen.saturating_add(alts.len());
         }
         program.begin_unit()?;
-        program.number_parts(problem)?;
+        let (columns, barred) = (&program.columns, &program.barred);
+        let named = NamedParts::of(alloc, reduced, columns, barred, problem.units())?;
+        program.named = named;
         Ok(program)
     }
 
@@ -133,16 +137,6 @@ impl<'a> Program<'a> {
         None
     }
 
-    // Notes the unit of each part.
-    fn number_parts(&mut self, problem: &Problem) -> Result<(), Memory> {
-        for unit in 0..problem.units() {
-            for _ in 0..problem.parts(unit) {
-                self.part_units.push(unit)?;
-            }
-        }
-        Ok(())
-    }
-
     /// The alternatives that take part.
     pub fn columns(&self) -> &[Column] {
         &self.columns
@@ -197,11 +191,36 @@ impl<'a> Program<'a> {
         value_at(&self.changed, place as usize)
     }
 
-    // Where a unit's parts begin and end.
+    // The parts of a unit's alternatives that take part, by their numbers among the named ones.
+    pub(crate) fn unit_pairs(&self, unit: u32) -> &[Pair] {
+        let (first, end) = self.span(unit);
+        let pairs = self.named.pairs();
+        if first <= end && end <= pairs.len() {
+            &pairs[first..end]
+        } else {
+            &[]
+        }
+    }
+
+    // The parts of an alternative by its place.
+    pub(crate) fn pair(&self, place: u32) -> Pair {
+        match self.named.pairs().get(place as usize) {
+            Some(pair) => *pair,
+            None => Pair {
+                one: NO_PART,
+                two: NO_PART,
+            },
+        }
+    }
+
+    // The parts of an alternative that does not take part.
+    pub(crate) fn barred_pair(&self, barred: &Barred) -> Pair {
+        self.named.pair_of(&barred.column)
+    }
+
+    // Where a unit's named parts begin and end.
     pub(crate) fn part_span(&self, unit: u32) -> (usize, usize) {
-        let first = self.reduced.first_part(unit);
-        let end = self.reduced.first_part(unit.saturating_add(1));
-        (first as usize, end as usize)
+        self.named.span(unit)
     }
 
     // The resources that matter.
@@ -224,14 +243,14 @@ impl<'a> Program<'a> {
         value_at(&self.limits, class as usize)
     }
 
-    // How many parts there are.
+    // How many parts are named.
     pub(crate) fn parts(&self) -> usize {
-        self.part_units.len()
+        self.named.count()
     }
 
-    // The unit of a part.
-    pub(crate) fn part_unit(&self, part: u32) -> u32 {
-        number_or_max(&self.part_units, part as usize)
+    // The named parts that use a class.
+    pub(crate) fn users(&self, class: u32) -> &[NamedRun] {
+        self.named.users(class)
     }
 
     // Adds so many times the uses of an alternative to numbers of the classes.
@@ -253,9 +272,9 @@ impl<'a> Program<'a> {
         one + uses_in(self.reduced.part_uses(column.two), class)
     }
 
-    // Adds the price of a class, so often as a part uses it, to numbers of the parts.
+    // Adds the price of a class, so often as a part uses it, to numbers of the named parts.
     pub(crate) fn add_price(&self, class: u32, price: f64, parts: &mut [f64]) {
-        for run in self.reduced.users(class) {
+        for run in self.users(class) {
             add_in(
                 parts,
                 run.first as usize,
@@ -265,9 +284,9 @@ impl<'a> Program<'a> {
         }
     }
 
-    // Makes the numbers of the parts that use a class 0.
+    // Makes the numbers of the named parts that use a class 0.
     pub(crate) fn clear_users(&self, class: u32, parts: &mut [f64]) {
-        for run in self.reduced.users(class) {
+        for run in self.users(class) {
             clear_in(parts, run.first as usize, run.end as usize);
         }
     }

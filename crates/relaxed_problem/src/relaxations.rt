@@ -2,7 +2,7 @@
 //! take.
 
 use crate::inverses::Inverse;
-use crate::programs::{Column, Program};
+use crate::programs::Program;
 use crate::slots::{
     NOTHING, PASSED, add, add_multiple, has_bit, is_among, number_or_max, place_after, put_bit,
     put_number, size_of_number, value_at,
@@ -22,7 +22,8 @@ pub struct Share {
 }
 
 /// A linear relaxation in the making: a basis, from which `solve` goes on. It takes 8 bytes for each
-/// part of the program and for each entry of the inverse, and one bit for each alternative.
+/// part that the program's alternatives name and for each entry of the inverse, and one bit for each
+/// alternative.
 #[derive(Drop)]
 pub struct Relaxation {
     // For each alternative, in words of 64 bits, whether it may not be taken.
@@ -36,7 +37,7 @@ pub struct Relaxation {
     // The place of each class among those with a price.
     pub(crate) places: Vec<u32>,
     pub(crate) inverse: Inverse,
-    // What each part costs at the prices of the classes.
+    // What each named part costs at the prices of the classes.
     pub(crate) parts: Vec<f64>,
     // The price of each class, with changed costs.
     pub(crate) prices: Vec<f64>,
@@ -145,9 +146,8 @@ impl Relaxation {
 
     /// The reduced cost of a column of the program, with changed costs, by its place.
     pub fn reduced_cost(&self, program: &Program<'_>, place: u32) -> f64 {
-        let column = program.column(place);
-        let key = self.key_place(column.unit);
-        self.cost_at(program, &column, place) - self.cost_at(program, &program.column(key), key)
+        let key = self.key_place(program.column(place).unit);
+        self.cost_at(program, place) - self.cost_at(program, key)
     }
 
     /// The reduced costs of the program's columns, in their order, with changed costs.
@@ -160,9 +160,10 @@ impl Relaxation {
     }
 
     // The changed cost of an alternative with what its parts cost.
-    pub(crate) fn cost_at(&self, program: &Program<'_>, column: &Column, place: u32) -> f64 {
-        let parts = value_at(&self.parts, column.one as usize)
-            + value_at(&self.parts, column.two as usize);
+    pub(crate) fn cost_at(&self, program: &Program<'_>, place: u32) -> f64 {
+        let pair = program.pair(place);
+        let parts = value_at(&self.parts, pair.one as usize)
+            + value_at(&self.parts, pair.two as usize);
         program.changed_cost(place) + parts
     }
 
@@ -279,9 +280,9 @@ impl Relaxation {
     fn best_allowed(&self, program: &Program<'_>, unit: u32) -> Option<(u32, f64)> {
         let first = program.first_column(unit);
         let mut best: Option<(u32, f64)> = None;
-        for (number, column) in program.unit_columns(unit).iter().enumerate() {
+        for number in 0..program.unit_columns(unit).len() {
             let at = place_after(first, number);
-            let cost = self.cost_at(program, column, at);
+            let cost = self.cost_at(program, at);
             if is_less(cost, best) && !self.is_shut(at) {
                 best = Some((at, cost));
             }
@@ -304,9 +305,9 @@ impl Relaxation {
         Ok(())
     }
 
-    // Whether an alternative is basic or a key, or not allowed.
-    pub(crate) fn is_out(&self, column: &Column, place: u32) -> bool {
-        self.key_place(column.unit) == place || self.is_shut(place) || is_among(&self.basics, place)
+    // Whether an alternative of a unit is basic or its key, or not allowed.
+    pub(crate) fn is_out(&self, unit: u32, place: u32) -> bool {
+        self.key_place(unit) == place || self.is_shut(place) || is_among(&self.basics, place)
     }
 }
 

@@ -39,10 +39,10 @@ pub struct Ended {
 impl Relaxation {
     /// Goes on from the basis that there is, until the relaxation is solved or its value, with
     /// changed costs, is above `stop_above`, by at most so many pivots. A pivot takes a step for
-    /// each part, for each alternative of the units of which some may become cheaper beside their
-    /// keys, each use of the basic alternatives, and some ten for each entry of the inverse; and
-    /// for each change of a key in it, a step for each unit with a breakpoint, and for each use and
-    /// alternative of the unit that changes.
+    /// each part that the alternatives name, for each alternative of the units of which some may
+    /// become cheaper beside their keys, each use of the basic alternatives, and some ten for each
+    /// entry of the inverse; and for each change of a key in it, a step for each unit with a
+    /// breakpoint, and for each use and alternative of the unit that changes.
     pub fn solve(
         &mut self,
         alloc: Global,

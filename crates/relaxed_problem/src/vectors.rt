@@ -3,7 +3,8 @@
 ghost use Rattle.std.specs.Prelude.{IfOk};
 ghost use Rattle.choice_problem.specs.Bounds.{IsVector};
 
-use crate::programs::{Barred, Program};
+use crate::named::Pair;
+use crate::programs::Program;
 use crate::relaxations::Relaxation;
 use crate::slots::{place_after, value_at};
 use choice_problem::{HIGHEST_PRICE, PRICED_SCALE, Price, Problem, Vector};
@@ -15,7 +16,7 @@ use std::num::{nearest_i64_to_f64, saturating_f64_to_i64};
 const GREAT_PRICE: i64 = 1 << 32;
 
 // The prices of the classes as whole numbers, how costs count beside them, and their sums over the
-// parts.
+// named parts.
 #[derive(Drop)]
 struct Rounded {
     scale: f64,
@@ -103,7 +104,10 @@ impl Relaxation {
                 unit = barred.column.unit;
                 least = self.least_cost(program, rounded, unit);
             }
-            rounded.raise(barred, least);
+            let pair = program.barred_pair(barred);
+            if rounded.cost(barred.column.cost, pair) < least {
+                put_price(&mut rounded.prices, barred.class, GREAT_PRICE);
+            }
         }
     }
 
@@ -113,7 +117,7 @@ impl Relaxation {
         let first = program.first_column(unit);
         for (number, column) in program.unit_columns(unit).iter().enumerate() {
             let place = place_after(first, number);
-            let cost = rounded.cost(column.cost, column.one, column.two);
+            let cost = rounded.cost(column.cost, program.pair(place));
             let is_less = match least {
                 Some(other) => cost < other,
                 None => true,
@@ -146,18 +150,10 @@ impl Rounded {
     }
 
     // The priced cost of an alternative.
-    fn cost(&self, cost: f64, one: u32, two: u32) -> f64 {
-        let parts = value_at(&self.parts, one as usize) + value_at(&self.parts, two as usize);
+    fn cost(&self, cost: f64, pair: Pair) -> f64 {
+        let parts = value_at(&self.parts, pair.one as usize)
+            + value_at(&self.parts, pair.two as usize);
         self.scale * cost + parts
-    }
-
-    // Raises the price at an excluded alternative's resource of limit 0 where it costs less than so
-    // much.
-    fn raise(&mut self, barred: &Barred, least: f64) {
-        let column = &barred.column;
-        if self.cost(column.cost, column.one, column.two) < least {
-            put_price(&mut self.prices, barred.class, GREAT_PRICE);
-        }
     }
 }
 
