@@ -21,10 +21,13 @@ pub(crate) fn grow(
     most: u32,
 ) -> Result<(), Memory> {
     for _ in 0..most {
+        if state.steps == 0 {
+            return Ok(());
+        }
         let Some(open) = state.open.pop() else {
             return Ok(());
         };
-        if state.steps == 0 || !visit(alloc, task, state, open)? {
+        if !visit(alloc, task, state, open)? {
             return Ok(());
         }
     }

@@ -6,7 +6,7 @@ ghost use Rattle.choice_problem.specs.Bounds.{IsVector};
 ghost use Rattle.price_table.specs.Tables.{IsTableFor};
 
 use crate::accepted::Found;
-use crate::leftovers::{Grown, grow_left};
+use crate::leftovers::{Grown, Limits, grow_left};
 use crate::states::copy_of;
 use choice_problem::{Choice, PRICED_SCALE, Problem, Ranges, Vector, VectorList, cost_of};
 use cost_fixing::{Fixing, Left, left_of};
@@ -27,6 +27,12 @@ const LIMITS: [(u32, u64); 3] = [
     (600, 100_000_000),
     (20_000, 1_000_000_000),
 ];
+
+// Within how many steps a tree must find a choice at first, while none is known, and at most:
+// another guess makes other relaxations, and some trees find a good choice soon that others do not.
+const FIRST_PATIENCE: u64 = 300_000_000;
+
+const MOST_PATIENCE: u64 = 1_000_000_000;
 
 // The most steps of a tree after which the guess rises fast.
 const FEW_STEPS: u64 = 100_000_000;
@@ -49,6 +55,8 @@ pub(crate) struct Guesses {
     // after a tree that showed the best choice and could not be listed.
     ways: usize,
     is_thorough: bool,
+    // Within how many steps a tree must find a choice while none is known.
+    patience: u64,
     is_over: bool,
 }
 
@@ -112,23 +120,14 @@ fn close_at(
         return Ok(None);
     };
     let start = guesses.start_in(alloc, &left, cost)?;
-    let (visits, limit) = guesses.limits();
+    let limits = guesses.limits();
     let is_known = start.is_some();
-    let grown = grow_left(
-        alloc,
-        left.problem(),
-        start,
-        cost,
-        limit,
-        visits,
-        guesses.ways != 1,
-        guesses.is_thorough,
-        most,
-    )?;
+    let grown = grow_left(alloc, left.problem(), start, cost, limits, most)?;
     let Grown {
         found,
         best,
         is_ended,
+        is_stopped,
         steps,
     } = grown;
     let choice = whole_choice(alloc, &left, best)?;
@@ -137,8 +136,8 @@ fn close_at(
         choice,
         is_known,
         is_ended,
-        !is_ended && steps > 0,
-        limit.saturating_sub(steps),
+        is_stopped,
+        limits.steps.saturating_sub(steps),
     );
     match found {
         Some(found) => fixed_found(alloc, guesses, found, vector, cost),
@@ -199,6 +198,7 @@ impl Guesses {
             is_best: false,
             ways: 0,
             is_thorough: false,
+            patience: FIRST_PATIENCE,
             is_over: false,
         };
         guesses.take(problem, best);
@@ -256,16 +256,28 @@ impl Guesses {
         }
     }
 
-    // How many visits and how many steps the next tree may take.
-    fn limits(&self) -> (u32, u64) {
-        let (visits, steps) = match LIMITS.get(self.ways) {
+    // What the next tree may take.
+    fn limits(&self) -> Limits {
+        let (visits, most) = match LIMITS.get(self.ways) {
             Some(limits) => *limits,
             None => (0, 0),
         };
-        if (self.is_best || self.is_thorough) && self.ways != 1 {
-            (visits, self.steps)
+        let is_last = (self.is_best || self.is_thorough) && self.ways != 1;
+        let steps = if is_last {
+            self.steps
         } else {
-            (visits, self.steps.min(steps))
+            self.steps.min(most)
+        };
+        Limits {
+            visits,
+            steps,
+            first_steps: if self.cost.is_some() {
+                steps
+            } else {
+                self.patience
+            },
+            is_by_quotas: self.ways != 1,
+            is_thorough: self.is_thorough,
         }
     }
 
@@ -294,9 +306,18 @@ impl Guesses {
             self.ways = self.ways.saturating_add(1);
         } else if is_known {
             self.look_on();
+        } else if !is_ended && self.cost.is_none() && self.patience < MOST_PATIENCE {
+            self.draw_again();
         } else {
             self.rise(steps);
         }
+    }
+
+    // Goes on with a guess that is one greater, and with more steps before a choice must be found.
+    fn draw_again(&mut self) {
+        self.gap = self.gap.saturating_add(1);
+        self.patience = self.patience.saturating_mul(2);
+        self.ways = 0;
     }
 
     // Goes on with trees that look at more splits, or ends.

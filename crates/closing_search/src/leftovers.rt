@@ -16,27 +16,35 @@ use std::alloc::Global;
 // The most pivots of the first relaxation.
 const FIRST_PIVOTS: u32 = 50_000;
 
+/// What a tree may take: so many visits and steps, of which it must find a choice within the first
+/// ones; whether splits by the uses of quotas come first; and whether more splits are looked at.
+#[derive(Clone, Copy, Debug)]
+pub(crate) struct Limits {
+    pub(crate) visits: u32,
+    pub(crate) steps: u64,
+    pub(crate) first_steps: u64,
+    pub(crate) is_by_quotas: bool,
+    pub(crate) is_thorough: bool,
+}
+
 /// What a tree came to: what may close the problem, the best choice that is below the guess,
-/// whether it ended, and how many steps are left.
+/// whether it ended, or was stopped by its visits, and how many steps are left.
 #[derive(Drop)]
 pub(crate) struct Grown {
     pub(crate) found: Option<Found>,
     pub(crate) best: Option<Choice>,
     pub(crate) is_ended: bool,
+    pub(crate) is_stopped: bool,
     pub(crate) steps: u64,
 }
 
-/// Grows a tree in which choices below the guess alone are looked for, or below a start, by so many
-/// steps.
+/// Grows a tree in which choices below the guess alone are looked for, or below a start.
 pub(crate) fn grow_left(
     alloc: Global,
     problem: &Problem,
     start: Option<Choice>,
     guess: u64,
-    steps: u64,
-    visits: u32,
-    is_by_quotas: bool,
-    is_thorough: bool,
+    limits: Limits,
     most: u32,
 ) -> Result<Grown, Memory> {
     let reduced = Reduced::of(alloc, problem)?;
@@ -56,24 +64,51 @@ pub(crate) fn grow_left(
             found: None,
             best: None,
             is_ended: false,
+            is_stopped: false,
             steps: 0,
         });
     }
-    let mut state = State::new(alloc, &task, &root, Allowed::all(alloc, problem)?, steps)?;
+    let allowed = Allowed::all(alloc, problem)?;
+    let first = limits.steps.min(limits.first_steps);
+    let mut state = State::new(alloc, &task, &root, allowed, first)?;
     state.spend(&program, ended);
-    state.is_by_quotas = is_by_quotas && state.is_by_quotas;
-    state.is_thorough = is_thorough;
+    state.is_by_quotas = limits.is_by_quotas && state.is_by_quotas;
+    state.is_thorough = limits.is_thorough;
     if let Some(start) = start {
         state.take(alloc, problem, start)?;
     } else {
         state.cost = Some(guess);
     }
-    grow(alloc, &task, &mut state, visits.min(most))?;
-    grown_of(alloc, &task, state, most)
+    grow_on(alloc, &task, state, limits, most)
 }
 
-// What a state has come to.
-fn grown_of(alloc: Global, task: &Task<'_>, state: State, most: u32) -> Result<Grown, Memory> {
+// Grows a tree by its first steps, and where a choice is known then by the others.
+fn grow_on(
+    alloc: Global,
+    task: &Task<'_>,
+    mut state: State,
+    limits: Limits,
+    most: u32,
+) -> Result<Grown, Memory> {
+    let visits = limits.visits.min(most);
+    grow(alloc, task, &mut state, visits)?;
+    let mut rest = limits.steps.saturating_sub(limits.first_steps);
+    if state.steps == 0 && state.best.is_some() {
+        state.steps = rest;
+        rest = 0;
+        grow(alloc, task, &mut state, visits)?;
+    }
+    grown_of(alloc, task, state, rest, most)
+}
+
+// What a state has come to, where so many steps were not given to it.
+fn grown_of(
+    alloc: Global,
+    task: &Task<'_>,
+    state: State,
+    rest: u64,
+    most: u32,
+) -> Result<Grown, Memory> {
     let is_ended = state.open.is_empty() && state.steps > 0;
     let found = if is_ended && state.best.is_some() {
         found_in(alloc, task, &state, most)?
@@ -85,6 +120,7 @@ fn grown_of(alloc: Global, task: &Task<'_>, state: State, most: u32) -> Result<G
         found,
         best,
         is_ended,
-        steps,
+        is_stopped: !is_ended && steps > 0,
+        steps: steps.saturating_add(rest),
     })
 }
