@@ -1,8 +1,7 @@
 //! Alternatives that no feasible choice takes.
 
-use crate::loads::limit_at;
 use choice_problem::{Alt, Problem};
-use reduced_problem::Reduced;
+use reduced_problem::{Reduced, UserRun};
 use slot_text::Memory;
 use std::alloc::Global;
 
@@ -13,22 +12,50 @@ pub(crate) fn barred_alts(
     problem: &Problem,
     reduced: &Reduced,
 ) -> Result<Vec<bool>, Memory> {
+    let closed = closed_parts(alloc, reduced)?;
     let mut barred = Vec::new(alloc);
     for unit in 0..problem.units() {
         let alts = problem.unit_alts(unit);
         let first = reduced.first_part(unit);
-        let is_left = has_unbarred(reduced, first, alts);
+        let is_left = has_unbarred(&closed, first, alts);
         for alt in alts {
-            barred.push(is_left && is_barred(reduced, first, alt))?;
+            barred.push(is_left && is_barred(&closed, first, alt))?;
         }
     }
     Ok(barred)
 }
 
+// Of each part, whether it uses a resource of limit 0.
+fn closed_parts(alloc: Global, reduced: &Reduced) -> Result<Vec<bool>, Memory> {
+    let mut closed = vec![in alloc; false; reduced.parts() as usize]?;
+    for (number, class) in (0..).zip(reduced.classes()) {
+        if class.limit == 0 {
+            close_users(&mut closed, reduced.users(number));
+        }
+    }
+    Ok(closed)
+}
+
+// Notes that these parts use a resource of limit 0.
+fn close_users(closed: &mut [bool], users: &[UserRun]) {
+    for run in users {
+        close_run(closed, run.first as usize, run.end as usize);
+    }
+}
+
+// Notes it of the parts from one to another.
+fn close_run(closed: &mut [bool], first: usize, end: usize) {
+    if first <= end && end <= closed.len() {
+        for flag in closed[first..end].iter_mut() {
+            *flag = true;
+        }
+    }
+}
+
 // Whether some alternative of a unit uses no resource of limit 0.
-fn has_unbarred(reduced: &Reduced, first: u32, alts: &[Alt]) -> bool {
+fn has_unbarred(closed: &[bool], first: u32, alts: &[Alt]) -> bool {
     for alt in alts {
-        if !is_barred(reduced, first, alt) {
+        if !is_barred(closed, first, alt) {
             return true;
         }
     }
@@ -36,19 +63,17 @@ fn has_unbarred(reduced: &Reduced, first: u32, alts: &[Alt]) -> bool {
 }
 
 // Whether an alternative uses a resource of limit 0.
-fn is_barred(reduced: &Reduced, first: u32, alt: &Alt) -> bool {
-    is_closed(reduced, first, alt.one) || is_closed(reduced, first, alt.two)
+fn is_barred(closed: &[bool], first: u32, alt: &Alt) -> bool {
+    is_closed(closed, first, alt.one) || is_closed(closed, first, alt.two)
 }
 
 // Whether the part that an alternative may name uses a resource of limit 0.
-fn is_closed(reduced: &Reduced, first: u32, part: Option<u32>) -> bool {
+fn is_closed(closed: &[bool], first: u32, part: Option<u32>) -> bool {
     let Some(number) = part else {
         return false;
     };
-    for entry in reduced.part_uses(first.saturating_add(number)) {
-        if limit_at(reduced, entry.class) == 0 {
-            return true;
-        }
+    match closed.get(first.saturating_add(number) as usize) {
+        Some(flag) => *flag,
+        None => false,
     }
-    false
 }

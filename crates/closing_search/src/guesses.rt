@@ -5,7 +5,7 @@
 ghost use Rattle.choice_problem.specs.Bounds.{IsVector};
 ghost use Rattle.price_table.specs.Tables.{IsTableFor};
 
-use crate::accepted::Found;
+use crate::accepted::{Found, are_listable};
 use crate::leftovers::{Grown, Limits, grow_left};
 use crate::states::copy_of;
 use choice_problem::{Choice, PRICED_SCALE, Problem, Ranges, Vector, VectorList, cost_of};
@@ -160,7 +160,7 @@ fn whole_choice(
 }
 
 // What was found, with the best choice of the whole problem and with the fixing, whose vector
-// stands behind the others.
+// stands behind the others, if there is room for it.
 fn fixed_found(
     alloc: Global,
     guesses: &Guesses,
@@ -174,15 +174,20 @@ fn fixed_found(
     let Found { nodes, vectors, .. } = found;
     let mut items = vectors.into_items();
     items.push(Vector::new(Vec::from_slice(alloc, vector.items())?))?;
+    let number = u32::try_from(items.len()).unwrap_or(u32::MAX);
+    let vectors = VectorList::new(items);
+    if !are_listable(&vectors) {
+        return Ok(None);
+    }
     Ok(Some(Found {
         choice: Some(copy_of(alloc, best)?),
         fixing: Some(Fixing {
-            vector: u32::try_from(items.len()).unwrap_or(u32::MAX),
+            vector: number,
             scale: PRICED_SCALE,
             cost,
         }),
         nodes,
-        vectors: VectorList::new(items),
+        vectors,
     }))
 }
 

@@ -71,8 +71,8 @@ impl Loads {
     }
 }
 
-/// The limit of a class.
-pub(crate) fn limit_at(reduced: &Reduced, class: u32) -> i64 {
+// The limit of a class.
+fn limit_at(reduced: &Reduced, class: u32) -> i64 {
     match reduced.classes().get(class as usize) {
         Some(class) => class.limit,
         None => i64::MAX,
