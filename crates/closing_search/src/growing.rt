@@ -1,20 +1,23 @@
 //! The growth of a tree by free splits.
 
 use crate::entries::Entry;
-use crate::pricings::Pricing;
+use crate::pricings::{Pricing, closing};
 use crate::rounding::rounded;
 use crate::splits::{Split, best_split};
-use crate::states::{NEVER, Open, State, Task};
-use relaxed_problem::{End, Relaxation};
+use crate::states::{Ahead, NEVER, Open, State, Task};
+use relaxed_problem::{End, Relaxation, Work};
 use slot_text::Memory;
 use std::alloc::Global;
+use std::thread;
+use std::thread::Threads;
 
 // The most pivots of one node.
 const NODE_PIVOTS: u32 = 20_000;
 
 /// Visits open nodes, the last one first, until none is left, so many were visited, or one stays
 /// open.
-pub(crate) fn grow(
+pub(crate) fn grow<R: Threads + Sync>(
+    rt: &R,
     alloc: Global,
     task: &Task<'_>,
     state: &mut State,
@@ -24,31 +27,102 @@ pub(crate) fn grow(
         if state.steps == 0 {
             return Ok(());
         }
+        solve_ahead(rt, alloc, task, state);
         let Some(open) = state.open.pop() else {
             return Ok(());
         };
-        if !visit(alloc, task, state, open)? {
+        if !visit(rt, alloc, task, state, open)? {
             return Ok(());
         }
     }
     Ok(())
 }
 
+// Where there are several threads and the next node is not solved, solves it and those behind it,
+// side by side.
+fn solve_ahead<R: Threads + Sync>(rt: &R, alloc: Global, task: &Task<'_>, state: &mut State) {
+    let threads = state.threads();
+    let count = state.open.len().min(threads);
+    let first = state.open.len() - count;
+    let (cost, enough) = (state.cost, state.enough());
+    let next = &mut state.open[first..];
+    if count < 2 || is_ready(next, cost) {
+        return;
+    }
+    let pricings = state.pricings.as_slice();
+    thread::for_each_mut(
+        rt,
+        next,
+        threads.max(1),
+        &|_, open| prepare(alloc, task, pricings, cost, enough, open),
+    );
+}
+
+// Whether the last one of some open nodes was solved before its turn.
+fn is_ready(open: &[Open], cost: Option<u64>) -> bool {
+    match open.last() {
+        Some(next) => next.is_ahead(cost),
+        None => true,
+    }
+}
+
+// Solves a node before its turn, where no vector that there is closes it. Where memory runs out, it
+// stays as it was.
+fn prepare(
+    alloc: Global,
+    task: &Task<'_>,
+    pricings: &[Pricing],
+    cost: Option<u64>,
+    enough: f64,
+    open: &mut Open,
+) {
+    if open.is_ahead(cost) {
+        return;
+    }
+    if let Err(Memory) = complete_values(task, pricings, open) {
+        return;
+    }
+    if closing(pricings, &open.values, cost).is_none() {
+        open.ahead = match solution(alloc, task, &open.relaxation, cost, enough) {
+            Ok(ahead) => Some(ahead),
+            Err(Memory) => None,
+        };
+    }
+}
+
+// The solution of a relaxation, for this cost.
+fn solution(
+    alloc: Global,
+    task: &Task<'_>,
+    relaxation: &Relaxation,
+    cost: Option<u64>,
+    enough: f64,
+) -> Result<Ahead, Memory> {
+    let mut relaxation = relaxation.copy(alloc)?;
+    let mut work = Work::new(alloc, task.program)?;
+    let ended = relaxation.solve_by(alloc, task.program, &mut work, NODE_PIVOTS, enough)?;
+    Ok(Ahead {
+        relaxation,
+        ended,
+        cost,
+    })
+}
+
 // Closes or splits a node. Answers whether it did.
-fn visit(
+fn visit<R: Threads + Sync>(
+    rt: &R,
     alloc: Global,
     task: &Task<'_>,
     state: &mut State,
     mut open: Open,
 ) -> Result<bool, Memory> {
-    complete_values(task, state, &mut open)?;
+    complete_values(task, &state.pricings, &mut open)?;
     if state.close_by_known(&open) {
         return Ok(true);
     }
-    let enough = state.enough();
-    match solve(alloc, task, state, &mut open.relaxation, enough)? {
+    match first_end(alloc, task, state, &mut open)? {
         End::Spent => Ok(false),
-        End::Solved => bound_or_split(alloc, task, state, open),
+        End::Solved => bound_or_split(rt, alloc, task, state, open),
         End::Infeasible => close_empty(alloc, task, state, &open),
         End::Above => {
             let pricing = prices_of(alloc, task, state, &open)?;
@@ -56,20 +130,47 @@ fn visit(
                 state.close_by(&open, pricing)?;
                 return Ok(true);
             }
-            split_bounded(alloc, task, state, open)
+            split_bounded(rt, alloc, task, state, open)
+        }
+    }
+}
+
+// Solves a node, or takes the solution that was made before its turn, if it is for this cost.
+fn first_end(
+    alloc: Global,
+    task: &Task<'_>,
+    state: &mut State,
+    open: &mut Open,
+) -> Result<End, Memory> {
+    match open.ahead.take() {
+        Some(ahead) if ahead.cost == state.cost => {
+            let Ahead {
+                relaxation,
+                ended,
+                ..
+            } = ahead;
+            open.relaxation = relaxation;
+            state.spend(task.program, ended);
+            Ok(ended.end)
+        }
+        _ => {
+            let enough = state.enough();
+            let end = solve(alloc, task, state, &mut open.relaxation, enough)?;
+            Ok(end)
         }
     }
 }
 
 // Splits a node whose relaxation is above the cost while no vector closes it.
-fn split_bounded(
+fn split_bounded<R: Threads + Sync>(
+    rt: &R,
     alloc: Global,
     task: &Task<'_>,
     state: &mut State,
     mut open: Open,
 ) -> Result<bool, Memory> {
     match solve(alloc, task, state, &mut open.relaxation, NEVER)? {
-        End::Solved => bound_or_split(alloc, task, state, open),
+        End::Solved => bound_or_split(rt, alloc, task, state, open),
         End::Infeasible => close_empty(alloc, task, state, &open),
         End::Above | End::Spent => Ok(false),
     }
@@ -90,9 +191,9 @@ fn solve(
 }
 
 // Computes the bounds of the vectors that were added since the node was made.
-fn complete_values(task: &Task<'_>, state: &State, open: &mut Open) -> Result<(), Memory> {
+fn complete_values(task: &Task<'_>, pricings: &[Pricing], open: &mut Open) -> Result<(), Memory> {
     let known = open.values.len();
-    for pricing in state.pricings.iter().skip(known) {
+    for pricing in pricings.iter().skip(known) {
         let value = pricing.value(task.problem, task.reduced, &open.allowed);
         open.values.push(value)?;
     }
@@ -130,7 +231,8 @@ fn prices_of(
 }
 
 // Closes or splits a node whose relaxation is solved.
-fn bound_or_split(
+fn bound_or_split<R: Threads + Sync>(
+    rt: &R,
     alloc: Global,
     task: &Task<'_>,
     state: &mut State,
@@ -146,7 +248,7 @@ fn bound_or_split(
         pricing = Some(found);
     }
     let shares = open.relaxation.shares(alloc, task.program)?;
-    if let Some(split) = best_split(alloc, task, state, &open, &shares)? {
+    if let Some(split) = best_split(rt, alloc, task, state, &open, &shares)? {
         state.take_pricing(pricing)?;
         return divide(alloc, task, state, open, split);
     }
@@ -192,23 +294,17 @@ fn divide(
     } else {
         ((high, true), (low, false))
     };
-    let other = Open {
-        entry: open.entry,
-        allowed: open.allowed.copy(alloc)?,
-        values: Vec::from_slice(alloc, &open.values)?,
-        relaxation: open.relaxation.copy(alloc)?,
-    };
-    push_part(alloc, task, state, other, split, first)?;
-    push_part(alloc, task, state, open, split, last)?;
+    push_part(alloc, task, state, &open, split, first)?;
+    push_part(alloc, task, state, &open, split, last)?;
     Ok(true)
 }
 
-// Makes a node one of its parts, and adds it: its entry, and whether it is the high one.
+// Adds a part of a node: its entry, and whether it is the high one.
 fn push_part(
     alloc: Global,
     task: &Task<'_>,
     state: &mut State,
-    open: Open,
+    open: &Open,
     split: Split,
     part: (u32, bool),
 ) -> Result<(), Memory> {
@@ -222,13 +318,13 @@ fn push_part(
         let moved = pricing.moved(*value, problem, reduced, unit, (&open.allowed, &allowed));
         values.push(moved)?;
     }
-    let Open { mut relaxation, .. } = open;
-    task.keep(&mut relaxation, unit, rule, is_high);
+    let relaxation = state.part(alloc, is_high)?;
     state.open.push(Open {
         entry,
         allowed,
         values,
         relaxation,
+        ahead: None,
     })?;
     Ok(())
 }

@@ -13,6 +13,7 @@ use cost_fixing::{Fixing, Left, left_of};
 use price_table::{PriceTable, bound, price_table};
 use slot_text::Memory;
 use std::alloc::Global;
+use std::thread::Threads;
 
 // The most trees of all guesses, and the most steps of the relaxations of all of them.
 const MOST_GUESSES: u32 = 96;
@@ -71,12 +72,14 @@ pub(crate) struct Guessed {
 
 /// Looks for a tree of what a fixing at the vector leaves, and for choices on the way, from a
 /// choice that is known, if one is.
-pub(crate) fn close_by_guesses(
+pub(crate) fn close_by_guesses<R: Threads + Sync>(
+    rt: &R,
     alloc: Global,
     problem: &Problem,
     vector: &Vector,
     best: Option<Choice>,
     most: u32,
+    workers: u32,
 ) -> Result<Guessed, Memory>
     requires { IsVector problem.now vector.now }
 {
@@ -86,7 +89,16 @@ pub(crate) fn close_by_guesses(
         if guesses.is_over {
             break;
         }
-        let found = close_at(alloc, problem, vector, &table, &mut guesses, most)?;
+        let found = close_at(
+            rt,
+            alloc,
+            problem,
+            vector,
+            &table,
+            &mut guesses,
+            most,
+            workers,
+        )?;
         if found.is_some() {
             return Ok(guesses.with(found));
         }
@@ -104,13 +116,15 @@ fn bound_at(alloc: Global, problem: &Problem, table: &PriceTable) -> Result<u64,
 }
 
 // Tries the next guess.
-fn close_at(
+fn close_at<R: Threads + Sync>(
+    rt: &R,
     alloc: Global,
     problem: &Problem,
     vector: &Vector,
     table: &PriceTable,
     guesses: &mut Guesses,
     most: u32,
+    workers: u32,
 ) -> Result<Option<Found>, Memory>
     requires { IsTableFor problem.now table.now }
 {
@@ -122,7 +136,16 @@ fn close_at(
     let start = guesses.start_in(alloc, &left, cost)?;
     let limits = guesses.limits();
     let is_known = start.is_some();
-    let grown = grow_left(alloc, left.problem(), start, cost, limits, most)?;
+    let grown = grow_left(
+        rt,
+        alloc,
+        left.problem(),
+        start,
+        cost,
+        limits,
+        most,
+        workers,
+    )?;
     let Grown {
         found,
         best,

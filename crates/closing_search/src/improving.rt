@@ -8,6 +8,7 @@ use crate::states::{NEVER, State, Task};
 use relaxed_problem::{End, Relaxation};
 use slot_text::Memory;
 use std::alloc::Global;
+use std::thread::Threads;
 
 // How great reduced costs are tried in turn, as parts of the first relaxation's value, and by how
 // many nodes and steps.
@@ -31,7 +32,8 @@ const FIRST_PIVOTS: u32 = 20_000;
 /// Looks for better choices, where the first relaxation is solved: first of all units by their
 /// reduced costs; then by trees over the alternatives of small reduced costs, and at last over all
 /// that a better choice can take.
-pub(crate) fn improve(
+pub(crate) fn improve<R: Threads + Sync>(
+    rt: &R,
     alloc: Global,
     task: &Task<'_>,
     state: &mut State,
@@ -41,13 +43,13 @@ pub(crate) fn improve(
     for width in WIDTHS {
         let most = width * root.value();
         if most < gap_of(state, root) {
-            search_near(alloc, task, state, root, most, (FEW_NODES, FEW_STEPS))?;
+            search_near(rt, alloc, task, state, root, most, (FEW_NODES, FEW_STEPS))?;
         }
     }
     let gap = gap_of(state, root);
     let widest = WIDEST * root.value();
     let most = if gap < widest { gap } else { widest };
-    search_near(alloc, task, state, root, most, (MANY_NODES, MANY_STEPS))
+    search_near(rt, alloc, task, state, root, most, (MANY_NODES, MANY_STEPS))
 }
 
 // How much more than the relaxation a better choice can cost.
@@ -57,7 +59,8 @@ fn gap_of(state: &State, root: &Relaxation) -> f64 {
 
 // Looks for a better choice of alternatives of reduced costs of at most so much, by so many nodes
 // and steps.
-fn search_near(
+fn search_near<R: Threads + Sync>(
+    rt: &R,
     alloc: Global,
     task: &Task<'_>,
     state: &mut State,
@@ -80,9 +83,9 @@ fn search_near(
         return Ok(());
     }
     let steps = counts.1.min(state.steps);
-    let mut other = State::new(alloc, &near, &first, allowed, steps)?;
+    let mut other = State::new(alloc, &near, &first, allowed, steps, state.workers)?;
     other.cost = state.cost;
-    seek(alloc, &near, &mut other, &first, counts.0)?;
+    seek(rt, alloc, &near, &mut other, &first, counts.0)?;
     let State {
         best,
         steps: left,
@@ -96,7 +99,8 @@ fn search_near(
 }
 
 // Looks for a better choice by a dive and by a tree.
-fn seek(
+fn seek<R: Threads + Sync>(
+    rt: &R,
     alloc: Global,
     task: &Task<'_>,
     state: &mut State,
@@ -105,5 +109,5 @@ fn seek(
 ) -> Result<(), Memory> {
     place_by(alloc, task, state, first)?;
     dive(alloc, task, state, first)?;
-    grow(alloc, task, state, most)
+    grow(rt, alloc, task, state, most)
 }

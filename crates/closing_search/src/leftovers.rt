@@ -12,6 +12,7 @@ use reduced_problem::Reduced;
 use relaxed_problem::{End, Program, Relaxation};
 use slot_text::Memory;
 use std::alloc::Global;
+use std::thread::Threads;
 
 // The most pivots of the first relaxation.
 const FIRST_PIVOTS: u32 = 50_000;
@@ -39,13 +40,15 @@ pub(crate) struct Grown {
 }
 
 /// Grows a tree in which choices below the guess alone are looked for, or below a start.
-pub(crate) fn grow_left(
+pub(crate) fn grow_left<R: Threads + Sync>(
+    rt: &R,
     alloc: Global,
     problem: &Problem,
     start: Option<Choice>,
     guess: u64,
     limits: Limits,
     most: u32,
+    workers: u32,
 ) -> Result<Grown, Memory> {
     let reduced = Reduced::of(alloc, problem)?;
     let barred = barred_alts(alloc, problem, &reduced)?;
@@ -70,7 +73,7 @@ pub(crate) fn grow_left(
     }
     let allowed = Allowed::all(alloc, problem)?;
     let first = limits.steps.min(limits.first_steps);
-    let mut state = State::new(alloc, &task, &root, allowed, first)?;
+    let mut state = State::new(alloc, &task, &root, allowed, first, workers)?;
     state.spend(&program, ended);
     state.is_by_quotas = limits.is_by_quotas && state.is_by_quotas;
     state.is_thorough = limits.is_thorough;
@@ -79,11 +82,12 @@ pub(crate) fn grow_left(
     } else {
         state.cost = Some(guess);
     }
-    grow_on(alloc, &task, state, limits, most)
+    grow_on(rt, alloc, &task, state, limits, most)
 }
 
 // Grows a tree by its first steps, and where a choice is known then by the others.
-fn grow_on(
+fn grow_on<R: Threads + Sync>(
+    rt: &R,
     alloc: Global,
     task: &Task<'_>,
     mut state: State,
@@ -91,12 +95,12 @@ fn grow_on(
     most: u32,
 ) -> Result<Grown, Memory> {
     let visits = limits.visits.min(most);
-    grow(alloc, task, &mut state, visits)?;
+    grow(rt, alloc, task, &mut state, visits)?;
     let mut rest = limits.steps.saturating_sub(limits.first_steps);
     if state.steps == 0 && state.best.is_some() {
         state.steps = rest;
         rest = 0;
-        grow(alloc, task, &mut state, visits)?;
+        grow(rt, alloc, task, &mut state, visits)?;
     }
     grown_of(alloc, task, state, rest, most)
 }

@@ -15,6 +15,7 @@ mod guesses;
 mod improving;
 mod leftovers;
 mod loads;
+mod looks;
 mod narrowed;
 mod pieces;
 mod placings;

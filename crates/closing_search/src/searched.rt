@@ -18,6 +18,7 @@ use reduced_problem::Reduced;
 use relaxed_problem::{End, Program, Relaxation};
 use slot_text::Memory;
 use std::alloc::Global;
+use std::thread::Threads;
 
 // The most pivots of the first relaxation.
 const ROOT_PIVOTS: u32 = 50_000;
@@ -37,12 +38,18 @@ const ROOT_PIVOTS: u32 = 50_000;
 /// "Special facilities in a general mathematical programming system for non-convex problems using
 /// ordered sets of variables"). In the end a tree whose splits cut ranges is made of it. Its work
 /// is bounded by counts of nodes and pivots, and the same problem, start and budget give the same
-/// answer. The test at its end takes one step an alternative for each leaf.
-pub fn closing_search(
+/// answer for each number of workers: these solve the two parts of a node, and look at its splits,
+/// side by side, on at most so many threads, while the tree grows as with one. The test at its end
+/// takes one step an alternative for each leaf.
+///
+/// Memory: for each open node two relaxations; and with several workers sixteen more.
+pub fn closing_search<R: Threads + Sync>(
+    rt: &R,
     alloc: Global,
     problem: &Problem,
     start: Option<Choice>,
     budget: u32,
+    workers: u32,
 ) -> Result<Ending, Memory>
     requires { IfSome start (IsFeasible problem.now) }
     ensures ending { IfOk result (IsEnding problem.now budget) }
@@ -57,7 +64,7 @@ pub fn closing_search(
         found,
         best,
         vector,
-    } = searched(alloc, problem, &start, budget)?;
+    } = searched(rt, alloc, problem, &start, budget, workers)?;
     if let Some(found) = found {
         if let Some(closed) = accepted(alloc, problem, &start, budget, found)? {
             return Ok(Ending::Closed(closed));
@@ -76,11 +83,13 @@ struct Findings {
 }
 
 // Searches a problem.
-fn searched(
+fn searched<R: Threads + Sync>(
+    rt: &R,
     alloc: Global,
     problem: &Problem,
     start: &Option<Choice>,
     budget: u32,
+    workers: u32,
 ) -> Result<Findings, Memory>
     ensures { IfOk result (λ s. IsVector problem.now s.vector) }
 {
@@ -98,7 +107,9 @@ fn searched(
     };
     let vector = root.vector(alloc, problem, &program)?;
     let most = budget.min(MOST_NODES);
-    let (found, best) = settled(alloc, &task, &root, ended.end, &vector, start, most)?;
+    let (found, best) = settled(
+        rt, alloc, &task, &root, ended.end, &vector, start, most, workers,
+    )?;
     Ok(Findings {
         found,
         best,
@@ -108,7 +119,8 @@ fn searched(
 
 // Looks for a small tree first, then for one of what a fixing leaves, and at last for better
 // choices.
-fn settled(
+fn settled<R: Threads + Sync>(
+    rt: &R,
     alloc: Global,
     task: &Task<'_>,
     root: &Relaxation,
@@ -116,20 +128,21 @@ fn settled(
     vector: &Vector,
     start: &Option<Choice>,
     most: u32,
+    workers: u32,
 ) -> Result<(Option<Found>, Option<Choice>), Memory>
     requires { IsVector task.now.problem.now vector.now }
 {
     if end == End::Above || end == End::Spent {
         return Ok((None, None));
     }
-    let (found, best) = first_tree(alloc, task, root, start, most)?;
+    let (found, best) = first_tree(rt, alloc, task, root, start, most, workers)?;
     if found.is_some() {
         return Ok((found, best));
     }
     if end == End::Infeasible || most <= FEW_VISITS {
-        return further_trees(alloc, task, root, end, best, most);
+        return further_trees(rt, alloc, task, root, end, best, most, workers);
     }
-    let guessed = close_by_guesses(alloc, task.problem, vector, best, most)?;
+    let guessed = close_by_guesses(rt, alloc, task.problem, vector, best, most, workers)?;
     let Guessed {
         found,
         best,
@@ -138,5 +151,5 @@ fn settled(
     if found.is_some() || is_best {
         return Ok((found, best));
     }
-    further_trees(alloc, task, root, end, best, most)
+    further_trees(rt, alloc, task, root, end, best, most, workers)
 }

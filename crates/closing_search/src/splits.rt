@@ -1,12 +1,14 @@
 //! Where a search splits a node: at a unit of whose alternatives the relaxation takes shares, so
 //! that both parts have a greater bound.
 
+use crate::looks::Basis;
 use crate::rules::{Rule, uses_of_part};
 use crate::states::{NEVER, Open, State, Task};
 use relaxed_problem::{End, Relaxation, Share};
 use slot_text::Memory;
 use std::alloc::Global;
 use std::num::saturating_f64_to_i64;
+use std::thread::Threads;
 
 // How many splits are looked at, after how many without a better one the rest is not, and by how
 // many pivots for each part.
@@ -52,8 +54,10 @@ pub(crate) struct Split {
 /// The split of a node whose relaxation is solved; none where it takes one alternative of each
 /// unit. Where the relaxation takes shares of alternatives that use a quota differently, the split
 /// is by their uses: the other alternatives of a unit make up for a split by numbers, but not for
-/// one by uses.
-pub(crate) fn best_split(
+/// one by uses. The relaxations of its two parts, as far as they were looked at, are the state's
+/// then.
+pub(crate) fn best_split<R: Threads + Sync>(
+    rt: &R,
     alloc: Global,
     task: &Task<'_>,
     state: &mut State,
@@ -61,28 +65,107 @@ pub(crate) fn best_split(
     shares: &[Share],
 ) -> Result<Option<Split>, Memory> {
     let candidates = candidates(alloc, task, state, &open.relaxation, shares)?;
-    let mut part = open.relaxation.copy(alloc)?;
-    let mut best = None;
-    let mut most = -1.0;
-    let mut idle: u32 = 0;
     let looks = looks_of(state);
-    for candidate in candidates.iter().take(looks.most) {
-        if idle >= looks.idle {
+    let mut pick = Pick {
+        best: None,
+        most: -1.0,
+        idle: 0,
+    };
+    let mut rest = first_of(&candidates, looks.most);
+    for _ in 0..candidates.len() {
+        if rest.is_empty() || pick.idle >= looks.idle {
             break;
         }
-        let (low, high) = gains_of(alloc, task, state, open, &candidate.split, &mut part)?;
-        state.scores.note(candidate.split.unit, low, high);
-        idle = idle.saturating_add(1);
-        if low * high > most {
-            most = low * high;
-            best = Some(Split {
-                is_low_first: low <= high,
-                ..candidate.split
-            });
-            idle = 0;
+        let group = first_of(rest, group_size(state, &pick, looks));
+        let basis = Basis {
+            relaxation: &open.relaxation,
+            pivots: looks.pivots,
+            enough: state.enough(),
+        };
+        state.look_at(rt, alloc, task, basis, group);
+        rest = after(rest, group.len());
+        take_looks(task, state, open, group, looks, &mut pick)?;
+    }
+    Ok(pick.best)
+}
+
+// The best split of those that were looked at, what its parts gain, and how many looks followed it.
+#[derive(Clone, Copy)]
+struct Pick {
+    best: Option<Split>,
+    most: f64,
+    idle: u32,
+}
+
+// How many splits are looked at side by side: as many as must be looked at in any case, where there
+// is room, but enough for all threads.
+fn group_size(state: &State, pick: &Pick, looks: Looks) -> usize {
+    let sure = looks.idle.saturating_sub(pick.idle) as usize;
+    let enough = state.threads() / 2;
+    sure.max(enough).max(1).min(state.looks.len() / 2)
+}
+
+// The first ones, at most so many.
+fn first_of(candidates: &[Candidate], most: usize) -> &[Candidate] {
+    if most < candidates.len() {
+        &candidates[..most]
+    } else {
+        candidates
+    }
+}
+
+// Those after the first ones, of which there are so many.
+fn after(candidates: &[Candidate], count: usize) -> &[Candidate] {
+    if count < candidates.len() {
+        &candidates[count..]
+    } else {
+        &[]
+    }
+}
+
+// Takes the looks at a group of splits in turn, until so many without a better one followed a best
+// one.
+fn take_looks(
+    task: &Task<'_>,
+    state: &mut State,
+    open: &Open,
+    group: &[Candidate],
+    looks: Looks,
+    pick: &mut Pick,
+) -> Result<(), Memory> {
+    for (place, candidate) in group.iter().enumerate() {
+        if pick.idle < looks.idle {
+            take_look(task, state, open, place, candidate.split, pick)?;
         }
     }
-    Ok(best)
+    Ok(())
+}
+
+// Takes a look at a split: notes what its parts gain, and keeps their relaxations where this is
+// best.
+fn take_look(
+    task: &Task<'_>,
+    state: &mut State,
+    open: &Open,
+    place: usize,
+    split: Split,
+    pick: &mut Pick,
+) -> Result<(), Memory> {
+    let from = place.saturating_mul(2);
+    let low = part_gain(task, state, open, from)?;
+    let high = part_gain(task, state, open, from.saturating_add(1))?;
+    state.scores.note(split.unit, low, high);
+    pick.idle = pick.idle.saturating_add(1);
+    if low * high > pick.most {
+        pick.most = low * high;
+        pick.best = Some(Split {
+            is_low_first: low <= high,
+            ..split
+        });
+        pick.idle = 0;
+        state.keep_parts(from);
+    }
+    Ok(())
 }
 
 // The splits by the uses of quotas that have prices, where there are some, else those by numbers;
@@ -114,14 +197,14 @@ fn candidates(
     Ok(found)
 }
 
-// A split that is looked at, the order by its unit's score, the rank of its unit's greatest share,
-// and its place among those that were found.
+/// A split that is looked at, the order by its unit's score, the rank of its unit's greatest share,
+/// and its place among those that were found.
 #[derive(Clone, Copy)]
-struct Candidate {
+pub(crate) struct Candidate {
     order: u64,
     rank: u64,
     place: usize,
-    split: Split,
+    pub(crate) split: Split,
 }
 
 // Adds the splits of the units of which the relaxation takes several alternatives: by the uses of a
@@ -281,47 +364,23 @@ fn cut_between(task: &Task<'_>, relaxation: &Relaxation, from: &Share, to: &Shar
     cut
 }
 
-// What the value of the relaxation gains in the low and in the high part, as far as some pivots
-// show it.
-fn gains_of(
-    alloc: Global,
-    task: &Task<'_>,
-    state: &mut State,
-    open: &Open,
-    split: &Split,
-    part: &mut Relaxation,
-) -> Result<(f64, f64), Memory> {
-    part.copy_from(alloc, &open.relaxation)?;
-    task.keep(part, split.unit, split.rule, false);
-    let low = part_gain(alloc, task, state, open, part)?;
-    part.copy_from(alloc, &open.relaxation)?;
-    task.keep(part, split.unit, split.rule, true);
-    let high = part_gain(alloc, task, state, open, part)?;
-    Ok((at_least(low), at_least(high)))
-}
-
-// What the value gains in a part of a node.
-fn part_gain(
-    alloc: Global,
-    task: &Task<'_>,
-    state: &mut State,
-    open: &Open,
-    part: &mut Relaxation,
-) -> Result<f64, Memory> {
+// What the value of the relaxation gains in a part of a split, as far as the look at this place
+// shows it: a thousandth at least.
+fn part_gain(task: &Task<'_>, state: &mut State, open: &Open, place: usize) -> Result<f64, Memory> {
     let enough = state.enough();
     let value = open.relaxation.value();
-    let pivots = looks_of(state).pivots;
-    let work = &mut state.work;
-    let ended = part.solve_by(alloc, task.program, work, pivots, enough)?;
+    let Some((ended, reached)) = state.look_end(place) else {
+        return Err(Memory);
+    };
     state.spend(task.program, ended);
     let most = if enough < value + MOST_GAIN {
         enough - value
     } else {
         MOST_GAIN
     };
-    let gain = part.value() - value;
+    let gain = reached - value;
     let is_closed = ended.end == End::Above || ended.end == End::Infeasible;
-    Ok(if is_closed || gain > most { most } else { gain })
+    Ok(at_least(if is_closed || gain > most { most } else { gain }))
 }
 
 // The most that a part can gain.

@@ -2,15 +2,19 @@
 
 use crate::allowed::Allowed;
 use crate::entries::Entry;
+use crate::looks::{Basis, Look, MOST_BESIDE, look_at_all, places};
 use crate::pricings::{Pricing, closing};
 use crate::rules::Rule;
 use crate::scores::Scores;
+use crate::splits::Candidate;
 use choice_problem::{Choice, Problem, Vector, cost_of, fits};
 use reduced_problem::Reduced;
 use relaxed_problem::{Ended, Program, Relaxation, Work};
 use slot_text::Memory;
 use std::alloc::Global;
+use std::mem;
 use std::num::nearest_i64_to_f64;
+use std::thread::Threads;
 
 // How many steps a pivot takes beside one for each alternative, and how many pivots it takes to
 // begin.
@@ -23,6 +27,9 @@ const STARTING: u64 = 4;
 const MOST_PRICINGS: usize = 128;
 
 const MOST_TAKEN: usize = 64;
+
+// With fewer alternatives than this one thread does all.
+const MANY_COLUMNS: usize = 1_000;
 
 /// The problem, its resources that matter, those of which some part uses several, and the
 /// alternatives that take part in the relaxations.
@@ -55,6 +62,25 @@ pub(crate) struct Open {
     pub(crate) allowed: Allowed,
     pub(crate) values: Vec<i64>,
     pub(crate) relaxation: Relaxation,
+    pub(crate) ahead: Option<Ahead>,
+}
+
+/// A solution of an open node that was made before its turn, when this was the least cost.
+#[derive(Drop)]
+pub(crate) struct Ahead {
+    pub(crate) relaxation: Relaxation,
+    pub(crate) ended: Ended,
+    pub(crate) cost: Option<u64>,
+}
+
+impl Open {
+    // Whether it was solved before its turn, for this cost.
+    pub(crate) fn is_ahead(&self, cost: Option<u64>) -> bool {
+        match &self.ahead {
+            Some(ahead) => ahead.cost == cost,
+            None => false,
+        }
+    }
 }
 
 /// The tree so far; its open nodes, those to be searched first last; the vectors that close leaves
@@ -76,6 +102,13 @@ pub(crate) struct State {
     pub(crate) base: Allowed,
     // What splits gained so far.
     pub(crate) scores: Scores,
+    // The places of looks, two for each split that is looked at side by side; the relaxations of
+    // the parts of the best split of the last node that was looked at; and how many threads there
+    // may be.
+    pub(crate) looks: Vec<Look>,
+    low: Relaxation,
+    high: Relaxation,
+    pub(crate) workers: u32,
 }
 
 impl State {
@@ -86,7 +119,10 @@ impl State {
         root: &Relaxation,
         allowed: Allowed,
         steps: u64,
+        workers: u32,
     ) -> Result<State, Memory> {
+        let is_alone = workers < 2 || task.program.columns().len() < MANY_COLUMNS;
+        let beside = if is_alone { 1 } else { MOST_BESIDE };
         let mut state = State {
             entries: Vec::new(alloc),
             open: Vec::new(alloc),
@@ -99,6 +135,10 @@ impl State {
             is_thorough: false,
             base: allowed.copy(alloc)?,
             scores: Scores::none(alloc, task.problem.units())?,
+            looks: places(alloc, task, root, beside)?,
+            low: root.copy(alloc)?,
+            high: root.copy(alloc)?,
+            workers,
         };
         let none = Vector::new(Vec::new(alloc));
         let unpriced = Pricing::new(alloc, task, &state.base, none, 1)?;
@@ -109,6 +149,7 @@ impl State {
             allowed,
             values: Vec::new(alloc),
             relaxation: root.copy(alloc)?,
+            ahead: None,
         })?;
         Ok(state)
     }
@@ -121,10 +162,58 @@ impl State {
         root: &Relaxation,
     ) -> Result<State, Memory> {
         let allowed = Allowed::all(alloc, task.problem)?;
-        let mut state = State::new(alloc, task, root, allowed, self.steps)?;
+        let mut state = State::new(alloc, task, root, allowed, self.steps, self.workers)?;
         state.best = copy_if_any(alloc, &self.best)?;
         state.cost = self.cost;
         Ok(state)
+    }
+
+    // On how many threads nodes are searched.
+    pub(crate) fn threads(&self) -> usize {
+        if self.looks.len() > 2 {
+            self.workers as usize
+        } else {
+            1
+        }
+    }
+
+    // Looks at the splits of a group from a node.
+    pub(crate) fn look_at<R: Threads + Sync>(
+        &mut self,
+        rt: &R,
+        alloc: Global,
+        task: &Task<'_>,
+        basis: Basis<'_>,
+        group: &[Candidate],
+    ) {
+        let threads = self.threads();
+        let count = group.len().saturating_mul(2).min(self.looks.len());
+        let looks = &mut self.looks[..count];
+        look_at_all(rt, alloc, task, basis, group, looks, threads);
+    }
+
+    // How the look at a place ended, and the value that it reached.
+    pub(crate) fn look_end(&self, place: usize) -> Option<(Ended, f64)> {
+        let look = self.looks.get(place)?;
+        let ended = look.ended?;
+        Some((ended, look.relaxation.value()))
+    }
+
+    // Keeps the relaxations of the looks at this place and at the next one.
+    pub(crate) fn keep_parts(&mut self, place: usize) {
+        if let Some(look) = self.looks.get_mut(place) {
+            mem::swap(&mut self.low, &mut look.relaxation);
+        }
+        if let Some(look) = self.looks.get_mut(place.saturating_add(1)) {
+            mem::swap(&mut self.high, &mut look.relaxation);
+        }
+    }
+
+    // A copy of a relaxation that was kept.
+    pub(crate) fn part(&self, alloc: Global, is_high: bool) -> Result<Relaxation, Memory> {
+        let part = if is_high { &self.high } else { &self.low };
+        let copy = part.copy(alloc)?;
+        Ok(copy)
     }
 
     // Takes a choice, where it is feasible and cheaper than the best one.

@@ -10,6 +10,7 @@ use choice_problem::{Choice, Node, Vector, VectorList};
 use relaxed_problem::{End, Relaxation};
 use slot_text::Memory;
 use std::alloc::Global;
+use std::thread::Threads;
 
 /// The most nodes of a tree.
 pub(crate) const MOST_NODES: u32 = 40_000;
@@ -23,48 +24,52 @@ const FIRST_STEPS: u64 = 20_000_000;
 const MOST_TREES: u32 = 4;
 
 /// Looks for a small tree, and for a choice on the way, from a start, if there is one.
-pub(crate) fn first_tree(
+pub(crate) fn first_tree<R: Threads + Sync>(
+    rt: &R,
     alloc: Global,
     task: &Task<'_>,
     root: &Relaxation,
     start: &Option<Choice>,
     most: u32,
+    workers: u32,
 ) -> Result<(Option<Found>, Option<Choice>), Memory> {
     let allowed = Allowed::all(alloc, task.problem)?;
-    let mut state = State::new(alloc, task, root, allowed, FIRST_STEPS)?;
+    let mut state = State::new(alloc, task, root, allowed, FIRST_STEPS, workers)?;
     if let Some(start) = start {
         let copy = copy_of(alloc, start)?;
         state.take(alloc, task.problem, copy)?;
     }
-    grow(alloc, task, &mut state, most)?;
+    grow(rt, alloc, task, &mut state, most)?;
     let found = found_in(alloc, task, &state, most)?;
     let State { best, .. } = state;
     Ok((found, best))
 }
 
 /// Looks for better choices, and where none is known, for trees of the whole problem.
-pub(crate) fn further_trees(
+pub(crate) fn further_trees<R: Threads + Sync>(
+    rt: &R,
     alloc: Global,
     task: &Task<'_>,
     root: &Relaxation,
     end: End,
     best: Option<Choice>,
     most: u32,
+    workers: u32,
 ) -> Result<(Option<Found>, Option<Choice>), Memory> {
     let allowed = Allowed::all(alloc, task.problem)?;
-    let mut state = State::new(alloc, task, root, allowed, TREE_STEPS)?;
+    let mut state = State::new(alloc, task, root, allowed, TREE_STEPS, workers)?;
     let is_known = best.is_some();
     if let Some(best) = best {
         state.take(alloc, task.problem, best)?;
     }
     if end == End::Solved {
-        improve(alloc, task, &mut state, root)?;
+        improve(rt, alloc, task, &mut state, root)?;
     }
     if is_known && most > FEW_VISITS {
         let State { best, .. } = state;
         return Ok((None, best));
     }
-    grow_trees(alloc, task, state, root, most)
+    grow_trees(rt, alloc, task, state, root, most)
 }
 
 /// With at most so many nodes no fixing is tried, and trees of the whole problem are.
@@ -72,7 +77,8 @@ pub(crate) const FEW_VISITS: u32 = 64;
 
 // A tree and the best choice. Where a tree does not close, the next one is grown with the best
 // choice that was found; and where no better one was found, with splits by numbers alone.
-fn grow_trees(
+fn grow_trees<R: Threads + Sync>(
+    rt: &R,
     alloc: Global,
     task: &Task<'_>,
     first: State,
@@ -82,7 +88,7 @@ fn grow_trees(
     let mut state = first;
     for _ in 1..MOST_TREES {
         let known = state.cost;
-        grow(alloc, task, &mut state, most)?;
+        grow(rt, alloc, task, &mut state, most)?;
         if let Some(found) = found_in(alloc, task, &state, most)? {
             let State { best, .. } = state;
             return Ok((Some(found), best));

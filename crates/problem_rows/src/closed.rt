@@ -11,6 +11,7 @@ use choice_problem::{Choice, Problem, cost_of, fits};
 use closing_search::{Closed, Ending, closing_search};
 use std::alloc::Global;
 use std::test::Fail;
+use std::thread::Threads;
 
 // The choice that a text says, if it says one and that is feasible.
 fn start(alloc: Global, problem: &Problem, text: &str) -> Result<Option<Choice>, Fail>
@@ -27,19 +28,26 @@ fn start(alloc: Global, problem: &Problem, text: &str) -> Result<Option<Choice>,
 // What closes a row's problem within its budget, from its start: the cost of a best choice, or that
 // there is none, and how many nodes prove it.
 #[derive(Drop)]
-struct ClosedCase;
+struct ClosedCase<'a, R> {
+    rt: &'a R,
+}
 
-impl Case for ClosedCase {
+impl<R: Threads + Sync> Case for ClosedCase<'_, R> {
     fn find(&mut self, alloc: Global, row: &str) -> Result<String, Fail> {
         let problem = problem(alloc, piece(row, 0))?;
-        searched(alloc, &problem, row)
+        searched(self.rt, alloc, &problem, row)
     }
 }
 
-fn searched(alloc: Global, problem: &Problem, row: &str) -> Result<String, Fail> {
+fn searched<R: Threads + Sync>(
+    rt: &R,
+    alloc: Global,
+    problem: &Problem,
+    row: &str,
+) -> Result<String, Fail> {
     let budget = number(alloc, piece(row, 1))?;
     let start = start(alloc, problem, piece(row, 2))?;
-    let ending = closing_search(alloc, problem, start, budget)?;
+    let ending = closing_search(rt, alloc, problem, start, budget, 1)?;
     shown(alloc, &ending)
 }
 
@@ -100,7 +108,8 @@ P 0 2 1 1; A 0 0 -; U; P 1 2 1 1; A 0 0 -; U; P 0 1 2 2; A 0 0 -; U; L 1 1 1 | 9
 
 #[test]
 fn problems_are_closed(rt: HostRuntime) -> Result<(), Fail> {
-    walk(rt.alloc(), &mut ClosedCase, CLOSED)
+    let mut case = ClosedCase { rt: &rt };
+    walk(rt.alloc(), &mut case, CLOSED)
 }
 
 // The cost of the choice of a number, if it is feasible.
@@ -147,19 +156,23 @@ fn drawn_problems_are_closed(rt: HostRuntime) -> Result<(), Fail> {
     let alloc = rt.alloc();
     let mut draws = Draws { last: 5 };
     for number in 0..2_000 {
-        assert!(rt; drawn_is_closed(alloc, &mut draws)?, "{number}");
+        assert!(rt; drawn_is_closed(&rt, alloc, &mut draws)?, "{number}");
     }
     Ok(())
 }
 
 // Whether the next problem that is drawn is closed at its least cost.
-fn drawn_is_closed(alloc: Global, draws: &mut Draws) -> Result<bool, Fail> {
+fn drawn_is_closed<R: Threads + Sync>(
+    rt: &R,
+    alloc: Global,
+    draws: &mut Draws,
+) -> Result<bool, Fail> {
     let problem = drawn(alloc, draws)?;
-    is_closed(alloc, &problem)
+    is_closed(rt, alloc, &problem)
 }
 
-fn is_closed(alloc: Global, problem: &Problem) -> Result<bool, Fail> {
+fn is_closed<R: Threads + Sync>(rt: &R, alloc: Global, problem: &Problem) -> Result<bool, Fail> {
     let want = least_cost(alloc, problem)?;
-    let found = closing_search(alloc, problem, None, 1_000)?;
+    let found = closing_search(rt, alloc, problem, None, 1_000, 1)?;
     Ok(closed_cost(&found) == Some(want))
 }

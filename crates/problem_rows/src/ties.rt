@@ -4,6 +4,7 @@ use crate::draws::{Draws, choices_of, drawn, numbered};
 use choice_problem::{Alt, Choice, Chooser, Part, Problem, cost_of, fits};
 use std::alloc::Global;
 use std::test::Fail;
+use std::thread::Threads;
 use tied_choice::tied_choice;
 
 // The units of the first problem come first.
@@ -186,16 +187,21 @@ struct Costs {
 }
 
 // Meets both problems, if that can be.
-fn meet_both(alloc: Global, both: &Problem) -> Result<Option<Costs>, Fail> {
+fn meet_both<R: Threads + Sync>(
+    rt: &R,
+    alloc: Global,
+    both: &Problem,
+) -> Result<Option<Costs>, Fail> {
     let first = first_of(alloc, both)?;
     match least_of(alloc, &first)? {
-        Some((number, cost)) => meet_next(alloc, both, &first, number, cost),
+        Some((number, cost)) => meet_next(rt, alloc, both, &first, number, cost),
         None => Ok(None),
     }
 }
 
 // Meets the next problem after the first choice, of this number and cost, if that can be.
-fn meet_next(
+fn meet_next<R: Threads + Sync>(
+    rt: &R,
     alloc: Global,
     both: &Problem,
     first: &Problem,
@@ -206,7 +212,7 @@ fn meet_next(
     let Some(before) = cost_after(alloc, both, &chosen)? else {
         return Ok(None);
     };
-    let after = tied_cost(alloc, both, first, &chosen)?;
+    let after = tied_cost(rt, alloc, both, first, &chosen)?;
     let best = best_after(alloc, both, first, cost)?;
     Ok(Some(Costs {
         before,
@@ -216,20 +222,22 @@ fn meet_next(
 }
 
 // What the next problem costs after the tie that is found, if one is.
-fn tied_cost(
+fn tied_cost<R: Threads + Sync>(
+    rt: &R,
     alloc: Global,
     both: &Problem,
     first: &Problem,
     chosen: &Choice,
 ) -> Result<Option<u64>, Fail> {
-    match tie_of(alloc, both, first, chosen)? {
+    match tie_of(rt, alloc, both, first, chosen)? {
         Some(tie) => cost_after(alloc, both, &tie),
         None => Ok(None),
     }
 }
 
 // The tie of a choice that is found, if one is.
-fn tie_of(
+fn tie_of<R: Threads + Sync>(
+    rt: &R,
     alloc: Global,
     both: &Problem,
     first: &Problem,
@@ -237,13 +245,14 @@ fn tie_of(
 ) -> Result<Option<Choice>, Fail> {
     let next = next_after(alloc, both, chosen)?;
     match least_of(alloc, &next)? {
-        Some((number, _)) => tie_before(alloc, both, first, chosen, &next, number),
+        Some((number, _)) => tie_before(rt, alloc, both, first, chosen, &next, number),
         None => Ok(None),
     }
 }
 
 // The tie of a choice that is found before the next problem, whose best choice has this number.
-fn tie_before(
+fn tie_before<R: Threads + Sync>(
+    rt: &R,
     alloc: Global,
     both: &Problem,
     first: &Problem,
@@ -256,7 +265,17 @@ fn tie_before(
     }
     let next_chosen = numbered(alloc, next, number)?;
     let is_first = first_marks(alloc, both)?;
-    let tie = tied_choice(alloc, first, chosen, next, &next_chosen, both, &is_first)?;
+    let tie = tied_choice(
+        rt,
+        alloc,
+        first,
+        chosen,
+        next,
+        &next_chosen,
+        both,
+        &is_first,
+        1,
+    )?;
     Ok(tie)
 }
 
@@ -270,9 +289,13 @@ fn first_marks(alloc: Global, both: &Problem) -> Result<Vec<bool>, Fail> {
 }
 
 // Meets the next problems that are drawn.
-fn meet_drawn(alloc: Global, draws: &mut Draws) -> Result<Option<Costs>, Fail> {
+fn meet_drawn<R: Threads + Sync>(
+    rt: &R,
+    alloc: Global,
+    draws: &mut Draws,
+) -> Result<Option<Costs>, Fail> {
     let both = drawn(alloc, draws)?;
-    meet_both(alloc, &both)
+    meet_both(rt, alloc, &both)
 }
 
 // Each next problem costs after the tie that is found what it costs after the best of all ties; and
@@ -283,7 +306,7 @@ fn ties_of_drawn_problems(rt: HostRuntime) -> Result<(), Fail> {
     let mut draws = Draws { last: 7 };
     let mut gains: u32 = 0;
     for number in 0..2_000 {
-        if let Some(costs) = meet_drawn(alloc, &mut draws)? {
+        if let Some(costs) = meet_drawn(&rt, alloc, &mut draws)? {
             assert!(rt; costs.after == costs.best, "{number}");
             if costs.after < costs.before {
                 gains = gains.saturating_add(1);

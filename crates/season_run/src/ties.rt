@@ -139,7 +139,7 @@ fn tied_stages<R: Threads + Sync, G: Gate>(
         (λ after. (after ≡ last) ⊎ IsCheaperStage after.fourth last.fourth) }
 {
     problem_choices();
-    let Some(tie) = third_tie(alloc, submission, states, &last)? else {
+    let Some(tie) = third_tie(rt, alloc, submission, states, &last, workers)? else {
         return Ok(last);
     };
     let choice = Some(tie);
@@ -174,11 +174,13 @@ fn is_cheaper(cert: &StageCert, other: &StageCert) -> bool
 
 // Another choice of stage 3 of the same cost, after which stage 4 may cost less, where both stages
 // are OPTIMAL, stage 4 costs something, and such a choice is found.
-fn third_tie(
+fn third_tie<R: Threads + Sync>(
+    rt: &R,
     alloc: Global,
     submission: &Submission,
     states: &[UnitState],
     last: &LastStages,
+    workers: u32,
 ) -> Result<Option<Choice>, Memory>
     requires states { AreStates submission.now states.now }
     requires third { IfSome last.now.third.choice
@@ -191,7 +193,7 @@ fn third_tie(
     }
     match &last.third.choice {
         Some(third) => {
-            let found = stage_tie(alloc, submission, states, third, &last.fourth)?;
+            let found = stage_tie(rt, alloc, submission, states, third, &last.fourth, workers)?;
             Ok(found)
         }
         None => Ok(None),
@@ -220,12 +222,14 @@ fn are_few(choice: &Option<Choice>) -> bool {
 }
 
 // Another choice of stage 3 of the same cost, where stage 4 after its choice is this one.
-fn stage_tie(
+fn stage_tie<R: Threads + Sync>(
+    rt: &R,
     alloc: Global,
     submission: &Submission,
     states: &[UnitState],
     third: &Choice,
     fourth: &StageCert,
+    workers: u32,
 ) -> Result<Option<Choice>, Memory>
     requires states { AreStates submission.now states.now }
     requires third { IsFeasibleChoice submission.now.declaration 3 states.now third.now }
@@ -240,7 +244,9 @@ fn stage_tie(
     let both = problem_after(alloc, submission, 4, states)?;
     let next = problem_of_fourth(alloc, submission, states, third)?;
     let is_first = new_entrants(alloc, states)?;
-    let found = tied_choice(alloc, &first, third, &next, fourth, &both, &is_first)?;
+    let found = tied_choice(
+        rt, alloc, &first, third, &next, fourth, &both, &is_first, workers,
+    )?;
     Ok(found)
 }
 

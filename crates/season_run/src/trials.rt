@@ -88,7 +88,7 @@ fn settle_busy<R: Threads + Sync, G: Gate>(
     ensures settled { 2 * choice_count problem.now ≤ budget + 1 →
         IfOk result (λ end. IsSettled end.outcome) }
 {
-    match closing_search(alloc, problem, start, budget)? {
+    match closing_search(rt, alloc, problem, start, budget, workers)? {
         Ending::Closed(closed) => Ok(closed_end(closed)),
         Ending::Open { best, vector } => {
             let outcome = search_known(rt, alloc, problem, budget, workers, gate, best, vector)?;

@@ -11,6 +11,7 @@ use choice_problem::{Choice, Problem, cost_of, fits};
 use closing_search::{Closed, Ending, closing_search};
 use slot_text::Memory;
 use std::alloc::Global;
+use std::thread::Threads;
 
 /// The most units that a joint problem may have.
 pub const MOST_JOINT_UNITS: u32 = 256;
@@ -39,7 +40,8 @@ const JOINT_BUDGET: u32 = 16;
 /// alternatives, or costs or uses that a problem may not have. Time: that of listing its
 /// alternatives, of `Reduced::of` twice, and of `closing_search` with 16 nodes. Memory: what these
 /// take, and some 80 bytes an alternative of the joint problem.
-pub fn tied_choice(
+pub fn tied_choice<R: Threads + Sync>(
+    rt: &R,
     alloc: Global,
     first: &Problem,
     chosen: &Choice,
@@ -47,6 +49,7 @@ pub fn tied_choice(
     next_chosen: &Choice,
     both: &Problem,
     is_first: &[bool],
+    workers: u32,
 ) -> Result<Option<Choice>, Memory>
     requires { IsFeasible first.now chosen.now }
     ensures { IfOk result (λ found. IfSome found (IsTie first.now chosen.now)) }
@@ -58,7 +61,7 @@ pub fn tied_choice(
         next_chosen,
         both,
     };
-    match joint_choice(alloc, &pair, is_first)? {
+    match joint_choice(rt, alloc, &pair, is_first, workers)? {
         Some(found) => tested(alloc, first, chosen, found),
         None => Ok(None),
     }
@@ -85,10 +88,12 @@ fn tested(
 }
 
 // What the best choice that a search of the joint problem knows takes of the first one.
-fn joint_choice(
+fn joint_choice<R: Threads + Sync>(
+    rt: &R,
     alloc: Global,
     pair: &Pair<'_>,
     is_first: &[bool],
+    workers: u32,
 ) -> Result<Option<Choice>, Memory> {
     if pair.both.units() > MOST_JOINT_UNITS {
         return Ok(None);
@@ -102,18 +107,24 @@ fn joint_choice(
     let Some(joint) = joint_problem(alloc, pair, &units)? else {
         return Ok(None);
     };
-    match best_choice(alloc, &joint, start_of(alloc, &units)?)? {
+    match best_choice(rt, alloc, &joint, start_of(alloc, &units)?, workers)? {
         Some(best) => read_choice(alloc, &units, &best, pair.next_cost()),
         None => Ok(None),
     }
 }
 
 // The best choice that a search from a start knows, where the start is feasible.
-fn best_choice(alloc: Global, joint: &Problem, start: Choice) -> Result<Option<Choice>, Memory> {
+fn best_choice<R: Threads + Sync>(
+    rt: &R,
+    alloc: Global,
+    joint: &Problem,
+    start: Choice,
+    workers: u32,
+) -> Result<Option<Choice>, Memory> {
     if !start.is_for(joint) || !fits(alloc, joint, &start)? {
         return Ok(None);
     }
-    match closing_search(alloc, joint, Some(start), JOINT_BUDGET)? {
+    match closing_search(rt, alloc, joint, Some(start), JOINT_BUDGET, workers)? {
         Ending::Closed(Closed::Optimal { choice, .. }) => Ok(Some(choice)),
         Ending::Closed(Closed::Infeasible { .. }) => Ok(None),
         Ending::Open { best, .. } => Ok(best),
