@@ -5,7 +5,7 @@ use crate::pricings::{Pricing, closing};
 use crate::rounding::rounded;
 use crate::splits::{Split, best_split};
 use crate::states::{Ahead, NEVER, Open, State, Task};
-use relaxed_problem::{End, Relaxation, Work};
+use relaxed_problem::{End, Ended, Relaxation, Work};
 use slot_text::Memory;
 use std::alloc::Global;
 use std::thread;
@@ -135,14 +135,15 @@ fn visit<R: Threads + Sync>(
     }
 }
 
-// Solves a node, or takes the solution that was made before its turn, if it is for this cost.
+// Solves a node, or takes the solution that was made before its turn, if it is for this cost. What
+// it took is counted from the node that was split.
 fn first_end(
     alloc: Global,
     task: &Task<'_>,
     state: &mut State,
     open: &mut Open,
 ) -> Result<End, Memory> {
-    match open.ahead.take() {
+    let ended = match open.ahead.take() {
         Some(ahead) if ahead.cost == state.cost => {
             let Ahead {
                 relaxation,
@@ -150,15 +151,25 @@ fn first_end(
                 ..
             } = ahead;
             open.relaxation = relaxation;
-            state.spend(task.program, ended);
-            Ok(ended.end)
+            ended
         }
-        _ => {
-            let enough = state.enough();
-            let end = solve(alloc, task, state, &mut open.relaxation, enough)?;
-            Ok(end)
-        }
-    }
+        _ => solved(alloc, task, state, &mut open.relaxation)?,
+    };
+    state.spend(task.program, open.whole(ended));
+    Ok(ended.end)
+}
+
+// Goes on with a relaxation, until it passes the cost.
+fn solved(
+    alloc: Global,
+    task: &Task<'_>,
+    state: &mut State,
+    relaxation: &mut Relaxation,
+) -> Result<Ended, Memory> {
+    let enough = state.enough();
+    let work = &mut state.work;
+    let ended = relaxation.solve_by(alloc, task.program, work, NODE_PIVOTS, enough)?;
+    Ok(ended)
 }
 
 // Splits a node whose relaxation is above the cost while no vector closes it.
@@ -169,23 +180,22 @@ fn split_bounded<R: Threads + Sync>(
     state: &mut State,
     mut open: Open,
 ) -> Result<bool, Memory> {
-    match solve(alloc, task, state, &mut open.relaxation, NEVER)? {
+    match solve_whole(alloc, task, state, &mut open.relaxation)? {
         End::Solved => bound_or_split(rt, alloc, task, state, open),
         End::Infeasible => close_empty(alloc, task, state, &open),
         End::Above | End::Spent => Ok(false),
     }
 }
 
-// Goes on with a relaxation.
-fn solve(
+// Goes on with a relaxation to the end.
+fn solve_whole(
     alloc: Global,
     task: &Task<'_>,
     state: &mut State,
     relaxation: &mut Relaxation,
-    enough: f64,
 ) -> Result<End, Memory> {
     let work = &mut state.work;
-    let ended = relaxation.solve_by(alloc, task.program, work, NODE_PIVOTS, enough)?;
+    let ended = relaxation.solve_by(alloc, task.program, work, NODE_PIVOTS, NEVER)?;
     state.spend(task.program, ended);
     Ok(ended.end)
 }
@@ -318,12 +328,13 @@ fn push_part(
         let moved = pricing.moved(*value, problem, reduced, unit, (&open.allowed, &allowed));
         values.push(moved)?;
     }
-    let relaxation = state.part(alloc, is_high)?;
+    let (relaxation, made) = state.part(alloc, is_high)?;
     state.open.push(Open {
         entry,
         allowed,
         values,
         relaxation,
+        made,
         ahead: None,
     })?;
     Ok(())

@@ -62,6 +62,8 @@ pub(crate) struct Open {
     pub(crate) allowed: Allowed,
     pub(crate) values: Vec<i64>,
     pub(crate) relaxation: Relaxation,
+    // What its relaxation took since it left that of the node that was split.
+    pub(crate) made: Option<Ended>,
     pub(crate) ahead: Option<Ahead>,
 }
 
@@ -80,6 +82,41 @@ impl Open {
             Some(ahead) => ahead.cost == cost,
             None => false,
         }
+    }
+
+    // What a solution took, with what was made before it.
+    pub(crate) fn whole(&self, ended: Ended) -> Ended {
+        match self.made {
+            Some(made) => Ended {
+                pivots: ended.pivots.saturating_add(made.pivots),
+                changes: ended.changes.saturating_add(made.changes),
+                ..ended
+            },
+            None => ended,
+        }
+    }
+}
+
+/// A relaxation of a part of a split, as far as it was looked at.
+#[derive(Drop)]
+pub(crate) struct Half {
+    relaxation: Relaxation,
+    ended: Option<Ended>,
+}
+
+impl Half {
+    // A relaxation from which nothing was made.
+    fn new(alloc: Global, root: &Relaxation) -> Result<Half, Memory> {
+        Ok(Half {
+            relaxation: root.copy(alloc)?,
+            ended: None,
+        })
+    }
+
+    // Takes the relaxation of a look, for another one.
+    fn keep(&mut self, look: &mut Look) {
+        mem::swap(&mut self.relaxation, &mut look.relaxation);
+        self.ended = look.ended;
     }
 }
 
@@ -106,8 +143,8 @@ pub(crate) struct State {
     // the parts of the best split of the last node that was looked at; and how many threads there
     // may be.
     pub(crate) looks: Vec<Look>,
-    low: Relaxation,
-    high: Relaxation,
+    low: Half,
+    high: Half,
     pub(crate) workers: u32,
 }
 
@@ -136,8 +173,8 @@ impl State {
             base: allowed.copy(alloc)?,
             scores: Scores::none(alloc, task.problem.units())?,
             looks: places(alloc, task, root, beside)?,
-            low: root.copy(alloc)?,
-            high: root.copy(alloc)?,
+            low: Half::new(alloc, root)?,
+            high: Half::new(alloc, root)?,
             workers,
         };
         let none = Vector::new(Vec::new(alloc));
@@ -149,6 +186,7 @@ impl State {
             allowed,
             values: Vec::new(alloc),
             relaxation: root.copy(alloc)?,
+            made: None,
             ahead: None,
         })?;
         Ok(state)
@@ -202,18 +240,22 @@ impl State {
     // Keeps the relaxations of the looks at this place and at the next one.
     pub(crate) fn keep_parts(&mut self, place: usize) {
         if let Some(look) = self.looks.get_mut(place) {
-            mem::swap(&mut self.low, &mut look.relaxation);
+            self.low.keep(look);
         }
         if let Some(look) = self.looks.get_mut(place.saturating_add(1)) {
-            mem::swap(&mut self.high, &mut look.relaxation);
+            self.high.keep(look);
         }
     }
 
-    // A copy of a relaxation that was kept.
-    pub(crate) fn part(&self, alloc: Global, is_high: bool) -> Result<Relaxation, Memory> {
+    // A copy of a relaxation that was kept, and what it took.
+    pub(crate) fn part(
+        &self,
+        alloc: Global,
+        is_high: bool,
+    ) -> Result<(Relaxation, Option<Ended>), Memory> {
         let part = if is_high { &self.high } else { &self.low };
-        let copy = part.copy(alloc)?;
-        Ok(copy)
+        let copy = part.relaxation.copy(alloc)?;
+        Ok((copy, part.ended))
     }
 
     // Takes a choice, where it is feasible and cheaper than the best one.
