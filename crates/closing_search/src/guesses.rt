@@ -6,11 +6,15 @@ ghost use Rattle.choice_problem.specs.Bounds.{IsVector};
 ghost use Rattle.price_table.specs.Tables.{IsTableFor};
 
 use crate::accepted::{Found, are_listable};
-use crate::leftovers::{Grown, Limits, grow_left};
-use crate::states::copy_of;
+use crate::barred::barred_alts;
+use crate::leftovers::{Ground, Grown, Limits, grow_left};
+use crate::quotas::quotas_of;
+use crate::states::{NEVER, Task, copy_of};
 use choice_problem::{Choice, PRICED_SCALE, Problem, Ranges, Vector, VectorList, cost_of};
 use cost_fixing::{Fixing, Left, left_of};
 use price_table::{PriceTable, bound, price_table};
+use reduced_problem::Reduced;
+use relaxed_problem::{Program, Relaxation};
 use slot_text::Memory;
 use std::alloc::Global;
 use std::thread::Threads;
@@ -19,6 +23,9 @@ use std::thread::Threads;
 const MOST_GUESSES: u32 = 96;
 
 const ALL_STEPS: u64 = 6_000_000_000;
+
+// The most pivots of the first relaxation of a guess.
+const FIRST_PIVOTS: u32 = 50_000;
 
 // The most visits and steps of the trees of a guess: one that splits by uses of quotas first; where
 // its visits stopped it, a short one by numbers alone; and where that one did not end, one by
@@ -58,6 +65,8 @@ pub(crate) struct Guesses {
     is_thorough: bool,
     // Within how many steps a tree must find a choice while none is known.
     patience: u64,
+    // How many trees there were.
+    trees: u32,
     is_over: bool,
 }
 
@@ -133,19 +142,87 @@ fn close_at<R: Threads + Sync>(
         guesses.rise(0);
         return Ok(None);
     };
-    let start = guesses.start_in(alloc, &left, cost)?;
-    let limits = guesses.limits();
-    let is_known = start.is_some();
-    let grown = grow_left(
-        rt,
-        alloc,
-        left.problem(),
-        start,
+    let fixed = Fixed {
+        problem,
+        left: &left,
+        vector,
         cost,
-        limits,
+    };
+    close_left(rt, alloc, fixed, guesses, most, workers)
+}
+
+// Tries a guess by trees of what a fixing leaves.
+fn close_left<R: Threads + Sync>(
+    rt: &R,
+    alloc: Global,
+    fixed: Fixed<'_>,
+    guesses: &mut Guesses,
+    most: u32,
+    workers: u32,
+) -> Result<Option<Found>, Memory> {
+    let problem = fixed.left.problem();
+    let reduced = Reduced::of(alloc, problem)?;
+    let barred = barred_alts(alloc, problem, &reduced)?;
+    let program = Program::new(alloc, problem, &reduced, &barred)?;
+    let quotas = quotas_of(alloc, &reduced)?;
+    let task = Task {
+        problem,
+        reduced: &reduced,
+        quotas: &quotas,
+        program: &program,
+    };
+    let mut root = Relaxation::start(alloc, &program)?;
+    let ended = root.solve(alloc, &program, FIRST_PIVOTS, NEVER)?;
+    let ground = Ground {
+        root: &root,
+        ended,
         most,
         workers,
-    )?;
+    };
+    trees_at(rt, alloc, fixed, &task, ground, guesses)
+}
+
+// A problem, what a fixing of it leaves, and the vector and the cost of the fixing.
+#[derive(Clone, Copy)]
+struct Fixed<'a> {
+    problem: &'a Problem,
+    left: &'a Left,
+    vector: &'a Vector,
+    cost: u64,
+}
+
+// Grows the trees of a guess one after the other, until one closes the problem, or the guess
+// changes.
+fn trees_at<R: Threads + Sync>(
+    rt: &R,
+    alloc: Global,
+    fixed: Fixed<'_>,
+    task: &Task<'_>,
+    ground: Ground<'_>,
+    guesses: &mut Guesses,
+) -> Result<Option<Found>, Memory> {
+    for _ in 0..MOST_GUESSES {
+        let found = tree_at(rt, alloc, fixed, task, ground, guesses)?;
+        if found.is_some() || guesses.is_over || guesses.next() != fixed.cost {
+            return Ok(found);
+        }
+    }
+    Ok(None)
+}
+
+// Grows the next tree of a guess.
+fn tree_at<R: Threads + Sync>(
+    rt: &R,
+    alloc: Global,
+    fixed: Fixed<'_>,
+    task: &Task<'_>,
+    ground: Ground<'_>,
+    guesses: &mut Guesses,
+) -> Result<Option<Found>, Memory> {
+    let start = guesses.start_in(alloc, fixed.left, fixed.cost)?;
+    let limits = guesses.limits();
+    let is_known = start.is_some();
+    let grown = grow_left(rt, alloc, task, ground, start, fixed.cost, limits)?;
     let Grown {
         found,
         best,
@@ -153,9 +230,9 @@ fn close_at<R: Threads + Sync>(
         is_stopped,
         steps,
     } = grown;
-    let choice = whole_choice(alloc, &left, best)?;
+    let choice = whole_choice(alloc, fixed.left, best)?;
     guesses.learn(
-        problem,
+        fixed.problem,
         choice,
         is_known,
         is_ended,
@@ -163,7 +240,7 @@ fn close_at<R: Threads + Sync>(
         limits.steps.saturating_sub(steps),
     );
     match found {
-        Some(found) => fixed_found(alloc, guesses, found, vector, cost),
+        Some(found) => fixed_found(alloc, guesses, found, fixed.vector, fixed.cost),
         None => Ok(None),
     }
 }
@@ -227,6 +304,7 @@ impl Guesses {
             ways: 0,
             is_thorough: false,
             patience: FIRST_PATIENCE,
+            trees: 0,
             is_over: false,
         };
         guesses.take(problem, best);
@@ -322,7 +400,8 @@ impl Guesses {
     ) {
         let is_better = self.take(problem, choice);
         self.steps = self.steps.saturating_sub(steps);
-        if self.steps == 0 {
+        self.trees = self.trees.saturating_add(1);
+        if self.steps == 0 || self.trees >= MOST_GUESSES {
             self.is_over = true;
         } else if is_better {
             self.is_best = is_ended;

@@ -2,20 +2,14 @@
 
 use crate::accepted::Found;
 use crate::allowed::Allowed;
-use crate::barred::barred_alts;
 use crate::growing::grow;
-use crate::quotas::quotas_of;
-use crate::states::{NEVER, State, Task};
+use crate::states::{State, Task};
 use crate::trees::found_in;
-use choice_problem::{Choice, Problem};
-use reduced_problem::Reduced;
-use relaxed_problem::{End, Program, Relaxation};
+use choice_problem::Choice;
+use relaxed_problem::{End, Ended, Relaxation};
 use slot_text::Memory;
 use std::alloc::Global;
 use std::thread::Threads;
-
-// The most pivots of the first relaxation.
-const FIRST_PIVOTS: u32 = 50_000;
 
 /// What a tree may take: so many visits and steps, of which it must find a choice within the first
 /// ones; whether splits by the uses of quotas come first; and whether more splits are looked at.
@@ -39,30 +33,27 @@ pub(crate) struct Grown {
     pub(crate) steps: u64,
 }
 
+/// What the trees of a guess begin with: a relaxation, and what it took; and by how many nodes and
+/// workers they grow.
+#[derive(Clone, Copy)]
+pub(crate) struct Ground<'a> {
+    pub(crate) root: &'a Relaxation,
+    pub(crate) ended: Ended,
+    pub(crate) most: u32,
+    pub(crate) workers: u32,
+}
+
 /// Grows a tree in which choices below the guess alone are looked for, or below a start.
 pub(crate) fn grow_left<R: Threads + Sync>(
     rt: &R,
     alloc: Global,
-    problem: &Problem,
+    task: &Task<'_>,
+    ground: Ground<'_>,
     start: Option<Choice>,
     guess: u64,
     limits: Limits,
-    most: u32,
-    workers: u32,
 ) -> Result<Grown, Memory> {
-    let reduced = Reduced::of(alloc, problem)?;
-    let barred = barred_alts(alloc, problem, &reduced)?;
-    let program = Program::new(alloc, problem, &reduced, &barred)?;
-    let quotas = quotas_of(alloc, &reduced)?;
-    let task = Task {
-        problem,
-        reduced: &reduced,
-        quotas: &quotas,
-        program: &program,
-    };
-    let mut root = Relaxation::start(alloc, &program)?;
-    let ended = root.solve(alloc, &program, FIRST_PIVOTS, NEVER)?;
-    if ended.end == End::Spent {
+    if ground.ended.end == End::Spent {
         return Ok(Grown {
             found: None,
             best: None,
@@ -71,18 +62,19 @@ pub(crate) fn grow_left<R: Threads + Sync>(
             steps: 0,
         });
     }
-    let allowed = Allowed::all(alloc, problem)?;
+    let (root, workers) = (ground.root, ground.workers);
+    let allowed = Allowed::all(alloc, task.problem)?;
     let first = limits.steps.min(limits.first_steps);
-    let mut state = State::new(alloc, &task, &root, allowed, first, workers)?;
-    state.spend(&program, ended);
+    let mut state = State::new(alloc, task, root, allowed, first, workers)?;
+    state.spend(task.program, ground.ended);
     state.is_by_quotas = limits.is_by_quotas && state.is_by_quotas;
     state.is_thorough = limits.is_thorough;
     if let Some(start) = start {
-        state.take(alloc, problem, start)?;
+        state.take(alloc, task.problem, start)?;
     } else {
         state.cost = Some(guess);
     }
-    grow_on(rt, alloc, &task, state, limits, most)
+    grow_on(rt, alloc, task, state, limits, ground.most)
 }
 
 // Grows a tree by its first steps, and where a choice is known then by the others.
