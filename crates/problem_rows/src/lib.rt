@@ -11,6 +11,8 @@ mod closed;
 #[cfg(test)]
 mod counts;
 #[cfg(test)]
+mod crowds;
+#[cfg(test)]
 mod draws;
 #[cfg(test)]
 mod fixings;
