@@ -13,9 +13,9 @@ use Rattle.closing_search.specs.declared.closed.Closed.TheVariants.{Optimal, Inf
 use Rattle.closing_search.specs.declared.closed.Ending.{Ending}
 use Rattle.closing_search.specs.declared.closed.Ending.TheVariants as ends
 
--- A whole tree of at most so many nodes that is sound for the cost, or for none, with at most 64 vectors of the problem, of
--- which all but the first have together at most 1,000,000 prices. Where there is a fixing, it holds, and the tree is one of the
--- problem that it leaves
+-- A whole tree of at most so many nodes that is sound for the cost, or for none, with at most 64
+-- vectors of the problem, of which all but the first have together at most 1,000,000 prices. Where
+-- there is a fixing, it holds, and the tree is one of the problem that it leaves
 pub record ClosesWhole (p : ProblemView) (budget : ℕ) (cost : Option ℕ) (fixing : Option Fixing)
     (tree : List Node) (vectors : List (List Price)) : Type 0 where
   pub fixed : IfSome fixing (FixingHolds p vectors cost)
@@ -45,7 +45,8 @@ abbrev pub IsKnownAtMost : ProblemView → ℕ → Option (List ℕ) → Type 0
 IsKnownAtMost p most None = ⊥
 IsKnownAtMost p most (Some x) = choice_cost p x ≤ most
 
--- the problem is closed, or what is known is a feasible choice, or none, and a vector of the problem
+-- the problem is closed, or what is known is a feasible choice, or none, and a vector of the
+-- problem
 abbrev pub IsEnding : ProblemView → ℕ → Ending → Type 0
 IsEnding p budget (ends.Closed closed) = IsClosed p budget closed
 IsEnding p budget (ends.Open best vector) = IfSome best (IsFeasible p) × IsVector p vector

@@ -1,6 +1,7 @@
-//! Closes problems of choice by trees of free splits: a split may cut the range of any unit anywhere, where the search of
-//! `search_workers` has one rule. What is searched here, and how, is not proved and need not be: an answer is given only
-//! after an exact test of its tree, its vectors and its choice.
+//! Closes problems of choice by trees of free splits: a split may cut the range of any unit
+//! anywhere, where the search of `search_workers` has one rule. What is searched here, and how, is
+//! not proved and need not be: an answer is given only after an exact test of its tree, its vectors
+//! and its choice.
 #![tactic(auto)]
 
 mod accepted;
