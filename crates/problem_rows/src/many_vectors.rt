@@ -76,7 +76,7 @@ fn problems_of_many_vectors_are_closed(rt: HostRuntime) -> Result<(), Fail> {
     let mut fixed: u32 = 0;
     for number in 0..100 {
         let problem = drawn_tight(alloc, &mut draws)?;
-        let ending = closing_search(alloc, &problem, None, 1_000)?;
+        let ending = closing_search(&rt, alloc, &problem, None, 1_000, 1)?;
         let want = least_cost(alloc, &problem)?;
         assert!(rt; closed_cost(&ending) == Some(want), "{number}");
         if has_fixing(&ending) {
