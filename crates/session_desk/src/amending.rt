@@ -248,7 +248,10 @@ impl<'a, 'b, R: Wait, G: LineGate, B: Beside> Amending<'a, 'b, R, G, B> {
         answer_lines();
         self.slices.wait(self.rt);
         self.gate.before_line();
-        match self.ledger.amend(self.rt, alloc, pass, ask) {
+        self.slices.begin_ask(self.rt);
+        let answered = self.ledger.amend(self.rt, alloc, pass, ask);
+        self.slices.end_ask();
+        match answered {
             Ok(answer) => {
                 answers.push_reserved(answer);
                 Ok(())

@@ -12,13 +12,30 @@
 //! Where it does not, as for a client that is silent or takes nothing of its replies, the next in
 //! line, which sleeps for a slice at most, takes it over; the other then draws a new ticket for its
 //! next ask. So the link at place `n` of the line waits for at most `n` slices.
+//!
+//! A worker asks the ledger while no other of the line does. Those that wait for it sleep: with a
+//! journal an ask lasts as long as two syncs, and whoever waits for the turn of a ledger keeps a
+//! processor busy, which the one that has the turn may need.
 
 use std::sync::Wait;
 use std::sync::atomic::{AtomicBool, AtomicU64, Ordering};
+use std::thread;
 use std::time::Duration;
 
 /// How long a time slice lasts while another busy link waits.
 const SLICE_MILLIS: u64 = 200;
+
+/// How often a worker yields while another asks, before it sleeps.
+const YIELDS: u32 = 50;
+
+/// No worker asks the ledger.
+const NOBODY: u64 = 0;
+
+/// A worker asks the ledger, and none sleeps until it has been answered.
+const ASKING: u64 = 1;
+
+/// A worker asks the ledger, and others may sleep until it has been answered.
+const AWAITED: u64 = 2;
 
 /// The line of busy links.
 #[derive(Drop)]
@@ -27,6 +44,8 @@ pub(crate) struct TimeSlices {
     next: AtomicU64,
     /// The ticket whose slice it is. Where no link has the slice it is `next`.
     current: AtomicU64,
+    /// Whether a worker asks the ledger, and whether others may sleep until it has been answered.
+    asks: AtomicU64,
 }
 
 /// The time slices of one worker's links.
@@ -45,7 +64,15 @@ impl TimeSlices {
         TimeSlices {
             next: AtomicU64::new(1),
             current: AtomicU64::new(1),
+            asks: AtomicU64::new(NOBODY),
         }
+    }
+
+    // Takes the ledger for a worker, if no other asks it.
+    fn try_begin(&self) -> bool {
+        self.asks
+            .compare_exchange(NOBODY, ASKING, Ordering::SeqCst, Ordering::SeqCst)
+            .is_ok()
     }
 
     // Whether it is the slice of this ticket.
@@ -125,5 +152,29 @@ impl<'a> LinkSlices<'a> {
             }
         }
         unreachable!()
+    }
+
+    /// Waits until no other worker asks the ledger. It yields for a while and then sleeps.
+    pub(crate) fn begin_ask<R: Wait>(&self, rt: &R) {
+        for _ in 0..YIELDS {
+            if self.line.try_begin() {
+                return;
+            }
+            thread::yield_now();
+        }
+        for _ in rt.forever() {
+            if self.line.asks.swap(AWAITED, Ordering::SeqCst) == NOBODY {
+                return;
+            }
+            self.line.asks.park(rt, AWAITED as u32);
+        }
+        unreachable!()
+    }
+
+    /// The worker's ask has been answered. Wakes one of those that sleep.
+    pub(crate) fn end_ask(&self) {
+        if self.line.asks.swap(NOBODY, Ordering::SeqCst) == AWAITED {
+            self.line.asks.wake_one();
+        }
     }
 }
