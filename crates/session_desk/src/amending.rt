@@ -249,16 +249,24 @@ impl<'a, 'b, R: Wait, G: LineGate, B: Beside> Amending<'a, 'b, R, G, B> {
         self.slices.wait(self.rt);
         self.gate.before_line();
         self.slices.begin_ask(self.rt);
-        let answered = self.ledger.amend(self.rt, alloc, pass, ask);
-        self.slices.end_ask();
-        match answered {
+        match self.ledger.amend(self.rt, alloc, pass, ask) {
             Ok(answer) => {
+                self.slices.end_ask();
                 answers.push_reserved(answer);
                 Ok(())
             }
-            Err(EnterFault::Full { length }) => Err(AnswerFault::Full { length }),
-            Err(EnterFault::Broken { faults }) => Err(AnswerFault::Broken { faults }),
-            Err(EnterFault::Memory) => Err(AnswerFault::Memory),
+            Err(EnterFault::Full { length }) => {
+                self.slices.end_ask();
+                Err(AnswerFault::Full { length })
+            }
+            Err(EnterFault::Broken { faults }) => {
+                self.slices.end_ask();
+                Err(AnswerFault::Broken { faults })
+            }
+            Err(EnterFault::Memory) => {
+                self.slices.end_ask();
+                Err(AnswerFault::Memory)
+            }
         }
     }
 }
