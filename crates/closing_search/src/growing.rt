@@ -28,10 +28,10 @@ pub(crate) fn grow<R: Threads + Sync>(
             return Ok(());
         }
         solve_ahead(rt, alloc, task, state);
-        let Some(open) = state.open.pop() else {
+        let Some(mut open) = state.open.pop() else {
             return Ok(());
         };
-        if !visit(rt, alloc, task, state, open)? {
+        if !visit(rt, alloc, task, state, &mut open)? {
             return Ok(());
         }
     }
@@ -114,20 +114,19 @@ fn visit<R: Threads + Sync>(
     alloc: Global,
     task: &Task<'_>,
     state: &mut State,
-    mut open: Open,
+    open: &mut Open,
 ) -> Result<bool, Memory> {
-    complete_values(task, &state.pricings, &mut open)?;
-    if state.close_by_known(&open) {
+    complete_values(task, &state.pricings, open)?;
+    if state.close_by_known(open) {
         return Ok(true);
     }
-    match first_end(alloc, task, state, &mut open)? {
+    match first_end(alloc, task, state, open)? {
         End::Spent => Ok(false),
         End::Solved => bound_or_split(rt, alloc, task, state, open),
-        End::Infeasible => close_empty(alloc, task, state, &open),
+        End::Infeasible => close_empty(alloc, task, state, open),
         End::Above => {
-            let pricing = prices_of(alloc, task, state, &open)?;
-            if state.is_closed_by(task, &open, &pricing) {
-                state.close_by(&open, pricing)?;
+            let is_closed = close_by_prices(alloc, task, state, open)?;
+            if is_closed {
                 return Ok(true);
             }
             split_bounded(rt, alloc, task, state, open)
@@ -178,11 +177,11 @@ fn split_bounded<R: Threads + Sync>(
     alloc: Global,
     task: &Task<'_>,
     state: &mut State,
-    mut open: Open,
+    open: &mut Open,
 ) -> Result<bool, Memory> {
     match solve_whole(alloc, task, state, &mut open.relaxation)? {
         End::Solved => bound_or_split(rt, alloc, task, state, open),
-        End::Infeasible => close_empty(alloc, task, state, &open),
+        End::Infeasible => close_empty(alloc, task, state, open),
         End::Above | End::Spent => Ok(false),
     }
 }
@@ -246,29 +245,29 @@ fn bound_or_split<R: Threads + Sync>(
     alloc: Global,
     task: &Task<'_>,
     state: &mut State,
-    open: Open,
+    open: &Open,
 ) -> Result<bool, Memory> {
     let mut pricing = None;
     if state.wants_prices(open.relaxation.value()) {
-        let found = prices_of(alloc, task, state, &open)?;
-        if state.is_closed_by(task, &open, &found) {
-            state.close_by(&open, found)?;
+        let found = prices_of(alloc, task, state, open)?;
+        if state.is_closed_by(task, open, &found) {
+            state.close_by(open, found)?;
             return Ok(true);
         }
         pricing = Some(found);
     }
     let shares = open.relaxation.shares(alloc, task.program)?;
-    if let Some(split) = best_split(rt, alloc, task, state, &open, &shares)? {
+    if let Some(split) = best_split(rt, alloc, task, state, open, &shares)? {
         state.take_pricing(pricing)?;
         return divide(alloc, task, state, open, split);
     }
     let choice = rounded(alloc, task, &open.relaxation, &shares)?;
     state.take(alloc, task.problem, choice)?;
-    close_whole(alloc, task, state, &open)
+    close_by_prices(alloc, task, state, open)
 }
 
-// Closes a node whose relaxation is a choice, now that this is known.
-fn close_whole(
+// Closes a node by the prices of its relaxation, if these do. Answers whether it did.
+fn close_by_prices(
     alloc: Global,
     task: &Task<'_>,
     state: &mut State,
@@ -287,7 +286,7 @@ fn divide(
     alloc: Global,
     task: &Task<'_>,
     state: &mut State,
-    open: Open,
+    open: &Open,
     split: Split,
 ) -> Result<bool, Memory> {
     let low = state.add_entry()?;
@@ -304,8 +303,8 @@ fn divide(
     } else {
         ((high, true), (low, false))
     };
-    push_part(alloc, task, state, &open, split, first)?;
-    push_part(alloc, task, state, &open, split, last)?;
+    push_part(alloc, task, state, open, split, first)?;
+    push_part(alloc, task, state, open, split, last)?;
     Ok(true)
 }
 
@@ -328,7 +327,7 @@ fn push_part(
         let moved = pricing.moved(*value, problem, reduced, unit, (&open.allowed, &allowed));
         values.push(moved)?;
     }
-    let (relaxation, made) = state.part(alloc, is_high)?;
+    let (relaxation, made) = state.places.part(alloc, is_high)?;
     state.open.push(Open {
         entry,
         allowed,

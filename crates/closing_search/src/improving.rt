@@ -86,13 +86,10 @@ fn search_near<R: Threads + Sync>(
     let mut other = State::new(alloc, &near, &first, allowed, steps, state.workers)?;
     other.cost = state.cost;
     seek(rt, alloc, &near, &mut other, &first, counts.0)?;
-    let State {
-        best,
-        steps: left,
-        ..
-    } = other;
-    state.steps = state.steps.saturating_sub(steps.saturating_sub(left));
-    match best {
+    state.steps = state
+        .steps
+        .saturating_sub(steps.saturating_sub(other.steps));
+    match other.into_best() {
         Some(best) => state.take(alloc, task.problem, best),
         None => Ok(()),
     }

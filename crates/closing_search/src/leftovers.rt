@@ -74,27 +74,29 @@ pub(crate) fn grow_left<R: Threads + Sync>(
     } else {
         state.cost = Some(guess);
     }
-    grow_on(rt, alloc, task, state, limits, ground.most)
+    let rest = grow_on(rt, alloc, task, &mut state, limits, ground.most)?;
+    grown_of(alloc, task, state, rest, ground.most)
 }
 
-// Grows a tree by its first steps, and where a choice is known then by the others.
+// Grows a tree by its first steps, and where a choice is known then by the others. Answers how many
+// steps were not given to it.
 fn grow_on<R: Threads + Sync>(
     rt: &R,
     alloc: Global,
     task: &Task<'_>,
-    mut state: State,
+    state: &mut State,
     limits: Limits,
     most: u32,
-) -> Result<Grown, Memory> {
+) -> Result<u64, Memory> {
     let visits = limits.visits.min(most);
-    grow(rt, alloc, task, &mut state, visits)?;
-    let mut rest = limits.steps.saturating_sub(limits.first_steps);
-    if state.steps == 0 && state.best.is_some() {
-        state.steps = rest;
-        rest = 0;
-        grow(rt, alloc, task, &mut state, visits)?;
+    grow(rt, alloc, task, state, visits)?;
+    let rest = limits.steps.saturating_sub(limits.first_steps);
+    if state.steps > 0 || state.best.is_none() {
+        return Ok(rest);
     }
-    grown_of(alloc, task, state, rest, most)
+    state.steps = rest;
+    grow(rt, alloc, task, state, visits)?;
+    Ok(0)
 }
 
 // What a state has come to, where so many steps were not given to it.
@@ -111,10 +113,10 @@ fn grown_of(
     } else {
         None
     };
-    let State { best, steps, .. } = state;
+    let steps = state.steps;
     Ok(Grown {
         found,
-        best,
+        best: state.into_best(),
         is_ended,
         is_stopped: !is_ended && steps > 0,
         steps: steps.saturating_add(rest),

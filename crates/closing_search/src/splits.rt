@@ -82,7 +82,9 @@ pub(crate) fn best_split<R: Threads + Sync>(
             pivots: looks.pivots,
             enough: state.enough(),
         };
-        state.look_at(rt, alloc, task, basis, group);
+        let threads = state.threads();
+        let places = &mut state.places;
+        places.look_at(rt, alloc, task, basis, group, threads);
         rest = after(rest, group.len());
         take_looks(task, state, open, group, looks, &mut pick)?;
     }
@@ -102,7 +104,7 @@ struct Pick {
 fn group_size(state: &State, pick: &Pick, looks: Looks) -> usize {
     let sure = looks.idle.saturating_sub(pick.idle) as usize;
     let enough = state.threads() / 2;
-    sure.max(enough).max(1).min(state.looks.len() / 2)
+    sure.max(enough).max(1).min(state.places.count() / 2)
 }
 
 // The first ones, at most so many.
@@ -163,7 +165,7 @@ fn take_look(
             ..split
         });
         pick.idle = 0;
-        state.keep_parts(from);
+        state.places.keep_parts(from);
     }
     Ok(())
 }
@@ -369,7 +371,7 @@ fn cut_between(task: &Task<'_>, relaxation: &Relaxation, from: &Share, to: &Shar
 fn part_gain(task: &Task<'_>, state: &mut State, open: &Open, place: usize) -> Result<f64, Memory> {
     let enough = state.enough();
     let value = open.relaxation.value();
-    let Some((ended, reached)) = state.look_end(place) else {
+    let Some((ended, reached)) = state.places.end(place) else {
         return Err(Memory);
     };
     state.spend(task.program, ended);

@@ -2,19 +2,16 @@
 
 use crate::allowed::Allowed;
 use crate::entries::Entry;
-use crate::looks::{Basis, Look, MOST_BESIDE, look_at_all, places};
+use crate::looks::{MOST_BESIDE, Places};
 use crate::pricings::{Pricing, closing};
 use crate::rules::Rule;
 use crate::scores::Scores;
-use crate::splits::Candidate;
 use choice_problem::{Choice, Problem, Vector, cost_of, fits};
 use reduced_problem::Reduced;
 use relaxed_problem::{Ended, Program, Relaxation, Work};
 use slot_text::Memory;
 use std::alloc::Global;
-use std::mem;
 use std::num::nearest_i64_to_f64;
-use std::thread::Threads;
 
 // How many steps a pivot takes beside one for each alternative, and how many pivots it takes to
 // begin.
@@ -97,29 +94,6 @@ impl Open {
     }
 }
 
-/// A relaxation of a part of a split, as far as it was looked at.
-#[derive(Drop)]
-pub(crate) struct Half {
-    relaxation: Relaxation,
-    ended: Option<Ended>,
-}
-
-impl Half {
-    // A relaxation from which nothing was made.
-    fn new(alloc: Global, root: &Relaxation) -> Result<Half, Memory> {
-        Ok(Half {
-            relaxation: root.copy(alloc)?,
-            ended: None,
-        })
-    }
-
-    // Takes the relaxation of a look, for another one.
-    fn keep(&mut self, look: &mut Look) {
-        mem::swap(&mut self.relaxation, &mut look.relaxation);
-        self.ended = look.ended;
-    }
-}
-
 /// The tree so far; its open nodes, those to be searched first last; the vectors that close leaves
 /// and those of split nodes, the one without prices first; the best choice; how many steps of
 /// relaxations may still be made, and the numbers of these steps; and whether splits by the uses of
@@ -139,12 +113,8 @@ pub(crate) struct State {
     pub(crate) base: Allowed,
     // What splits gained so far.
     pub(crate) scores: Scores,
-    // The places of looks, two for each split that is looked at side by side; the relaxations of
-    // the parts of the best split of the last node that was looked at; and how many threads there
-    // may be.
-    pub(crate) looks: Vec<Look>,
-    low: Half,
-    high: Half,
+    // Where splits are looked at, and how many threads there may be.
+    pub(crate) places: Places,
     pub(crate) workers: u32,
 }
 
@@ -158,9 +128,24 @@ impl State {
         steps: u64,
         workers: u32,
     ) -> Result<State, Memory> {
+        let base = allowed.copy(alloc)?;
+        let mut state = State::without_nodes(alloc, task, root, base, steps, workers)?;
+        state.begin(alloc, task, root, allowed)?;
+        Ok(state)
+    }
+
+    // No nodes yet.
+    fn without_nodes(
+        alloc: Global,
+        task: &Task<'_>,
+        root: &Relaxation,
+        base: Allowed,
+        steps: u64,
+        workers: u32,
+    ) -> Result<State, Memory> {
         let is_alone = workers < 2 || task.program.columns().len() < MANY_COLUMNS;
         let beside = if is_alone { 1 } else { MOST_BESIDE };
-        let mut state = State {
+        Ok(State {
             entries: Vec::new(alloc),
             open: Vec::new(alloc),
             pricings: Vec::new(alloc),
@@ -170,18 +155,26 @@ impl State {
             work: Work::new(alloc, task.program)?,
             is_by_quotas: !task.quotas.is_empty(),
             is_thorough: false,
-            base: allowed.copy(alloc)?,
+            base,
             scores: Scores::none(alloc, task.problem.units())?,
-            looks: places(alloc, task, root, beside)?,
-            low: Half::new(alloc, root)?,
-            high: Half::new(alloc, root)?,
+            places: Places::new(alloc, task, root, beside)?,
             workers,
-        };
+        })
+    }
+
+    // Adds the first node, on these alternatives, which goes on from a relaxation.
+    fn begin(
+        &mut self,
+        alloc: Global,
+        task: &Task<'_>,
+        root: &Relaxation,
+        allowed: Allowed,
+    ) -> Result<(), Memory> {
         let none = Vector::new(Vec::new(alloc));
-        let unpriced = Pricing::new(alloc, task, &state.base, none, 1)?;
-        state.pricings.push(unpriced)?;
-        state.entries.push(Entry::Open)?;
-        state.open.push(Open {
+        let unpriced = Pricing::new(alloc, task, &self.base, none, 1)?;
+        self.pricings.push(unpriced)?;
+        self.entries.push(Entry::Open)?;
+        self.open.push(Open {
             entry: 0,
             allowed,
             values: Vec::new(alloc),
@@ -189,73 +182,37 @@ impl State {
             made: None,
             ahead: None,
         })?;
-        Ok(state)
+        Ok(())
     }
 
-    // One open node again, with the best choice and the steps that are left.
-    pub(crate) fn with_best(
-        &self,
+    // Begins a tree of all alternatives again, with the best choice and the steps that are left.
+    pub(crate) fn begin_again(
+        &mut self,
         alloc: Global,
         task: &Task<'_>,
         root: &Relaxation,
-    ) -> Result<State, Memory> {
+    ) -> Result<(), Memory> {
         let allowed = Allowed::all(alloc, task.problem)?;
         let mut state = State::new(alloc, task, root, allowed, self.steps, self.workers)?;
         state.best = copy_if_any(alloc, &self.best)?;
         state.cost = self.cost;
-        Ok(state)
+        *self = state;
+        Ok(())
+    }
+
+    // The best choice.
+    pub(crate) fn into_best(self) -> Option<Choice> {
+        let State { best, .. } = self;
+        best
     }
 
     // On how many threads nodes are searched.
     pub(crate) fn threads(&self) -> usize {
-        if self.looks.len() > 2 {
+        if self.places.count() > 2 {
             self.workers as usize
         } else {
             1
         }
-    }
-
-    // Looks at the splits of a group from a node.
-    pub(crate) fn look_at<R: Threads + Sync>(
-        &mut self,
-        rt: &R,
-        alloc: Global,
-        task: &Task<'_>,
-        basis: Basis<'_>,
-        group: &[Candidate],
-    ) {
-        let threads = self.threads();
-        let count = group.len().saturating_mul(2).min(self.looks.len());
-        let looks = &mut self.looks[..count];
-        look_at_all(rt, alloc, task, basis, group, looks, threads);
-    }
-
-    // How the look at a place ended, and the value that it reached.
-    pub(crate) fn look_end(&self, place: usize) -> Option<(Ended, f64)> {
-        let look = self.looks.get(place)?;
-        let ended = look.ended?;
-        Some((ended, look.relaxation.value()))
-    }
-
-    // Keeps the relaxations of the looks at this place and at the next one.
-    pub(crate) fn keep_parts(&mut self, place: usize) {
-        if let Some(look) = self.looks.get_mut(place) {
-            self.low.keep(look);
-        }
-        if let Some(look) = self.looks.get_mut(place.saturating_add(1)) {
-            self.high.keep(look);
-        }
-    }
-
-    // A copy of a relaxation that was kept, and what it took.
-    pub(crate) fn part(
-        &self,
-        alloc: Global,
-        is_high: bool,
-    ) -> Result<(Relaxation, Option<Ended>), Memory> {
-        let part = if is_high { &self.high } else { &self.low };
-        let copy = part.relaxation.copy(alloc)?;
-        Ok((copy, part.ended))
     }
 
     // Takes a choice, where it is feasible and cheaper than the best one.

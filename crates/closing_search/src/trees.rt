@@ -41,8 +41,7 @@ pub(crate) fn first_tree<R: Threads + Sync>(
     }
     grow(rt, alloc, task, &mut state, most)?;
     let found = found_in(alloc, task, &state, most)?;
-    let State { best, .. } = state;
-    Ok((found, best))
+    Ok((found, state.into_best()))
 }
 
 /// Looks for better choices, and where none is known, for trees of the whole problem.
@@ -65,44 +64,43 @@ pub(crate) fn further_trees<R: Threads + Sync>(
     if end == End::Solved {
         improve(rt, alloc, task, &mut state, root)?;
     }
-    if is_known && most > FEW_VISITS {
-        let State { best, .. } = state;
-        return Ok((None, best));
-    }
-    grow_trees(rt, alloc, task, state, root, most)
+    let found = if is_known && most > FEW_VISITS {
+        None
+    } else {
+        grow_trees(rt, alloc, task, &mut state, root, most)?
+    };
+    Ok((found, state.into_best()))
 }
 
 /// With at most so many nodes no fixing is tried, and trees of the whole problem are.
 pub(crate) const FEW_VISITS: u32 = 64;
 
-// A tree and the best choice. Where a tree does not close, the next one is grown with the best
-// choice that was found; and where no better one was found, with splits by numbers alone.
+// A tree. Where a tree does not close, the next one is grown with the best choice that was found;
+// and where no better one was found, with splits by numbers alone.
 fn grow_trees<R: Threads + Sync>(
     rt: &R,
     alloc: Global,
     task: &Task<'_>,
-    first: State,
+    state: &mut State,
     root: &Relaxation,
     most: u32,
-) -> Result<(Option<Found>, Option<Choice>), Memory> {
-    let mut state = first;
+) -> Result<Option<Found>, Memory> {
     for _ in 1..MOST_TREES {
         let known = state.cost;
-        grow(rt, alloc, task, &mut state, most)?;
-        if let Some(found) = found_in(alloc, task, &state, most)? {
-            let State { best, .. } = state;
-            return Ok((Some(found), best));
+        grow(rt, alloc, task, state, most)?;
+        let found = found_in(alloc, task, state, most)?;
+        if found.is_some() {
+            return Ok(found);
         }
         let is_better = state.cost != known;
         if state.steps == 0 || (!is_better && !state.is_by_quotas) {
-            break;
+            return Ok(None);
         }
         let is_by_quotas = state.is_by_quotas && is_better;
-        state = state.with_best(alloc, task, root)?;
+        state.begin_again(alloc, task, root)?;
         state.is_by_quotas = is_by_quotas;
     }
-    let State { best, .. } = state;
-    Ok((None, best))
+    Ok(None)
 }
 
 /// The tree of ranges that was found, with its vectors and the best choice.
