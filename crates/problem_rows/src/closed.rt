@@ -6,7 +6,7 @@ ghost use Rattle.choice_problem.specs.Choices.{IsFeasible};
 use crate::choices::choice;
 use crate::draws::{Draws, choices_of, drawn, numbered};
 use crate::problems::problem;
-use crate::texts::{Case, number, piece, walk};
+use crate::texts::{halves, number, piece};
 use choice_problem::{Choice, Problem, cost_of, fits};
 use closing_search::{Closed, Ending, closing_search};
 use std::alloc::Global;
@@ -27,27 +27,11 @@ fn start(alloc: Global, problem: &Problem, text: &str) -> Result<Option<Choice>,
 
 // What closes a row's problem within its budget, from its start: the cost of a best choice, or that
 // there is none, and how many nodes prove it.
-#[derive(Drop)]
-struct ClosedCase<'a, R> {
-    rt: &'a R,
-}
-
-impl<R: Threads + Sync> Case for ClosedCase<'_, R> {
-    fn find(&mut self, alloc: Global, row: &str) -> Result<String, Fail> {
-        let problem = problem(alloc, piece(row, 0))?;
-        searched(self.rt, alloc, &problem, row)
-    }
-}
-
-fn searched<R: Threads + Sync>(
-    rt: &R,
-    alloc: Global,
-    problem: &Problem,
-    row: &str,
-) -> Result<String, Fail> {
+fn searched<R: Threads + Sync>(rt: &R, alloc: Global, row: &str) -> Result<String, Fail> {
+    let problem = problem(alloc, piece(row, 0))?;
     let budget = number(alloc, piece(row, 1))?;
-    let start = start(alloc, problem, piece(row, 2))?;
-    let ending = closing_search(rt, alloc, problem, start, budget, 1)?;
+    let start = start(alloc, &problem, piece(row, 2))?;
+    let ending = closing_search(rt, alloc, &problem, start, budget, 1)?;
     shown(alloc, &ending)
 }
 
@@ -108,8 +92,12 @@ P 0 2 1 1; A 0 0 -; U; P 1 2 1 1; A 0 0 -; U; P 0 1 2 2; A 0 0 -; U; L 1 1 1 | 9
 
 #[test]
 fn problems_are_closed(rt: HostRuntime) -> Result<(), Fail> {
-    let mut case = ClosedCase { rt: &rt };
-    walk(rt.alloc(), &mut case, CLOSED)
+    for row in CLOSED.lines() {
+        let (given, want) = halves(row);
+        let found = searched(&rt, rt.alloc(), given)?;
+        assert!(rt; found.trim() == want, "{row} has {found}");
+    }
+    Ok(())
 }
 
 // The cost of the choice of a number, if it is feasible.
