@@ -8,7 +8,7 @@ use Rattle.jiff_core.specs.Calendar.{day_count, days_from_civil, days_in_month, 
 use Rattle.std.proofs.lemmas.Int.{ints}
 use Rattle.jiff_core.proofs.CalendarLemmas.{days_from_civil-day_count, days_in_month_bounds, day_count_bounds, day_count-lt_month, day_count-year_is, day_count-next_year, day_count-day_of_year, day_of_year_bound}
 use Rattle.jiff_core.proofs.DateLemmas.{epoch_day_injective, days_from_civil-day, days_from_civil-next_month, days_from_civil-next_year}
-use Rattle.jiff.specs.Words.{epoch_day}
+use Rattle.jiff_core.specs.Date.{epoch_day}
 use Rattle.season_days.specs.Dates.{CivilDate, next_date, HasDate, last_sunday, IsLastSunday}
 use Rattle.season_days.specs.Seasons.{first_year, first_month, year_after, month_after, first_number, date_count, date_at, year_of_month, NamesDate, number_named, IsDayNamed, IsOutside}
 use Rattle.season_days.specs.Term.{Term}

@@ -7,7 +7,7 @@ use Rattle.jiff_core.specs.Calendar.{days_from_civil, days_in_month, days_of_mon
 use Rattle.std.proofs.lemmas.Int.{ints}
 use Rattle.jiff_core.proofs.CalendarLemmas.{days_from_civil-day_count, day_count-day_of_year, days_of_months_more, days_of_months-zero, days_in_month_bounds, weekday_number-add, weekday_number_bound}
 use Rattle.jiff_core.proofs.DateLemmas.{weekday_number-day, days_from_civil-next_year}
-use Rattle.jiff.specs.Words.{epoch_day, IsNthWeekdayOfMonth}
+use Rattle.jiff_core.specs.Date.{epoch_day, IsNthWeekdayOfMonth}
 use Rattle.jiff_core.specs.declared.civil.weekday.Weekday.TheVariants.{Sunday}
 use Rattle.season_days.specs.Dates.{last_sunday, last_sunday_number, IsLastSunday}
 use Rattle.season_days.specs.Seasons.{first_year, first_month, half_after, season_after, year_after, month_after, first_number, number_after, weekday_on, date_count, is_on}

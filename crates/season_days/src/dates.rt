@@ -27,7 +27,7 @@ impl Season {
         let Some(date) = self.date_named(month, day) else {
             return Err(DayFault::NoSuchDate);
         };
-        let days = self.first().to_plain().until(date.to_plain());
+        let days = self.first().until(date);
         if days < 0 {
             return Err(DayFault::OutsideSeason);
         }
@@ -45,7 +45,7 @@ impl Season {
         ensures of_month { result.1 ≡ (date_at self.now day.0).of_month }
         ensures named { IsDayNamed self.now result.0 result.1 day.0 }
     {
-        let date = self.date_on(day).to_plain();
+        let date = self.date_on(day);
         (date.month, date.day)
     }
 

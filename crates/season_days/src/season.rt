@@ -1,13 +1,15 @@
 //! Seasons: their names, first and last dates, length and weekdays.
 
 ghost use Rattle.std.specs.Prelude.{◌≡◌, ◌↔◌, ◌<◌, ◌≤◌, ◌-◌, ◌+ℤ◌, pos, ℕ, List, IsNone, IfSome, Some, IfNone, unsigned_abs, ◌≤ℤ◌};
-ghost use Rattle.jiff.specs.Words.{epoch_day, weekday_of, IsBetween};
+ghost use Rattle.std.specs.Int.{IsInRange};
+ghost use Rattle.jiff_core.specs.Calendar.{IsBetween};
+ghost use Rattle.jiff_core.specs.Date.{epoch_day, weekday_of};
 ghost use Rattle.season_days.specs.Term.{Term};
 ghost use Rattle.season_days.specs.Dates.{HasDate, IsLastSunday, last_sunday_number};
 ghost use Rattle.season_days.specs.Seasons.{season_text, same_season_next_year, first_year, first_month, year_after, month_after, first_number, number_after, date_count, date_at, weekday_on, NamesDate, number_named, IsDayNamed};
 
 use crate::day::Day;
-use jiff::civil::{Date, Weekday, date};
+use jiff_core::civil::{Date, Weekday};
 use std::marker::Model;
 
 /// The most dates of a season: 31 whole weeks.
@@ -138,8 +140,7 @@ impl Season {
         ensures some { 1 ≤ result }
         ensures most { result ≤ MOST_DATES }
     {
-        let first = self.first().to_plain();
-        first.until(self.after().to_plain()).unsigned_abs()
+        self.first().until(self.after()).unsigned_abs()
     }
 
     /// The weekday of a day: 1 is Monday and 7 is Sunday.
@@ -181,8 +182,7 @@ impl Season {
         ensures date { HasDate result (date_at self.now day.0) }
         ensures named { IsDayNamed self.now result.month result.day day.0 }
     {
-        let first = self.first().to_plain();
-        Date::from_plain(first.checked_add(i64::from(day.0)).unwrap())
+        self.first().checked_add(i64::from(day.0)).unwrap()
     }
 
     /// The first date of the season that follows.
@@ -201,15 +201,15 @@ impl Season {
 }
 
 /// The last Sunday of a month.
-fn last_sunday(year: i16, month: i8) -> Date
+fn last_sunday(year: i16, month: u8) -> Date
     requires year { IsBetween (pos 2000) (pos 2100) year }
-    requires month { IsBetween (pos 1) (pos 12) month }
+    requires month { IsInRange 1 12 month }
     ensures year { result.year ≡ year }
-    ensures month { result.month ≡ unsigned_abs month }
+    ensures month { result.month ≡ month }
     ensures sunday { IsLastSunday result.year result.month result.day }
-    ensures number { epoch_day result ≡ last_sunday_number year (unsigned_abs month) }
+    ensures number { epoch_day result ≡ last_sunday_number year month }
 {
-    date(year, month, 1)
+    Date::constrain(year, month, 1)
         .nth_weekday_of_month(-1, Weekday::Sunday)
         .unwrap()
 }

@@ -1,7 +1,7 @@
 //! Seasons, their dates and the dates of periods. The rows are worked by hand.
 
 use crate::rows::{Case, ascii, number, say, walk, yes_no};
-use jiff::civil::Date;
+use jiff_core::civil::Date;
 use season_days::{Day, Declaration, Kind, Night, Period, Rule, RuleList, Season};
 use slot_text::{Station, field};
 use std::alloc::Global;
@@ -35,7 +35,7 @@ impl Case for Seasons {
 }
 
 fn say_date(alloc: Global, out: &mut Vec<u8>, date: Date) -> Result<(), Fail> {
-    let (year, month, day) = (date.year(), date.month(), date.day());
+    let (year, month, day) = (date.year, date.month, date.day);
     say(alloc, out, format_args!("{year}-{month}-{day} "))
 }
 

@@ -2,7 +2,7 @@ use Rattle.std.proofs.Common.{arith, ◌-◌}
 use Rattle.std.proofs.lemmas.Result.{IfOk-at_ok}
 use Rattle.std.proofs.lemmas.Int.{ints}
 use Rattle.jiff_core.proofs.DateLemmas.{min-lt-epoch_day}
-use Rattle.jiff.specs.Words.{epoch_day}
+use Rattle.jiff_core.specs.Date.{epoch_day}
 use Rattle.season_days.specs.Seasons.{date_count}
 use Rattle.season_days.proofs.SeasonLemmas.{saturday_before, date_count-after, date_count_large}
 use Rattle.season_days.proofs.CivilLemmas.{date_is}
