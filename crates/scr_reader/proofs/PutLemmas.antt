@@ -28,3 +28,7 @@ departure o f d w s g r1 r2 r3 r4 r5 code service e1 e2 e3 e4 e5 = rw (e5, e4, e
 pub turnaround : (o f h d w s g j r1 r2 r3 r4 r5 r6 r7 r8 r9 : List ℕ) (code a b : ℕ) → r1 ≡ o ++ code ∷ [] → r2 ≡ r1 ++ f → r3 ≡ r2 ++ 32 ∷ [] → r4 ≡ r3 ++ h → r5 ≡ r4 ++ Between d w s → r6 ≡ r5 ++ g → r7 ≡ r6 ++ 32 ∷ [] → r8 ≡ r7 ++ j → r9 ≡ r8 ++ 32 ∷ a ∷ b ∷ []
     → r9 ≡ o ++ ((code ∷ f) ++ (32 ∷ (h ++ (32 ∷ (d ++ (32 ∷ (w ++ (32 ∷ (s ++ (32 ∷ (g ++ (32 ∷ (j ++ (32 ∷ (a ∷ b ∷ [])))))))))))))))
 turnaround o f h d w s g j r1 r2 r3 r4 r5 r6 r7 r8 r9 code a b e1 e2 e3 e4 e5 e6 e7 e8 e9 = rw (e9, e8, e7, e6, e5, e4, e3, e2, e1) (simp append_assoc)
+
+pub header_put : (o s d a r1 r2 r3 r4 r5 r6 r7 : List ℕ) → r1 ≡ o ++ 83 ∷ 67 ∷ 82 ∷ 10 ∷ [] → r2 ≡ r1 ++ s → r3 ≡ r2 ++ 10 ∷ [] → r4 ≡ r3 ++ d → r5 ≡ r4 ++ 10 ∷ [] → r6 ≡ r5 ++ a → r7 ≡ r6 ++ 10 ∷ []
+    → r7 ≡ o ++ (83 ∷ 67 ∷ 82 ∷ 10 ∷ (s ++ (10 ∷ (d ++ (10 ∷ (a ++ (10 ∷ [])))))))
+header_put o s d a r1 r2 r3 r4 r5 r6 r7 e1 e2 e3 e4 e5 e6 e7 = rw (e7, e6, e5, e4, e3, e2, e1) (simp append_assoc)

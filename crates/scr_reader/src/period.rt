@@ -7,8 +7,12 @@ ghost use Rattle.season_days.specs.declared.day.Period.{Period as PeriodValue};
 ghost use Rattle.scr_reader.specs.Parts.{month_text, date_text, SpellsDay, IsPeriod};
 ghost use Rattle.scr_reader.specs.Shapes.{NamesPeriod};
 
+use crate::put::month_name;
 use schedule_text::{read_two_digits, read_weekdays};
 use season_days::{Day, Period, Season};
+
+// How many months a year has.
+const MONTHS_OF_YEAR: u8 = 12;
 
 /// The month, from 1 to 12, of its name: the first three letters of its English name, as capitals.
 pub fn read_month(text: &[u8]) -> Option<u8>
@@ -17,21 +21,12 @@ pub fn read_month(text: &[u8]) -> Option<u8>
     ensures only { (month : ℕ) → 1 ≤ month → month ≤ 12 → text.now ≡ month_text month →
         result ≡ Some month }
 {
-    Some(match text {
-        b"JAN" => 1,
-        b"FEB" => 2,
-        b"MAR" => 3,
-        b"APR" => 4,
-        b"MAY" => 5,
-        b"JUN" => 6,
-        b"JUL" => 7,
-        b"AUG" => 8,
-        b"SEP" => 9,
-        b"OCT" => 10,
-        b"NOV" => 11,
-        b"DEC" => 12,
-        _ => return None,
-    })
+    for month in 1..MONTHS_OF_YEAR + 1 {
+        if text == month_name(month) {
+            return Some(month);
+        }
+    }
+    None
 }
 
 /// The day of the season that a date names.

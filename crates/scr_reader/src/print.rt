@@ -52,15 +52,22 @@ pub fn print_header(alloc: Global, out: &mut Vec<u8>, header: &Header) -> Result
     ensures unchanged { OnErr result (out.new.items ≡ out.old.items) }
 {
     let mut text = Vec::new(alloc);
-    put(&mut text, b"SCR\n")?;
-    put(&mut text, &header.season.text())?;
-    put(&mut text, b"\n")?;
-    put_date(&mut text, header.month, header.day)?;
-    put(&mut text, b"\n")?;
-    put(&mut text, &header.airport.0)?;
-    put(&mut text, b"\n")?;
+    put_header(&mut text, header)?;
     out.extend_from_slice(&text)?;
     Ok(())
+}
+
+/// Appends the four lines of a header, each with an LF.
+fn put_header(out: &mut Vec<u8>, header: &Header) -> Result<(), Memory>
+    ensures { OnOk result (out.new.items ≡ out.old.items ++ ended (header_lines header.now)) }
+{
+    put(out, b"SCR\n")?;
+    put(out, &header.season.text())?;
+    put(out, b"\n")?;
+    put_date(out, header.month, header.day)?;
+    put(out, b"\n")?;
+    put(out, &header.airport.0)?;
+    put(out, b"\n")
 }
 
 /// Appends a flight: its airline, its number with at least three digits, and its letter if it has

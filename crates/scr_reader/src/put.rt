@@ -114,7 +114,7 @@ pub(crate) fn put_flight(out: &mut Vec<u8>, flight: Flight) -> Result<(), Memory
 }
 
 /// The name of a month.
-fn month_name(month: u8) -> &'static [u8]
+pub(crate) fn month_name(month: u8) -> &'static [u8]
     ensures { result.now ≡ month_text month }
 {
     match month {
