@@ -1,7 +1,9 @@
-use Rattle.std.proofs.Common.{◌+◌, ◌-◌, ◌*◌, ℕ, arith, sym, ◌∙◌, ap}
+use Rattle.std.proofs.Common.{◌+◌, ◌-◌, ◌*◌, ℕ, arith, refl, sym, ◌∙◌, ap}
+use Rattle.std.proofs.lemmas.Nat.{mul-le}
 use Rattle.std.proofs.lemmas.Bool.{ltb-true}
 use Rattle.season_days.specs.Seasons.{date_count}
 use Rattle.capacity_windows.specs.Windows.{first_of}
+use Rattle.capacity_windows.proofs.NumberLemmas.{first_small}
 use Rattle.capacity_windows.proofs.HeldLemmas.{run_held, unlisted_none, early_none, kind_none, day_none, band_none, run_there, run_holds, read_rule}
 use Rattle.capacity_windows.proofs.windows.Windows.held_run.Goals.{then-not-is_listed-via-then-not-is_listed, then-not-is_listed-via-else-not-is_listed+then-movement-ago, then-not-is_listed-via-else-not-is_listed+else-movement-ago+then-not-is_of_kind}
 use Rattle.capacity_windows.proofs.windows.Windows.held_run.Goals as goal
@@ -53,3 +55,20 @@ returns-clause-held c =
     run_holds self c.args.movement c.args.rule c.args.ago day _ (c.first_of.result + day * c.starts_of.result) c.band_of-band.result (read_rule c.rules.result.now self.rules c.args.rule _ c.rules.ensures.items c.requires.rule) c.rules.ensures.limits.step (omega (arith, c.if-movement-ago.false, listed)) (omega (arith, c.if-movement-ago.false))
     (sym c.is_listed.ensures.value ∙ c.if-not-is_listed.false) (sym c.is_on.ensures ∙ c.if-not-is_on.false) (sym c.is_of_kind.ensures ∙ c.if-not-is_of_kind.false)
     (ap (λ (f : ℕ). f + day * c.starts_of.result) c.first_of.ensures ∙ ap (λ (n : ℕ). first_of self c.args.rule + day * n) c.starts_of.ensures.value) c.band_of-band.ensures
+
+pub overflow_mul-first : goal.overflow_mul-first
+overflow_mul-first c =
+    let listed = ltb-true c.args.movement.day (date_count c.args.self.now.season) (sym c.is_listed.ensures.value ∙ c.if-not-is_listed.false) in
+    let row = mul-le (c.args.movement.day - c.args.ago) c.starts_of.result 217 1440 (omega (arith, listed, c.is_listed.ensures.few)) c.starts_of.ensures.bound in
+    omega (arith, row)
+
+pub overflow_add-first : goal.overflow_add-first
+overflow_add-first c =
+    let listed = ltb-true c.args.movement.day (date_count c.args.self.now.season) (sym c.is_listed.ensures.value ∙ c.if-not-is_listed.false) in
+    let row = mul-le (c.args.movement.day - c.args.ago) c.starts_of.result 217 1440 (omega (arith, listed, c.is_listed.ensures.few)) c.starts_of.ensures.bound in
+    let rules = c.args.self.now.rules in
+    let room = first_small c.args.self.now rules c.args.rule c.first_of.result c.rules.ensures.limits refl c.requires.rule c.first_of.ensures in
+    omega (arith, row, room)
+
+pub returns-clause-ordered : goal.returns-clause-ordered
+returns-clause-ordered c = omega (arith, c.if-band.false)
