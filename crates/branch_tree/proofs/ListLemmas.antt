@@ -3,10 +3,10 @@ use Rattle.std.proofs.Common.{◌≡◌, ℕ, ◌+◌, ◌-◌, ◌<◌, ◌≤�
 use Rattle.std.specs.Prelude.{slice_index, if◌then◌else◌, ◌==◌}
 use Rattle.std.proofs.lemmas.Bool.{cases_lt}
 use Rattle.std.proofs.lemmas.Grind.{common_steps}
-use Rattle.std.proofs.lemmas.List.{take_more_set, get_or-set_same, get_or-set_other}
+use Rattle.std.proofs.lemmas.List.{get_or_append_left, get_or_push, take_more_set, get_or-set_same, get_or-set_other}
 use Rattle.std.proofs.lemmas.List.Sums.{sum_by_push, sum_by_more, sum_by_more_le, get_or-le-sum_by}
 use Rattle.choice_problem.specs.Loops.{run_uses}
-use Rattle.branch_tree.specs.Lists.{times_in, AreWithin}
+use Rattle.branch_tree.specs.Lists.{times_in, AreWithin, IsRankAt}
 
 -- one where the resource is the other, and none elsewhere
 abbrev pub one_at : ℕ → ℕ → ℕ
@@ -124,3 +124,11 @@ module _ (old list free counts : List ℕ) (at kept : ℕ) (few : kept ≤ at) (
 pub times-empty : (list : List ℕ) (r : ℕ) → length list ≡ 0 → times_in list r ≡ 0
 times-empty [] r e = refl
 times-empty (c ∷ list) r e = absurd (omega arith)
+
+-- one rank more
+pub ranks-push : (listed ranks : List ℕ) (n k : ℕ) → length ranks ≡ n → ((r : ℕ) → r < n → IsRankAt listed r (slice_index ranks r)) →
+    IsRankAt listed n k → (r : ℕ) → r < n + 1 → IsRankAt listed r (slice_index (ranks ++ k ∷ []) r)
+ranks-push listed ranks n k long before here r l = elim (cases_lt r n) [
+  | inl below ↦ rw (get_or_append_left ranks (k ∷ []) 0 r (omega (arith, long, below))) (before r below)
+  | inr after ↦ let is : r ≡ n = omega (arith, l, after) in rw (get_or_push ranks k 0 r (omega (arith, long, is))) (rw is here)
+]

@@ -22,9 +22,35 @@ use choice_problem::{Problem, Ranges};
 use slot_text::Memory;
 use std::alloc::Global;
 
+// The least loads of the listed resources, as many counts of 0, and what each unit uses of these
+// resources.
+pub(crate) fn least_loads(
+    alloc: Global,
+    problem: &Problem,
+    ranges: &Ranges,
+    listed: &[u32],
+    ranks: &[u32],
+) -> Result<(Vec<u32>, Vec<u32>, Vec<Uses>), Memory>
+    requires ranges { AreRanges problem.now ranges.now }
+    requires ranks { AreRanksOf (resource_count problem.now) listed.now ranks.now }
+    ensures count { IfOk result (λ r. length r.0.items ≡ length listed.now) }
+    ensures least { IfOk result (λ r. AreLeast problem.now ranges.now listed.now r.0.items) }
+    ensures zeros_count { IfOk result (λ r. length r.1.items ≡ length listed.now) }
+    ensures zeros { IfOk result (λ r. AreZero r.1.items) }
+    ensures lists { IfOk result (λ r.
+        AreLists problem.now ranges.now listed.now (unit_count problem.now) r.2.items) }
+{
+    let mut least = vec![in alloc; 0; listed.len()]?;
+    let mut zeros = vec![in alloc; 0; listed.len()]?;
+    let lists = count_least(
+        alloc, problem, ranges, listed, ranks, &mut least, &mut zeros,
+    )?;
+    Ok((least, zeros, lists))
+}
+
 // Counts the least loads of the listed resources on counts of 0, and answers what each unit uses of
 // them.
-pub(crate) fn count_least(
+fn count_least(
     alloc: Global,
     problem: &Problem,
     ranges: &Ranges,

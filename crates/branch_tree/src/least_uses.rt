@@ -1,6 +1,6 @@
 //! The listed resources that a unit uses whatever it takes of a range.
 
-ghost use Rattle.std.specs.Prelude.{◌≡◌, ℕ, ◌<◌, ◌≤◌, min, length, slice_index, IfOk};
+ghost use Rattle.std.specs.Prelude.{◌≡◌, ℕ, ◌^◌, ◌<◌, ◌≤◌, min, length, slice_index, IfOk, OnOk};
 ghost use Rattle.choice_problem.specs.declared.problems.TheConstants.{MOST_USES};
 ghost use Rattle.finite_sums.specs.Sums.{least_within};
 ghost use Rattle.choice_problem.specs.Problems.{unit_count, alt_count, alt_uses, resource_count};
@@ -48,7 +48,41 @@ pub(crate) fn least_list(
     if low == high {
         return Ok(list);
     }
-    let mut twos = twos_of(alloc, problem, unit, high, listed, ranks, &list, zeros)?;
+    lower_rows(
+        alloc, problem, unit, low, high, listed, ranks, &mut list, zeros,
+    )?;
+    Ok(list)
+}
+
+// Lowers a list of what the first alternative uses to what each of them does, row by row from the
+// last one.
+fn lower_rows(
+    alloc: Global,
+    problem: &Problem,
+    unit: u32,
+    low: u32,
+    high: u32,
+    listed: &[u32],
+    ranks: &[u32],
+    list: &mut Vec<u32>,
+    zeros: &mut [u32],
+) -> Result<(), Memory>
+    requires unit { unit < unit_count problem.now }
+    requires ordered { low ≤ high }
+    requires there { high < alt_count problem.now unit }
+    requires alts { alt_count problem.now unit < 2 ^ 32 }
+    requires ranks { AreRanksOf (resource_count problem.now) listed.now ranks.now }
+    requires first { (i : ℕ) → i < length listed.now → times_in list.old.items i
+        ≡ alt_uses problem.now unit low (slice_index listed.now i) }
+    requires within { AreWithin (length listed.now) list.old.items }
+    requires count { length zeros.old ≡ length listed.now }
+    requires zeros { AreZero zeros.old }
+    ensures least { OnOk result ((i : ℕ) → i < length listed.now → times_in list.new.items i
+        ≡ least_within low high (λ a. alt_uses problem.now unit a (slice_index listed.now i))) }
+    ensures within { OnOk result (AreWithin (length listed.now) list.new.items) }
+    ensures same { zeros.new ≡ zeros.old }
+{
+    let mut twos = twos_of(alloc, problem, unit, high, listed, ranks, list, zeros)?;
     let mut row = Row {
         first: high,
         last: high,
@@ -56,17 +90,17 @@ pub(crate) fn least_list(
     let mut done = high + 1;
     while low < done {
         if list.is_empty() {
-            return Ok(list);
+            return Ok(());
         }
         let next = row_before(problem, unit, low, done);
         move_twos(
-            alloc, problem, unit, row, next, listed, ranks, &list, &mut twos, zeros,
+            alloc, problem, unit, row, next, listed, ranks, list, &mut twos, zeros,
         )?;
         lower_row(
-            alloc, problem, unit, next, listed, ranks, &twos, &mut list, zeros,
+            alloc, problem, unit, next, listed, ranks, &twos, list, zeros,
         )?;
         done = next.first;
         row = next;
     }
-    Ok(list)
+    Ok(())
 }

@@ -11,9 +11,9 @@ ghost use Rattle.dual_bound.specs.Kept.{ListPassable};
 use crate::answers::Visit;
 use crate::branching::found_or_split;
 use crate::closings::{kept_leaf, leaf};
-use crate::kept::{cheapest, count_least, first_cheapest, move_least, move_loads};
+use crate::kept::{cheapest, first_cheapest, least_loads, move_least, move_loads};
 use crate::least_uses::least_list;
-use crate::placed::{counts_at, limits_at};
+use crate::placed::{choice_loads, limits_at};
 use crate::ranks::ranks_of;
 use crate::scans::first_above;
 use crate::uses::Uses;
@@ -24,7 +24,6 @@ use slot_text::Memory;
 use std::alloc::Global;
 use std::marker::Model;
 use std::slice::from_ref;
-use window_counts::{Counts, add_choice};
 
 /// Ranges of a problem, with what a visit asks of them: each unit's first cheapest alternative,
 /// what these together cost, and the listed resources, with what they use of each and its least
@@ -128,15 +127,9 @@ impl<'a> Walk<'a> {
         ensures problem { IfOk result (λ walk. walk.problem ≡ problem.now) }
         ensures ranges { IfOk result (λ walk. walk.ranges ≡ ranges) }
     {
-        let mut counts = Counts::of(alloc, &[], problem.resources())?;
-        let mut least = vec![in alloc; 0; passable.len()]?;
-        let mut zeros = vec![in alloc; 0; passable.len()]?;
         let cheapest = cheapest(alloc, problem, &ranges)?;
-        let cost = add_choice(problem, &cheapest, &mut counts);
-        let loads = counts_at(alloc, &counts, &passable)?;
-        let lists = count_least(
-            alloc, problem, &ranges, &passable, &ranks, &mut least, &mut zeros,
-        )?;
+        let (cost, loads) = choice_loads(alloc, problem, &cheapest, &passable)?;
+        let (least, zeros, lists) = least_loads(alloc, problem, &ranges, &passable, &ranks)?;
         Ok(Walk {
             problem,
             ranges,

@@ -130,3 +130,48 @@ invariant_of-self-2 c =
           (omega (arith, old_cost, new_cost, has)) (omega (arith, loads_long)) (omega (arith, least_long))
           changed moved (λ i m. lists.each u i there m) listed;
     })
+
+pub least_list-requires-clause-ranks : goal.least_list-requires-clause-ranks
+least_list-requires-clause-ranks c =
+    let e : c.args.problem.now ≡ c.self.inside.problem.now = c.requires.problem ∙ sym (ap (λ (w : WalkView). w.problem) c.self.view_is) in
+    rw (e, c.deref.ensures.value, c.deref-2.ensures.value) c.self.invariant.ranked
+
+pub least_list-requires-clause-count : goal.least_list-requires-clause-count
+least_list-requires-clause-count c = rw (c.deref_mut.ensures.value, c.deref.ensures.value) c.self.invariant.kept.zeros_count
+
+pub least_list-requires-clause-zeros : goal.least_list-requires-clause-zeros
+least_list-requires-clause-zeros c = rw c.deref_mut.ensures.value c.self.invariant.kept.zeros_are
+
+pub invariant_of-self : goal.invariant_of-self
+invariant_of-self c =
+    let s = c.self.inside in
+    let zeros_one : c.least_list.new.zeros ≡ s.zeros.items = c.in_err-now.ensures.same ∙ c.deref_mut.ensures.value in
+    let one_long : length c.least_list.new.zeros ≡ s.zeros.len = omega (arith, ap (λ (xs : List ℕ). length xs) zeros_one) in
+    rw (written-back c.least_list.new.zeros s.zeros.items s.zeros.len one_long, zeros_one) c.self.invariant
+
+pub move_loads-requires-clause-ranks : goal.move_loads-requires-clause-ranks
+move_loads-requires-clause-ranks c =
+    let e : c.args.problem.now ≡ c.self.inside.problem.now = c.requires.problem ∙ sym (ap (λ (w : WalkView). w.problem) c.self.view_is) in
+    rw (e, c.deref-3.ensures.value, c.deref-4.ensures.value) c.self.invariant.ranked
+
+pub move_loads-requires-clause-count : goal.move_loads-requires-clause-count
+move_loads-requires-clause-count c = rw (c.deref_mut-2.ensures.value, c.deref-3.ensures.value) c.self.invariant.kept.loads_count
+
+pub move_loads-requires-clause-was : goal.move_loads-requires-clause-was
+move_loads-requires-clause-was c =
+    let s = c.self.inside in
+    let e : c.args.problem.now ≡ s.problem.now = c.requires.problem ∙ sym (ap (λ (w : WalkView). w.problem) c.self.view_is) in
+    let there : c.args.unit < unit_count s.problem.now = rw e at c.requires.unit in
+    let within : c.args.unit < length s.cheapest.items = omega (arith, there, c.self.invariant.kept.cheapest.length) in
+    let old : c.index-old_alt.result.now ≡ slice_index s.cheapest.items c.args.unit = get_or_read s.cheapest.items c.args.unit c.index-old_alt.result.now within c.index-old_alt.ensures 0 in
+    rw (e, old) (c.self.invariant.kept.choice.there c.args.unit there)
+
+pub invariant_of-self-in_err-move_loads : goal.invariant_of-self-in_err-move_loads
+invariant_of-self-in_err-move_loads c =
+    let s = c.self.inside in
+    let zeros_one : c.least_list.new.zeros ≡ s.zeros.items = c.in_ok-now.ensures.same ∙ c.deref_mut.ensures.value in
+    let one_long : length c.least_list.new.zeros ≡ s.zeros.len = omega (arith, ap (λ (xs : List ℕ). length xs) zeros_one) in
+    let loads_same : c.move_loads.new.loads ≡ s.loads.items = c.in_err-move_loads.ensures.err ∙ c.deref_mut-2.ensures.value in
+    let loads_long : length c.move_loads.new.loads ≡ s.loads.len = omega (arith, ap (λ (xs : List ℕ). length xs) loads_same) in
+    rw (written-back c.move_loads.new.loads s.loads.items s.loads.len loads_long, loads_same, written-back c.least_list.new.zeros s.zeros.items s.zeros.len one_long, zeros_one)
+    c.self.invariant

@@ -1,37 +1,32 @@
-use Rattle.std.proofs.Common.{◌≡◌, List, ℕ, length, ap, arith}
-use Rattle.std.specs.Prelude.{slice_index}
-use Rattle.branch_tree.proofs.WalkLemmas.{written-back}
 use Rattle.branch_tree.proofs.walks.Walk.over.Goals as goal
+
+pub choice_loads-requires-clause-there : goal.choice_loads-requires-clause-there
+choice_loads-requires-clause-there c = rw c.deref-2.ensures.value c.requires.passable.there
+
+pub least_loads-requires-clause-ranks : goal.least_loads-requires-clause-ranks
+least_loads-requires-clause-ranks c = rw (c.deref-3.ensures.value, c.deref-4.ensures.value) c.requires.ranks
 
 pub invariant_of-result : goal.invariant_of-result
 invariant_of-result c =
-    let least_long : length c.count_least.new.least ≡ c.in_ok-least.least.len = omega (arith, ap (λ (xs : List ℕ). length xs) c.deref_mut.ensures.value) in
-    let zeros_long : length c.count_least.new.zeros ≡ c.in_ok-zeros.zeros.len = omega (arith, ap (λ (xs : List ℕ). length xs) c.deref_mut-2.ensures.value) in
-    let least_back = written-back c.count_least.new.least c.in_ok-least.least.items c.in_ok-least.least.len least_long in
-    let zeros_back = written-back c.count_least.new.zeros c.in_ok-zeros.zeros.items c.in_ok-zeros.zeros.len zeros_long in
-    let chosen = c.deref.ensures.value in
-    let gathered = rw c.deref-2.ensures.value at c.in_ok-loads.ensures.each in
-    let loads = rw chosen at c.add_choice-cost.ensures.loads in
-    let counted : length c.count_least.new.least ≡ length c.args.passable.items =
-    omega (arith, ap (λ (xs : List ℕ). length xs) c.deref_mut.ensures.value, c.in_ok-least.ensures.len, c.len.ensures) in
-    rw (least_back, zeros_back) (record {
+    let loads = c.in_ok-cost.ensures in
+    let least = c.in_ok-least.ensures in record {
       listed = c.requires.passable;
       limits_count = c.requires.count;
-      lists_are = rw c.deref-3.ensures.value at c.in_ok-lists.ensures.lists;
+      lists_are = rw c.deref-3.ensures.value at least.lists;
       limited = c.requires.limits;
       ranked = c.requires.ranks;
       kept = record {
         valid = c.requires.ranges;
-        few_units = c.add_choice-cost.ensures.few;
-        units = c.add_choice-cost.ensures.units;
+        few_units = loads.few;
+        units = loads.units;
         cheapest = c.in_ok-cheapest.ensures.cheapest;
         choice = c.in_ok-cheapest.ensures.choice;
-        cost_is = rw chosen at c.add_choice-cost.ensures.cost;
-        loads_count = rw c.deref-2.ensures.value at c.in_ok-loads.ensures.count;
-        loads_are = λ i l. omega (arith, gathered i l, loads (slice_index c.args.passable.items i) (c.requires.passable.there i l));
-        least_count = counted;
-        least_are = rw c.deref-3.ensures.value at c.in_ok-lists.ensures.least;
-        zeros_count = rw c.deref-3.ensures.value at c.in_ok-lists.ensures.zeros_count;
-        zeros_are = c.in_ok-lists.ensures.zeros;
+        cost_is = rw c.deref.ensures.value at loads.cost;
+        loads_count = rw c.deref-2.ensures.value at loads.count;
+        loads_are = rw (c.deref.ensures.value, c.deref-2.ensures.value) at loads.loads;
+        least_count = rw c.deref-3.ensures.value at least.count;
+        least_are = rw c.deref-3.ensures.value at least.least;
+        zeros_count = rw c.deref-3.ensures.value at least.zeros_count;
+        zeros_are = least.zeros;
       };
-    })
+    }

@@ -3,7 +3,7 @@ use Rattle.finite_sums.specs.Sums.{least_within}
 use Rattle.choice_problem.specs.Problems.{alt_count, alt_uses}
 use Rattle.branch_tree.specs.Lists.{times_in, AreWithin}
 use Rattle.branch_tree.specs.Rows.{AreLeastTwos}
-use Rattle.branch_tree.proofs.least_uses.least_list.Given as goal
+use Rattle.branch_tree.proofs.least_uses.lower_rows.Given as goal
 
 abbrev pub invariant-loop-done : goal.invariant-loop-done
 invariant-loop-done l = record {
