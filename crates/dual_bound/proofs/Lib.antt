@@ -1,5 +1,6 @@
 mod StepLemmas
 mod FloorLemmas
+mod HoldLemmas
 mod RankLemmas
 mod KeptLemmas
 mod GroupLemmas

@@ -111,25 +111,57 @@ pub(crate) fn evaluate(
     price_vectors();
     let mut strips = StripPrices::new(alloc, problem, &prices)?;
     let costs = part_costs(alloc, problem, same, &mut strips)?;
-    let places = problem.resources() as usize + 1;
-    let mut begins = vec![in alloc; 0; places]?;
-    let mut ends = vec![in alloc; 0; places]?;
-    let total = take_least(
-        problem,
-        ranges,
-        &costs,
-        &strips,
-        scale,
-        &mut begins,
-        &mut ends,
-    );
-    let loads = loads_of(alloc, problem.resources(), &begins, &ends)?;
+    let (total, loads) = least_loads(alloc, problem, ranges, &costs, &strips, scale)?;
     let bound = difference(total, priced_limits(problem, &prices));
     Ok(Point {
         prices,
         loads,
         bound,
     })
+}
+
+// The sum of the least priced costs, and how often the units' first least alternatives use each
+// resource.
+fn least_loads(
+    alloc: Global,
+    problem: &Problem,
+    ranges: &Ranges,
+    costs: &[PartCosts],
+    strips: &StripPrices,
+    scale: u64,
+) -> Result<(u128, Vec<u32>), Memory>
+    requires ranges { AreRanges problem.now ranges.now }
+    requires costs { AreCostsTo problem.now strips.now (unit_count problem.now) costs.now }
+    requires priced { (prices : List Price) × IsPricedBy problem.now prices strips.now }
+    requires scale { scale < SCALE_BOUND }
+    ensures total { IfOk result (λ x. (prices : List Price) →
+        IsPricedBy problem.now prices strips.now →
+        x.0 ≡ least_total problem.now ranges.now prices scale) }
+    ensures count { IfOk result (λ x. length x.1.items ≡ resource_count problem.now) }
+    ensures loads { IfOk result (λ x. (prices : List Price) →
+        IsPricedBy problem.now prices strips.now → (r : ℕ) → r < resource_count problem.now →
+        slice_index x.1.items r
+        ≡ least_alt_load problem.now ranges.now prices scale (unit_count problem.now) r) }
+    ensures few { IfOk result (λ _. (prices : List Price) →
+        IsPricedBy problem.now prices strips.now → (r : ℕ) →
+        least_alt_load problem.now ranges.now prices scale (unit_count problem.now) r
+        ≤ MOST_UNITS * MOST_USES) }
+    ensures small { IfOk result (λ x. x.0 < 2 ^ 126) }
+{
+    let places = problem.resources() as usize + 1;
+    let mut begins = vec![in alloc; 0; places]?;
+    let mut ends = vec![in alloc; 0; places]?;
+    let total = take_least(
+        problem,
+        ranges,
+        costs,
+        strips,
+        scale,
+        &mut begins,
+        &mut ends,
+    );
+    let loads = loads_of(alloc, problem.resources(), &begins, &ends)?;
+    Ok((total, loads))
 }
 
 // The difference of two numbers that fit.

@@ -8,6 +8,7 @@ ghost use Rattle.choice_problem.specs.Roots.{IsNodeVector, IsRootVector};
 ghost use Rattle.dual_bound.specs.Loops.{IsGreatestUpTo};
 ghost use Rattle.dual_bound.specs.Kept.{KeepPassed};
 ghost use Rattle.dual_bound.specs.Same.{AreSameTo};
+ghost use Rattle.dual_bound.specs.Classes.{AreGrouped};
 
 use crate::classes::{best_class_prices, classes_of, first_ranks, sizes_of, spread_classes};
 use crate::kept::{kept_problem, kept_ranks, spread_prices};
@@ -128,16 +129,39 @@ fn best_by_classes(
     ensures { IfOk result (λ found. IfSome found (λ best. IsGreatestUpTo problem.now ranges.now
         ROOT_STEPS best.prices.items best.bound)) }
 {
+    let groups = group_resources(alloc, problem, same)?;
+    let Some(mut best) = best_class_prices(alloc, &groups.problem, &groups.sizes, ranges)? else {
+        return Ok(None);
+    };
+    best.prices = spread_classes(alloc, &groups.classes, &best.prices)?;
+    Ok(Some(best))
+}
+
+// Classes of equal resources: the class of each resource, how many resources each class has, and
+// the problem on one resource of each.
+#[derive(Drop)]
+struct Groups {
+    classes: Vec<u32>,
+    sizes: Vec<u32>,
+    problem: Problem,
+}
+
+// The classes of equal resources of a problem.
+fn group_resources(alloc: Global, problem: &Problem, same: &[SameParts]) -> Result<Groups, Memory>
+    requires { AreSameTo problem.now (unit_count problem.now) same.now }
+    ensures { IfOk result (λ groups.
+        AreGrouped problem.now groups.problem groups.classes.items groups.sizes.items) }
+{
     let firsts = equal_resources(alloc, problem, same)?;
     let ranks = first_ranks(alloc, problem, &firsts)?;
     let classes = classes_of(alloc, &firsts, &ranks)?;
     let grouped = kept_problem(alloc, problem, &ranks)?;
     let sizes = sizes_of(alloc, &classes, grouped.resources())?;
-    let Some(mut best) = best_class_prices(alloc, &grouped, &sizes, ranges)? else {
-        return Ok(None);
-    };
-    best.prices = spread_classes(alloc, &classes, &best.prices)?;
-    Ok(Some(best))
+    Ok(Groups {
+        classes,
+        sizes,
+        problem: grouped,
+    })
 }
 
 // The same by each resource.

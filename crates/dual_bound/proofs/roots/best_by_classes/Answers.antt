@@ -1,65 +1,29 @@
-use Rattle.std.proofs.Common.{◌≡◌, ℕ, ◌<◌, ◌∙◌, arith, length}
-use Rattle.std.specs.Prelude.{slice_index}
-use Rattle.choice_problem.specs.Problems.{resource_count}
-use Rattle.dual_bound.specs.Kept.{IsKept, IsOnKept}
-use Rattle.dual_bound.specs.Classes.{AreFirsts, AreGrouped, by_classes}
-use Rattle.dual_bound.proofs.GroupLemmas.{AreGrouped-is, class-there}
+use Rattle.std.proofs.Common.{◌≡◌, arith}
+use Rattle.dual_bound.specs.Classes.{AreGrouped, by_classes}
 use Rattle.dual_bound.proofs.roots.best_by_classes.Goals as goal
 
-pub sizes_of-requires-clause-there : goal.sizes_of-requires-clause-there
-sizes_of-requires-clause-there c =
-    let p = c.args.problem.now in
-    let k = c.in_ok-grouped.grouped in
-    let firsts = c.in_ok-firsts.firsts.items in
-    let ranks = c.in_ok-ranks.ranks.items in
-    let classes = c.in_ok-classes.classes.items in
-    let f : AreFirsts p firsts = c.in_ok-firsts.ensures in
-    let kept : (r : ℕ) → r < resource_count p → slice_index firsts r ≡ r → IsKept ranks r = rw c.deref.ensures.value at c.in_ok-ranks.ensures.kept in
-    let o : IsOnKept p ranks k = rw c.deref-4.ensures.value at c.in_ok-grouped.ensures in
-    let each : (r : ℕ) → r < length firsts → slice_index classes r ≡ slice_index ranks (slice_index firsts r) =
-    rw (c.deref-2.ensures.value, c.deref-3.ensures.value) at c.in_ok-classes.ensures.each in
-    let count : length classes ≡ length firsts = rw c.deref-2.ensures.value at c.in_ok-classes.ensures.count in
-    λ r l.
-    let there : r < resource_count p = omega (arith, rw c.deref-5.ensures.value at l, count, f.count) in
-    rw (c.deref-5.ensures.value, c.resources.ensures.count)
-    (class-there p k firsts ranks classes f c.in_ok-ranks.ensures.ranks kept o (λ s m. each s (omega (arith, m, f.count))) r there)
+pub best_class_prices-requires-clause-ranges : goal.best_class_prices-requires-clause-ranges
+best_class_prices-requires-clause-ranges c =
+    let h = c.in_ok-groups.ensures in
+    let r = c.requires.ranges in
+    record {
+      length = omega (arith, r.length, h.units);
+      ordered = λ u l. r.ordered u (omega (arith, l, h.units));
+      there = λ u l. omega (arith, r.there u (omega (arith, l, h.units)), h.alts u);
+    }
 
 pub spread_classes-requires : goal.spread_classes-requires
 spread_classes-requires c =
-    let p = c.args.problem.now in
-    let k = c.in_ok-grouped.grouped in
-    let firsts = c.in_ok-firsts.firsts.items in
-    let ranks = c.in_ok-ranks.ranks.items in
-    let classes = c.in_ok-classes.classes.items in
-    let f : AreFirsts p firsts = c.in_ok-firsts.ensures in
-    let kept : (r : ℕ) → r < resource_count p → slice_index firsts r ≡ r → IsKept ranks r = rw c.deref.ensures.value at c.in_ok-ranks.ensures.kept in
-    let o : IsOnKept p ranks k = rw c.deref-4.ensures.value at c.in_ok-grouped.ensures in
-    let each : (r : ℕ) → r < length firsts → slice_index classes r ≡ slice_index ranks (slice_index firsts r) =
-    rw (c.deref-2.ensures.value, c.deref-3.ensures.value) at c.in_ok-classes.ensures.each in
-    let count : length classes ≡ length firsts = rw c.deref-2.ensures.value at c.in_ok-classes.ensures.count in
-    λ r l.
-    let there : r < resource_count p = omega (arith, rw c.deref-7.ensures.value at l, count, f.count) in
-    rw (c.deref-7.ensures.value, c.deref-8.ensures.value, rw c.in-Some.is at c.in_ok-best.ensures.count)
-    (class-there p k firsts ranks classes f c.in_ok-ranks.ensures.ranks kept o (λ s m. each s (omega (arith, m, f.count))) r there)
+    let h = c.in_ok-groups.ensures in
+    let count = rw c.in-Some.is at c.in_ok-best.ensures.count in
+    λ r l. rw (c.deref-2.ensures.value, c.deref-3.ensures.value) (omega (arith, count, h.there r (omega (arith, rw c.deref-2.ensures.value at l, h.count))))
 
 pub returns : goal.returns
 returns c =
     let p = c.args.problem.now in
-    let k = c.in_ok-grouped.grouped in
-    let firsts = c.in_ok-firsts.firsts.items in
-    let ranks = c.in_ok-ranks.ranks.items in
-    let classes = c.in_ok-classes.classes.items in
-    let f : AreFirsts p firsts = c.in_ok-firsts.ensures in
-    let kept : (r : ℕ) → r < resource_count p → slice_index firsts r ≡ r → IsKept ranks r = rw c.deref.ensures.value at c.in_ok-ranks.ensures.kept in
-    let o : IsOnKept p ranks k = rw c.deref-4.ensures.value at c.in_ok-grouped.ensures in
-    let each : (r : ℕ) → r < length firsts → slice_index classes r ≡ slice_index ranks (slice_index firsts r) =
-    rw (c.deref-2.ensures.value, c.deref-3.ensures.value) at c.in_ok-classes.ensures.each in
-    let count : length classes ≡ length firsts = rw c.deref-2.ensures.value at c.in_ok-classes.ensures.count in
+    let groups = c.in_ok-groups.groups in
+    let classes = groups.classes.items in
     let numbers = c.in-Some.best.prices.items in
-    let sizes : length c.in_ok-sizes.sizes.items ≡ c.resources.result = c.in_ok-sizes.ensures.count in
-    let grouped : AreGrouped p k classes c.in_ok-sizes.sizes.items =
-    AreGrouped-is p k firsts ranks classes f c.in_ok-ranks.ensures.ranks kept o (λ s m. each s (omega (arith, m, f.count)))
-    c.in_ok-sizes.sizes.items (count ∙ f.count) (sizes ∙ c.resources.ensures.count)
-    (λ d l. rw c.deref-5.ensures.value at (c.in_ok-sizes.ensures.each d (omega (arith, l, c.resources.ensures.count)))) in
-    let spread : c.in_ok-best-2.field-0.items ≡ by_classes classes numbers = rw (c.deref-7.ensures.value, c.deref-8.ensures.value) at c.in_ok-best-2.ensures in
-    rw spread ((rw (c.in-Some.is, c.deref-6.ensures.value) at c.in_ok-best.ensures.greatest) p classes grouped)
+    let h : AreGrouped p groups.problem classes groups.sizes.items = c.in_ok-groups.ensures in
+    let spread : c.in_ok-best-2.field-0.items ≡ by_classes classes numbers = rw (c.deref-2.ensures.value, c.deref-3.ensures.value) at c.in_ok-best-2.ensures in
+    rw spread ((rw (c.in-Some.is, c.deref.ensures.value) at c.in_ok-best.ensures.greatest) p classes h)

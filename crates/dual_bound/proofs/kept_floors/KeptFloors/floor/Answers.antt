@@ -5,11 +5,38 @@ use Rattle.choice_problem.specs.declared.vectors.Price.{Price}
 use Rattle.choice_problem.specs.Bounds.{Closes}
 use Rattle.choice_problem.specs.Trees.{vector_at}
 use Rattle.price_table.specs.Tables.{TableView, vectors_of}
-use Rattle.dual_bound.specs.Stated.{floor_by, scale_at}
+use Rattle.dual_bound.specs.Stated.{IsFloorBy, floor_by, scale_at}
 use Rattle.dual_bound.specs.KeptFloors.{FloorsView}
-use Rattle.dual_bound.proofs.FloorLemmas.{floor_by-next, IsFloorBy-new, IsFloorBy-old, closes-next}
+use Rattle.dual_bound.proofs.FloorLemmas.{IsFloorBy-zero, floor_by-next, IsFloorBy-new, IsFloorBy-old, closes-next}
+use Rattle.dual_bound.proofs.HoldLemmas.{totals-kept}
 use Rattle.dual_bound.proofs.kept_floors.KeptFloors.floor.Goals as goal
 use Rattle.dual_bound.proofs.kept_floors.KeptFloors.floor.Goals.{then-floor-cost, else-floor-cost}
+
+pub sum_costs-requires-clause-costs : goal.sum_costs-requires-clause-costs
+sum_costs-requires-clause-costs c = rw c.deref.ensures.value c.self.invariant.costs_are
+
+pub kept_floor-cost-requires-clause-totals : goal.kept_floor-cost-requires-clause-totals
+kept_floor-cost-requires-clause-totals c =
+    (totals-kept c.self.inside.problem.now c.self.inside.tables.now c.self.inside.ranges c.self.inside.totals.items c.loop-place.place c.index-self-place.result c.index.result.now
+    c.self.invariant.kept c.loop-place-test.true c.index.ensures).totals
+
+pub kept_floor-cost-requires-clause-ranges : goal.kept_floor-cost-requires-clause-ranges
+kept_floor-cost-requires-clause-ranges c =
+    (totals-kept c.self.inside.problem.now c.self.inside.tables.now c.self.inside.ranges c.self.inside.totals.items c.loop-place.place c.index-self-place.result c.index.result.now
+    c.self.invariant.kept c.loop-place-test.true c.index.ensures).at_ranges
+
+pub kept_floor-cost-requires-clause-scale : goal.kept_floor-cost-requires-clause-scale
+kept_floor-cost-requires-clause-scale c =
+    (totals-kept c.self.inside.problem.now c.self.inside.tables.now c.self.inside.ranges c.self.inside.totals.items c.loop-place.place c.index-self-place.result c.index.result.now
+    c.self.invariant.kept c.loop-place-test.true c.index.ensures).at_scale
+
+pub loop-place-init : goal.loop-place-init
+loop-place-init c = record {
+  floor =
+      subst (λ (v : FloorsView). IsFloorBy v.problem v.ranges v.vectors 0 c.sum_costs.result 0) c.self.view_is
+      (IsFloorBy-zero c.self.inside.problem.now c.self.inside.ranges (vectors_of c.self.inside.tables.now) c.sum_costs.result c.sum_costs.ensures.value);
+  closes = subst (λ (v : FloorsView). Closes v.problem v.ranges [] 1 (Some c.sum_costs.result)) c.self.view_is c.sum_costs.ensures.closes;
+}
 
 pub loop-place-preserved : goal.loop-place-preserved
 loop-place-preserved c =
