@@ -4,7 +4,7 @@ use Rattle.std.specs.Prelude.{All, slice_set, slice_index, ◌≤ℤ◌}
 use Rattle.std.specs.List.{range_with_len}
 use Rattle.std.proofs.lemmas.Int.{ints}
 use Rattle.std.proofs.lemmas.Bool.{cases_Bool}
-use Rattle.std.proofs.lemmas.List.{set-set, set-get_or, append-nil, ext_get_or, take_all, length-map}
+use Rattle.std.proofs.lemmas.List.{set-set, set-get_or, append-nil, ext_get_or, take_all, take_more, map_push, length-map}
 use Rattle.std.proofs.lemmas.List.FromFn.{map-range_with_len_more, get_or-map-range_with_len, length-map-range_with_len}
 use Rattle.std.proofs.lemmas.List.Elements.{All-map}
 use Rattle.choice_problem.specs.declared.vectors.Price.{Price}
@@ -68,6 +68,13 @@ amounts (n ∷ limits) = ap (λ (l : List ℕ). n ∷ l) (amounts limits)
 
 pub limits-from : (limits : List ℕ) → All (λ z. pos 0 ≤ℤ z) (map pos limits)
 limits-from limits = All-map (λ z. pos 0 ≤ℤ z) pos limits (λ i d l. omega (arith, ints))
+
+-- the value of one number more
+pub take-push : {X : Type 0} (f : ℕ → X) (numbers : List ℕ) (n : ℕ) (old : List X) (x : X) → n < length numbers → old ≡ map f (take n numbers) →
+    x ≡ f (slice_index numbers n) → old ++ x ∷ [] ≡ map f (take (n + 1) numbers)
+take-push {X} f numbers n old x l e is =
+    ap₂ (λ (xs : List X) (y : X). xs ++ y ∷ []) e is ∙ sym (map_push f (take n numbers) (slice_index numbers n))
+    ∙ ap (λ (ns : List ℕ). map f ns) (sym (take_more numbers n 0 l))
 
 -- a unit, from copies of its parts and the alternatives that were taken
 pub unit-made : (m : ChooserView) (numbers : List ℕ) (k : ℕ) (parts : List (List Strip)) (alts : List Alt) → IsChooser m → 0 < length numbers →

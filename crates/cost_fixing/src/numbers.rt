@@ -1,6 +1,7 @@
 //! The numbers of the alternatives that are left.
 
-ghost use Rattle.std.specs.Prelude.{◌≡◌, ◌<◌, IfOk};
+ghost use Rattle.std.specs.Prelude.{◌≡◌, ◌<◌, IfOk, map};
+ghost use Rattle.std.specs.List.{range_with_len};
 ghost use Rattle.choice_problem.specs.declared.closing.TheConstants.{SCALE_BOUND};
 ghost use Rattle.choice_problem.specs.Problems.{unit_count, alt_count};
 ghost use Rattle.choice_problem.specs.Bounds.{whole_of};
@@ -50,11 +51,46 @@ pub(crate) fn left_numbers(
     ensures { IfOk result (λ units. units.items
         ≡ (left_view problem.now table.now.prices scale cost).alts) }
 {
+    let mut totals = whole_totals(alloc, problem, table, scale)?;
+    numbers_by(alloc, problem, table, &mut totals, cost)
+}
+
+// The totals at all alternatives.
+fn whole_totals(
+    alloc: Global,
+    problem: &Problem,
+    table: &PriceTable,
+    scale: u64,
+) -> Result<Totals, Memory>
+    requires table { IsTableFor problem.now table.now }
+    requires scale { scale < SCALE_BOUND }
+    ensures totals { IfOk result (λ totals.
+        AreTotalsFor problem.now table.now.prices totals) }
+    ensures whole { IfOk result (λ totals. totals.ranges ≡ whole_of problem.now) }
+    ensures scale { IfOk result (λ totals. totals.scale ≡ scale) }
+{
     let whole = Ranges::whole(alloc, problem)?;
-    let mut totals = Totals::of(alloc, problem, &whole, table, scale)?;
+    Totals::of(alloc, problem, &whole, table, scale)
+}
+
+// The alternatives of each unit that are left, by totals at all alternatives.
+fn numbers_by(
+    alloc: Global,
+    problem: &Problem,
+    table: &PriceTable,
+    totals: &mut Totals,
+    cost: u64,
+) -> Result<Vec<AltNumbers>, Memory>
+    requires table { IsTableFor problem.now table.now }
+    requires totals { AreTotalsFor problem.now table.now.prices totals.old }
+    requires whole { totals.old.ranges ≡ whole_of problem.now }
+    ensures { IfOk result (λ units. units.items
+        ≡ map (λ u. left_alts problem.now table.now.prices totals.old.scale cost u)
+        (range_with_len 0 (unit_count problem.now))) }
+{
     let mut units = Vec::with_capacity(alloc, problem.units() as usize)?;
     for unit in 0..problem.units() {
-        units.push(unit_numbers(alloc, problem, table, &mut totals, unit, cost)?)?;
+        units.push(unit_numbers(alloc, problem, table, totals, unit, cost)?)?;
     }
     Ok(units)
 }

@@ -1,7 +1,13 @@
 use Rattle.std.proofs.Common.{rules, ◌≤◌, length, ◌∙◌}
-use Rattle.choice_problem.specs.Problems.{chooser_at}
-use Rattle.cost_fixing.proofs.StepLemmas.{unit-made}
+use Rattle.choice_problem.specs.Problems.{chooser_at, alt_at}
+use Rattle.cost_fixing.proofs.StepLemmas.{unit-made, take-push}
 use Rattle.cost_fixing.proofs.units.unit_with.Goals as goal
+
+pub loop-number-preserved : goal.loop-number-preserved
+loop-number-preserved c =
+    c.in_ok-push.ensures.items
+    ∙ take-push (λ a. alt_at (chooser_at c.args.problem.now c.args.unit) a) c.args.numbers.now c.loop-number.number-index c.loop-number.alts.items c.alt.result c.loop-number-test.true
+    c.loop-number.invariant c.alt.ensures.value
 
 pub new-requires : goal.new-requires
 new-requires c =
