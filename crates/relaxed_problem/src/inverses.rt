@@ -103,16 +103,19 @@ impl Inverse {
         direction: &[f64],
         pivot: f64,
     ) -> Result<(), Memory> {
-        let mut last = Vec::with_capacity(alloc, direction.len() + 1)?;
-        for step in direction {
-            last.push(*step / pivot)?;
-        }
-        for (row, entry) in self.rows.iter_mut().zip(entries) {
-            add_multiple(row, &last, -*entry);
-            row.push(-*entry / pivot)?;
-        }
+        let mut last = divided(alloc, direction, pivot)?;
+        self.add_column(entries, &last, pivot)?;
         last.push(1.0 / pivot)?;
         self.rows.push(last)?;
+        Ok(())
+    }
+
+    // Adds a column for the resource with this pivot, beside this row.
+    fn add_column(&mut self, entries: &[f64], last: &[f64], pivot: f64) -> Result<(), Memory> {
+        for (row, entry) in self.rows.iter_mut().zip(entries) {
+            add_multiple(row, last, -*entry);
+            row.push(-*entry / pivot)?;
+        }
         Ok(())
     }
 
@@ -153,6 +156,15 @@ impl Inverse {
             add_multiple(sums, row, by);
         }
     }
+}
+
+// The numbers, each divided, with room for one more.
+fn divided(alloc: Global, values: &[f64], by: f64) -> Result<Vec<f64>, Memory> {
+    let mut parts = Vec::with_capacity(alloc, values.len() + 1)?;
+    for value in values {
+        parts.push(*value / by)?;
+    }
+    Ok(parts)
 }
 
 // Divides each number.

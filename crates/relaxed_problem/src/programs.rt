@@ -61,27 +61,37 @@ impl<'a> Program<'a> {
         reduced: &'a Reduced,
         excluded: &[bool],
     ) -> Result<Program<'a>, Memory> {
+        let limits = limits_of(alloc, reduced)?;
         let mut program = Program {
             reduced,
             columns: Vec::new(alloc),
             changed: Vec::new(alloc),
             firsts: Vec::new(alloc),
             barred: Vec::new(alloc),
-            limits: limits_of(alloc, reduced)?,
+            limits,
             named: NamedParts::none(alloc),
         };
+        program.add_units(problem, excluded)?;
+        program.name_parts(alloc, problem.units())?;
+        Ok(program)
+    }
+
+    // Takes in the alternatives of all units.
+    fn add_units(&mut self, problem: &Problem, excluded: &[bool]) -> Result<(), Memory> {
         let mut seen: usize = 0;
         for unit in 0..problem.units() {
-            program.begin_unit()?;
+            self.begin_unit()?;
             let alts = problem.unit_alts(unit);
-            program.add_unit(unit, alts, flags_from(excluded, seen))?;
+            self.add_unit(unit, alts, flags_from(excluded, seen))?;
             seen = seen.saturating_add(alts.len());
         }
-        program.begin_unit()?;
-        let (columns, barred) = (&program.columns, &program.barred);
-        let named = NamedParts::of(alloc, reduced, columns, barred, problem.units())?;
-        program.named = named;
-        Ok(program)
+        self.begin_unit()
+    }
+
+    // Numbers the parts that the alternatives of so many units name.
+    fn name_parts(&mut self, alloc: Global, units: u32) -> Result<(), Memory> {
+        self.named = NamedParts::of(alloc, self.reduced, &self.columns, &self.barred, units)?;
+        Ok(())
     }
 
     // Notes where the next unit's alternatives begin.

@@ -53,26 +53,41 @@ pub struct Relaxation {
 impl Relaxation {
     /// The start: each unit takes its cheapest alternative, and no resource has a price.
     pub fn start(alloc: Global, program: &Program<'_>) -> Result<Relaxation, Memory> {
-        let classes = program.limits().len();
-        let columns = program.columns().len();
-        let mut relaxation = Relaxation {
-            shut: vec![in alloc; 0; columns / 64 + 1]?,
-            keys: Vec::new(alloc),
-            basics: Vec::new(alloc),
-            priced: Vec::new(alloc),
-            places: vec![in alloc; u32::MAX; classes]?,
-            inverse: Inverse::new(alloc),
-            parts: vec![in alloc; 0.0; program.parts()]?,
-            prices: vec![in alloc; 0.0; classes]?,
-            loads: vec![in alloc; 0.0; classes]?,
-            values: Vec::new(alloc),
-            ray: Vec::new(alloc),
-            value: 0.0,
-        };
+        let mut relaxation = Relaxation::empty(alloc);
+        relaxation.make_room(alloc, program)?;
         for unit in 0..program.units() {
             relaxation.start_unit(program, unit)?;
         }
         Ok(relaxation)
+    }
+
+    // One of no alternatives.
+    fn empty(alloc: Global) -> Relaxation {
+        Relaxation {
+            shut: Vec::new(alloc),
+            keys: Vec::new(alloc),
+            basics: Vec::new(alloc),
+            priced: Vec::new(alloc),
+            places: Vec::new(alloc),
+            inverse: Inverse::new(alloc),
+            parts: Vec::new(alloc),
+            prices: Vec::new(alloc),
+            loads: Vec::new(alloc),
+            values: Vec::new(alloc),
+            ray: Vec::new(alloc),
+            value: 0.0,
+        }
+    }
+
+    // Makes room for the alternatives, classes and named parts of a program.
+    fn make_room(&mut self, alloc: Global, program: &Program<'_>) -> Result<(), Memory> {
+        let classes = program.limits().len();
+        self.shut = vec![in alloc; 0; program.columns().len() / 64 + 1]?;
+        self.places = vec![in alloc; u32::MAX; classes]?;
+        self.parts = vec![in alloc; 0.0; program.parts()]?;
+        self.prices = vec![in alloc; 0.0; classes]?;
+        self.loads = vec![in alloc; 0.0; classes]?;
+        Ok(())
     }
 
     // Lets a unit take its cheapest alternative.
@@ -182,18 +197,30 @@ impl Relaxation {
     pub fn shares(&self, alloc: Global, program: &Program<'_>) -> Result<Vec<Share>, Memory> {
         let sums = self.sums(alloc, program)?;
         let mut places = Vec::new(alloc);
+        self.add_basics(&mut places)?;
+        self.add_keys(&sums, &mut places)?;
+        places.sort_unstable_by_key(|entry| entry.0);
+        shares_at(alloc, program, &places)
+    }
+
+    // Adds the places of the basic alternatives and their shares.
+    fn add_basics(&self, places: &mut Vec<(u32, f64)>) -> Result<(), Memory> {
         for (place, value) in self.basics.iter().zip(&self.values) {
             if *value > PASSED {
                 places.push((*place, *value))?;
             }
         }
-        for (key, sum) in self.keys.iter().zip(&sums) {
+        Ok(())
+    }
+
+    // Adds the places of the keys and their shares, beside basic alternatives of these sums.
+    fn add_keys(&self, sums: &[f64], places: &mut Vec<(u32, f64)>) -> Result<(), Memory> {
+        for (key, sum) in self.keys.iter().zip(sums) {
             if size_of_number(*sum) > NOTHING && 1.0 - *sum > PASSED {
                 places.push((*key, 1.0 - *sum))?;
             }
         }
-        places.sort_unstable_by_key(|entry| entry.0);
-        shares_at(alloc, program, &places)
+        Ok(())
     }
 
     // The sum of the values of each unit's basic alternatives.

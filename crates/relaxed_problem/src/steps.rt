@@ -276,16 +276,21 @@ impl Relaxation {
 
     // Notes the direction along which the prices rise for ever.
     fn take_ray(&mut self, alloc: Global, direction: &[f64], place: Place) -> Result<(), Memory> {
-        let mut ray = Vec::with_capacity(alloc, direction.len() + 1)?;
+        self.ray = Vec::with_capacity(alloc, direction.len() + 1)?;
+        self.add_rises(direction)?;
+        if let Place::Class(class) = place {
+            self.ray.push((class, 1.0))?;
+        }
+        Ok(())
+    }
+
+    // Notes the classes whose prices rise along a direction.
+    fn add_rises(&mut self, direction: &[f64]) -> Result<(), Memory> {
         for (class, step) in self.priced.iter().zip(direction) {
             if *step > 0.0 {
-                ray.push((*class, *step))?;
+                self.ray.push((*class, *step))?;
             }
         }
-        if let Place::Class(class) = place {
-            ray.push((class, 1.0))?;
-        }
-        self.ray = ray;
         Ok(())
     }
 

@@ -37,19 +37,29 @@ impl Relaxation {
     ) -> Result<Vector, Memory>
         ensures { IfOk result (λ vector. IsVector problem.now vector) }
     {
+        let mut rounded = self.rounded_prices(alloc, program)?;
+        self.entries_of(alloc, problem, program, &mut rounded)
+    }
+
+    // The prices of the basis at the costs themselves, times 1024, rounded.
+    fn rounded_prices(&self, alloc: Global, program: &Program<'_>) -> Result<Rounded, Memory> {
         let scale = f64::from(PRICED_SCALE as u32);
+        let weights = self.weights(alloc, program)?;
+        let prices = self.inverse.weighted(alloc, &weights)?;
         let mut rounded = Rounded::zeros(alloc, program, scale)?;
+        rounded.set_all(program, &self.priced, &prices);
+        Ok(rounded)
+    }
+
+    // How much more than the basic alternatives the keys of their units cost.
+    fn weights(&self, alloc: Global, program: &Program<'_>) -> Result<Vec<f64>, Memory> {
         let mut weights = Vec::with_capacity(alloc, self.basics.len())?;
         for place in &self.basics {
             let column = program.column(*place);
             let key = program.column(self.key_place(column.unit));
             weights.push(key.cost - column.cost)?;
         }
-        let prices = self.inverse.weighted(alloc, &weights)?;
-        for (class, price) in self.priced.iter().zip(&prices) {
-            rounded.set(program, *class, *price * scale);
-        }
-        self.entries_of(alloc, problem, program, rounded)
+        Ok(weights)
     }
 
     /// Where the relaxation has no solution: prices that show it, as a vector of the problem for
@@ -68,7 +78,7 @@ impl Relaxation {
         for (class, step) in &self.ray {
             rounded.set(program, *class, *step / most * f64::from(greatest));
         }
-        self.entries_of(alloc, problem, program, rounded)
+        self.entries_of(alloc, problem, program, &mut rounded)
     }
 
     // The vector of these prices.
@@ -77,20 +87,12 @@ impl Relaxation {
         alloc: Global,
         problem: &Problem,
         program: &Program<'_>,
-        mut rounded: Rounded,
+        rounded: &mut Rounded,
     ) -> Result<Vector, Memory>
         ensures { IfOk result (λ vector. IsVector problem.now vector) }
     {
-        self.keep_away(program, &mut rounded);
-        let mut entries = Vec::new(alloc);
-        for (class, price) in program.reduced().classes().iter().zip(&rounded.prices) {
-            if *price > 0 {
-                entries.push(Price {
-                    resource: class.resource,
-                    price: (*price).min(HIGHEST_PRICE),
-                })?;
-            }
-        }
+        self.keep_away(program, rounded);
+        let entries = entries_of_prices(alloc, program, &rounded.prices)?;
         Ok(vector_for(alloc, problem, entries))
     }
 
@@ -149,12 +151,37 @@ impl Rounded {
         }
     }
 
+    // Gives classes the nearest whole prices to these, times the scale.
+    fn set_all(&mut self, program: &Program<'_>, classes: &[u32], prices: &[f64]) {
+        for (class, price) in classes.iter().zip(prices) {
+            self.set(program, *class, *price * self.scale);
+        }
+    }
+
     // The priced cost of an alternative.
     fn cost(&self, cost: f64, pair: Pair) -> f64 {
         let parts = value_at(&self.parts, pair.one as usize)
             + value_at(&self.parts, pair.two as usize);
         self.scale * cost + parts
     }
+}
+
+// The entries of the prices of classes that are not 0.
+fn entries_of_prices(
+    alloc: Global,
+    program: &Program<'_>,
+    prices: &[i64],
+) -> Result<Vec<Price>, Memory> {
+    let mut entries = Vec::new(alloc);
+    for (class, price) in program.reduced().classes().iter().zip(prices) {
+        if *price > 0 {
+            entries.push(Price {
+                resource: class.resource,
+                price: (*price).min(HIGHEST_PRICE),
+            })?;
+        }
+    }
+    Ok(entries)
 }
 
 // Puts a price at a class.
