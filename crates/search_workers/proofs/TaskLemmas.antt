@@ -64,8 +64,8 @@ pub setting_same : (s : Setting) → IsWider s s
 setting_same s = record { problem = refl; greedy = refl; more = []; vectors = sym (append_none s.vectors) }
 
 -- the first tables: the root vector's, and those of vectors that were handed in
-pub tables_new : (p : ProblemView) (greedy : Option ℕ) (root : TableView) (tables : List TableView) (given : List (List Price)) (prices : ℕ) →
-    IsGreedyCost p greedy → IsRootVector p root.prices → IsVector p root.prices → All (IsTableFor p) tables → vectors_of tables ≡ root.prices ∷ given →
+pub tables_new : (p : ProblemView) (greedy : Option ℕ) (root : List Price) (tables : List TableView) (given : List (List Price)) (prices : ℕ) →
+    IsGreedyCost p greedy → IsRootVector p root → IsVector p root → All (IsTableFor p) tables → vectors_of tables ≡ root ∷ given →
     AreFurther p given → prices ≡ price_count given → AreTables p greedy tables (length given) prices
 tables_new p greedy root tables given prices g r v valid is f e = record {
   setting = rw is (record {
@@ -73,7 +73,7 @@ tables_new p greedy root tables given prices g r v valid is f e = record {
     root_is = r;
     some = omega arith;
     few = omega (arith, f.few);
-    each = All-cons (IsVector p) root.prices given v f.each;
+    each = All-cons (IsVector p) root given v f.each;
     few_prices = f.few_prices;
   });
   each = valid;

@@ -1,12 +1,16 @@
 //! The first visits, which the caller makes until enough parts are open for all workers.
 
-ghost use Rattle.std.specs.Prelude.{◌≡◌, ℕ, ◌+◌, ◌<◌, ◌≤◌, [], ◌∷◌, IfOk, OnOk, IsTrue, length};
+ghost use Rattle.std.specs.Prelude.{◌≡◌, ℕ, ◌+◌, ◌<◌, ◌≤◌, List, [], ◌∷◌, ◌++◌, IfOk, IfSome, OnOk, IsTrue, length, slice_index_or};
+ghost use Rattle.std.specs.Option.{option_map};
+ghost use Rattle.choice_problem.specs.declared.nodes.Node.{Node};
 ghost use Rattle.choice_problem.specs.Bounds.{whole_of};
+ghost use Rattle.choice_problem.specs.Choices.{IsFeasible, choice_cost};
+ghost use Rattle.choice_problem.specs.Grafts.{graft, AreOn};
 ghost use Rattle.choice_problem.specs.Trees.{IsWhole, node_count};
-ghost use Rattle.incumbent_word.specs.Core.{AtMost};
+ghost use Rattle.incumbent_word.specs.Core.{AtMost, lesser};
 ghost use Rattle.branch_tree.specs.Visits.{NoneOver};
-ghost use Rattle.search_workers.specs.Settings.{IsPlaceIn};
-ghost use Rattle.search_workers.specs.Work.{IsSoFar, IsStart, with_undone_parts};
+ghost use Rattle.search_workers.specs.Settings.{IsPlaceIn, Drives};
+ghost use Rattle.search_workers.specs.Work.{IsMadeOf, IsSoFar, IsStart, all_nodes, lesser_choice, with_undone_parts};
 ghost use Rattle.search_workers.specs.Rounds.{AreVisitsMade};
 
 use crate::looks::look;
@@ -16,7 +20,7 @@ use crate::searchers::Done;
 use crate::states::{Start, State};
 use crate::tasks::Task;
 use crate::trees::{graft_nodes, is_whole, trees_of};
-use choice_problem::Node;
+use choice_problem::{Choice, Node, Ranges};
 use slot_text::Memory;
 use std::alloc::Global;
 
@@ -117,16 +121,55 @@ fn visit_part<'a>(
     ensures visits { IfOk result (λ s. AreVisitsMade task.now 1 state.cost s.cost s.best
         state.tree.items s.tree.items) }
 {
+    let (tree, found) = part_visited(alloc, task, place, &state)?;
+    Ok(State::with_found(task.problem(), tree, state.cost, state.best, found))
+}
+
+// The tree after a visit of the shallowest open part, and the choice that was found.
+fn part_visited<'a>(
+    alloc: Global,
+    task: &Task<'a>,
+    place: &mut Place<'a>,
+    state: &State,
+) -> Result<(Vec<Node>, Option<Choice>), Memory>
+    requires place { IsPlaceIn task.now place.old }
+    requires so_far { IsSoFar task.now state.now.cost state.now.best state.now.tree.items }
+    requires open_node { IsWhole state.now.tree.items → ⊥ }
+    ensures place { OnOk result (IsPlaceIn task.now place.new) }
+    ensures found { IfOk result (λ r. IfSome r.1 (IsFeasible task.now.problem)) }
+    ensures visits { IfOk result (λ r. AreVisitsMade task.now 1 state.now.cost
+        (lesser state.now.cost (option_map (choice_cost task.now.problem) r.1))
+        (lesser_choice state.now.cost (option_map (choice_cost task.now.problem) r.1)
+        state.now.best r.1) state.now.tree.items r.0.items) }
+{
     let part = shallowest(alloc, &state.tree)?;
-    let pieces = first_open(alloc, task, &state, part as usize + 1)?;
+    let pieces = first_open(alloc, task, state, part as usize + 1)?;
     let piece = pieces.len() - 1;
     place.go(alloc, task, &pieces[piece])?;
     let (node, found) = look(alloc, task, place, state.cost)?;
-    let tree = with_undone_parts(alloc, node)?;
-    let done = one_done(alloc, piece as u32, tree)?;
-    let trees = trees_of(alloc, task, &pieces, done)?;
-    let tree = graft_nodes(alloc, &state.tree, &trees)?;
-    Ok(State::with_found(task.problem(), tree, state.cost, state.best, found))
+    let tree = with_part(alloc, task, &state.tree, &pieces, piece as u32, node)?;
+    Ok((tree, found))
+}
+
+// The tree with a node, and undone parts of it, in the place of a piece.
+fn with_part(
+    alloc: Global,
+    task: &Task<'_>,
+    tree: &[Node],
+    pieces: &[Ranges],
+    piece: u32,
+    node: Node,
+) -> Result<Vec<Node>, Memory>
+    requires piece { piece < length pieces.now }
+    requires node { Drives task.now (slice_index_or pieces.now piece []) node }
+    ensures { IfOk result (λ r. (trees : List (List Node)) × (r.items ≡ graft tree.now trees)
+        × AreOn (λ ranges node. Drives task.now ranges node) pieces.now trees
+        × IsMadeOf (all_nodes trees) (with_undone_parts node ++ [])) }
+{
+    let part = with_undone_parts(alloc, node)?;
+    let done = one_done(alloc, piece, part)?;
+    let trees = trees_of(alloc, task, pieces, done)?;
+    graft_nodes(alloc, tree, &trees)
 }
 
 // One tree.

@@ -31,6 +31,16 @@ impl<'a> Place<'a> {
         Ok(Place { walk, totals })
     }
 
+    // The place of these ranges.
+    pub(crate) fn at(alloc: Global, task: &Task<'a>, ranges: Ranges) -> Result<Place<'a>, Memory>
+        requires { AreRanges task.now.problem ranges }
+        ensures place { IfOk result (IsPlaceIn task.now) }
+        ensures ranges { IfOk result (λ place. place.walk.ranges ≡ ranges) }
+    {
+        let walk = task.walk_at(alloc, ranges)?;
+        Place::new(alloc, task, walk)
+    }
+
     // Goes to other ranges: what does not differ is not counted anew.
     pub(crate) fn go(
         &mut self,

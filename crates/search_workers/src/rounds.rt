@@ -3,7 +3,10 @@
 ghost use Rattle.std.specs.Prelude.{◌≡◌, ℕ, ◌+◌, ◌^◌, ◌<◌, ◌≤◌, true, [], ◌∷◌, take, All, length, IfOk};
 ghost use Rattle.choice_problem.specs.Bounds.{AreRanges, whole_of};
 ghost use Rattle.choice_problem.specs.Grafts.{open_ranges};
+ghost use Rattle.choice_problem.specs.Driven.{IsSeenBetween};
 ghost use Rattle.choice_problem.specs.Trees.{IsWhole};
+ghost use Rattle.incumbent_word.specs.Calls.{first_view};
+ghost use Rattle.incumbent_word.specs.Seats.{IsSeatOf};
 ghost use Rattle.search_workers.specs.Work.{IsSoFar};
 ghost use Rattle.search_workers.specs.Rounds.{IsReady, IsRound};
 
@@ -13,7 +16,7 @@ use crate::states::{State, cheaper, cost_if_any};
 use crate::tasks::Task;
 use crate::trees::{graft_nodes, trees_of};
 use choice_problem::{Ranges, open_pieces, part_ranges};
-use incumbent_word::Board;
+use incumbent_word::{Board, BoardSeat};
 use slot_text::Memory;
 use std::alloc::Global;
 use std::thread::Threads;
@@ -43,10 +46,34 @@ pub(crate) fn round<R: Threads + Sync, G: Gate>(
     let start = cost_if_any(task.problem(), &state.best);
     let (board, seat) = Board::new(alloc, rest, pieces.len() as u32, start)?;
     let count = workers.min(pieces.len() as u32);
-    let searchers = seat_all(alloc, &board, task, &pieces, seat, count)?;
-    let searchers = search_all(rt, alloc, gate, &board, task, &pieces, searchers)?;
-    let last = unite_all(&board, task, &pieces, searchers)?;
+    let last = work_all(rt, alloc, gate, &board, task, &pieces, seat, count)?;
     end_round(alloc, board, task, &pieces, last, state)
+}
+
+// What so many workers do at a board, until all are joined into one.
+fn work_all<R: Threads + Sync, G: Gate>(
+    rt: &R,
+    alloc: Global,
+    gate: &G,
+    board: &Board,
+    task: &Task<'_>,
+    pieces: &[Ranges],
+    seat: BoardSeat,
+    workers: u32,
+) -> Result<Searcher, Memory>
+    requires workers { (1 ≤ workers) × (workers ≤ 16) }
+    requires seat { IsSeatOf board.now seat × (seat.view ≡ first_view board.now.terms) }
+    requires start { IsSeenBetween board.now.terms.start task.now.greedy board.now.terms.start }
+    requires many { board.now.terms.pieces ≡ length pieces.now }
+    requires some { 1 ≤ length pieces.now }
+    requires pieces { All (AreRanges task.now.problem) pieces.now }
+    ensures ready { IfOk result (IsReady task.now pieces.now board.now) }
+    ensures share { IfOk result (λ s. s.seat.view.share ≡ 2 ^ 32) }
+    ensures mark { IfOk result (λ s. s.seat.view.no_piece_left ≡ true) }
+{
+    let searchers = seat_all(alloc, board, task, pieces, seat, workers)?;
+    let searchers = search_all(rt, alloc, gate, board, task, pieces, searchers)?;
+    unite_all(board, task, pieces, searchers)
 }
 
 // The ranges of the first undone nodes, at most so many.

@@ -79,14 +79,16 @@ impl Searcher {
         ensures begun { OnOk result (HasProgress self.new.seat.view growth.new.nodes.items
             ⊎ growth.old.pending.items ≡ []) }
     {
-        let Some(ranges) = growth.pending.pop() else {
-            return Ok(false);
-        };
-        gate.before_node(self.number);
-        if self.seat.take(board).is_none() {
-            growth.pending.push(ranges)?;
+        if growth.pending.is_empty() {
             return Ok(false);
         }
+        gate.before_node(self.number);
+        let Some(_number) = self.seat.take(board) else {
+            return Ok(false);
+        };
+        let Some(ranges) = growth.pending.pop() else {
+            unreachable!()
+        };
         self.enter(alloc, board, task, place, _root, growth, &ranges)?;
         Ok(true)
     }
@@ -275,8 +277,8 @@ impl Searcher {
             ≡ pieces_of self.new.done.items) }
         ensures marked { OnOk result (self.new.seat.view.no_piece_left ≡ true) }
     {
-        let walk = task.walk_at(alloc, pieces[0].copy(alloc)?)?;
-        let mut place = Place::new(alloc, task, walk)?;
+        let first = pieces[0].copy(alloc)?;
+        let mut place = Place::at(alloc, task, first)?;
         // Pieces are claimed in rising order: those below this number are gone, so that the loop
         // ends.
         let mut _next = 0u64;

@@ -78,19 +78,50 @@ pub fn search_from<R: Threads + Sync, G: Gate>(
         (λ x. OutcomeCostsAtMost problem.now (choice_cost problem.now x) outcome)) }
     ensures settled { 2 * choice_count problem.now ≤ budget + 1 → IfOk result IsSettled }
 {
-    let whole = Ranges::whole(alloc, problem)?;
+    search_with(rt, alloc, problem, budget, workers, gate, start, &further)
+}
+
+// The same with vectors that the caller keeps.
+fn search_with<R: Threads + Sync, G: Gate>(
+    rt: &R,
+    alloc: Global,
+    problem: &Problem,
+    budget: u32,
+    workers: u32,
+    gate: &G,
+    start: Option<Choice>,
+    further: &[Vector],
+) -> Result<Outcome, Memory>
+    requires workers { (1 ≤ workers) × (workers ≤ 16) }
+    requires start { IfSome start (IsFeasible problem.now) }
+    requires further { AreFurther problem.now further.now }
+    ensures outcome { IfOk result (IsOutcome problem.now further.now budget) }
+    ensures start { 1 ≤ budget → IfOk result (λ outcome. IfSome start
+        (λ x. OutcomeCostsAtMost problem.now (choice_cost problem.now x) outcome)) }
+    ensures settled { 2 * choice_count problem.now ≤ budget + 1 → IfOk result IsSettled }
+{
     let first = greedy(alloc, problem)?;
     if budget == 0 {
-        return unvisited(alloc, problem, &further, first);
+        return unvisited(alloc, problem, further, first);
     }
     let start = Start::new(problem, first, start);
-    let walk = Walk::of(alloc, problem, whole)?;
+    let walk = whole_walk(alloc, problem)?;
     if let Some(leaf) = walk.unpriced_leaf(problem, start.cost) {
-        return closed_at_once(alloc, problem, &further, budget, start, leaf);
+        return closed_at_once(alloc, problem, further, budget, start, leaf);
     }
     search_priced(
-        rt, alloc, gate, walk, problem, &further, start, budget, workers,
+        rt, alloc, gate, walk, problem, further, start, budget, workers,
     )
+}
+
+// A walk at all alternatives.
+fn whole_walk<'a>(alloc: Global, problem: &'a Problem) -> Result<Walk<'a>, Memory>
+    ensures problem { IfOk result (λ walk. walk.problem ≡ problem.now) }
+    ensures ranges { IfOk result (λ walk. walk.ranges ≡ whole_of problem.now) }
+    ensures whole { OnOk result (AreRanges problem.now (whole_of problem.now)) }
+{
+    let whole = Ranges::whole(alloc, problem)?;
+    Walk::of(alloc, problem, whole)
 }
 
 // What is answered where no visit may be made: the greedy choice, if there is one, and nothing
@@ -101,7 +132,6 @@ fn unvisited(
     _further: &[Vector],
     best: Option<Choice>,
 ) -> Result<Outcome, Memory>
-    requires whole { AreRanges problem.now (whole_of problem.now) }
     requires greedy { IsGreedyCost problem.now (option_map (choice_cost problem.now) best) }
     requires feasible { IfSome best (IsFeasible problem.now) }
     ensures outcome { IfOk result (IsOutcome problem.now _further.now 0) }
@@ -109,9 +139,9 @@ fn unvisited(
 {
     node_vector_exists();
     driven_tree();
+    let _whole = Ranges::whole(alloc, problem)?;
     let tree = Tree::new(vec![in alloc; Node::Undone; 1]?);
     let vectors = VectorList::new(Vec::new(alloc));
-    let _problem = problem;
     Ok(Outcome::Spent {
         best,
         tree,
@@ -193,13 +223,62 @@ fn search_priced<R: Threads + Sync, G: Gate>(
         AtMost start.cost (Some (choice_cost problem.now x)) →
         OutcomeCostsAtMost problem.now (choice_cost problem.now x) outcome) }
 {
-    let whole = walk.ranges().copy(alloc)?;
     let mut task = Task::new(alloc, problem, walk, start.greedy, further)?;
-    let mut place = Place::new(alloc, &task, task.walk_at(alloc, whole)?)?;
-    let state = first_visit(alloc, &task, &place, start)?;
-    let (state, taken) = open_parts(alloc, &task, &mut place, budget, workers, state)?;
-    let state = run(rt, alloc, gate, &mut task, budget, workers, state, taken)?;
-    finish(alloc, &task, further, budget, state)
+    search_task(rt, alloc, gate, &mut task, further, start, budget, workers)
+}
+
+// The first visits of a task, rounds, and what they answer.
+fn search_task<R: Threads + Sync, G: Gate>(
+    rt: &R,
+    alloc: Global,
+    gate: &G,
+    task: &mut Task<'_>,
+    further: &[Vector],
+    start: Start,
+    budget: u32,
+    workers: u32,
+) -> Result<Outcome, Memory>
+    requires workers { (1 ≤ workers) × (workers ≤ 16) }
+    requires budget { 1 ≤ budget }
+    requires further { drop 1 task.old.vectors ≡ further.now }
+    requires greedy { task.old.greedy ≡ start.greedy }
+    requires start { IsStart task.old.problem start }
+    requires whole { AreRanges task.old.problem (whole_of task.old.problem) }
+    requires none_over { NoneOver task.old.problem (whole_of task.old.problem) }
+    ensures outcome { IfOk result (IsOutcome task.old.problem further.now budget) }
+    ensures settled { 2 * choice_count task.old.problem ≤ budget + 1 → IfOk result IsSettled }
+    ensures start { IfOk result (λ outcome. (x : List ℕ) → IsFeasible task.old.problem x →
+        AtMost start.cost (Some (choice_cost task.old.problem x)) →
+        OutcomeCostsAtMost task.old.problem (choice_cost task.old.problem x) outcome) }
+{
+    task.known();
+    let (state, taken) = first_visits(alloc, task, start, budget, workers)?;
+    let state = run(rt, alloc, gate, task, budget, workers, state, taken)?;
+    finish(alloc, task, further, budget, state)
+}
+
+// The visits before the rounds, and how many there were.
+fn first_visits(
+    alloc: Global,
+    task: &Task<'_>,
+    start: Start,
+    budget: u32,
+    workers: u32,
+) -> Result<(State, u32), Memory>
+    requires workers { workers ≤ 16 }
+    requires budget { 1 ≤ budget }
+    requires greedy { task.now.greedy ≡ start.greedy }
+    requires start { IsStart task.now.problem start }
+    requires none_over { NoneOver task.now.problem (whole_of task.now.problem) }
+    ensures so_far { IfOk result (λ r. IsSoFar task.now r.0.cost r.0.best r.0.tree.items) }
+    ensures count { IfOk result (λ r. node_count r.0.tree.items ≡ r.1) }
+    ensures within { IfOk result (λ r. r.1 ≤ budget) }
+    ensures fell { IfOk result (λ r. AtMost r.0.cost start.cost) }
+{
+    let whole = Ranges::whole(alloc, task.problem())?;
+    let mut place = Place::at(alloc, task, whole)?;
+    let state = first_visit(alloc, task, &place, start)?;
+    open_parts(alloc, task, &mut place, budget, workers, state)
 }
 
 // Rounds until no node is undone or the budget is spent.

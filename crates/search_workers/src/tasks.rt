@@ -1,7 +1,10 @@
 //! What all workers of a search read.
 
-ghost use Rattle.std.specs.Prelude.{◌≡◌, ◌≤◌, IfOk};
-ghost use Rattle.price_table.specs.Tables.{vectors_of};
+ghost use Rattle.std.specs.Prelude.{◌≡◌, ◌≤◌, ◌∷◌, IfOk, List, All};
+ghost use Rattle.choice_problem.specs.declared.vectors.Price.{Price};
+ghost use Rattle.choice_problem.specs.Bounds.{IsVector};
+ghost use Rattle.choice_problem.specs.Roots.{IsRootVector};
+ghost use Rattle.price_table.specs.Tables.{IsTableFor, vectors_of};
 ghost use Rattle.choice_problem.specs.declared.vectors.TheConstants.{MOST_PRICES};
 ghost use Rattle.search_workers.specs.Outcomes.{price_count};
 
@@ -64,10 +67,7 @@ impl<'a> Task<'a> {
         ensures greedy { IfOk result (λ task. task.greedy ≡ greedy) }
         ensures further { IfOk result (λ task. drop 1 task.vectors ≡ further.now) }
     {
-        let root = root_vector(alloc, problem)?;
-        let mut tables = Vec::new(alloc);
-        tables.push(price_table(alloc, problem, &root)?)?;
-        push_tables(alloc, problem, further, &mut tables)?;
+        let tables = first_tables(alloc, problem, further)?;
         Ok(Task {
             walk,
             greedy,
@@ -146,6 +146,32 @@ impl<'a> Task<'a> {
         let vectors = copy_vectors(alloc, &self.tables[..count])?;
         Ok(VectorList::new(vectors))
     }
+}
+
+// The tables of the root vector, and of the further vectors.
+fn first_tables(
+    alloc: Global,
+    problem: &Problem,
+    further: &[Vector],
+) -> Result<Vec<PriceTable>, Memory>
+    requires { All (IsVector problem.now) further.now }
+    ensures valid { IfOk result (λ tables. All (IsTableFor problem.now) tables.items) }
+    ensures root { IfOk result (λ tables. (root : List Price) × IsRootVector problem.now root
+        × IsVector problem.now root × (vectors_of tables.items ≡ root ∷ further.now)) }
+{
+    let mut tables = Vec::new(alloc);
+    tables.push(root_table(alloc, problem)?)?;
+    push_tables(alloc, problem, further, &mut tables)?;
+    Ok(tables)
+}
+
+// The table of the root vector.
+fn root_table(alloc: Global, problem: &Problem) -> Result<PriceTable, Memory>
+    ensures root { IfOk result (λ table. IsRootVector problem.now table.prices) }
+    ensures valid { IfOk result (λ table. IsTableFor problem.now table) }
+{
+    let root = root_vector(alloc, problem)?;
+    price_table(alloc, problem, &root)
 }
 
 // Copies of the tables' vectors.

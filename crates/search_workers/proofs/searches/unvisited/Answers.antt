@@ -1,7 +1,7 @@
 use Rattle.std.proofs.Common.{rules, ◌≡◌, ◌∷◌, ◌∙◌, [], arith}
 use Rattle.std.specs.Option.{option_map}
 use Rattle.choice_problem.specs.declared.nodes.Node.TheVariants.{Undone}
-use Rattle.choice_problem.specs.Bounds.{whole_of}
+use Rattle.choice_problem.specs.Bounds.{AreRanges, whole_of}
 use Rattle.choice_problem.specs.Choices.{choice_cost}
 use Rattle.search_workers.proofs.OutcomeLemmas.{nothing_visited, found_if_feasible}
 use Rattle.search_workers.proofs.SizeLemmas.{some_choices, alts_of}
@@ -20,4 +20,5 @@ returns-clause-outcome c =
 pub returns-clause-settled : goal.returns-clause-settled
 returns-clause-settled c = λ few.
     let p = c.args.problem.now in
-    let some = some_choices p.units (alts_of p c.requires.whole) in absurd (omega (arith, some, few))
+    let whole : AreRanges p (whole_of p) = rw c.in_ok-_whole.ensures.value at c.in_ok-_whole.ensures.there in
+    let some = some_choices p.units (alts_of p whole) in absurd (omega (arith, some, few))

@@ -1,4 +1,4 @@
-use Rattle.std.proofs.Common.{rules, sym, ◌≡◌, ◌++◌, ◌∷◌, [], true, reverse, length, replicate, ◌∙◌}
+use Rattle.std.proofs.Common.{rules, arith, ap, inl, inr, List, ℕ, sym, ◌≡◌, ◌++◌, ◌∷◌, [], true, reverse, length, replicate, ◌∙◌}
 use Rattle.std.specs.Prelude.{slice_index_or}
 use Rattle.std.proofs.lemmas.List.{get_or_default}
 use Rattle.choice_problem.specs.declared.nodes.Node.TheVariants.{Undone}
@@ -23,3 +23,41 @@ returns-clause-searcher g c =
     rw pushed (piece_done c.args.task.now c.args.pieces.now c.args.self.now.seat.view c.visit_on.new.self.seat.view c.args.self.now.cost
     c.visit_on.new.self.cost c.args.self.now.best c.visit_on.new.self.best c.args.self.now.done.items d c.visit_on.new.growth.nodes.items
     c.visit_on.new.growth.pending.items c.requires.searcher work c.in_ok-visit_on.ensures.cost walk tree c.requires.piece begun marks)
+
+pub returns-in_err-step-clause-share : goal.returns-in_err-step-clause-share
+returns-in_err-step-clause-share g c = c.in_err-step.ensures.share
+
+pub returns-in_err-visit_on-clause-share : goal.returns-in_err-visit_on-clause-share
+returns-in_err-visit_on-clause-share g c = c.in_err-visit_on.ensures.share ∙ c.in_ok-step.ensures.share
+
+pub returns-in_err-tree-clause-share : goal.returns-in_err-tree-clause-share
+returns-in_err-tree-clause-share g c = c.in_ok-visit_on.ensures.share ∙ c.in_ok-step.ensures.share
+
+pub returns-in_err-push-clause-share : goal.returns-in_err-push-clause-share
+returns-in_err-push-clause-share g c = c.in_ok-visit_on.ensures.share ∙ c.in_ok-step.ensures.share
+
+pub returns-clause-share : goal.returns-clause-share
+returns-clause-share g c = c.in_ok-visit_on.ensures.share ∙ c.in_ok-step.ensures.share
+
+pub returns-in_err-step-clause-same : goal.returns-in_err-step-clause-same
+returns-in_err-step-clause-same g c = c.in_err-step.ensures.pieces
+
+pub returns-in_err-visit_on-clause-same : goal.returns-in_err-visit_on-clause-same
+returns-in_err-visit_on-clause-same g c = c.in_err-visit_on.ensures.pieces ∙ c.in_ok-step.ensures.pieces
+
+pub returns-in_err-tree-clause-same : goal.returns-in_err-tree-clause-same
+returns-in_err-tree-clause-same g c = c.in_ok-visit_on.ensures.pieces ∙ c.in_ok-step.ensures.pieces
+
+pub returns-in_err-push-clause-same : goal.returns-in_err-push-clause-same
+returns-in_err-push-clause-same g c = c.in_ok-visit_on.ensures.pieces ∙ c.in_ok-step.ensures.pieces
+
+pub returns-clause-same : goal.returns-clause-same
+returns-clause-same g c = c.in_ok-visit_on.ensures.pieces ∙ c.in_ok-step.ensures.pieces
+
+pub visit_on-requires-clause-begun : goal.visit_on-requires-clause-begun
+visit_on-requires-clause-begun g c =
+    let begun : HasProgress c.step.new.self.seat.view c.step.new.growth.nodes.items = elim c.in_ok-step.ensures.begun [
+      | inl h ↦ h
+      | inr none ↦ absurd (omega (arith, ap (λ (l : List (List (ℕ × ℕ))). length l) none, ap (λ (l : List (List (ℕ × ℕ))). length l) c.in_ok-growth.ensures.pending))
+    ] in
+    λ κs lives. begun

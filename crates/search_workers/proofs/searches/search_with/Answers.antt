@@ -1,10 +1,10 @@
 use Rattle.std.proofs.lemmas.Result.{IfOk-weaker}
 use Rattle.search_workers.proofs.FinishLemmas.{some_start}
-use Rattle.search_workers.proofs.searches.search_from.Goals as goal
+use Rattle.search_workers.proofs.searches.search_with.Goals as goal
 
 pub closed_at_once-requires-clause-closes : goal.closed_at_once-requires-clause-closes
 closed_at_once-requires-clause-closes g c = λ root further.
-    rw (c.in_ok-walk.ensures.ranges, c.in_ok-whole.ensures.value) at (c.in-Some.ensures.some root further)
+    rw c.in_ok-walk.ensures.ranges at (c.in-Some.ensures.some root further)
 
 pub returns-in-Some-clause-start : goal.returns-in-Some-clause-start
 returns-in-Some-clause-start g c = λ some.
