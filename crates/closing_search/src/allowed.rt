@@ -29,19 +29,26 @@ impl Allowed {
 
     // The same for each alternative.
     fn each(alloc: Global, problem: &Problem, flag: bool) -> Result<Allowed, Memory> {
+        let cut = vec![in alloc; false; problem.units() as usize]?;
         let mut allowed = Allowed {
             firsts: Vec::new(alloc),
             flags: Vec::new(alloc),
-            cut: vec![in alloc; false; problem.units() as usize]?,
+            cut,
         };
         for unit in 0..problem.units() {
-            allowed.firsts.push(allowed.flags.len())?;
-            for _ in 0..problem.alts(unit) {
-                allowed.flags.push(flag)?;
-            }
+            allowed.add_unit(problem.alts(unit), flag)?;
         }
         allowed.firsts.push(allowed.flags.len())?;
         Ok(allowed)
+    }
+
+    // Adds a unit of so many alternatives.
+    fn add_unit(&mut self, alts: u32, flag: bool) -> Result<(), Memory> {
+        self.firsts.push(self.flags.len())?;
+        for _ in 0..alts {
+            self.flags.push(flag)?;
+        }
+        Ok(())
     }
 
     // A copy.

@@ -2,16 +2,23 @@
 
 use choice_problem::{Alt, Problem};
 use reduced_problem::{Reduced, UserRun};
+use relaxed_problem::Program;
 use slot_text::Memory;
 use std::alloc::Global;
 
-/// Of each alternative, unit after unit, whether a part of it uses a resource of limit 0, where not
-/// all of its unit do.
-pub(crate) fn barred_alts(
+/// The program of the alternatives that are not barred.
+pub(crate) fn unbarred_program<'a>(
     alloc: Global,
-    problem: &Problem,
-    reduced: &Reduced,
-) -> Result<Vec<bool>, Memory> {
+    problem: &'a Problem,
+    reduced: &'a Reduced,
+) -> Result<Program<'a>, Memory> {
+    let barred = barred_alts(alloc, problem, reduced)?;
+    Program::new(alloc, problem, reduced, &barred)
+}
+
+// Of each alternative, unit after unit, whether a part of it uses a resource of limit 0, where not
+// all of its unit do.
+fn barred_alts(alloc: Global, problem: &Problem, reduced: &Reduced) -> Result<Vec<bool>, Memory> {
     let closed = closed_parts(alloc, reduced)?;
     let mut barred = Vec::new(alloc);
     for unit in 0..problem.units() {

@@ -1,7 +1,7 @@
 //! Choices that a relaxation leads to, where some of its units after the other keep the alternative
 //! of which it takes most.
 
-use crate::rounding::rounded;
+use crate::rounding::take_rounded;
 use crate::states::{State, Task};
 use relaxed_problem::{End, Relaxation, Share};
 use slot_text::Memory;
@@ -25,18 +25,41 @@ pub(crate) fn dive(
 ) -> Result<(), Memory> {
     let mut now = relaxation.copy(alloc)?;
     let mut next = relaxation.copy(alloc)?;
+    dive_by(alloc, task, state, &mut now, &mut next)
+}
+
+// Looks for a choice from a relaxation that is solved, with another one beside it.
+fn dive_by(
+    alloc: Global,
+    task: &Task<'_>,
+    state: &mut State,
+    now: &mut Relaxation,
+    next: &mut Relaxation,
+) -> Result<(), Memory> {
     for _ in 0..ROUNDS {
-        let shares = now.shares(alloc, task.program)?;
-        let leaders = leaders_of(alloc, &shares)?;
-        if leaders.is_empty() {
-            let choice = rounded(alloc, task, &now, &shares)?;
-            return state.take(alloc, task.problem, choice);
-        }
-        if !go_on(alloc, task, state, &leaders, &mut now, &mut next)? {
+        if !dive_on(alloc, task, state, now, next)? {
             return Ok(());
         }
     }
     Ok(())
+}
+
+// Gives some units their alternatives, or takes the choice, where each unit has one. Answers
+// whether units are left and a relaxation is solved.
+fn dive_on(
+    alloc: Global,
+    task: &Task<'_>,
+    state: &mut State,
+    now: &mut Relaxation,
+    next: &mut Relaxation,
+) -> Result<bool, Memory> {
+    let shares = now.shares(alloc, task.program)?;
+    let leaders = leaders_of(alloc, &shares)?;
+    if leaders.is_empty() {
+        take_rounded(alloc, task, state, now, &shares)?;
+        return Ok(false);
+    }
+    go_on(alloc, task, state, &leaders, now, next)
 }
 
 // Gives the first units their alternatives, or the first one alone, or takes this alternative away
@@ -51,22 +74,37 @@ fn go_on(
 ) -> Result<bool, Memory> {
     for count in [leaders.len() / PART + 1, 1, 0] {
         next.copy_from(alloc, now)?;
-        for leader in leaders.iter().take(count) {
-            keep_alone(task, next, leader.unit, leader.alt);
-        }
-        if count == 0 {
-            shut_first(task, next, leaders);
-        }
-        let enough = state.enough();
-        let work = &mut state.work;
-        let ended = next.solve_by(alloc, task.program, work, PIVOTS, enough)?;
-        state.spend(task.program, ended);
-        if ended.end == End::Solved {
+        keep_first(task, next, leaders, count);
+        if is_solved(alloc, task, state, next)? {
             now.copy_from(alloc, next)?;
             return Ok(true);
         }
     }
     Ok(false)
+}
+
+// Gives so many first units their alternatives; if none, takes that of the first one away.
+fn keep_first(task: &Task<'_>, next: &mut Relaxation, leaders: &[Leader], count: usize) {
+    for leader in leaders.iter().take(count) {
+        keep_alone(task, next, leader.unit, leader.alt);
+    }
+    if count == 0 {
+        shut_first(task, next, leaders);
+    }
+}
+
+// Goes on with a relaxation. Answers whether it is solved then.
+fn is_solved(
+    alloc: Global,
+    task: &Task<'_>,
+    state: &mut State,
+    next: &mut Relaxation,
+) -> Result<bool, Memory> {
+    let enough = state.enough();
+    let work = &mut state.work;
+    let ended = next.solve_by(alloc, task.program, work, PIVOTS, enough)?;
+    state.spend(task.program, ended);
+    Ok(ended.end == End::Solved)
 }
 
 // The alternative of a unit of which most is taken, where others are too.

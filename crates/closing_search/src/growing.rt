@@ -1,8 +1,9 @@
 //! The growth of a tree by free splits.
 
+use crate::allowed::Allowed;
 use crate::entries::Entry;
 use crate::pricings::{Pricing, closing};
-use crate::rounding::rounded;
+use crate::rounding::take_rounded;
 use crate::splits::{Split, best_split};
 use crate::states::{Ahead, NEVER, Open, State, Task};
 use relaxed_problem::{End, Ended, Relaxation, Work};
@@ -28,27 +29,47 @@ pub(crate) fn grow<R: Threads + Sync>(
             return Ok(());
         }
         solve_ahead(rt, alloc, task, state);
-        let Some(mut open) = state.open.pop() else {
-            return Ok(());
-        };
-        if !visit(rt, alloc, task, state, &mut open)? {
+        if !visit_next(rt, alloc, task, state)? {
             return Ok(());
         }
     }
     Ok(())
 }
 
+// Visits the last open node, if there is one. Answers whether it did and none stays open.
+fn visit_next<R: Threads + Sync>(
+    rt: &R,
+    alloc: Global,
+    task: &Task<'_>,
+    state: &mut State,
+) -> Result<bool, Memory> {
+    match state.open.pop() {
+        Some(mut open) => visit(rt, alloc, task, state, &mut open),
+        None => Ok(false),
+    }
+}
+
 // Where there are several threads and the next node is not solved, solves it and those behind it,
 // side by side.
 fn solve_ahead<R: Threads + Sync>(rt: &R, alloc: Global, task: &Task<'_>, state: &mut State) {
     let threads = state.threads();
-    let count = state.open.len().min(threads);
-    let first = state.open.len() - count;
-    let (cost, enough) = (state.cost, state.enough());
-    let next = &mut state.open[first..];
-    if count < 2 || is_ready(next, cost) {
+    if threads < 2 || state.open.len() < 2 || is_ready(&state.open, state.cost) {
         return;
     }
+    solve_last(rt, alloc, task, state, threads);
+}
+
+// Solves the last open nodes, one on each thread.
+fn solve_last<R: Threads + Sync>(
+    rt: &R,
+    alloc: Global,
+    task: &Task<'_>,
+    state: &mut State,
+    threads: usize,
+) {
+    let first = state.open.len().saturating_sub(threads);
+    let (cost, enough) = (state.cost, state.enough());
+    let next = &mut state.open[first..];
     let pricings = state.pricings.as_slice();
     thread::for_each_mut(
         rt,
@@ -217,15 +238,26 @@ fn close_empty(
     open: &Open,
 ) -> Result<bool, Memory> {
     for greatest in [1, 1_024, 1_048_576] {
-        let relaxation = &open.relaxation;
-        let vector = relaxation.ray(alloc, task.problem, task.program, greatest)?;
-        let pricing = Pricing::new(alloc, task, &state.base, vector, 0)?;
+        let pricing = ray_of(alloc, task, state, open, greatest)?;
         if state.is_closed_by(task, open, &pricing) {
             state.close_by(open, pricing)?;
             return Ok(true);
         }
     }
     Ok(false)
+}
+
+// The ray of a node's relaxation that has no solution, whose greatest price is this.
+fn ray_of(
+    alloc: Global,
+    task: &Task<'_>,
+    state: &State,
+    open: &Open,
+    greatest: u32,
+) -> Result<Pricing, Memory> {
+    let relaxation = &open.relaxation;
+    let vector = relaxation.ray(alloc, task.problem, task.program, greatest)?;
+    Pricing::new(alloc, task, &state.base, vector, 0)
 }
 
 // The prices of a node's relaxation.
@@ -256,14 +288,27 @@ fn bound_or_split<R: Threads + Sync>(
         }
         pricing = Some(found);
     }
-    let shares = open.relaxation.shares(alloc, task.program)?;
-    if let Some(split) = best_split(rt, alloc, task, state, open, &shares)? {
+    if let Some(split) = split_of(rt, alloc, task, state, open)? {
         state.take_pricing(pricing)?;
         return divide(alloc, task, state, open, split);
     }
-    let choice = rounded(alloc, task, &open.relaxation, &shares)?;
-    state.take(alloc, task.problem, choice)?;
     close_by_prices(alloc, task, state, open)
+}
+
+// The best split of a node whose relaxation is solved; where there is none, takes its choice.
+fn split_of<R: Threads + Sync>(
+    rt: &R,
+    alloc: Global,
+    task: &Task<'_>,
+    state: &mut State,
+    open: &Open,
+) -> Result<Option<Split>, Memory> {
+    let shares = open.relaxation.shares(alloc, task.program)?;
+    let split = best_split(rt, alloc, task, state, open, &shares)?;
+    if split.is_none() {
+        take_rounded(alloc, task, state, &open.relaxation, &shares)?;
+    }
+    Ok(split)
 }
 
 // Closes a node by the prices of its relaxation, if these do. Answers whether it did.
@@ -318,15 +363,9 @@ fn push_part(
     part: (u32, bool),
 ) -> Result<(), Memory> {
     let (entry, is_high) = part;
-    let (unit, rule) = (split.unit, split.rule);
-    let (problem, reduced) = (task.problem, task.reduced);
     let mut allowed = open.allowed.copy(alloc)?;
-    allowed.keep(problem, reduced, unit, rule, is_high);
-    let mut values = Vec::with_capacity(alloc, open.values.len())?;
-    for (pricing, value) in state.pricings.iter().zip(&open.values) {
-        let moved = pricing.moved(*value, problem, reduced, unit, (&open.allowed, &allowed));
-        values.push(moved)?;
-    }
+    allowed.keep(task.problem, task.reduced, split.unit, split.rule, is_high);
+    let values = moved_values(alloc, task, state, open, split.unit, &allowed)?;
     let (relaxation, made) = state.places.part(alloc, is_high)?;
     state.open.push(Open {
         entry,
@@ -337,4 +376,22 @@ fn push_part(
         ahead: None,
     })?;
     Ok(())
+}
+
+// The bounds of a part of a node, in which a unit may take other alternatives.
+fn moved_values(
+    alloc: Global,
+    task: &Task<'_>,
+    state: &State,
+    open: &Open,
+    unit: u32,
+    allowed: &Allowed,
+) -> Result<Vec<i64>, Memory> {
+    let mut values = Vec::with_capacity(alloc, open.values.len())?;
+    let sets = (&open.allowed, allowed);
+    for (pricing, value) in state.pricings.iter().zip(&open.values) {
+        let moved = pricing.moved(*value, task.problem, task.reduced, unit, sets);
+        values.push(moved)?;
+    }
+    Ok(values)
 }

@@ -6,15 +6,16 @@ ghost use Rattle.choice_problem.specs.Bounds.{IsVector};
 ghost use Rattle.price_table.specs.Tables.{IsTableFor};
 
 use crate::accepted::{Found, are_listable};
-use crate::barred::barred_alts;
+use crate::barred::unbarred_program;
 use crate::leftovers::{Ground, Grown, Limits, grow_left};
 use crate::quotas::quotas_of;
 use crate::states::{NEVER, Task, copy_of};
+use crate::trees::vector_of;
 use choice_problem::{Choice, PRICED_SCALE, Problem, Ranges, Vector, VectorList, cost_of};
 use cost_fixing::{Fixing, Left, left_of};
 use price_table::{PriceTable, bound, price_table};
 use reduced_problem::Reduced;
-use relaxed_problem::{Program, Relaxation};
+use relaxed_problem::Relaxation;
 use slot_text::Memory;
 use std::alloc::Global;
 use std::thread::Threads;
@@ -94,25 +95,42 @@ pub(crate) fn close_by_guesses<R: Threads + Sync>(
 {
     let table = price_table(alloc, problem, vector)?;
     let mut guesses = Guesses::new(problem, best, bound_at(alloc, problem, &table)?);
+    let found = close_in_turn(
+        rt,
+        alloc,
+        problem,
+        vector,
+        &table,
+        &mut guesses,
+        most,
+        workers,
+    )?;
+    Ok(guesses.with(found))
+}
+
+// Tries guesses one after the other.
+fn close_in_turn<R: Threads + Sync>(
+    rt: &R,
+    alloc: Global,
+    problem: &Problem,
+    vector: &Vector,
+    table: &PriceTable,
+    guesses: &mut Guesses,
+    most: u32,
+    workers: u32,
+) -> Result<Option<Found>, Memory>
+    requires { IsTableFor problem.now table.now }
+{
     for _ in 0..MOST_GUESSES {
         if guesses.is_over {
             break;
         }
-        let found = close_at(
-            rt,
-            alloc,
-            problem,
-            vector,
-            &table,
-            &mut guesses,
-            most,
-            workers,
-        )?;
+        let found = close_at(rt, alloc, problem, vector, table, guesses, most, workers)?;
         if found.is_some() {
-            return Ok(guesses.with(found));
+            return Ok(found);
         }
     }
-    Ok(guesses.with(None))
+    Ok(None)
 }
 
 // What the bound of a problem at a vector of the search's scale gives as a cost.
@@ -162,8 +180,7 @@ fn close_left<R: Threads + Sync>(
 ) -> Result<Option<Found>, Memory> {
     let problem = fixed.left.problem();
     let reduced = Reduced::of(alloc, problem)?;
-    let barred = barred_alts(alloc, problem, &reduced)?;
-    let program = Program::new(alloc, problem, &reduced, &barred)?;
+    let program = unbarred_program(alloc, problem, &reduced)?;
     let quotas = quotas_of(alloc, &reduced)?;
     let task = Task {
         problem,
@@ -171,15 +188,28 @@ fn close_left<R: Threads + Sync>(
         quotas: &quotas,
         program: &program,
     };
-    let mut root = Relaxation::start(alloc, &program)?;
-    let ended = root.solve(alloc, &program, FIRST_PIVOTS, NEVER)?;
+    close_task(rt, alloc, fixed, &task, guesses, most, workers)
+}
+
+// Tries a guess by trees over a program of what a fixing leaves.
+fn close_task<R: Threads + Sync>(
+    rt: &R,
+    alloc: Global,
+    fixed: Fixed<'_>,
+    task: &Task<'_>,
+    guesses: &mut Guesses,
+    most: u32,
+    workers: u32,
+) -> Result<Option<Found>, Memory> {
+    let mut root = Relaxation::start(alloc, task.program)?;
+    let ended = root.solve(alloc, task.program, FIRST_PIVOTS, NEVER)?;
     let ground = Ground {
         root: &root,
         ended,
         most,
         workers,
     };
-    trees_at(rt, alloc, fixed, &task, ground, guesses)
+    trees_at(rt, alloc, fixed, task, ground, guesses)
 }
 
 // A problem, what a fixing of it leaves, and the vector and the cost of the fixing.
@@ -223,6 +253,18 @@ fn tree_at<R: Threads + Sync>(
     let limits = guesses.limits();
     let is_known = start.is_some();
     let grown = grow_left(rt, alloc, task, ground, start, fixed.cost, limits)?;
+    take_grown(alloc, fixed, guesses, grown, limits.steps, is_known)
+}
+
+// Takes what a tree of at most so many steps came to, which began with the best choice or not.
+fn take_grown(
+    alloc: Global,
+    fixed: Fixed<'_>,
+    guesses: &mut Guesses,
+    grown: Grown,
+    most: u64,
+    is_known: bool,
+) -> Result<Option<Found>, Memory> {
     let Grown {
         found,
         best,
@@ -237,7 +279,7 @@ fn tree_at<R: Threads + Sync>(
         is_known,
         is_ended,
         is_stopped,
-        limits.steps.saturating_sub(steps),
+        most.saturating_sub(steps),
     );
     match found {
         Some(found) => fixed_found(alloc, guesses, found, fixed.vector, fixed.cost),
@@ -272,15 +314,14 @@ fn fixed_found(
         return Ok(None);
     };
     let Found { nodes, vectors, .. } = found;
-    let mut items = vectors.into_items();
-    items.push(Vector::new(Vec::from_slice(alloc, vector.items())?))?;
-    let number = u32::try_from(items.len()).unwrap_or(u32::MAX);
-    let vectors = VectorList::new(items);
+    let vectors = with_vector(alloc, vectors, vector)?;
     if !are_listable(&vectors) {
         return Ok(None);
     }
+    let number = u32::try_from(vectors.items().len()).unwrap_or(u32::MAX);
+    let choice = copy_of(alloc, best)?;
     Ok(Some(Found {
-        choice: Some(copy_of(alloc, best)?),
+        choice: Some(choice),
         fixing: Some(Fixing {
             vector: number,
             scale: PRICED_SCALE,
@@ -289,6 +330,13 @@ fn fixed_found(
         nodes,
         vectors,
     }))
+}
+
+// Vectors with one more behind them.
+fn with_vector(alloc: Global, list: VectorList, vector: &Vector) -> Result<VectorList, Memory> {
+    let mut items = list.into_items();
+    items.push(vector_of(alloc, vector)?)?;
+    Ok(VectorList::new(items))
 }
 
 impl Guesses {

@@ -1,5 +1,6 @@
 //! Choices that are looked for apart from the trees that close the problem.
 
+use crate::allowed::Allowed;
 use crate::dives::dive;
 use crate::growing::grow;
 use crate::narrowed::{near_alts, program_of};
@@ -76,23 +77,44 @@ fn search_near<R: Threads + Sync>(
         quotas: task.quotas,
         program: &program,
     };
-    let mut first = Relaxation::start(alloc, &program)?;
-    let ended = first.solve(alloc, &program, FIRST_PIVOTS, state.enough())?;
-    state.spend(&program, ended);
+    seek_near(rt, alloc, &near, state, allowed, counts)
+}
+
+// Looks for a better choice by a program of these alternatives.
+fn seek_near<R: Threads + Sync>(
+    rt: &R,
+    alloc: Global,
+    near: &Task<'_>,
+    state: &mut State,
+    allowed: Allowed,
+    counts: (u32, u64),
+) -> Result<(), Memory> {
+    let mut first = Relaxation::start(alloc, near.program)?;
+    let ended = first.solve(alloc, near.program, FIRST_PIVOTS, state.enough())?;
+    state.spend(near.program, ended);
     if ended.end != End::Solved {
         return Ok(());
     }
+    seek_from(rt, alloc, near, state, &first, allowed, counts)
+}
+
+// Looks for a better choice of these alternatives from a relaxation that is solved.
+fn seek_from<R: Threads + Sync>(
+    rt: &R,
+    alloc: Global,
+    near: &Task<'_>,
+    state: &mut State,
+    first: &Relaxation,
+    allowed: Allowed,
+    counts: (u32, u64),
+) -> Result<(), Memory> {
     let steps = counts.1.min(state.steps);
-    let mut other = State::new(alloc, &near, &first, allowed, steps, state.workers)?;
+    let mut other = State::new(alloc, near, first, allowed, steps, state.workers)?;
     other.cost = state.cost;
-    seek(rt, alloc, &near, &mut other, &first, counts.0)?;
-    state.steps = state
-        .steps
-        .saturating_sub(steps.saturating_sub(other.steps));
-    match other.into_best() {
-        Some(best) => state.take(alloc, task.problem, best),
-        None => Ok(()),
-    }
+    seek(rt, alloc, near, &mut other, first, counts.0)?;
+    let spent = steps.saturating_sub(other.steps);
+    state.steps = state.steps.saturating_sub(spent);
+    state.take_any(alloc, near.problem, other.into_best())
 }
 
 // Looks for a better choice by a dive and by a tree.

@@ -1,7 +1,6 @@
 //! A tree of what a fixing leaves.
 
 use crate::accepted::Found;
-use crate::allowed::Allowed;
 use crate::growing::grow;
 use crate::states::{State, Task};
 use crate::trees::found_in;
@@ -33,6 +32,19 @@ pub(crate) struct Grown {
     pub(crate) steps: u64,
 }
 
+impl Grown {
+    // What a tree came to that was not grown.
+    fn nothing() -> Grown {
+        Grown {
+            found: None,
+            best: None,
+            is_ended: false,
+            is_stopped: false,
+            steps: 0,
+        }
+    }
+}
+
 /// What the trees of a guess begin with: a relaxation, and what it took; and by how many nodes and
 /// workers they grow.
 #[derive(Clone, Copy)]
@@ -54,28 +66,32 @@ pub(crate) fn grow_left<R: Threads + Sync>(
     limits: Limits,
 ) -> Result<Grown, Memory> {
     if ground.ended.end == End::Spent {
-        return Ok(Grown {
-            found: None,
-            best: None,
-            is_ended: false,
-            is_stopped: false,
-            steps: 0,
-        });
+        return Ok(Grown::nothing());
     }
-    let (root, workers) = (ground.root, ground.workers);
-    let allowed = Allowed::all(alloc, task.problem)?;
+    let mut state = first_state(alloc, task, ground, start, guess, limits)?;
+    let rest = grow_on(rt, alloc, task, &mut state, limits, ground.most)?;
+    grown_of(alloc, task, state, rest, ground.most)
+}
+
+// A state in which choices below the guess alone are looked for, or below a start.
+fn first_state(
+    alloc: Global,
+    task: &Task<'_>,
+    ground: Ground<'_>,
+    start: Option<Choice>,
+    guess: u64,
+    limits: Limits,
+) -> Result<State, Memory> {
     let first = limits.steps.min(limits.first_steps);
-    let mut state = State::new(alloc, task, root, allowed, first, workers)?;
+    let mut state = State::of_all(alloc, task, ground.root, first, ground.workers)?;
     state.spend(task.program, ground.ended);
     state.is_by_quotas = limits.is_by_quotas && state.is_by_quotas;
     state.is_thorough = limits.is_thorough;
-    if let Some(start) = start {
-        state.take(alloc, task.problem, start)?;
-    } else {
+    if start.is_none() {
         state.cost = Some(guess);
     }
-    let rest = grow_on(rt, alloc, task, &mut state, limits, ground.most)?;
-    grown_of(alloc, task, state, rest, ground.most)
+    state.take_any(alloc, task.problem, start)?;
+    Ok(state)
 }
 
 // Grows a tree by its first steps, and where a choice is known then by the others. Answers how many
@@ -108,11 +124,7 @@ fn grown_of(
     most: u32,
 ) -> Result<Grown, Memory> {
     let is_ended = state.open.is_empty() && state.steps > 0;
-    let found = if is_ended && state.best.is_some() {
-        found_in(alloc, task, &state, most)?
-    } else {
-        None
-    };
+    let found = found_at_end(alloc, task, &state, is_ended, most)?;
     let steps = state.steps;
     Ok(Grown {
         found,
@@ -121,4 +133,19 @@ fn grown_of(
         is_stopped: !is_ended && steps > 0,
         steps: steps.saturating_add(rest),
     })
+}
+
+// The tree that was found, where it ended and a choice is known.
+fn found_at_end(
+    alloc: Global,
+    task: &Task<'_>,
+    state: &State,
+    is_ended: bool,
+    most: u32,
+) -> Result<Option<Found>, Memory> {
+    if is_ended && state.best.is_some() {
+        found_in(alloc, task, state, most)
+    } else {
+        Ok(None)
+    }
 }

@@ -1,6 +1,7 @@
 //! The tree of ranges that a grown tree stands for.
 
 use crate::entries::{Entry, has_open};
+use crate::rules::Rule;
 use crate::sides::Sides;
 use crate::spans::Spans;
 use crate::states::{State, Task};
@@ -32,24 +33,52 @@ pub(crate) fn nodes_of(
     }
     let mut nodes = Vec::new(alloc);
     let mut closing = Vec::new(alloc);
-    let mut pieces = Vec::new(alloc);
-    pieces.push(whole(alloc, task, state)?)?;
-    let closers = closers_of(alloc, state)?;
-    for _ in 0..most {
-        let Some(piece) = pieces.pop() else {
-            break;
-        };
-        closing.push(piece.closing(state))?;
-        match make(alloc, task, state, &closers, piece, &mut pieces)? {
-            Some(node) => nodes.push(node)?,
-            None => return Ok(None),
-        }
-    }
-    if !pieces.is_empty() {
+    if !make_all(alloc, task, state, most, &mut nodes, &mut closing)? {
         return Ok(None);
     }
     let used = cover(state, &mut nodes, &mut closing);
     Ok(Some((nodes, used)))
+}
+
+// Makes the nodes, at most so many, and for each the vectors that close it, as bits. Answers
+// whether these are all.
+fn make_all(
+    alloc: Global,
+    task: &Task<'_>,
+    state: &State,
+    most: u32,
+    nodes: &mut Vec<Node>,
+    closing: &mut Vec<u128>,
+) -> Result<bool, Memory> {
+    let closers = closers_of(alloc, state)?;
+    let mut pieces = Vec::new(alloc);
+    pieces.push(whole(alloc, task, state)?)?;
+    for _ in 0..most {
+        if pieces.is_empty() {
+            break;
+        }
+        match make_next(alloc, task, state, &closers, &mut pieces, closing)? {
+            Some(node) => nodes.push(node)?,
+            None => return Ok(false),
+        }
+    }
+    Ok(pieces.is_empty())
+}
+
+// The node of the last piece, if there is one, and the vectors that close it.
+fn make_next(
+    alloc: Global,
+    task: &Task<'_>,
+    state: &State,
+    closers: &[u128],
+    pieces: &mut Vec<Piece>,
+    closing: &mut Vec<u128>,
+) -> Result<Option<Node>, Memory> {
+    let Some(mut piece) = pieces.pop() else {
+        return Ok(None);
+    };
+    closing.push(piece.closing(state))?;
+    make(alloc, task, state, closers, &mut piece, pieces)
 }
 
 // Lets few vectors close the leaves: in turn the one that closes most of those which none closes
@@ -135,7 +164,7 @@ fn make(
     task: &Task<'_>,
     state: &State,
     closers: &[u128],
-    mut piece: Piece,
+    piece: &mut Piece,
     pieces: &mut Vec<Piece>,
 ) -> Result<Option<Node>, Memory> {
     if piece.closing(state) != 0 {
@@ -144,9 +173,7 @@ fn make(
     let Some((unit, cut)) = piece.settle(alloc, task, state, closers)? else {
         return Ok(None);
     };
-    let (below, above) = halves(alloc, task, state, &piece, unit, cut)?;
-    pieces.push(above)?;
-    pieces.push(below)?;
+    push_halves(alloc, task, state, piece, unit, cut, pieces)?;
     Ok(Some(Node::Split {
         unit,
         cut,
@@ -154,30 +181,45 @@ fn make(
     }))
 }
 
-// The two parts of a piece, where a unit's range is cut.
-fn halves(
+// Adds the two parts of a piece, where a unit's range is cut, the low one last.
+fn push_halves(
     alloc: Global,
     task: &Task<'_>,
     state: &State,
     piece: &Piece,
     unit: u32,
     cut: u32,
-) -> Result<(Piece, Piece), Memory> {
+    pieces: &mut Vec<Piece>,
+) -> Result<(), Memory> {
     let (low, high) = piece.spans.of(unit);
     let mut below = piece.with_range(alloc, unit, (low, cut.saturating_sub(1)))?;
     let mut above = piece.with_range(alloc, unit, (cut, high))?;
+    push_values(task, state, piece, unit, &mut below, &mut above)?;
+    pieces.push(above)?;
+    pieces.push(below)?;
+    Ok(())
+}
+
+// Adds the bounds of the two parts of a piece, where a unit's range is cut.
+fn push_values(
+    task: &Task<'_>,
+    state: &State,
+    piece: &Piece,
+    unit: u32,
+    below: &mut Piece,
+    above: &mut Piece,
+) -> Result<(), Memory> {
+    let (low, high) = (below.spans.of(unit), above.spans.of(unit));
     for (pricing, value) in state.pricings.iter().zip(&piece.values) {
-        let one = pricing.least_within(task.problem, task.reduced, unit, below.spans.of(unit));
-        let other = pricing.least_within(task.problem, task.reduced, unit, above.spans.of(unit));
+        let one = pricing.least_within(task.problem, task.reduced, unit, low);
+        let other = pricing.least_within(task.problem, task.reduced, unit, high);
         let least = one.min(other);
-        below
-            .values
-            .push(value.saturating_add(one.saturating_sub(least)))?;
-        above
-            .values
-            .push(value.saturating_add(other.saturating_sub(least)))?;
+        let value_below = value.saturating_add(one.saturating_sub(least));
+        let value_above = value.saturating_add(other.saturating_sub(least));
+        below.values.push(value_below)?;
+        above.values.push(value_above)?;
     }
-    Ok((below, above))
+    Ok(())
 }
 
 // For each entry the vectors that close entries below it, as bits.
@@ -255,23 +297,41 @@ impl Piece {
             else {
                 return Ok(None);
             };
-            let span = self.spans.of(*unit);
-            let mut sides = Sides::of(alloc, task, *unit, *rule, span)?;
-            let below = closers_at(closers, *low);
-            let above = closers_at(closers, *high);
-            for (number, (pricing, value)) in (0..).zip(state.pricings.iter().zip(&self.values)) {
-                let bit = bit_of(number);
-                if (below | above) & bit != 0 {
-                    let needs = (below & bit != 0, above & bit != 0);
-                    sides.test(task, pricing, *value, state.cost, needs);
-                }
-            }
-            let (cut, is_low) = sides.turn();
+            let needed = (closers_at(closers, *low), closers_at(closers, *high));
+            let (cut, is_low) = self.turn(alloc, task, state, *unit, *rule, needed)?;
             if let Some(cut) = cut {
                 return Ok(Some((*unit, cut)));
             }
             self.entry = if is_low { *low } else { *high };
         }
         Ok(None)
+    }
+
+    // Where a split by a rule, with the vectors that are needed in its two parts, changes the
+    // part, if it does; and whether else the piece goes on in the low part.
+    fn turn(
+        &self,
+        alloc: Global,
+        task: &Task<'_>,
+        state: &State,
+        unit: u32,
+        rule: Rule,
+        needed: (u128, u128),
+    ) -> Result<(Option<u32>, bool), Memory> {
+        let mut sides = Sides::of(alloc, task, unit, rule, self.spans.of(unit))?;
+        self.test(task, state, needed, &mut sides);
+        Ok(sides.turn())
+    }
+
+    // Takes the vectors that are needed into sides.
+    fn test(&self, task: &Task<'_>, state: &State, needed: (u128, u128), sides: &mut Sides) {
+        let (below, above) = needed;
+        for (number, (pricing, value)) in (0..).zip(state.pricings.iter().zip(&self.values)) {
+            let bit = bit_of(number);
+            if (below | above) & bit != 0 {
+                let needs = (below & bit != 0, above & bit != 0);
+                sides.test(task, pricing, *value, state.cost, needs);
+            }
+        }
     }
 }

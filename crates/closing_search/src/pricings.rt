@@ -30,23 +30,29 @@ impl Pricing {
         vector: Vector,
         scale: u32,
     ) -> Result<Pricing, Memory> {
-        let reduced = task.reduced;
+        let parts = vec![in alloc; 0; task.reduced.parts() as usize]?;
+        let leasts = Vec::with_capacity(alloc, task.problem.units() as usize)?;
         let mut pricing = Pricing {
             vector,
             scale,
-            parts: vec![in alloc; 0; reduced.parts() as usize]?,
+            parts,
             limits: 0,
-            leasts: Vec::with_capacity(alloc, task.problem.units() as usize)?,
+            leasts,
         };
+        pricing.add_prices(task.reduced);
+        pricing.add_leasts(task.problem, task.reduced, base)?;
+        Ok(pricing)
+    }
+
+    // Adds the prices of the vector.
+    fn add_prices(&mut self, reduced: &Reduced) {
         let mut next: usize = 0;
         for (number, class) in (0..).zip(reduced.classes()) {
-            if let Some(price) = pricing.price_at(next, class) {
-                pricing.add(reduced, number, class, price);
+            if let Some(price) = self.price_at(next, class) {
+                self.add(reduced, number, class, price);
                 next = next.saturating_add(1);
             }
         }
-        pricing.add_leasts(task.problem, reduced, base)?;
-        Ok(pricing)
     }
 
     // Notes the least priced cost of each unit.

@@ -24,13 +24,29 @@ pub(crate) fn place_by(
     let weights = relaxation.reduced_costs(alloc, task.program)?;
     let mut order = by_regret(alloc, task, &weights)?;
     for _ in 0..ATTEMPTS {
-        let mut placing = Placing::none(alloc, task)?;
-        match placing.place_all(task, &order, &weights)? {
-            None => return take_placing(alloc, task, state, placing),
+        match place_in(alloc, task, state, &order, &weights)? {
+            None => return Ok(()),
             Some(at) => to_front(&mut order, at),
         }
     }
     Ok(())
+}
+
+// Takes a choice for which the units are placed in this order. Answers the place in the order of
+// the first unit that finds none.
+fn place_in(
+    alloc: Global,
+    task: &Task<'_>,
+    state: &mut State,
+    order: &[u32],
+    weights: &[f64],
+) -> Result<Option<usize>, Memory> {
+    let mut placing = Placing::none(alloc, task)?;
+    let at = placing.place_all(task, order, weights)?;
+    if at.is_none() {
+        take_placing(alloc, task, state, &mut placing)?;
+    }
+    Ok(at)
 }
 
 // Takes a choice after moves.
@@ -38,18 +54,22 @@ fn take_placing(
     alloc: Global,
     task: &Task<'_>,
     state: &mut State,
-    mut placing: Placing,
+    placing: &mut Placing,
 ) -> Result<(), Memory> {
+    move_often(alloc, task, placing)?;
+    let choice = placing.choice(alloc, task)?;
+    state.take_any(alloc, task.problem, choice)
+}
+
+// Moves the units of a choice.
+fn move_often(alloc: Global, task: &Task<'_>, placing: &mut Placing) -> Result<(), Memory> {
     let costs = costs_of(alloc, task)?;
     for _ in 0..MOVES {
         if !placing.move_all(task, &costs)? {
             break;
         }
     }
-    match placing.choice(alloc, task)? {
-        Some(choice) => state.take(alloc, task.problem, choice),
-        None => Ok(()),
-    }
+    Ok(())
 }
 
 // The costs of the alternatives.
@@ -63,6 +83,17 @@ fn costs_of(alloc: Global, task: &Task<'_>) -> Result<Vec<f64>, Memory> {
 
 // The units by falling difference of their two least weights.
 fn by_regret(alloc: Global, task: &Task<'_>, weights: &[f64]) -> Result<Vec<u32>, Memory> {
+    let mut ranked = ranks_of(alloc, task, weights)?;
+    ranked.sort_unstable();
+    let mut order = Vec::with_capacity(alloc, ranked.len())?;
+    for (_, unit) in &ranked {
+        order.push(*unit)?;
+    }
+    Ok(order)
+}
+
+// The ranks of the units by the difference of their two least weights, and their numbers.
+fn ranks_of(alloc: Global, task: &Task<'_>, weights: &[f64]) -> Result<Vec<(i64, u32)>, Memory> {
     let mut ranked = Vec::new(alloc);
     for unit in 0..task.program.units() {
         let first = task.program.first_column(unit) as usize;
@@ -70,12 +101,7 @@ fn by_regret(alloc: Global, task: &Task<'_>, weights: &[f64]) -> Result<Vec<u32>
         let regret = regret_of(costs_from(weights, first), count);
         ranked.push((saturating_f64_to_i64(regret * -1024.0), unit))?;
     }
-    ranked.sort_unstable();
-    let mut order = Vec::with_capacity(alloc, ranked.len())?;
-    for (_, unit) in &ranked {
-        order.push(*unit)?;
-    }
-    Ok(order)
+    Ok(ranked)
 }
 
 // The costs from a place on.

@@ -1,13 +1,13 @@
 //! Choices from relaxations.
 
-use crate::states::Task;
+use crate::states::{State, Task};
 use choice_problem::Choice;
 use relaxed_problem::{Relaxation, Share};
 use slot_text::Memory;
 use std::alloc::Global;
 
-/// The choice of the alternative of which a relaxation takes most, for each unit.
-pub(crate) fn rounded(
+// The choice of the alternative of which a relaxation takes most, for each unit.
+fn rounded(
     alloc: Global,
     task: &Task<'_>,
     relaxation: &Relaxation,
@@ -21,6 +21,18 @@ pub(crate) fn rounded(
         put_if_half(&mut alts, share);
     }
     Ok(Choice::new(alts))
+}
+
+/// Takes the choice that a relaxation is nearest to.
+pub(crate) fn take_rounded(
+    alloc: Global,
+    task: &Task<'_>,
+    state: &mut State,
+    relaxation: &Relaxation,
+    shares: &[Share],
+) -> Result<(), Memory> {
+    let choice = rounded(alloc, task, relaxation, shares)?;
+    state.take(alloc, task.problem, choice)
 }
 
 // Takes an alternative for its unit, where it has more than a half.

@@ -6,16 +6,17 @@ ghost use Rattle.choice_problem.specs.Choices.{IsFeasible, choice_cost};
 ghost use Rattle.closing_search.specs.Closed.{IsEnding, EndsAtMost};
 
 use crate::accepted::{Found, accepted, known_best};
-use crate::barred::barred_alts;
+use crate::barred::unbarred_program;
 use crate::closed::Ending;
 use crate::guesses::{Guessed, close_by_guesses};
+use crate::leftovers::Ground;
 use crate::quotas::quotas_of;
 use crate::states::{NEVER, Task};
 use crate::trees::{FEW_VISITS, MOST_NODES, first_tree, further_trees};
 use crate::unpriced::unpriced;
 use choice_problem::{Choice, Problem, Vector};
 use reduced_problem::Reduced;
-use relaxed_problem::{End, Program, Relaxation};
+use relaxed_problem::{End, Relaxation};
 use slot_text::Memory;
 use std::alloc::Global;
 use std::thread::Threads;
@@ -60,11 +61,29 @@ pub fn closing_search<R: Threads + Sync>(
     if let Some(closed) = accepted(alloc, problem, &start, budget, found)? {
         return Ok(Ending::Closed(closed));
     }
+    let findings = searched(rt, alloc, problem, &start, budget, workers)?;
+    ending_of(alloc, problem, start, budget, findings)
+}
+
+// The ending by what a search found.
+fn ending_of(
+    alloc: Global,
+    problem: &Problem,
+    start: Option<Choice>,
+    budget: u32,
+    findings: Findings,
+) -> Result<Ending, Memory>
+    requires start { IfSome start (IsFeasible problem.now) }
+    requires vector { IsVector problem.now findings.vector }
+    ensures ending { IfOk result (IsEnding problem.now budget) }
+    ensures start { IfOk result (λ ending. IfSome start
+        (λ x. EndsAtMost problem.now (choice_cost problem.now x) ending)) }
+{
     let Findings {
         found,
         best,
         vector,
-    } = searched(rt, alloc, problem, &start, budget, workers)?;
+    } = findings;
     if let Some(found) = found {
         if let Some(closed) = accepted(alloc, problem, &start, budget, found)? {
             return Ok(Ending::Closed(closed));
@@ -94,10 +113,7 @@ fn searched<R: Threads + Sync>(
     ensures { IfOk result (λ s. IsVector problem.now s.vector) }
 {
     let reduced = Reduced::of(alloc, problem)?;
-    let barred = barred_alts(alloc, problem, &reduced)?;
-    let program = Program::new(alloc, problem, &reduced, &barred)?;
-    let mut root = Relaxation::start(alloc, &program)?;
-    let ended = root.solve(alloc, &program, ROOT_PIVOTS, NEVER)?;
+    let program = unbarred_program(alloc, problem, &reduced)?;
     let quotas = quotas_of(alloc, &reduced)?;
     let task = Task {
         problem,
@@ -105,11 +121,44 @@ fn searched<R: Threads + Sync>(
         quotas: &quotas,
         program: &program,
     };
-    let vector = root.vector(alloc, problem, &program)?;
     let most = budget.min(MOST_NODES);
-    let (found, best) = settled(
-        rt, alloc, &task, &root, ended.end, &vector, start, most, workers,
-    )?;
+    searched_by(rt, alloc, &task, start, most, workers)
+}
+
+// Searches a problem by its program.
+fn searched_by<R: Threads + Sync>(
+    rt: &R,
+    alloc: Global,
+    task: &Task<'_>,
+    start: &Option<Choice>,
+    most: u32,
+    workers: u32,
+) -> Result<Findings, Memory>
+    ensures { IfOk result (λ s. IsVector task.now.problem.now s.vector) }
+{
+    let mut root = Relaxation::start(alloc, task.program)?;
+    let ended = root.solve(alloc, task.program, ROOT_PIVOTS, NEVER)?;
+    let ground = Ground {
+        root: &root,
+        ended,
+        most,
+        workers,
+    };
+    searched_from(rt, alloc, task, ground, start)
+}
+
+// Searches a problem from its first relaxation.
+fn searched_from<R: Threads + Sync>(
+    rt: &R,
+    alloc: Global,
+    task: &Task<'_>,
+    ground: Ground<'_>,
+    start: &Option<Choice>,
+) -> Result<Findings, Memory>
+    ensures { IfOk result (λ s. IsVector task.now.problem.now s.vector) }
+{
+    let vector = ground.root.vector(alloc, task.problem, task.program)?;
+    let (found, best) = settled(rt, alloc, task, ground, &vector, start)?;
     Ok(Findings {
         found,
         best,
@@ -117,30 +166,41 @@ fn searched<R: Threads + Sync>(
     })
 }
 
-// Looks for a small tree first, then for one of what a fixing leaves, and at last for better
-// choices.
+// Looks for a small tree first, where the first relaxation ended, and then for more.
 fn settled<R: Threads + Sync>(
     rt: &R,
     alloc: Global,
     task: &Task<'_>,
-    root: &Relaxation,
-    end: End,
+    ground: Ground<'_>,
     vector: &Vector,
     start: &Option<Choice>,
-    most: u32,
-    workers: u32,
 ) -> Result<(Option<Found>, Option<Choice>), Memory>
     requires { IsVector task.now.problem.now vector.now }
 {
-    if end == End::Above || end == End::Spent {
+    if ground.ended.end == End::Above || ground.ended.end == End::Spent {
         return Ok((None, None));
     }
-    let (found, best) = first_tree(rt, alloc, task, root, start, most, workers)?;
+    let (found, best) = first_tree(rt, alloc, task, ground, start)?;
     if found.is_some() {
         return Ok((found, best));
     }
-    if end == End::Infeasible || most <= FEW_VISITS {
-        return further_trees(rt, alloc, task, root, end, best, most, workers);
+    settled_by_more(rt, alloc, task, ground, vector, best)
+}
+
+// Looks for a tree of what a fixing leaves, and then for better choices.
+fn settled_by_more<R: Threads + Sync>(
+    rt: &R,
+    alloc: Global,
+    task: &Task<'_>,
+    ground: Ground<'_>,
+    vector: &Vector,
+    best: Option<Choice>,
+) -> Result<(Option<Found>, Option<Choice>), Memory>
+    requires { IsVector task.now.problem.now vector.now }
+{
+    let (most, workers) = (ground.most, ground.workers);
+    if ground.ended.end == End::Infeasible || most <= FEW_VISITS {
+        return further_trees(rt, alloc, task, ground, best);
     }
     let guessed = close_by_guesses(rt, alloc, task.problem, vector, best, most, workers)?;
     let Guessed {
@@ -151,5 +211,5 @@ fn settled<R: Threads + Sync>(
     if found.is_some() || is_best {
         return Ok((found, best));
     }
-    further_trees(rt, alloc, task, root, end, best, most, workers)
+    further_trees(rt, alloc, task, ground, best)
 }

@@ -7,16 +7,61 @@ use crate::states::Task;
 use slot_text::Memory;
 use std::alloc::Global;
 
-/// A unit's range, and for each of its alternatives whether it is in the high part of a split, and
-/// whether it may stay where the range goes on in the low part and in the high part: where it is of
-/// the other part, each vector that is needed there must close it.
+/// A unit's range, and its alternatives.
 #[derive(Drop)]
 pub(crate) struct Sides {
     unit: u32,
     span: (u32, u32),
-    is_high: Vec<bool>,
-    stays_low: Vec<bool>,
-    stays_high: Vec<bool>,
+    sides: Vec<Side>,
+}
+
+// Whether an alternative is in the high part of a split, and whether it may stay where the range
+// goes on in the low part and in the high part: where it is of the other part, each vector that is
+// needed there must close it.
+#[derive(Clone, Copy)]
+struct Side {
+    is_high: bool,
+    stays_low: bool,
+    stays_high: bool,
+}
+
+impl Side {
+    // Takes a vector in that is needed in the low part, or in the high part, or in both, and that
+    // closes the alternative or not.
+    fn test(&mut self, closes: bool, needs: (bool, bool)) {
+        self.stays_low = self.stays_low && (closes || !needs.0);
+        self.stays_high = self.stays_high && (closes || !needs.1);
+    }
+
+    // The parts in which a range may go on that has the alternative.
+    fn parts(&self) -> Parts {
+        Parts {
+            low: !self.is_high || self.stays_low,
+            high: self.is_high || self.stays_high,
+        }
+    }
+}
+
+// The parts of a split in which a range may go on.
+#[derive(Clone, Copy)]
+struct Parts {
+    low: bool,
+    high: bool,
+}
+
+impl Parts {
+    // The parts that are in both.
+    fn both(self, other: Parts) -> Parts {
+        Parts {
+            low: self.low && other.low,
+            high: self.high && other.high,
+        }
+    }
+
+    // Whether there is none.
+    fn is_none(self) -> bool {
+        !self.low && !self.high
+    }
 }
 
 impl Sides {
@@ -28,18 +73,15 @@ impl Sides {
         rule: Rule,
         span: (u32, u32),
     ) -> Result<Sides, Memory> {
-        let mut is_high = Vec::new(alloc);
+        let mut sides = Vec::new(alloc);
         for number in span.0..span.1.saturating_add(1) {
-            is_high.push(rule.is_high(task.problem, task.reduced, unit, number))?;
+            sides.push(Side {
+                is_high: rule.is_high(task.problem, task.reduced, unit, number),
+                stays_low: true,
+                stays_high: true,
+            })?;
         }
-        let count = is_high.len();
-        Ok(Sides {
-            unit,
-            span,
-            is_high,
-            stays_low: vec![in alloc; true; count]?,
-            stays_high: vec![in alloc; true; count]?,
-        })
+        Ok(Sides { unit, span, sides })
     }
 
     // Takes a vector in that is needed in the low part, or in the high part, or in both:
@@ -57,11 +99,9 @@ impl Sides {
         let others = value.saturating_sub(least);
         let first = reduced.first_part(self.unit);
         let alts = within(unit_alts(problem, self.unit), self.span);
-        let stays = self.stays_low.iter_mut().zip(self.stays_high.iter_mut());
-        for (alt, (low, high)) in alts.iter().zip(stays) {
-            let closes = pricing.closes(others.saturating_add(pricing.cost(alt, first)), cost);
-            *low = *low && (closes || !needs.0);
-            *high = *high && (closes || !needs.1);
+        for (alt, side) in alts.iter().zip(self.sides.iter_mut()) {
+            let bound = others.saturating_add(pricing.cost(alt, first));
+            side.test(pricing.closes(bound, cost), needs);
         }
     }
 
@@ -72,24 +112,22 @@ impl Sides {
         let middle = low.saturating_add(high) / 2;
         let mut found = None;
         let mut nearest = u32::MAX;
-        let (mut is_low, mut is_high) = (true, true);
-        let stays = self.stays_low.iter().zip(&self.stays_high);
-        for (number, (side, (low_too, high_too))) in (low..).zip(self.is_high.iter().zip(stays)) {
-            let in_low = !*side || *low_too;
-            let in_high = *side || *high_too;
-            if (is_low && in_low) || (is_high && in_high) {
-                is_low = is_low && in_low;
-                is_high = is_high && in_high;
-            } else {
+        let mut parts = Parts {
+            low: true,
+            high: true,
+        };
+        for (number, side) in (low..).zip(&self.sides) {
+            let here = side.parts();
+            parts = parts.both(here);
+            if parts.is_none() {
+                parts = here;
                 let distance = number.abs_diff(middle);
                 if distance < nearest {
                     nearest = distance;
                     found = Some(number);
                 }
-                is_low = in_low;
-                is_high = in_high;
             }
         }
-        (found, is_low)
+        (found, parts.low)
     }
 }

@@ -77,18 +77,31 @@ pub(crate) fn best_split<R: Threads + Sync>(
             break;
         }
         let group = first_of(rest, group_size(state, &pick, looks));
-        let basis = Basis {
-            relaxation: &open.relaxation,
-            pivots: looks.pivots,
-            enough: state.enough(),
-        };
-        let threads = state.threads();
-        let places = &mut state.places;
-        places.look_at(rt, alloc, task, basis, group, threads);
+        look_at_group(rt, alloc, task, state, open, group, looks);
         rest = after(rest, group.len());
         take_looks(task, state, open, group, looks, &mut pick)?;
     }
     Ok(pick.best)
+}
+
+// Looks at the splits of a group.
+fn look_at_group<R: Threads + Sync>(
+    rt: &R,
+    alloc: Global,
+    task: &Task<'_>,
+    state: &mut State,
+    open: &Open,
+    group: &[Candidate],
+    looks: Looks,
+) {
+    let basis = Basis {
+        relaxation: &open.relaxation,
+        pivots: looks.pivots,
+        enough: state.enough(),
+    };
+    let threads = state.threads();
+    let places = &mut state.places;
+    places.look_at(rt, alloc, task, basis, group, threads);
 }
 
 // The best split of those that were looked at, what its parts gain, and how many looks followed it.

@@ -73,6 +73,19 @@ pub(crate) struct Ahead {
 }
 
 impl Open {
+    // The first node, on these alternatives, which goes on from a relaxation.
+    fn first(alloc: Global, root: &Relaxation, allowed: Allowed) -> Result<Open, Memory> {
+        let relaxation = root.copy(alloc)?;
+        Ok(Open {
+            entry: 0,
+            allowed,
+            values: Vec::new(alloc),
+            relaxation,
+            made: None,
+            ahead: None,
+        })
+    }
+
     // Whether it was solved before its turn, for this cost.
     pub(crate) fn is_ahead(&self, cost: Option<u64>) -> bool {
         match &self.ahead {
@@ -128,10 +141,21 @@ impl State {
         steps: u64,
         workers: u32,
     ) -> Result<State, Memory> {
-        let base = allowed.copy(alloc)?;
-        let mut state = State::without_nodes(alloc, task, root, base, steps, workers)?;
+        let mut state = State::without_nodes(alloc, task, root, &allowed, steps, workers)?;
         state.begin(alloc, task, root, allowed)?;
         Ok(state)
+    }
+
+    // One open node on all alternatives, which goes on from a relaxation.
+    pub(crate) fn of_all(
+        alloc: Global,
+        task: &Task<'_>,
+        root: &Relaxation,
+        steps: u64,
+        workers: u32,
+    ) -> Result<State, Memory> {
+        let allowed = Allowed::all(alloc, task.problem)?;
+        State::new(alloc, task, root, allowed, steps, workers)
     }
 
     // No nodes yet.
@@ -139,12 +163,16 @@ impl State {
         alloc: Global,
         task: &Task<'_>,
         root: &Relaxation,
-        base: Allowed,
+        allowed: &Allowed,
         steps: u64,
         workers: u32,
     ) -> Result<State, Memory> {
         let is_alone = workers < 2 || task.program.columns().len() < MANY_COLUMNS;
         let beside = if is_alone { 1 } else { MOST_BESIDE };
+        let base = allowed.copy(alloc)?;
+        let work = Work::new(alloc, task.program)?;
+        let scores = Scores::none(alloc, task.problem.units())?;
+        let places = Places::new(alloc, task, root, beside)?;
         Ok(State {
             entries: Vec::new(alloc),
             open: Vec::new(alloc),
@@ -152,12 +180,12 @@ impl State {
             best: None,
             cost: None,
             steps,
-            work: Work::new(alloc, task.program)?,
+            work,
             is_by_quotas: !task.quotas.is_empty(),
             is_thorough: false,
             base,
-            scores: Scores::none(alloc, task.problem.units())?,
-            places: Places::new(alloc, task, root, beside)?,
+            scores,
+            places,
             workers,
         })
     }
@@ -170,18 +198,12 @@ impl State {
         root: &Relaxation,
         allowed: Allowed,
     ) -> Result<(), Memory> {
+        let first = Open::first(alloc, root, allowed)?;
+        self.open.push(first)?;
+        self.entries.push(Entry::Open)?;
         let none = Vector::new(Vec::new(alloc));
         let unpriced = Pricing::new(alloc, task, &self.base, none, 1)?;
         self.pricings.push(unpriced)?;
-        self.entries.push(Entry::Open)?;
-        self.open.push(Open {
-            entry: 0,
-            allowed,
-            values: Vec::new(alloc),
-            relaxation: root.copy(alloc)?,
-            made: None,
-            ahead: None,
-        })?;
         Ok(())
     }
 
@@ -192,12 +214,16 @@ impl State {
         task: &Task<'_>,
         root: &Relaxation,
     ) -> Result<(), Memory> {
-        let allowed = Allowed::all(alloc, task.problem)?;
-        let mut state = State::new(alloc, task, root, allowed, self.steps, self.workers)?;
+        *self = self.anew(alloc, task, root)?;
+        Ok(())
+    }
+
+    // One open node on all alternatives, with the best choice and the steps that are left.
+    fn anew(&self, alloc: Global, task: &Task<'_>, root: &Relaxation) -> Result<State, Memory> {
+        let mut state = State::of_all(alloc, task, root, self.steps, self.workers)?;
         state.best = copy_if_any(alloc, &self.best)?;
         state.cost = self.cost;
-        *self = state;
-        Ok(())
+        Ok(state)
     }
 
     // The best choice.
@@ -231,6 +257,19 @@ impl State {
             self.cost = Some(cost);
         }
         Ok(())
+    }
+
+    // Takes a choice, if there is one.
+    pub(crate) fn take_any(
+        &mut self,
+        alloc: Global,
+        problem: &Problem,
+        choice: Option<Choice>,
+    ) -> Result<(), Memory> {
+        match choice {
+            Some(choice) => self.take(alloc, problem, choice),
+            None => Ok(()),
+        }
     }
 
     // Whether a cost is below that of the best choice, if there is one.

@@ -1,11 +1,11 @@
 //! Trees that may close a problem, and the choices for them.
 
 use crate::accepted::{Found, are_listable};
-use crate::allowed::Allowed;
 use crate::growing::grow;
 use crate::improving::improve;
+use crate::leftovers::Ground;
 use crate::pieces::{bit_of, nodes_of};
-use crate::states::{State, Task, copy_if_any, copy_of};
+use crate::states::{State, Task, copy_if_any};
 use choice_problem::{Choice, Node, Vector, VectorList};
 use relaxed_problem::{End, Relaxation};
 use slot_text::Memory;
@@ -28,20 +28,27 @@ pub(crate) fn first_tree<R: Threads + Sync>(
     rt: &R,
     alloc: Global,
     task: &Task<'_>,
-    root: &Relaxation,
+    ground: Ground<'_>,
+    start: &Option<Choice>,
+) -> Result<(Option<Found>, Option<Choice>), Memory> {
+    let mut state = State::of_all(alloc, task, ground.root, FIRST_STEPS, ground.workers)?;
+    let found = found_from(rt, alloc, task, &mut state, start, ground.most)?;
+    Ok((found, state.into_best()))
+}
+
+// Grows a tree from a start, if there is one.
+fn found_from<R: Threads + Sync>(
+    rt: &R,
+    alloc: Global,
+    task: &Task<'_>,
+    state: &mut State,
     start: &Option<Choice>,
     most: u32,
-    workers: u32,
-) -> Result<(Option<Found>, Option<Choice>), Memory> {
-    let allowed = Allowed::all(alloc, task.problem)?;
-    let mut state = State::new(alloc, task, root, allowed, FIRST_STEPS, workers)?;
-    if let Some(start) = start {
-        let copy = copy_of(alloc, start)?;
-        state.take(alloc, task.problem, copy)?;
-    }
-    grow(rt, alloc, task, &mut state, most)?;
-    let found = found_in(alloc, task, &state, most)?;
-    Ok((found, state.into_best()))
+) -> Result<Option<Found>, Memory> {
+    let copy = copy_if_any(alloc, start)?;
+    state.take_any(alloc, task.problem, copy)?;
+    grow(rt, alloc, task, state, most)?;
+    found_in(alloc, task, state, most)
 }
 
 /// Looks for better choices, and where none is known, for trees of the whole problem.
@@ -49,27 +56,32 @@ pub(crate) fn further_trees<R: Threads + Sync>(
     rt: &R,
     alloc: Global,
     task: &Task<'_>,
-    root: &Relaxation,
-    end: End,
+    ground: Ground<'_>,
     best: Option<Choice>,
-    most: u32,
-    workers: u32,
 ) -> Result<(Option<Found>, Option<Choice>), Memory> {
-    let allowed = Allowed::all(alloc, task.problem)?;
-    let mut state = State::new(alloc, task, root, allowed, TREE_STEPS, workers)?;
+    let mut state = State::of_all(alloc, task, ground.root, TREE_STEPS, ground.workers)?;
     let is_known = best.is_some();
-    if let Some(best) = best {
-        state.take(alloc, task.problem, best)?;
-    }
-    if end == End::Solved {
-        improve(rt, alloc, task, &mut state, root)?;
-    }
-    let found = if is_known && most > FEW_VISITS {
-        None
-    } else {
-        grow_trees(rt, alloc, task, &mut state, root, most)?
-    };
+    state.take_any(alloc, task.problem, best)?;
+    let found = improve_and_grow(rt, alloc, task, &mut state, ground, is_known)?;
     Ok((found, state.into_best()))
+}
+
+// Looks for better choices, and where none was known, for trees.
+fn improve_and_grow<R: Threads + Sync>(
+    rt: &R,
+    alloc: Global,
+    task: &Task<'_>,
+    state: &mut State,
+    ground: Ground<'_>,
+    is_known: bool,
+) -> Result<Option<Found>, Memory> {
+    if ground.ended.end == End::Solved {
+        improve(rt, alloc, task, state, ground.root)?;
+    }
+    if is_known && ground.most > FEW_VISITS {
+        return Ok(None);
+    }
+    grow_trees(rt, alloc, task, state, ground.root, ground.most)
 }
 
 /// With at most so many nodes no fixing is tried, and trees of the whole problem are.
@@ -89,18 +101,30 @@ fn grow_trees<R: Threads + Sync>(
         let known = state.cost;
         grow(rt, alloc, task, state, most)?;
         let found = found_in(alloc, task, state, most)?;
-        if found.is_some() {
+        if found.is_some() || !begin_next(alloc, task, state, root, known)? {
             return Ok(found);
         }
-        let is_better = state.cost != known;
-        if state.steps == 0 || (!is_better && !state.is_by_quotas) {
-            return Ok(None);
-        }
-        let is_by_quotas = state.is_by_quotas && is_better;
-        state.begin_again(alloc, task, root)?;
-        state.is_by_quotas = is_by_quotas;
     }
     Ok(None)
+}
+
+// Begins the next tree, where steps are left and it differs from the last one, before which this
+// was the least cost. Answers whether it did.
+fn begin_next(
+    alloc: Global,
+    task: &Task<'_>,
+    state: &mut State,
+    root: &Relaxation,
+    known: Option<u64>,
+) -> Result<bool, Memory> {
+    let is_better = state.cost != known;
+    if state.steps == 0 || (!is_better && !state.is_by_quotas) {
+        return Ok(false);
+    }
+    let is_by_quotas = state.is_by_quotas && is_better;
+    state.begin_again(alloc, task, root)?;
+    state.is_by_quotas = is_by_quotas;
+    Ok(true)
 }
 
 /// The tree of ranges that was found, with its vectors and the best choice.
@@ -110,37 +134,74 @@ pub(crate) fn found_in(
     state: &State,
     most: u32,
 ) -> Result<Option<Found>, Memory> {
-    let Some((nodes, used)) = nodes_of(alloc, task, state, most)? else {
-        return Ok(None);
-    };
-    let mut numbers = Vec::with_capacity(alloc, state.pricings.len())?;
-    let mut vectors = Vec::new(alloc);
-    for (number, pricing) in (0..).zip(&state.pricings) {
-        if number > 0 && used & bit_of(number) != 0 {
-            let prices = Vec::from_slice(alloc, pricing.vector.items())?;
-            vectors.push(Vector::new(prices))?;
-        }
-        numbers.push(u32::try_from(vectors.len()).unwrap_or(u32::MAX))?;
+    match nodes_of(alloc, task, state, most)? {
+        Some((nodes, used)) => listed(alloc, state, nodes, used),
+        None => Ok(None),
     }
-    let vectors = VectorList::new(vectors);
+}
+
+// The tree of these nodes with the vectors that are used, if these can be listed.
+fn listed(
+    alloc: Global,
+    state: &State,
+    mut nodes: Vec<Node>,
+    used: u128,
+) -> Result<Option<Found>, Memory> {
+    let vectors = used_vectors(alloc, state, used)?;
     if !are_listable(&vectors) {
         return Ok(None);
     }
+    renumber(alloc, state, &mut nodes, used)?;
+    let choice = copy_if_any(alloc, &state.best)?;
     Ok(Some(Found {
-        choice: copy_if_any(alloc, &state.best)?,
+        choice,
         fixing: None,
-        nodes: renumbered(alloc, nodes, &numbers)?,
+        nodes,
         vectors,
     }))
 }
 
-// The nodes, where leaves name their vectors by these numbers.
-fn renumbered(alloc: Global, nodes: Vec<Node>, numbers: &[u32]) -> Result<Vec<Node>, Memory> {
-    let mut others = Vec::with_capacity(alloc, nodes.len())?;
-    for node in nodes {
-        others.push(renamed(node, numbers))?;
+// The vectors that are used, but for the one without prices.
+fn used_vectors(alloc: Global, state: &State, used: u128) -> Result<VectorList, Memory> {
+    let mut vectors = Vec::new(alloc);
+    for (number, pricing) in (0..).zip(&state.pricings) {
+        if is_listed(number, used) {
+            vectors.push(vector_of(alloc, &pricing.vector)?)?;
+        }
     }
-    Ok(others)
+    Ok(VectorList::new(vectors))
+}
+
+/// A copy of a vector.
+pub(crate) fn vector_of(alloc: Global, vector: &Vector) -> Result<Vector, Memory> {
+    Ok(Vector::new(Vec::from_slice(alloc, vector.items())?))
+}
+
+// Whether a vector is used, and is not the one without prices.
+fn is_listed(number: u32, used: u128) -> bool {
+    number > 0 && used & bit_of(number) != 0
+}
+
+// Lets leaves name their vectors by their numbers among those that are used.
+fn renumber(alloc: Global, state: &State, nodes: &mut [Node], used: u128) -> Result<(), Memory> {
+    let numbers = numbers_of(alloc, state.pricings.len(), used)?;
+    for node in nodes.iter_mut() {
+        *node = renamed(*node, &numbers);
+    }
+    Ok(())
+}
+
+// For each of so many vectors, how many up to it are used, but for the one without prices.
+fn numbers_of(alloc: Global, count: usize, used: u128) -> Result<Vec<u32>, Memory> {
+    let mut numbers = Vec::with_capacity(alloc, count)?;
+    let mut last: u32 = 0;
+    for (number, _) in (0..).zip(0..count) {
+        if is_listed(number, used) {
+            last = last.saturating_add(1);
+        }
+        numbers.push(last)?;
+    }
+    Ok(numbers)
 }
 
 // A node, where a leaf names its vector by one of these numbers.
