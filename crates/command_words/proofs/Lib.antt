@@ -8,3 +8,4 @@ mod Levels
 mod Rows
 mod Refused
 mod JobLemmas
+mod Tops

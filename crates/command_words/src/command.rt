@@ -2,7 +2,7 @@
 
 ghost use Rattle.std.specs.Prelude.{◌≡◌, [], ◌∷◌, map, IfOk, IfErr, false, codes};
 ghost use Rattle.clap.specs.Words.{app_of, shape_of, FailsBy, fault_of, HasMatchesOf, rule_of};
-ghost use Rattle.clap.specs.Words.{App, Shape, with_subcommand};
+ghost use Rattle.clap.specs.Words.{App, Shape, with_rule, with_subcommand};
 ghost use Rattle.clap.specs.declared.builder.command.Command.TheViews.{out-Command};
 ghost use Rattle.command_words.specs.Words.{words_of};
 ghost use Rattle.command_words.specs.Jobs.{allocate_command, check_command};
@@ -33,16 +33,52 @@ fn names<'a>(alloc: Global) -> Arg<'a>
     Arg::new(alloc, "names").action(ArgAction::Append)
 }
 
+/// A command with one option more.
+fn with_option<'a>(
+    alloc: Global,
+    command: Result<Command<'a>, AllocError>,
+    name: &'a str,
+) -> Result<Command<'a>, AllocError>
+    ensures app { (app : App) → IfOk command.entry (λ c. app_of c ≡ app)
+        → IfOk result (λ c. app_of c ≡ with_rule app (option_arg name.entry.now)) }
+    ensures local { IfOk command.entry (λ c. (out-Command c).has_globals ≡ false)
+        → IfOk result (λ c. (out-Command c).has_globals ≡ false) }
+{
+    let command = command?;
+    command.arg(option(alloc, name))
+}
+
+/// A command with its names, after its options.
+fn with_names<'a>(
+    alloc: Global,
+    command: Result<Command<'a>, AllocError>,
+) -> Result<Command<'a>, AllocError>
+    ensures app { (app : App) → IfOk command.entry (λ c. app_of c ≡ app)
+        → IfOk result (λ c. app_of c ≡ with_rule app names_arg) }
+    ensures local { IfOk command.entry (λ c. (out-Command c).has_globals ≡ false)
+        → IfOk result (λ c. (out-Command c).has_globals ≡ false) }
+{
+    let command = command?;
+    command.arg(names(alloc))
+}
+
+/// A command without options.
+fn naming<'a>(alloc: Global, name: &'a str) -> Result<Command<'a>, AllocError>
+    ensures shape { IfOk result (λ c. shape_of c ≡ leaf_of name.entry.now (args_for [])) }
+    ensures local { IfOk result (λ c. (out-Command c).has_globals ≡ false) }
+{
+    Command::new(alloc, name).arg(names(alloc))
+}
+
 /// A command that searches.
 fn searching<'a>(alloc: Global, name: &'a str) -> Result<Command<'a>, AllocError>
     ensures shape { IfOk result (λ c. shape_of c
         ≡ leaf_of name.entry.now (args_for (codes "nodes" ∷ codes "workers" ∷ []))) }
     ensures local { IfOk result (λ c. (out-Command c).has_globals ≡ false) }
 {
-    Command::new(alloc, name)
-        .arg(option(alloc, "nodes"))?
-        .arg(option(alloc, "workers"))?
-        .arg(names(alloc))
+    let one = with_option(alloc, Ok(Command::new(alloc, name)), "nodes");
+    let two = with_option(alloc, one, "workers");
+    with_names(alloc, two)
 }
 
 /// A command that serves clients.
@@ -51,11 +87,10 @@ fn serving<'a>(alloc: Global, name: &'a str) -> Result<Command<'a>, AllocError>
         (args_for (codes "links" ∷ codes "port" ∷ codes "workers" ∷ []))) }
     ensures local { IfOk result (λ c. (out-Command c).has_globals ≡ false) }
 {
-    Command::new(alloc, name)
-        .arg(option(alloc, "links"))?
-        .arg(option(alloc, "port"))?
-        .arg(option(alloc, "workers"))?
-        .arg(names(alloc))
+    let one = with_option(alloc, Ok(Command::new(alloc, name)), "links");
+    let two = with_option(alloc, one, "port");
+    let three = with_option(alloc, two, "workers");
+    with_names(alloc, three)
 }
 
 fn allocate<'a>(alloc: Global) -> Result<Command<'a>, AllocError>
@@ -69,14 +104,14 @@ fn check<'a>(alloc: Global) -> Result<Command<'a>, AllocError>
     ensures shape { IfOk result (λ c. shape_of c ≡ command_shape check_command) }
     ensures local { IfOk result (λ c. (out-Command c).has_globals ≡ false) }
 {
-    Command::new(alloc, "check").arg(names(alloc))
+    naming(alloc, "check")
 }
 
 fn amend<'a>(alloc: Global) -> Result<Command<'a>, AllocError>
     ensures shape { IfOk result (λ c. shape_of c ≡ command_shape amend_command) }
     ensures local { IfOk result (λ c. (out-Command c).has_globals ≡ false) }
 {
-    Command::new(alloc, "amend").arg(names(alloc))
+    naming(alloc, "amend")
 }
 
 fn serve<'a>(alloc: Global) -> Result<Command<'a>, AllocError>
@@ -97,7 +132,7 @@ fn usage<'a>(alloc: Global) -> Result<Command<'a>, AllocError>
     ensures shape { IfOk result (λ c. shape_of c ≡ command_shape usage_command) }
     ensures local { IfOk result (λ c. (out-Command c).has_globals ≡ false) }
 {
-    Command::new(alloc, "usage").arg(names(alloc))
+    naming(alloc, "usage")
 }
 
 fn reclear<'a>(alloc: Global) -> Result<Command<'a>, AllocError>
@@ -111,35 +146,35 @@ fn recheck<'a>(alloc: Global) -> Result<Command<'a>, AllocError>
     ensures shape { IfOk result (λ c. shape_of c ≡ command_shape recheck_command) }
     ensures local { IfOk result (λ c. (out-Command c).has_globals ≡ false) }
 {
-    Command::new(alloc, "recheck").arg(names(alloc))
+    naming(alloc, "recheck")
 }
 
 fn report<'a>(alloc: Global) -> Result<Command<'a>, AllocError>
     ensures shape { IfOk result (λ c. shape_of c ≡ command_shape report_command) }
     ensures local { IfOk result (λ c. (out-Command c).has_globals ≡ false) }
 {
-    Command::new(alloc, "report").arg(names(alloc))
+    naming(alloc, "report")
 }
 
 fn inspect<'a>(alloc: Global) -> Result<Command<'a>, AllocError>
     ensures shape { IfOk result (λ c. shape_of c ≡ command_shape inspect_command) }
     ensures local { IfOk result (λ c. (out-Command c).has_globals ≡ false) }
 {
-    Command::new(alloc, "inspect").arg(names(alloc))
+    naming(alloc, "inspect")
 }
 
 fn make<'a>(alloc: Global) -> Result<Command<'a>, AllocError>
     ensures shape { IfOk result (λ c. shape_of c ≡ command_shape make_command) }
     ensures local { IfOk result (λ c. (out-Command c).has_globals ≡ false) }
 {
-    Command::new(alloc, "make").arg(names(alloc))
+    naming(alloc, "make")
 }
 
 fn trial<'a>(alloc: Global) -> Result<Command<'a>, AllocError>
     ensures shape { IfOk result (λ c. shape_of c ≡ command_shape trial_command) }
     ensures local { IfOk result (λ c. (out-Command c).has_globals ≡ false) }
 {
-    Command::new(alloc, "trial").arg(names(alloc))
+    naming(alloc, "trial")
 }
 
 fn bare<'a>(alloc: Global) -> Command<'a>
