@@ -1,10 +1,11 @@
 //! What lies behind the turn.
 ghost use Rattle.std.specs.Prelude.{◌≡◌, ◌+◌, ◌<◌, ◌≤◌, ◌^◌, ◌++◌, ◌∷◌, [], List, length, All};
 ghost use Rattle.std.specs.Prelude.{IfOk, IfErr, OnOk};
-ghost use Rattle.holding_book.specs.Asks.{CanAsk};
+ghost use Rattle.holding_book.specs.Asks.{CanAsk, reply};
 ghost use Rattle.holding_book.specs.Books.{IsBook};
 ghost use Rattle.holding_book.specs.Histories.{replay, IsLegal};
 ghost use Rattle.holding_book.specs.declared.answer.Entry.{Entry as EntryValue};
+ghost use Rattle.holding_book.specs.declared.book.TheConstants.{MOST_NEW_FLIGHTS};
 ghost use Rattle.slot_ledger.specs.Starts.{first_book, new_entry};
 ghost use Rattle.slot_ledger.specs.Beside.{MayMark, RefusedAt, TellsNext, IsUnbroken};
 ghost use Rattle.slot_ledger.specs.Beside.{ReadsParts, ReadsEntries, ReadsOwn};
@@ -13,7 +14,7 @@ ghost use Rattle.slot_ledger.specs.Passes.{IsDue};
 use crate::beside::Beside;
 use crate::fault::EnterFault;
 use holding_book::laws::{next_books, one_more};
-use holding_book::{Answer, Book, Entry, HoldingList};
+use holding_book::{Answer, Book, Entry, HoldingList, Room};
 use scr_reader::Item;
 use season_days::Declaration;
 use slot_text::Memory;
@@ -29,10 +30,54 @@ pub struct Start {
     pub most: u32,
 }
 
+// The beginning that a book is, copied, with the greatest length of its history.
+fn start_of(alloc: Global, book: &Book, most: u32) -> Result<Start, Memory>
+    ensures declaration { IfOk result (λ start. start.declaration
+        ≡ book.now.book.declaration) }
+    ensures holdings { IfOk result (λ start. start.holdings ≡ book.now.book.holdings) }
+    ensures most { IfOk result (λ start. start.most ≡ most) }
+{
+    let declaration = book.declaration().copy(alloc)?;
+    let holdings = HoldingList::new(Vec::from_slice(alloc, book.holdings())?);
+    Ok(Start {
+        declaration,
+        holdings,
+        most,
+    })
+}
+
 /// What a ledger was started with, as its passes show it. Proofs alone have values of it.
 pub struct Origin<S> {
     pub start: Start,
     pub beside: S,
+}
+
+// What an ask is entered with: the room for its change, and its entry.
+#[derive(Drop)]
+struct Ready {
+    room: Room,
+    entry: Entry,
+}
+
+// Takes the memory of the change and of the entry. The holdings stay as they are.
+fn make_ready(alloc: Global, book: &mut Book, caller: u32, ask: &Item) -> Result<Ready, Memory>
+    requires ask { CanAsk book.old.book.declaration ask.now }
+    requires few { length book.old.book.holdings + 4 < 2 ^ 32 }
+    ensures stays { book.new.book ≡ book.old.book }
+    ensures book { IfOk result (λ ready. ready.room.book ≡ book.old.book) }
+    ensures ask { IfOk result (λ ready. ready.room.ask ≡ ask.now) }
+    ensures entry { IfOk result (λ ready. ready.entry
+        ≡ new_entry caller ask.now (reply book.old.book ask.now)) }
+    ensures spare { OnOk result (MOST_NEW_FLIGHTS ≤ book.new.spare) }
+{
+    let room = book.prepare(alloc, ask)?;
+    let answer = room.answer().copy(alloc)?;
+    let entry = Entry {
+        caller,
+        ask: *ask,
+        answer,
+    };
+    Ok(Ready { room, entry })
 }
 
 /// A book, the history that led to it, and what is kept beside the history.
@@ -96,11 +141,7 @@ impl<B: Beside> Shared<B> {
         ensures empty { IfOk result (λ shared. shared.history ≡ []) }
         ensures beside { IfOk result (λ shared. shared.beside ≡ beside) }
     {
-        let start = Start {
-            declaration: book.declaration().copy(alloc)?,
-            holdings: HoldingList::new(Vec::from_slice(alloc, book.holdings())?),
-            most,
-        };
+        let start = start_of(alloc, &book, most)?;
         Ok(Shared {
             start,
             book,
@@ -189,19 +230,14 @@ impl<B: Beside> Shared<B> {
         one_more();
         let _ = self.book.declaration();
         self.open()?;
-        let room = self.book.prepare(alloc, ask)?;
-        let answer = room.answer().copy(alloc)?;
         self.history.reserve(1)?;
+        let ready = make_ready(alloc, &mut self.book, caller, ask)?;
         match self.beside.keep(alloc, caller, ask) {
             Ok(()) => {}
             Err(fault) => return Err(fault),
         }
-        let given = self.book.apply_with(ask, room);
-        self.history.push_reserved(Entry {
-            caller,
-            ask: *ask,
-            answer,
-        });
+        let given = self.book.apply_with(ask, ready.room);
+        self.history.push_reserved(ready.entry);
         Ok(given)
     }
 }
