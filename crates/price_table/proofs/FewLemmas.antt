@@ -1,23 +1,22 @@
 -- Prices that are looked up strip by strip.
-use Rattle.std.proofs.Common.{◌≡◌, ℕ, zero, suc, ◌+◌, ◌-◌, ◌*◌, ◌%◌, ◌<◌, ◌≤◌, ◌^◌, min, refl, sym, ◌∙◌, ap, arith, List, [], ◌∷◌, length, map, take, inl, inr, false, ltb, ltb-true, lt-ltb, Option, Some, None}
-use Rattle.std.specs.Prelude.{slice_index_or, AllPairs, nat_le, nat_lt, ◌&&◌, sum_by}
+use Rattle.std.proofs.Common.{◌≡◌, ℕ, zero, suc, ◌+◌, ◌-◌, ◌*◌, ◌%◌, ◌<◌, ◌≤◌, ◌^◌, min, refl, sym, ◌∙◌, ap, arith, List, [], ◌∷◌, length, take, inl, inr, Bool, true, false, ltb, ltb-true, lt-ltb, Option, Some, None}
+use Rattle.std.specs.Prelude.{slice_index, slice_index_or, AllPairs, nat_le, nat_lt, ◌&&◌, sum_by}
 use Rattle.std.specs.Option.{ForSome}
 use Rattle.std.proofs.lemmas.Nat.{mul-le}
 use Rattle.std.proofs.Math.Nat.{mul-add-mod_self_right, mod-le}
 use Rattle.std.proofs.lemmas.Bool.{cases_lt, cases_eq}
 use Rattle.std.specs.List.Sorted.{IsPartitionedBy}
 use Rattle.std.proofs.lemmas.Grind.{common_steps}
-use Rattle.std.proofs.lemmas.List.{get_or-map}
 use Rattle.std.proofs.lemmas.List.Sums.{sum_by-cons, sum_by_more}
-use Rattle.std.proofs.Math.ListN.{length-map}
 use Rattle.choice_problem.specs.declared.strips.Strip.{Strip}
 use Rattle.choice_problem.specs.declared.vectors.Price.{Price}
 use Rattle.choice_problem.specs.Strips.{run_start, is_in_run, strip_uses, part_uses}
-use Rattle.choice_problem.specs.Problems.{ProblemView, ChooserView, IsChooser, resource_count, chooser_at, alt_at, part_at, named_uses, alt_uses, amount}
+use Rattle.choice_problem.specs.Problems.{ProblemView, ChooserView, IsChooser, resource_count, part_count, chooser_at, alt_at, part_at, named_uses, alt_uses, amount}
 use Rattle.choice_problem.specs.Bounds.{price_at, priced, IsVector}
 use Rattle.finite_sums.proofs.SumLemmas.{count_below-none}
 use Rattle.price_table.specs.Tables.{named_price, PricesUnit}
 use Rattle.price_table.specs.Few.{AreFewPrices, strip_priced, capped_priced}
+use Rattle.price_table.specs.Named.{AreNamed, is_named}
 use Rattle.price_table.proofs.TableLemmas.{priced-le}
 
 -- prices by rising resource: those of resources below one come first
@@ -161,22 +160,22 @@ AreFewPrices-of p prices v few = record {
   small = λ k d l. (v.each k d l).small;
 }
 
-named-priced : (prices : List Price) (m : ChooserView) (named : Option ℕ) → ForSome named (λ k. k < length m.parts) →
-    named_price (map (λ strips. capped_priced prices strips) m.parts) named ≡ min (priced prices (λ r. named_uses m named r)) (2 ^ 128 - 1)
-named-priced prices m None l = omega (arith, priced-zero prices)
-named-priced prices m (Some k) l =
-    get_or-map (λ strips. capped_priced prices strips) m.parts k [] 0 (l k refl)
-    ∙ ap (λ v. min v (2 ^ 128 - 1)) (part-priced prices (part_at m k))
+named-priced : (prices : List Price) (m : ChooserView) (costs : List ℕ) (named : Option ℕ) → ForSome named (λ k. slice_index costs k ≡ capped_priced prices (part_at m k)) →
+    named_price costs named ≡ min (priced prices (λ r. named_uses m named r)) (2 ^ 128 - 1)
+named-priced prices m costs None l = omega (arith, priced-zero prices)
+named-priced prices m costs (Some k) l = l k refl ∙ ap (λ v. min v (2 ^ 128 - 1)) (part-priced prices (part_at m k))
 
--- the capped costs of a unit's parts price its alternatives
-pub capped_priced-PricesUnit : (p : ProblemView) (prices : List Price) (u : ℕ) → IsVector p prices → resource_count p ≤ 1000000 → IsChooser (chooser_at p u) →
-    PricesUnit p prices u (map (λ strips. capped_priced prices strips) (chooser_at p u).parts)
-capped_priced-PricesUnit p prices u v few m = record {
-  count = simp length-map;
+-- the capped costs of a unit's parts price its alternatives, where those are right that an alternative names
+pub capped_priced-PricesUnit : (p : ProblemView) (prices : List Price) (u : ℕ) (costs : List ℕ) (named : List Bool) → IsVector p prices → resource_count p ≤ 1000000 →
+    IsChooser (chooser_at p u) → AreNamed (chooser_at p u).alts (part_count p u) named → length costs ≡ part_count p u →
+    ((k : ℕ) → k < part_count p u → is_named named k ≡ true → slice_index costs k ≡ capped_priced prices (part_at (chooser_at p u) k)) →
+    PricesUnit p prices u costs
+capped_priced-PricesUnit p prices u costs named v few m h count each = record {
+  count = count;
   uses = λ a l.
       let unit = chooser_at p u in
-      let one = named-priced prices unit (alt_at unit a).one (m.one a l) in
-      let two = named-priced prices unit (alt_at unit a).two (m.two a l) in
+      let one = named-priced prices unit costs (alt_at unit a).one (λ k e. each k (m.one a l k e) (h.one a l k e)) in
+      let two = named-priced prices unit costs (alt_at unit a).two (λ k e. each k (m.two a l k e) (h.two a l k e)) in
       let both = priced-add prices (λ r. named_uses unit (alt_at unit a).one r) (λ r. named_uses unit (alt_at unit a).two r) in
       omega (arith, one, two, both, priced-le p prices 434 (λ r. alt_uses p u a r) v (λ r. m.uses a r l), few);
 }

@@ -3,3 +3,5 @@ mod TableLemmas
 mod BoundLemmas
 mod TotalLemmas
 mod FewLemmas
+mod StridedLemmas
+mod FoldedLemmas

@@ -10,6 +10,7 @@
 mod bounds;
 mod closing;
 mod few;
+mod folded;
 mod strips;
 mod tables;
 mod totals;

@@ -1,10 +1,11 @@
 //! Prices of strips and parts, by sums of the prices of the resources.
 
-ghost use Rattle.std.specs.Prelude.{◌≡◌, ℕ, ◌+◌, ◌-◌, ◌<◌, ◌≤◌, ◌^◌, IfOk, length, slice_index};
+ghost use Rattle.std.specs.Prelude.{◌≡◌, ℕ, ◌+◌, ◌-◌, ◌<◌, ◌≤◌, ◌^◌, IsTrue, IfOk, length, slice_index};
 ghost use Rattle.choice_problem.specs.declared.problems.TheConstants.{MOST_RESOURCES};
 ghost use Rattle.choice_problem.specs.Strips.{IsStripInRange};
 ghost use Rattle.choice_problem.specs.Problems.{resource_count};
 ghost use Rattle.price_table.specs.Strips.{ArePrices, AreSums, strip_cost};
+ghost use Rattle.price_table.specs.Strided.{IsTotalled, AreGapTotals, strided_cost};
 
 use crate::bounds::{Least, first_least};
 use choice_problem::{Part, Problem, Ranges, Strip};
@@ -34,38 +35,32 @@ impl UnitPrices {
     }
 }
 
-// How many strips are kept with their prices.
-pub(crate) const PLACES: usize = 65_536;
-
 // So few strips that what they cost together fits 128 bits.
 const MOST_SUMMED: usize = 4_294_967_296;
 
-// A strip, and what it costs.
-#[derive(Clone, Copy)]
-pub(crate) struct Known {
-    pub(crate) strip: Strip,
-    pub(crate) price: u128,
-}
-
 /// The prices of strips, at one price for each resource: the sums of the prices before each
-/// resource, and some strips of several runs that were priced by them, since the strips of many
-/// units are the same. Contracts see the sums. 8 bytes a resource, and 2 MB from the first strip of
-/// several runs on; where there is no memory for these, each strip is priced anew.
+/// resource, and totals of these sums along one gap, since most strips of several runs have the
+/// same gap: at each resource the sum there, and those at all whole gaps from it on. Contracts see
+/// the sums. 8 bytes a resource, and as many again from the first strip of several runs on; where
+/// there is no memory for these, or a total does not fit 64 bits, each strip is priced run by run.
 #[derive(Drop)]
 pub struct StripPrices {
     sums: Vec<u64>,
-    known: Vec<Known>,
+    // One for each sum, or none.
+    totals: Vec<u64>,
+    // The gap of the totals, or 0 while none were asked for.
+    gap: u32,
 }
 
 impl Model for StripPrices {
     ghost use Rattle.std.specs.Prelude.{List, ℕ};
-    ghost use Rattle.price_table.specs.Known.{AreKnown};
+    ghost use Rattle.price_table.specs.Strided.{AreGapTotals};
 
     ghost Value = { List ℕ };
 
     ghost view = { λ t. t.sums.items };
 
-    ghost invariant = { λ t. AreKnown t.sums.items t.known.items };
+    ghost invariant = { λ t. AreGapTotals t.sums.items t.totals.items t.gap };
 }
 
 impl StripPrices {
@@ -80,7 +75,7 @@ impl StripPrices {
     ghost use Rattle.price_table.specs.Strips.{ArePrices, AreSums, AreSumsOf, IsPricedBy, strip_cost, part_cost, capped_cost};
     ghost use Rattle.price_table.specs.Strips.{least_alt, unit_least};
 
-    /// The sums of these prices, one below 2^40 for each resource, and no strip priced yet: one
+    /// The sums of these prices, one below 2^40 for each resource, and no totals of them yet: one
     /// step a resource.
     pub fn new(alloc: Global, problem: &Problem, prices: &[u64]) -> Result<StripPrices, Memory>
         requires { ArePrices problem.now prices.now }
@@ -90,7 +85,8 @@ impl StripPrices {
         let sums = sums_of(alloc, problem, prices)?;
         Ok(StripPrices {
             sums,
-            known: Vec::new(alloc),
+            totals: Vec::new(alloc),
+            gap: 0,
         })
     }
 
@@ -146,8 +142,9 @@ impl StripPrices {
         first_least(problem.unit_alts(unit), low, high, parts, scale)
     }
 
-    /// What a part costs, within 128 bits, in one step a strip, and one a run of each strip that is
-    /// priced. Parts that an alternative names stay far below.
+    /// What a part costs, within 128 bits, in one step a strip whose gap is that of the totals, and
+    /// one a run of others; the first strip of several runs makes the totals, at one step a
+    /// resource. Parts that an alternative names stay far below.
     pub fn part(&mut self, part: &Part) -> u128
         requires some { 0 < length self.old }
         requires there { IsPartInRange (length self.old - 1) part.now }
@@ -191,8 +188,7 @@ impl StripPrices {
         total
     }
 
-    // What a strip costs. One of a single run costs two sums, which is less than to look it up
-    // among the kept ones.
+    // What a strip costs. One of a single run costs two sums, and needs no totals.
     fn strip(&mut self, strip: &Strip) -> u128
         requires some { 0 < length self.old }
         requires there { IsStripInRange (length self.old - 1) strip.now }
@@ -207,7 +203,7 @@ impl StripPrices {
         }
     }
 
-    // What a strip costs that may be kept. It stays apart from the loops over strips, most of which
+    // What a strip of several runs costs. It stays apart from the loops over strips, most of which
     // have one run.
     #[inline(never)]
     fn several(&mut self, strip: &Strip) -> u128
@@ -217,48 +213,19 @@ impl StripPrices {
         ensures small { result < 2 ^ 96 }
         ensures same { self.new ≡ self.old }
     {
-        self.make_places();
-        let place = place_of(strip);
-        if place >= self.known.len() {
-            return strip_price(&self.sums, strip);
-        }
-        let known = self.known[place];
-        if known.strip == *strip {
-            return known.price;
-        }
-        let price = strip_price(&self.sums, strip);
-        self.known[place] = Known {
-            strip: *strip,
-            price,
-        };
-        price
+        self.make_totals(strip.gap);
+        several_price(&self.sums, &self.totals, self.gap, strip)
     }
 
-    // Makes the places of strips, where there are none and memory allows it: strips are priced
-    // without them too.
-    fn make_places(&mut self)
+    // Makes the totals along a gap, if it is the first one above 0.
+    fn make_totals(&mut self, gap: u32)
         ensures same { self.new ≡ self.old }
     {
-        if self.known.is_empty() {
-            let none = Known {
-                strip: Strip {
-                    first: 0,
-                    width: 0,
-                    gap: 0,
-                    times: 0,
-                },
-                price: 0,
-            };
-            let _made = self.known.resize(PLACES, none);
+        if self.gap == 0 && gap > 0 {
+            self.gap = gap;
+            put_totals(&mut self.totals, &self.sums, gap as usize);
         }
     }
-}
-
-// Where a strip is kept, if it is: the high bits of its hash code.
-fn place_of(strip: &Strip) -> usize
-    ensures { result < 65536 }
-{
-    (strip.hash_code() >> 16) as usize
 }
 
 // For each resource the sum of the prices before it, and of all.
@@ -300,4 +267,71 @@ fn strip_price(sums: &[u64], strip: &Strip) -> u128
         total += u128::from(sums[end as usize].saturating_sub(sums[start as usize]));
     }
     total
+}
+
+// Puts the totals of numbers along a gap, or none where memory does not allow it or one does not
+// fit.
+fn put_totals(totals: &mut Vec<u64>, numbers: &[u64], gap: usize)
+    requires { 0 < gap }
+    ensures { length totals.new.items ≡ length numbers.now →
+        IsTotalled numbers.now totals.new.items gap }
+{
+    totals.clear();
+    if totals.extend_from_slice(numbers).is_err() || !add_along(totals, gap) {
+        totals.clear();
+    }
+}
+
+// Adds to each number those at all whole gaps from it on, and answers whether all fit.
+fn add_along(numbers: &mut [u64], gap: usize) -> bool
+    requires { 0 < gap }
+    ensures { IsTrue result → IsTotalled numbers.old numbers.new gap }
+{
+    let count = numbers.len();
+    for added in gap..count {
+        let place = count - 1 - added;
+        match numbers[place].checked_add(numbers[place + gap]) {
+            Some(total) => numbers[place] = total,
+            None => return false,
+        }
+    }
+    true
+}
+
+// What a strip costs: by the totals, if there are some along its gap, else run by run.
+fn several_price(sums: &[u64], totals: &[u64], gap: u32, strip: &Strip) -> u128
+    requires some { 0 < length sums.now }
+    requires there { IsStripInRange (length sums.now - 1) strip.now }
+    requires totals { AreGapTotals sums.now totals.now gap }
+    ensures cost { result ≡ strip_cost sums.now strip.now }
+    ensures small { result < 2 ^ 96 }
+{
+    if strip.gap == gap && totals.len() == sums.len() {
+        u128::from(strided_price(totals, strip))
+    } else {
+        strip_price(sums, strip)
+    }
+}
+
+// What a strip costs by totals along its gap: a total less the one past the last run is the sum
+// over the runs, here of the sums up to their ends and of the sums up to their starts.
+fn strided_price(totals: &[u64], strip: &Strip) -> u64
+    ensures { result ≡ strided_cost totals.now strip.now }
+{
+    let (start, end) = strip.run(0);
+    let (past_start, past_end) = strip.run(strip.times);
+    let ends = number_at(totals, end).saturating_sub(number_at(totals, past_end));
+    let starts = number_at(totals, start).saturating_sub(number_at(totals, past_start));
+    ends.saturating_sub(starts)
+}
+
+// A number, or 0 past the last.
+fn number_at(numbers: &[u64], place: u64) -> u64
+    ensures { result ≡ slice_index numbers.now place }
+{
+    if place < numbers.len() as u64 {
+        numbers[place as usize]
+    } else {
+        0
+    }
 }

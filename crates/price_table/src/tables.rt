@@ -9,6 +9,7 @@ ghost use Rattle.price_table.specs.Tables.{ArePriced, IsTableFor, vectors_of};
 ghost use Rattle.price_table.specs.Strips.{IsSpread, AreSumsOf};
 
 use crate::few::{are_few, looked_up};
+use crate::folded::{fold_prices, period_of};
 use crate::strips::{StripPrices, UnitPrices};
 use choice_problem::{Problem, Vector, priced_limits};
 use slot_text::Memory;
@@ -16,7 +17,7 @@ use std::alloc::Global;
 use std::marker::Model;
 
 /// What the parts of all units and the limits cost at the prices of a vector, which it keeps: 16
-/// bytes a part and a price.
+/// bytes a part and a price. A part that no alternative names may be left out, and stand for 0.
 #[derive(Drop)]
 pub struct PriceTable {
     vector: Vector,
@@ -62,18 +63,22 @@ impl PriceTable {
 }
 
 /// The table of a vector for a problem, in one of two ways, by how many prices and strips there
-/// are. A vector of few prices, at most 4,096, takes up to 12 steps a strip of each part and one
-/// for each price between a strip's first resource and its end, and no memory beside the table.
-/// Else it takes one step a resource and a strip of each part, and one a run of each strip that is
-/// priced: strips that differ, and those that take turns in one of 65,536 places. Memory is then 16
-/// bytes a resource and 2 MB while it is made.
+/// are. A vector of few prices, at most 4,096, is looked up: they are sorted by their places in a
+/// period, the gap of the first strip of several runs, which takes up to 12 steps a place. A strip
+/// whose runs are a period apart, none past a period's end, then takes one step a price at its own
+/// places; another one takes up to 12 steps, and one a price between its first resource and its
+/// end. Memory beside the table is 16 bytes a price and 8 a place, of which there are at most
+/// 65,536. Else the prices are summed up, at two steps a resource and one a strip of each part, or
+/// one a run where a strip's gap is not that of the first strip of several runs. Memory is then 16
+/// bytes a resource while it is made.
 pub fn price_table(alloc: Global, problem: &Problem, vector: &Vector) -> Result<PriceTable, Memory>
     requires { IsVector problem.now vector.now }
     ensures vector { IfOk result (λ table. table.prices ≡ vector.now) }
     ensures valid { IfOk result (λ table. IsTableFor problem.now table) }
 {
-    let units = if are_few(problem, vector) {
-        units_looked_up(alloc, problem, vector)?
+    let period = period_of(problem);
+    let units = if are_few(problem, vector, period) {
+        units_looked_up(alloc, problem, vector, period)?
     } else {
         units_by_sums(alloc, problem, vector)?
     };
@@ -126,15 +131,18 @@ fn units_looked_up(
     alloc: Global,
     problem: &Problem,
     vector: &Vector,
+    period: u32,
 ) -> Result<Vec<UnitPrices>, Memory>
     requires vector { IsVector problem.now vector.now }
     requires few { length vector.now ≤ MOST_FEW }
     requires resources { resource_count problem.now ≤ MOST_RESOURCES }
     ensures { IfOk result (λ units. ArePriced problem.now vector.now units.items) }
 {
+    let prices = vector.items();
+    let folded = fold_prices(alloc, prices, period)?;
     let mut units = Vec::new(alloc);
     for unit in 0..problem.units() {
-        units.push(looked_up(alloc, problem, vector.items(), unit)?)?;
+        units.push(looked_up(alloc, problem, prices, &folded, unit)?)?;
     }
     Ok(units)
 }

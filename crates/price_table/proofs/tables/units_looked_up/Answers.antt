@@ -5,7 +5,7 @@ use Rattle.price_table.proofs.FewLemmas.{AreFewPrices-of}
 use Rattle.price_table.proofs.tables.units_looked_up.Goals as goal
 
 pub looked_up-requires-clause-few : goal.looked_up-requires-clause-few
-looked_up-requires-clause-few c = rw c.items.ensures (AreFewPrices-of c.args.problem.now c.args.vector.now c.requires.vector c.requires.few)
+looked_up-requires-clause-few c = rw c.items-prices.ensures (AreFewPrices-of c.args.problem.now c.args.vector.now c.requires.vector c.requires.few)
 
 pub loop-unit-preserved : goal.loop-unit-preserved
 loop-unit-preserved c =
@@ -19,6 +19,6 @@ loop-unit-preserved c =
       each = λ u l. rw push (elim (cases_lt u unit) [
         | inl below ↦ rw (get_or_append_left units (parts ∷ []) [] u (omega (arith, count))) (c.loop-unit.invariant.each u below)
         | inr last ↦ let e : unit ≡ u = omega arith in
-            rw (← e, get_or_push units parts [] unit count) (rw c.items.ensures at c.in_ok-looked_up.ensures)
+            rw (← e, get_or_push units parts [] unit count) (rw c.items-prices.ensures at c.in_ok-looked_up.ensures)
       ]);
     }

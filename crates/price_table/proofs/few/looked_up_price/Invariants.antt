@@ -1,7 +1,7 @@
 use Rattle.std.proofs.Common.{◌≡◌, ◌≤◌, ◌*◌, ◌^◌, take}
 use Rattle.choice_problem.specs.Strips.{strip_uses}
 use Rattle.choice_problem.specs.Bounds.{priced}
-use Rattle.price_table.proofs.few.strip_price.Given as goal
+use Rattle.price_table.proofs.few.looked_up_price.Given as goal
 
 abbrev pub invariant-loop-place : goal.invariant-loop-place
 invariant-loop-place l = record {

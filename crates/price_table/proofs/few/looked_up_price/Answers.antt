@@ -2,7 +2,7 @@ use Rattle.std.proofs.Common.{◌+◌, ◌-◌, ◌≤◌, ◌∙◌, sym, arith
 use Rattle.choice_problem.specs.Strips.{run_start}
 use Rattle.choice_problem.specs.Bounds.{price_at}
 use Rattle.price_table.proofs.FewLemmas.{strip-before, strip-after}
-use Rattle.price_table.proofs.few.strip_price.Goals as goal
+use Rattle.price_table.proofs.few.looked_up_price.Goals as goal
 
 pub loop-place-init : goal.loop-place-init
 loop-place-init c = record {
