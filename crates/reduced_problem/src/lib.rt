@@ -7,18 +7,34 @@
 //! only that each class that is kept names a resource of the problem, with its limit.
 #![tactic(auto)]
 
+mod candidates;
+mod changes;
 mod classes;
-mod contained;
+mod covered;
+mod edges;
+mod found;
 mod greatest;
-mod lists;
+mod grids;
+mod hits;
+mod left_parts;
+mod left_uses;
 mod marks;
+mod narrowed;
 mod numbers;
 mod outline;
-mod part_lists;
+mod part_uses;
 mod reduce;
 mod rows;
+mod same_parts;
+mod settled;
 mod sums;
+mod sweeps;
+mod tally;
+mod team;
+mod user_runs;
 mod users;
+mod within;
 
 pub use classes::{Class, ClassUse, UserRun};
+pub use narrowed::{NO_CLASS, Narrowed};
 pub use reduce::Reduced;

@@ -15,6 +15,14 @@ pub(crate) fn amount_at(amounts: &[u64], at: usize) -> u64 {
     if at < amounts.len() { amounts[at] } else { 0 }
 }
 
+// Puts a number at a place of a list, or nowhere past its end.
+pub(crate) fn put_number(numbers: &mut [u32], place: u32, number: u32) {
+    let at = place as usize;
+    if at < numbers.len() {
+        numbers[at] = number;
+    }
+}
+
 // A length as a number, of at most 2^32 - 1.
 pub(crate) fn as_number(length: usize) -> u32 {
     if length < 0xffff_ffff {

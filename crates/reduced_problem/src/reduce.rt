@@ -1,30 +1,38 @@
 //! The reduction of a problem.
 
+ghost use Rattle.std.specs.Prelude.{IfOk};
+ghost use Rattle.reduced_problem.specs.Reduced.{ArePicked};
+
 use crate::classes::{Class, ClassUse, UserRun, marked_classes};
-use crate::contained::unmark_contained;
+use crate::covered::{Compared, Near, judged_pieces, unmark_covered};
+use crate::found::Found;
 use crate::greatest::joined_uses;
-use crate::lists::strip_classes;
 use crate::marks::least_limits;
 use crate::numbers::as_number;
 use crate::outline::Outline;
-use crate::part_lists::part_classes;
+use crate::part_uses::{PartUses, list_pieces};
 use crate::rows::Rows;
 use crate::sums::resource_keys;
-use crate::users::{class_users, kept_users};
+use crate::team::Team;
+use crate::users::{Users, kept_users, row_pieces};
 use choice_problem::Problem;
 use slot_text::Memory;
 use std::alloc::Global;
 use std::marker::Model;
+use std::thread::Threads;
+
+// A problem with fewer parts is reduced by one worker.
+const LEAST_PARTS: usize = 4_096;
 
 /// The classes of a problem's resources that are kept, by rising resource, the classes that each
 /// part uses, and the parts that use each class. Contracts see the classes. Parts are numbered
-/// through all units, from 0. 8 bytes a part and a class that it uses, and 12 bytes a run of a
-/// class's users.
+/// through all units, from 0. 8 bytes a class that a part uses, once for parts with the same
+/// strips, 24 bytes a part, and 12 bytes a run of a class's users.
 #[derive(Drop)]
 pub struct Reduced {
     classes: Vec<Class>,
     units: Vec<u32>,
-    uses: Rows<ClassUse>,
+    uses: PartUses,
     users: Rows<UserRun>,
 }
 
@@ -48,19 +56,56 @@ impl Reduced {
     /// all classes keeps those of all resources; this is tested, and no clause says it.
     ///
     /// Time and memory of some steps a resource, a strip of each part, a run of the strips that
-    /// differ, and a class that a part uses: 500 daily turnarounds under 16 capacity lines take a
-    /// tenth of a second.
+    /// differ, a run of users of a class, and a class that a part uses, and for each part one step
+    /// for 64 classes: 500 daily turnarounds under 16 capacity lines take less than a tenth of a
+    /// second.
     pub fn of(alloc: Global, problem: &Problem) -> Result<Reduced, Memory>
         ensures { IfOk result (λ kept. ArePicked problem.now kept) }
     {
         let outline = Outline::of(alloc, problem)?;
         let mut marks = least_marks(alloc, problem, &outline)?;
-        let users = kept_classes(alloc, problem, &outline, &mut marks)?;
-        let uses = part_classes(alloc, &users, outline.parts.len())?;
+        let found = Found::of(alloc, problem, &outline, &marks)?;
+        finish(alloc, problem, &outline, &found, &mut marks)
+    }
+
+    /// The same reduction as that of `of`, for each number of workers. Of a problem of 4,096 parts
+    /// or more, so many of them compare classes, and list what parts use, side by side; each takes
+    /// up to eight bytes a class more than one alone.
+    pub fn by_workers<R: Threads + Sync>(
+        rt: &R,
+        alloc: Global,
+        problem: &Problem,
+        workers: u32,
+    ) -> Result<Reduced, Memory>
+        ensures { IfOk result (λ kept. ArePicked problem.now kept) }
+    {
+        if workers < 2 || part_count(problem) < LEAST_PARTS {
+            return Reduced::of(alloc, problem);
+        }
+        let outline = Outline::of(alloc, problem)?;
+        let mut marks = least_marks(alloc, problem, &outline)?;
+        let found = Found::of(alloc, problem, &outline, &marks)?;
+        let team = Team {
+            rt,
+            workers: workers as usize,
+        };
+        finish_by(&team, alloc, problem, &outline, &found, &mut marks)
+    }
+
+    // The reduction with other classes, uses and users over the same parts.
+    pub(crate) fn with(
+        &self,
+        alloc: Global,
+        classes: Vec<Class>,
+        uses: Rows<ClassUse>,
+        users: Rows<UserRun>,
+    ) -> Result<Reduced, Memory>
+        ensures { IfOk result (λ other. other ≡ classes.items) }
+    {
         Ok(Reduced {
-            classes: marked_classes(alloc, problem, &marks)?,
-            units: outline.units,
-            uses,
+            classes,
+            units: Vec::from_slice(alloc, &self.units)?,
+            uses: PartUses::of_rows(alloc, uses)?,
             users,
         })
     }
@@ -98,6 +143,15 @@ impl Reduced {
     }
 }
 
+// How many parts all units have.
+fn part_count(problem: &Problem) -> usize {
+    let mut count: usize = 0;
+    for unit in 0..problem.units() {
+        count = count.saturating_add(problem.unit_parts(unit).len());
+    }
+    count
+}
+
 // Marks of one resource for each set of users, where it can be passed.
 fn least_marks(alloc: Global, problem: &Problem, outline: &Outline) -> Result<Vec<bool>, Memory> {
     let keys = resource_keys(alloc, outline, problem.resources())?;
@@ -105,16 +159,86 @@ fn least_marks(alloc: Global, problem: &Problem, outline: &Outline) -> Result<Ve
     least_limits(alloc, problem, &uses, &keys)
 }
 
-// Takes the marks of classes away that are contained in others, and gives the users of the others.
-fn kept_classes(
+// The reduction by what was found of the marked resources. Takes the marks of those away that are
+// not kept.
+fn finish(
     alloc: Global,
     problem: &Problem,
     outline: &Outline,
+    found: &Found,
     marks: &mut [bool],
-) -> Result<Rows<UserRun>, Memory> {
-    let classes = marked_classes(alloc, problem, marks)?;
-    let strips = strip_classes(alloc, &outline.strips, marks)?;
-    let users = class_users(alloc, outline, &strips, classes.len())?;
-    unmark_contained(alloc, &users, &classes, marks)?;
-    kept_users(alloc, &users, &classes, marks)
+) -> Result<Reduced, Memory>
+    ensures { IfOk result (λ kept. ArePicked problem.now kept) }
+{
+    let users = kept_classes(alloc, found, marks)?;
+    let uses = part_lists(alloc, outline, found, marks)?;
+    Ok(Reduced {
+        classes: marked_classes(alloc, problem, marks)?,
+        units: Vec::from_slice(alloc, &outline.units)?,
+        uses,
+        users,
+    })
+}
+
+// The same, by several workers.
+fn finish_by<R: Threads + Sync>(
+    team: &Team<'_, R>,
+    alloc: Global,
+    problem: &Problem,
+    outline: &Outline,
+    found: &Found,
+    marks: &mut [bool],
+) -> Result<Reduced, Memory>
+    ensures { IfOk result (λ kept. ArePicked problem.now kept) }
+{
+    let users = team.kept_classes(alloc, found, marks)?;
+    let uses = team.part_lists(alloc, outline, found, marks)?;
+    Ok(Reduced {
+        classes: marked_classes(alloc, problem, marks)?,
+        units: Vec::from_slice(alloc, &outline.units)?,
+        uses,
+        users,
+    })
+}
+
+// Takes the marks of classes away that are contained in others, and gives the users of the others.
+fn kept_classes(alloc: Global, found: &Found, marks: &mut [bool]) -> Result<Rows<UserRun>, Memory> {
+    let users = class_users(alloc, found)?;
+    judge(alloc, found.compared(&users), marks)?;
+    kept_users(alloc, &users, &found.runs, &found.classes, marks)
+}
+
+// The users of all classes.
+fn class_users(alloc: Global, found: &Found) -> Result<Users, Memory> {
+    let mut pieces = row_pieces(alloc, &found.grids)?;
+    for piece in pieces.iter_mut() {
+        piece.make(alloc, &found.grids, &found.columns);
+    }
+    Users::of(alloc, pieces, &found.grids.order, found.classes.len())
+}
+
+// Takes the marks of classes away whose users are among those of others.
+fn judge(alloc: Global, compared: Compared<'_>, marks: &mut [bool]) -> Result<(), Memory> {
+    let near = Near::of(alloc, compared)?;
+    let mut pieces = judged_pieces(alloc, compared.classes.len(), 1)?;
+    for piece in pieces.iter_mut() {
+        piece.make(compared, &near);
+    }
+    unmark_covered(compared.classes, &pieces, marks)
+}
+
+// What all parts use of the marked resources.
+fn part_lists(
+    alloc: Global,
+    outline: &Outline,
+    found: &Found,
+    marks: &[bool],
+) -> Result<PartUses, Memory> {
+    let kept = found.kept(alloc, outline, marks)?;
+    let ground = kept.ground();
+    let mut pieces = list_pieces(alloc, &outline.units, outline.parts.len(), 1)?;
+    for piece in pieces.iter_mut() {
+        piece.make(alloc, ground);
+    }
+    PartUses::of(alloc, pieces, ground.same)
 }

@@ -1,0 +1,167 @@
+//! What is found of a problem's marked resources, before it is known which of them are kept.
+
+use crate::classes::{Class, is_marked, marked_classes};
+use crate::covered::Compared;
+use crate::edges::{Edge, edges_of};
+use crate::grids::{Grids, counts_below};
+use crate::hits::{Hit, by_column, hits_of};
+use crate::numbers::number_at;
+use crate::outline::Outline;
+use crate::part_uses::Ground;
+use crate::rows::Rows;
+use crate::same_parts::same_parts;
+use crate::settled::{settled, unsettled};
+use crate::sweeps::Sweeps;
+use crate::user_runs::UserRuns;
+use crate::users::Users;
+use choice_problem::Problem;
+use slot_text::Memory;
+use std::alloc::Global;
+
+// The marked resources, which are the classes, and where sweeps have them: the hits of each class
+// are at one of its places alone, and say which parts use it and how often.
+#[derive(Drop)]
+pub(crate) struct Found {
+    pub(crate) classes: Vec<Class>,
+    pub(crate) grids: Grids,
+    pub(crate) hits: Vec<Hit>,
+    // The hits by column.
+    pub(crate) columns: Rows<Hit>,
+    pub(crate) runs: UserRuns,
+}
+
+impl Found {
+    // What is found by an outline.
+    pub(crate) fn of(
+        alloc: Global,
+        problem: &Problem,
+        outline: &Outline,
+        marks: &[bool],
+    ) -> Result<Found, Memory> {
+        let classes = marked_classes(alloc, problem, marks)?;
+        let sweeps = Sweeps::of(alloc, outline)?;
+        let mut found = Found::by(alloc, problem.resources(), &sweeps, classes)?;
+        found.find(alloc, &sweeps)?;
+        Ok(found)
+    }
+
+    // The runs and the grids of sweeps, without hits.
+    fn by(
+        alloc: Global,
+        resources: u32,
+        sweeps: &Sweeps,
+        classes: Vec<Class>,
+    ) -> Result<Found, Memory> {
+        let grids = Grids::of(alloc, &sweeps.gaps, resources, &classes)?;
+        let runs = UserRuns::of(alloc, sweeps)?;
+        Ok(Found {
+            classes,
+            grids,
+            hits: Vec::new(alloc),
+            columns: Rows::new(alloc)?,
+            runs,
+        })
+    }
+
+    // Finds the hits of sweeps.
+    fn find(&mut self, alloc: Global, sweeps: &Sweeps) -> Result<(), Memory> {
+        self.hits = hits_of(alloc, sweeps, &self.runs, &self.grids)?;
+        self.columns = by_column(alloc, &self.hits, self.grids.columns.len())?;
+        let classes = self.classes.len();
+        let flags = unsettled(alloc, &self.grids, &self.columns, &self.runs, classes)?;
+        if flags.contains(&true) {
+            self.settle(alloc, &flags)?;
+        }
+        Ok(())
+    }
+
+    // Makes the hits of flagged classes anew.
+    fn settle(&mut self, alloc: Global, flags: &[bool]) -> Result<(), Memory> {
+        self.hits = settled(alloc, &self.grids, &self.hits, flags, &mut self.runs)?;
+        self.columns = by_column(alloc, &self.hits, self.grids.columns.len())?;
+        Ok(())
+    }
+
+    // What is compared, once the users of the classes are known.
+    pub(crate) fn compared<'a>(&'a self, users: &'a Users) -> Compared<'a> {
+        Compared {
+            classes: &self.classes,
+            order: &self.grids.order,
+            hits: &self.columns.items,
+            runs: &self.runs,
+            users,
+        }
+    }
+
+    // What of it the classes have whose resource is marked.
+    pub(crate) fn kept(
+        &self,
+        alloc: Global,
+        outline: &Outline,
+        marks: &[bool],
+    ) -> Result<Kept, Memory> {
+        let flags = kept_flags(alloc, &self.classes, marks)?;
+        let numbers = counts_below(alloc, &flags, 0)?;
+        let edges = self.edges(alloc, &flags, outline.parts.len())?;
+        Ok(Kept {
+            order: kept_order(alloc, &self.grids.order, &flags, &numbers)?,
+            edges,
+            same: same_parts(alloc, &outline.parts)?,
+            classes: number_at(&numbers, flags.len()) as usize,
+        })
+    }
+
+    // For each part the edges of the classes with a flag.
+    fn edges(&self, alloc: Global, flags: &[bool], parts: usize) -> Result<Rows<Edge>, Memory> {
+        let places = self.grids.places_below(alloc, flags)?;
+        edges_of(alloc, &self.hits, &self.runs, &places, parts)
+    }
+}
+
+// Where uses of the classes that are kept begin and end: the classes in order of their places, the
+// edges of each part, for each part the first one with the same strips, and how many classes there
+// are.
+#[derive(Drop)]
+pub(crate) struct Kept {
+    order: Vec<u32>,
+    edges: Rows<Edge>,
+    same: Vec<u32>,
+    classes: usize,
+}
+
+impl Kept {
+    // What lists of uses are made of.
+    pub(crate) fn ground(&self) -> Ground<'_> {
+        Ground {
+            edges: &self.edges,
+            order: &self.order,
+            same: &self.same,
+            classes: self.classes,
+        }
+    }
+}
+
+// For each class whether its resource is marked.
+fn kept_flags(alloc: Global, classes: &[Class], marks: &[bool]) -> Result<Vec<bool>, Memory> {
+    let mut kept = Vec::with_capacity(alloc, classes.len())?;
+    for class in classes {
+        kept.push(is_marked(marks, class.resource))?;
+    }
+    Ok(kept)
+}
+
+// The numbers of the classes that are kept, in order of their places.
+fn kept_order(
+    alloc: Global,
+    order: &[u32],
+    kept: &[bool],
+    numbers: &[u32],
+) -> Result<Vec<u32>, Memory> {
+    let mut found = Vec::with_capacity(alloc, order.len())?;
+    for class in order {
+        if is_marked(kept, *class) {
+            found.push(number_at(numbers, *class as usize))?;
+        }
+    }
+    Ok(found)
+}
