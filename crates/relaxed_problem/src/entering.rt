@@ -7,12 +7,16 @@
 //! at the same time the greatest pivot comes first.
 
 use crate::leaving::Work;
+use crate::nearby::Near;
 use crate::programs::Program;
 use crate::relaxations::Relaxation;
 use crate::slots::{
-    LEAST_PIVOT, NOTHING, PASSED, above_zero, is_set, place_after, size_of_number, value_at,
+    LEAST_PIVOT, NOTHING, PASSED, above_zero, least_or_zero, part_of, put, size_of_number, value_at,
 };
 use slot_text::Memory;
+
+// How often lists are made anew in one pivot at most.
+const MOST_LISTINGS: u32 = 100;
 
 // What enters.
 #[derive(Clone, Copy)]
@@ -82,6 +86,20 @@ struct Base {
     step: f64,
 }
 
+// A unit of which some alternatives may become cheaper beside its key, and the key's cost.
+#[derive(Clone, Copy)]
+pub(crate) struct Falling {
+    pub(crate) unit: u32,
+    base: Base,
+}
+
+impl Falling {
+    // What the key costs where the prices went so far.
+    pub(crate) fn cost_at(&self, length: f64) -> f64 {
+        self.base.cost + length * self.base.step
+    }
+}
+
 impl Relaxation {
     // What enters, where the prices of classes move along this direction and those of the parts as
     // the work says, and what leaves passes its bound by so much. The work gets the alternatives
@@ -93,12 +111,47 @@ impl Relaxation {
         direction: &[f64],
         violation: f64,
     ) -> Result<Entering, Memory> {
+        self.find_falling(program, work)?;
+        self.list_due(program, work)?;
+        for _ in 0..MOST_LISTINGS {
+            let entering = self.entering_listed(program, work, direction, violation)?;
+            if !self.list_missing(program, work, entering)? {
+                return Ok(entering);
+            }
+        }
+        self.entering_listed(program, work, direction, violation)
+    }
+
+    // Finds the units of which some alternatives may become cheaper beside their keys: two of its
+    // parts at most, each of at least the lowest number.
+    fn find_falling(&self, program: &Program<'_>, work: &mut Work) -> Result<(), Memory> {
+        work.falling.clear();
+        for unit in 0..program.units() {
+            let least = least_or_zero(part_of(&work.parts, program.part_span(unit)));
+            put(&mut work.leasts, unit as usize, least);
+            let key = self.key_place(unit);
+            if work.at(program.pair(key)) - (least + least) > LEAST_PIVOT {
+                let base = self.base_at(program, work, key);
+                work.falling.push(Falling { unit, base })?;
+            }
+        }
+        Ok(())
+    }
+
+    // What enters of the listed alternatives.
+    fn entering_listed(
+        &self,
+        program: &Program<'_>,
+        work: &mut Work,
+        direction: &[f64],
+        violation: f64,
+    ) -> Result<Entering, Memory> {
         work.breakpoints.clear();
         work.new_keys.clear();
         let mut last = self.first_slack(direction);
-        for unit in 0..program.units() {
-            if is_set(&work.touched, unit as usize) {
-                self.look_at_unit(program, work, unit, &mut last)?;
+        for number in 0..work.falling.len() {
+            if let Some(falling) = work.falling_at(number) {
+                self.look_at_unit(program, work, falling, &mut last)?;
             }
         }
         self.past_breakpoints(program, work, last, violation)
@@ -120,20 +173,17 @@ impl Relaxation {
         first
     }
 
-    // Looks at a unit's alternatives, where some may become cheaper beside its key. Where some are
-    // basic, the prices end at the first that comes to its bound.
+    // Looks at a unit's listed alternatives. Where some are basic, the prices end at the first that
+    // comes to its bound.
     fn look_at_unit(
         &self,
         program: &Program<'_>,
         work: &mut Work,
-        unit: u32,
+        falling: Falling,
         last: &mut Entering,
     ) -> Result<(), Memory> {
-        let base = self.base_at(program, work, self.key_place(unit));
-        if !work.may_fall(program, unit, base.step) {
-            return Ok(());
-        }
-        let breakpoint = self.first_of(program, work, unit, base, *last);
+        let unit = falling.unit;
+        let breakpoint = self.first_of(work, unit, falling.base, *last);
         if value_at(&work.counts, unit as usize) > 0.0 {
             *last = breakpoint;
             Ok(())
@@ -166,23 +216,14 @@ impl Relaxation {
         Ok(())
     }
 
-    // The alternative of a unit that comes to its bound first, beside this key, if it does so
-    // before something else.
-    fn first_of(
-        &self,
-        program: &Program<'_>,
-        work: &Work,
-        unit: u32,
-        base: Base,
-        other: Entering,
-    ) -> Entering {
+    // The listed alternative of a unit that comes to its bound first, beside this key, if it does
+    // so before something else.
+    fn first_of(&self, work: &Work, unit: u32, base: Base, other: Entering) -> Entering {
         let mut first = other;
-        let start = program.first_column(unit);
-        for (number, pair) in program.unit_pairs(unit).iter().enumerate() {
-            let fall = base.step - work.at(*pair);
+        for near in work.nearby.list(unit) {
+            let fall = base.step - work.at(near.pair);
             if fall > LEAST_PIVOT {
-                let at = place_after(start, number);
-                self.offer_alternative(program, unit, at, base, fall, &mut first);
+                self.offer_alternative(unit, *near, base, fall, &mut first);
             }
         }
         first
@@ -191,21 +232,27 @@ impl Relaxation {
     // Offers an alternative whose reduced cost falls by so much beside the key's.
     fn offer_alternative(
         &self,
-        program: &Program<'_>,
         unit: u32,
-        at: u32,
+        near: Near,
         base: Base,
         fall: f64,
         first: &mut Entering,
     ) {
-        let cost = above_zero(self.cost_at(program, at) - base.cost);
-        if first.wants(cost, fall) && !self.is_out(unit, at) {
+        let cost = above_zero(self.near_cost(near) - base.cost);
+        if first.wants(cost, fall) && !self.is_out(unit, near.place) {
             let _is_first = first.offer(Entering {
-                entry: Entry::Alternative(at),
+                entry: Entry::Alternative(near.place),
                 length: cost / fall,
                 pivot: -fall,
             });
         }
+    }
+
+    // The changed cost of a listed alternative with what its parts cost.
+    fn near_cost(&self, near: Near) -> f64 {
+        let parts = value_at(&self.parts, near.pair.one as usize)
+            + value_at(&self.parts, near.pair.two as usize);
+        near.changed + parts
     }
 
     // What enters, where this comes to its bound at the latest. The breakpoints before it are taken
@@ -246,7 +293,7 @@ impl Relaxation {
         }
         let unit = program.column(place).unit;
         let base = self.base_at(program, work, place);
-        let next = self.first_of(program, work, unit, base, last);
+        let next = self.first_of(work, unit, base, last);
         self.add_breakpoint(program, work, unit, next)
     }
 

@@ -1,13 +1,14 @@
 //! What leaves the basis: of what passes its bounds, the one with the greatest ratio of the square
 //! of its violation and the square of the length of its direction.
 
-use crate::entering::Entering;
+use crate::entering::{Entering, Falling};
 use crate::named::Pair;
+use crate::nearby::Nearby;
 use crate::programs::Program;
 use crate::relaxations::Relaxation;
 use crate::slots::{
-    LEAST_PIVOT, NOTHING, PASSED, add, clear_flags, copy_into, fill, least_or_zero, number_or_max,
-    part_of, place_after, product, put, put_flag, put_number, size_of_number, value_at,
+    NOTHING, PASSED, add, fill, number_or_max, place_after, product, put, put_number,
+    size_of_number, value_at,
 };
 use slot_text::Memory;
 use std::alloc::Global;
@@ -67,20 +68,25 @@ impl Leaving {
 pub struct Work {
     // A number for each named part: uses of a class, or a price. All are 0 between two uses.
     pub(crate) parts: Vec<f64>,
-    // Whether a unit has a part with such a number.
-    pub(crate) touched: Vec<bool>,
-    // How often each class is used.
-    loads: Vec<f64>,
+    // For each unit the least of these, or 0.
+    pub(crate) leasts: Vec<f64>,
+    // The units of which some alternatives may become cheaper beside their keys.
+    pub(crate) falling: Vec<Falling>,
+    // How much of each named part is taken, and how often each class is used.
+    pub(crate) targets: Vec<f64>,
+    pub(crate) loads: Vec<f64>,
     // For each unit the sum of the values of its basic alternatives.
     sums: Vec<f64>,
     // For each unit the number of its basic alternatives.
     pub(crate) counts: Vec<f64>,
-    // For each touched unit without basic alternatives the alternative that comes to its bound
+    // For each falling unit without basic alternatives the alternative that comes to its bound
     // first, and where.
     pub(crate) breakpoints: Vec<Entering>,
     // The alternatives that become keys in this pivot, in the order in which they come to their
     // bounds.
     pub(crate) new_keys: Vec<u32>,
+    // The alternatives that may come to their bounds soon.
+    pub(crate) nearby: Nearby,
 }
 
 impl Work {
@@ -89,50 +95,72 @@ impl Work {
         u32::try_from(self.new_keys.len()).unwrap_or(u32::MAX)
     }
 
-    /// Numbers for a program.
+    /// Numbers for a program: some for each class, unit and named part, and once they are used up
+    /// to 24 bytes for each alternative.
     pub fn new(alloc: Global, program: &Program<'_>) -> Result<Work, Memory> {
-        let units = program.units() as usize;
-        Ok(Work {
-            parts: vec![in alloc; 0.0; program.parts()]?,
-            touched: vec![in alloc; false; units]?,
-            loads: vec![in alloc; 0.0; program.limits().len()]?,
-            sums: vec![in alloc; 0.0; units]?,
-            counts: vec![in alloc; 0.0; units]?,
+        let mut work = Work::empty(alloc);
+        work.make_room(alloc, program)?;
+        work.nearby.make_room(alloc, program)?;
+        Ok(work)
+    }
+
+    // Numbers for no parts, units and classes.
+    fn empty(alloc: Global) -> Work {
+        Work {
+            parts: Vec::new(alloc),
+            leasts: Vec::new(alloc),
+            falling: Vec::new(alloc),
+            targets: Vec::new(alloc),
+            loads: Vec::new(alloc),
+            sums: Vec::new(alloc),
+            counts: Vec::new(alloc),
             breakpoints: Vec::new(alloc),
             new_keys: Vec::new(alloc),
-        })
+            nearby: Nearby::empty(alloc),
+        }
+    }
+
+    // Makes room for the named parts, units and classes of a program.
+    fn make_room(&mut self, alloc: Global, program: &Program<'_>) -> Result<(), Memory> {
+        let units = program.units() as usize;
+        self.parts = vec![in alloc; 0.0; program.parts()]?;
+        self.leasts = vec![in alloc; 0.0; units]?;
+        self.targets = vec![in alloc; 0.0; program.parts()]?;
+        self.loads = vec![in alloc; 0.0; program.limits().len()]?;
+        self.sums = vec![in alloc; 0.0; units]?;
+        self.counts = vec![in alloc; 0.0; units]?;
+        Ok(())
+    }
+
+    // A falling unit by its place among these.
+    pub(crate) fn falling_at(&self, number: usize) -> Option<Falling> {
+        match self.falling.get(number) {
+            Some(falling) => Some(*falling),
+            None => None,
+        }
+    }
+
+    // A falling unit by its place among these, where its list is to be made anew.
+    pub(crate) fn due(&mut self, program: &Program<'_>, number: usize) -> Option<Falling> {
+        let falling = self.falling_at(number)?;
+        let alternatives = program.unit_pairs(falling.unit).len();
+        if self.nearby.is_due(falling.unit, alternatives) {
+            Some(falling)
+        } else {
+            None
+        }
     }
 
     // The sum of the numbers of an alternative's parts.
     pub(crate) fn at(&self, pair: Pair) -> f64 {
         value_at(&self.parts, pair.one as usize) + value_at(&self.parts, pair.two as usize)
     }
-
-    // Whether some alternatives of a unit may have parts of a lower number than its key's, which is
-    // this: two of its parts at most, each of at least the lowest of them.
-    pub(crate) fn may_fall(&self, program: &Program<'_>, unit: u32, base: f64) -> bool {
-        let least = least_or_zero(part_of(&self.parts, program.part_span(unit)));
-        base - (least + least) > LEAST_PIVOT
-    }
-
-    // Sets the prices of the parts to those of one class, and marks the units.
-    pub(crate) fn add_price(&mut self, program: &Program<'_>, class: u32, price: f64) {
-        program.add_price(class, price, &mut self.parts);
-        for run in program.users(class) {
-            put_flag(&mut self.touched, run.unit as usize, true);
-        }
-    }
-
-    // Clears the marks of the units.
-    pub(crate) fn clear_touched(&mut self) {
-        clear_flags(&mut self.touched);
-    }
 }
 
 impl Relaxation {
     // What leaves.
     pub(crate) fn leaving(
-        &self,
+        &mut self,
         alloc: Global,
         program: &Program<'_>,
         work: &mut Work,
@@ -191,19 +219,6 @@ impl Relaxation {
             value
         } else {
             0.0
-        }
-    }
-
-    // Computes how often each class is used.
-    fn take_loads(&self, program: &Program<'_>, work: &mut Work) {
-        copy_into(&mut work.loads, &self.loads);
-        for (place, value) in self.basics.iter().zip(&self.values) {
-            if size_of_number(*value) > NOTHING {
-                let column = program.column(*place);
-                let key = program.column(self.key_place(column.unit));
-                program.add_uses(&column, *value, &mut work.loads);
-                program.add_uses(&key, -*value, &mut work.loads);
-            }
         }
     }
 

@@ -9,16 +9,20 @@
 //! its numbers are: bounds by its vectors are computed anew, in whole numbers, by others.
 #![tactic(auto)]
 
+mod carried;
 mod entering;
 mod inverses;
 mod leaving;
 mod named;
+mod nearby;
 mod programs;
 mod relaxations;
 mod slots;
 mod steps;
+mod totals;
 mod vectors;
 
+pub use carried::NO_CLASS;
 pub use leaving::Work;
 pub use programs::{Column, NO_PART, Program};
 pub use relaxations::{Relaxation, Share};

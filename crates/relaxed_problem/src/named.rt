@@ -28,6 +28,8 @@ pub(crate) struct NamedRun {
 pub(crate) struct NamedParts {
     // For each part, and for the end, how many lower ones are named.
     numbers: Vec<u32>,
+    // The named parts, by rising number.
+    parts: Vec<u32>,
     // The parts of each alternative.
     pairs: Vec<Pair>,
     // The number of each unit's first named part, and how many there are.
@@ -42,6 +44,7 @@ impl NamedParts {
     pub(crate) fn none(alloc: Global) -> NamedParts {
         NamedParts {
             numbers: Vec::new(alloc),
+            parts: Vec::new(alloc),
             pairs: Vec::new(alloc),
             firsts: Vec::new(alloc),
             runs: Vec::new(alloc),
@@ -68,15 +71,28 @@ impl NamedParts {
         Ok(parts)
     }
 
-    // Notes for each part, and for the end, how many lower ones are named.
+    // Notes the named parts, and for each part, and for the end, how many lower ones are named.
     fn number_all(&mut self, named: &[bool]) -> Result<(), Memory> {
-        let mut count: u32 = 0;
-        for is_named in named {
+        for (part, is_named) in (0..).zip(named) {
+            let count = self.next_number();
             self.numbers.push(count)?;
-            count = count.saturating_add(u32::from(*is_named));
+            if *is_named {
+                self.parts.push(part)?;
+            }
         }
+        let count = self.next_number();
         self.numbers.push(count)?;
         Ok(())
+    }
+
+    // How many parts are noted.
+    fn next_number(&self) -> u32 {
+        place_after(0, self.parts.len())
+    }
+
+    // A named part by its number among them, or `NO_PART`.
+    pub(crate) fn part(&self, number: u32) -> u32 {
+        number_or_max(&self.parts, number as usize)
     }
 
     // Notes the parts of the alternatives.

@@ -29,6 +29,16 @@ pub struct Column {
     pub two: u32,
 }
 
+impl Column {
+    // Whether another one has the same unit, parts and cost.
+    pub(crate) fn is_alike(&self, other: &Column) -> bool {
+        self.unit == other.unit
+            && self.one == other.one
+            && self.two == other.two
+            && self.cost == other.cost
+    }
+}
+
 // An alternative that does not take part, and a class of limit 0 that it uses.
 #[derive(Clone, Copy)]
 pub(crate) struct Barred {
@@ -127,6 +137,43 @@ impl<'a> Program<'a> {
             self.barred.push(Barred { column, class })?;
         }
         Ok(())
+    }
+
+    /// Gives each alternative that another program has too, of the same unit, parts and cost, the
+    /// changed cost that it has there. Both programs have the same units and number their parts
+    /// alike. Where they have their alternatives in the same order, it takes a step for each
+    /// alternative of both; else up to one for each two of a unit.
+    pub fn change_as(&mut self, other: &Program<'_>) {
+        let mut at: usize = 0;
+        for (column, cost) in self.columns.iter().zip(self.changed.iter_mut()) {
+            let place = other.place_from(at, column);
+            if place < other.columns.len() {
+                *cost = value_at(&other.changed, place);
+                at = place.saturating_add(1);
+            }
+        }
+    }
+
+    // The place of an alternative like this one, from a place on or else before it, or past the
+    // last one.
+    fn place_from(&self, at: usize, column: &Column) -> usize {
+        let (first, end) = self.span(column.unit);
+        match self.place_within(at.max(first), end, column) {
+            Some(place) => place,
+            None => self
+                .place_within(first, at, column)
+                .unwrap_or(self.columns.len()),
+        }
+    }
+
+    // The place of an alternative like this one, from one place to another.
+    fn place_within(&self, first: usize, end: usize, column: &Column) -> Option<usize> {
+        for place in first..end.min(self.columns.len()) {
+            if self.columns[place].is_alike(column) {
+                return Some(place);
+            }
+        }
+        None
     }
 
     // A class of limit 0 that an alternative uses.
@@ -267,6 +314,11 @@ impl<'a> Program<'a> {
     pub(crate) fn add_uses(&self, column: &Column, by: f64, loads: &mut [f64]) {
         self.add_part(column.one, by, loads);
         self.add_part(column.two, by, loads);
+    }
+
+    // Adds so many times the uses of a named part, by its number among them.
+    pub(crate) fn add_named(&self, part: u32, by: f64, loads: &mut [f64]) {
+        self.add_part(self.named.part(part), by, loads);
     }
 
     // Adds so many times the uses of a part.

@@ -2,6 +2,7 @@
 //! take.
 
 use crate::inverses::Inverse;
+use crate::nearby::MANY_COLUMNS;
 use crate::programs::Program;
 use crate::slots::{
     NOTHING, PASSED, add, add_multiple, has_bit, is_among, number_or_max, place_after, put_bit,
@@ -21,9 +22,9 @@ pub struct Share {
     pub share: f64,
 }
 
-/// A linear relaxation in the making: a basis, from which `solve` goes on. It takes 8 bytes for each
-/// part that the program's alternatives name and for each entry of the inverse, and one bit for each
-/// alternative.
+/// A linear relaxation in the making: a basis, from which `solve` goes on. It takes up to 16 bytes
+/// for each part that the program's alternatives name, 8 for each entry of the inverse, and one bit
+/// for each alternative.
 #[derive(Drop)]
 pub struct Relaxation {
     // For each alternative, in words of 64 bits, whether it may not be taken.
@@ -43,6 +44,10 @@ pub struct Relaxation {
     pub(crate) prices: Vec<f64>,
     // How often the keys use each class.
     pub(crate) loads: Vec<f64>,
+    // Of a program of many alternatives, how much of each named part was taken before the last
+    // pivot, and how often that uses each class.
+    pub(crate) amounts: Vec<f64>,
+    pub(crate) totals: Vec<f64>,
     // The value of each basic alternative.
     pub(crate) values: Vec<f64>,
     // Where there is no solution: prices of classes that show it.
@@ -53,11 +58,17 @@ pub struct Relaxation {
 impl Relaxation {
     /// The start: each unit takes its cheapest alternative, and no resource has a price.
     pub fn start(alloc: Global, program: &Program<'_>) -> Result<Relaxation, Memory> {
-        let mut relaxation = Relaxation::empty(alloc);
-        relaxation.make_room(alloc, program)?;
+        let mut relaxation = Relaxation::unpriced(alloc, program)?;
         for unit in 0..program.units() {
             relaxation.start_unit(program, unit)?;
         }
+        Ok(relaxation)
+    }
+
+    // One without prices, where no unit has an alternative yet.
+    pub(crate) fn unpriced(alloc: Global, program: &Program<'_>) -> Result<Relaxation, Memory> {
+        let mut relaxation = Relaxation::empty(alloc);
+        relaxation.make_room(alloc, program)?;
         Ok(relaxation)
     }
 
@@ -73,6 +84,8 @@ impl Relaxation {
             parts: Vec::new(alloc),
             prices: Vec::new(alloc),
             loads: Vec::new(alloc),
+            amounts: Vec::new(alloc),
+            totals: Vec::new(alloc),
             values: Vec::new(alloc),
             ray: Vec::new(alloc),
             value: 0.0,
@@ -87,6 +100,10 @@ impl Relaxation {
         self.parts = vec![in alloc; 0.0; program.parts()]?;
         self.prices = vec![in alloc; 0.0; classes]?;
         self.loads = vec![in alloc; 0.0; classes]?;
+        if program.columns().len() >= MANY_COLUMNS {
+            self.amounts = vec![in alloc; 0.0; program.parts()]?;
+            self.totals = vec![in alloc; 0.0; classes]?;
+        }
         Ok(())
     }
 
@@ -111,6 +128,8 @@ impl Relaxation {
             parts: Vec::from_slice(alloc, &self.parts)?,
             prices: Vec::from_slice(alloc, &self.prices)?,
             loads: Vec::from_slice(alloc, &self.loads)?,
+            amounts: Vec::from_slice(alloc, &self.amounts)?,
+            totals: Vec::from_slice(alloc, &self.totals)?,
             values: Vec::from_slice(alloc, &self.values)?,
             ray: Vec::from_slice(alloc, &self.ray)?,
             value: self.value,
@@ -118,16 +137,18 @@ impl Relaxation {
     }
 
     /// Becomes a copy of another one.
-    pub fn copy_from(&mut self, alloc: Global, other: &Relaxation) -> Result<(), Memory> {
+    pub fn copy_from(&mut self, other: &Relaxation) -> Result<(), Memory> {
         refill(&mut self.shut, &other.shut)?;
         refill(&mut self.keys, &other.keys)?;
         refill(&mut self.basics, &other.basics)?;
         refill(&mut self.priced, &other.priced)?;
         refill(&mut self.places, &other.places)?;
-        self.inverse = other.inverse.copy(alloc)?;
+        self.inverse.copy_from(&other.inverse)?;
         refill(&mut self.parts, &other.parts)?;
         refill(&mut self.prices, &other.prices)?;
         refill(&mut self.loads, &other.loads)?;
+        refill(&mut self.amounts, &other.amounts)?;
+        refill(&mut self.totals, &other.totals)?;
         refill(&mut self.values, &other.values)?;
         refill(&mut self.ray, &other.ray)?;
         self.value = other.value;

@@ -125,17 +125,18 @@ pub(crate) fn fill(values: &mut [f64], value: f64) {
     }
 }
 
-// Clears all flags.
-pub(crate) fn clear_flags(flags: &mut [bool]) {
-    for slot in flags.iter_mut() {
-        *slot = false;
-    }
-}
-
 // Copies numbers into the places of others.
 pub(crate) fn copy_into(values: &mut [f64], from: &[f64]) {
     for (slot, value) in values.iter_mut().zip(from) {
         *slot = *value;
+    }
+}
+
+// Copies the numbers from one place to another.
+pub(crate) fn copy_span(values: &mut [f64], from: &[f64], span: (usize, usize)) {
+    let (first, end) = span;
+    if first <= end && end <= values.len() {
+        copy_into(&mut values[first..end], part_of(from, span));
     }
 }
 

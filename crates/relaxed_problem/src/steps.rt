@@ -38,11 +38,14 @@ pub struct Ended {
 
 impl Relaxation {
     /// Goes on from the basis that there is, until the relaxation is solved or its value, with
-    /// changed costs, is above `stop_above`, by at most so many pivots. A pivot takes a step for
-    /// each part that the alternatives name, for each alternative of the units of which some may
-    /// become cheaper beside their keys, each use of the basic alternatives, and some ten for each
-    /// entry of the inverse; and for each change of a key in it, a step for each unit with a
-    /// breakpoint, and for each use and alternative of the unit that changes.
+    /// changed costs, is above `stop_above`, by at most so many pivots. A pivot takes some steps
+    /// for each part that the alternatives name, one for each listed alternative of the units of
+    /// which some may become cheaper beside their keys, each use of the parts of which more or less
+    /// is taken, and some ten for each entry of the inverse; and for each change of a key in it, a
+    /// step for each unit with a breakpoint, and for each use and listed alternative of the unit
+    /// that changes. Where the program has fewer than 8,000 alternatives all are listed, and all
+    /// uses of the basic alternatives are counted; else those are listed that may come to their
+    /// bounds soon.
     pub fn solve(
         &mut self,
         alloc: Global,
@@ -69,6 +72,7 @@ impl Relaxation {
         ensures { IfOk result (λ ended. ended.pivots ≤ most_pivots) }
     {
         let mut changes: u32 = 0;
+        work.nearby.begin(program, &self.parts);
         for pivots in 0..most_pivots {
             let advanced = self.advance(alloc, program, work, stop_above)?;
             changes = changes.saturating_add(work.changes());
@@ -222,6 +226,7 @@ impl Relaxation {
                 self.value += entering.length * leaving.violation;
                 self.move_prices(&direction, leaving.place, entering.length);
                 add_multiple(&mut self.parts, &work.parts, entering.length);
+                work.nearby.slip(&work.leasts, entering.length);
                 self.take_new_keys(program, work);
                 None
             }
@@ -253,14 +258,13 @@ impl Relaxation {
 
     // How the prices of the parts move.
     fn price_parts(&self, program: &Program<'_>, work: &mut Work, direction: &[f64], place: Place) {
-        work.clear_touched();
         for (class, step) in self.priced.iter().zip(direction) {
             if size_of_number(*step) > NOTHING {
-                work.add_price(program, *class, *step);
+                program.add_price(*class, *step, &mut work.parts);
             }
         }
         if let Place::Class(class) = place {
-            work.add_price(program, class, 1.0);
+            program.add_price(class, 1.0, &mut work.parts);
         }
     }
 

@@ -1,0 +1,65 @@
+//! How often each class is used by the shares of a relaxation.
+
+use crate::leaving::Work;
+use crate::named::Pair;
+use crate::nearby::MANY_COLUMNS;
+use crate::programs::Program;
+use crate::relaxations::Relaxation;
+use crate::slots::{NOTHING, add, copy_into, fill, size_of_number};
+
+impl Relaxation {
+    // Computes how often each class is used: for programs of many alternatives from how often it
+    // was used before the last pivot.
+    pub(crate) fn take_loads(&mut self, program: &Program<'_>, work: &mut Work) {
+        if program.columns().len() < MANY_COLUMNS {
+            self.sum_loads(program, &mut work.loads);
+        } else {
+            self.take_targets(program, &mut work.targets);
+            self.move_totals(program, &work.targets);
+            copy_into(&mut work.loads, &self.totals);
+        }
+    }
+
+    // Adds up how often each class is used.
+    fn sum_loads(&self, program: &Program<'_>, loads: &mut [f64]) {
+        copy_into(loads, &self.loads);
+        for (place, value) in self.basics.iter().zip(&self.values) {
+            if size_of_number(*value) > NOTHING {
+                let column = program.column(*place);
+                let key = program.column(self.key_place(column.unit));
+                program.add_uses(&column, *value, loads);
+                program.add_uses(&key, -*value, loads);
+            }
+        }
+    }
+
+    // Computes how much of each named part is taken.
+    fn take_targets(&self, program: &Program<'_>, targets: &mut [f64]) {
+        fill(targets, 0.0);
+        for key in &self.keys {
+            add_pair(targets, program.pair(*key), 1.0);
+        }
+        for (place, value) in self.basics.iter().zip(&self.values) {
+            let key = self.key_place(program.column(*place).unit);
+            add_pair(targets, program.pair(*place), *value);
+            add_pair(targets, program.pair(key), -*value);
+        }
+    }
+
+    // Changes how often each class is used, where so much of each named part is taken.
+    fn move_totals(&mut self, program: &Program<'_>, targets: &[f64]) {
+        for (part, (amount, target)) in (0..).zip(self.amounts.iter_mut().zip(targets)) {
+            let more = *target - *amount;
+            if size_of_number(more) > NOTHING {
+                program.add_named(part, more, &mut self.totals);
+                *amount = *target;
+            }
+        }
+    }
+}
+
+// Adds to the numbers of both parts of an alternative.
+fn add_pair(values: &mut [f64], pair: Pair, by: f64) {
+    add(values, pair.one as usize, by);
+    add(values, pair.two as usize, by);
+}
