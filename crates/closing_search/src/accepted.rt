@@ -17,6 +17,7 @@ use choice_problem::{
 use cost_fixing::{Fixing, fixed_best, fixing_problem, left_problems};
 use slot_text::Memory;
 use std::alloc::Global;
+use std::thread::Threads;
 
 // A tree that was found, with the vectors that its leaves name, the fixing of the problem that it
 // is a tree of, if there is one, and the choice that it is to prove best, if any. Nothing is known
@@ -30,12 +31,14 @@ pub(crate) struct Found {
 }
 
 /// The answer that was found, if it passes the test.
-pub(crate) fn accepted(
+pub(crate) fn accepted<R: Threads + Sync>(
+    rt: &R,
     alloc: Global,
     problem: &Problem,
     start: &Option<Choice>,
     budget: u32,
     found: Found,
+    workers: u32,
 ) -> Result<Option<Closed>, Memory>
     requires { IfSome start.now (IsFeasible problem.now) }
     ensures closed { IfOk result (λ found. IfSome found (IsClosed problem.now budget)) }
@@ -51,10 +54,12 @@ pub(crate) fn accepted(
     let tree = Tree::new(nodes);
     match choice {
         Some(choice) => {
-            accepted_best(alloc, problem, start, budget, choice, fixing, tree, vectors)
+            accepted_best(
+                rt, alloc, problem, start, budget, choice, fixing, tree, vectors, workers,
+            )
         }
         None if start.is_some() => Ok(None),
-        None => accepted_none(alloc, problem, budget, tree, vectors),
+        None => accepted_none(rt, alloc, problem, budget, tree, vectors, workers),
     }
 }
 
@@ -86,7 +91,8 @@ pub(crate) fn known_best(
 }
 
 // A best choice, if it passes the test.
-fn accepted_best(
+fn accepted_best<R: Threads + Sync>(
+    rt: &R,
     alloc: Global,
     problem: &Problem,
     start: &Option<Choice>,
@@ -95,6 +101,7 @@ fn accepted_best(
     fixing: Option<Fixing>,
     tree: Tree,
     vectors: VectorList,
+    workers: u32,
 ) -> Result<Option<Closed>, Memory>
     requires { IfSome start.now (IsFeasible problem.now) }
     ensures closed { IfOk result (λ found. IfSome found (IsClosed problem.now budget)) }
@@ -108,7 +115,17 @@ fn accepted_best(
     if !is_within(problem, start, cost) {
         return Ok(None);
     }
-    if !closes_whole(alloc, problem, budget, Some(cost), &fixing, &tree, &vectors)? {
+    if !closes_whole(
+        rt,
+        alloc,
+        problem,
+        budget,
+        Some(cost),
+        &fixing,
+        &tree,
+        &vectors,
+        workers,
+    )? {
         return Ok(None);
     }
     let closed = optimal(problem, start, budget, choice, cost, fixing, tree, vectors);
@@ -146,16 +163,20 @@ fn optimal(
 }
 
 // That there is no choice, if it passes the test.
-fn accepted_none(
+fn accepted_none<R: Threads + Sync>(
+    rt: &R,
     alloc: Global,
     problem: &Problem,
     budget: u32,
     tree: Tree,
     vectors: VectorList,
+    workers: u32,
 ) -> Result<Option<Closed>, Memory>
     ensures { IfOk result (λ found. IfSome found (IsClosed problem.now budget)) }
 {
-    if !closes_whole(alloc, problem, budget, None, &None, &tree, &vectors)? {
+    if !closes_whole(
+        rt, alloc, problem, budget, None, &None, &tree, &vectors, workers,
+    )? {
         return Ok(None);
     }
     let closed = infeasible(problem, budget, tree, vectors);
@@ -185,7 +206,8 @@ fn is_within(problem: &Problem, start: &Option<Choice>, cost: u64) -> bool
 
 // Whether the tree keeps the limits on nodes, vectors and prices, the fixing holds, if there is
 // one, and the tree of what it leaves is whole and sound for the cost, or for none.
-fn closes_whole(
+fn closes_whole<R: Threads + Sync>(
+    rt: &R,
     alloc: Global,
     problem: &Problem,
     budget: u32,
@@ -193,6 +215,7 @@ fn closes_whole(
     fixing: &Option<Fixing>,
     tree: &Tree,
     vectors: &VectorList,
+    workers: u32,
 ) -> Result<bool, Memory>
     ensures { IfOk result (λ yes. IsTrue yes →
         ClosesWhole problem.now budget cost fixing.now tree.now vectors.now) }
@@ -203,18 +226,20 @@ fn closes_whole(
     if !are_vectors(problem, vectors.items()) {
         return Ok(false);
     }
-    is_sound(alloc, problem, cost, fixing, tree, vectors)
+    is_sound(rt, alloc, problem, cost, fixing, tree, vectors, workers)
 }
 
 // Whether the fixing holds, if there is one, and a tree of what it leaves is whole and sound for
 // the cost, or for none.
-fn is_sound(
+fn is_sound<R: Threads + Sync>(
+    rt: &R,
     alloc: Global,
     problem: &Problem,
     cost: Option<u64>,
     fixing: &Option<Fixing>,
     tree: &Tree,
     vectors: &VectorList,
+    workers: u32,
 ) -> Result<bool, Memory>
     requires { All (IsVector problem.now) vectors.now }
     ensures holds { IfOk result (λ yes. IsTrue yes →
@@ -226,28 +251,30 @@ fn is_sound(
 {
     left_problems();
     let Some(fixing) = fixing else {
-        return proves(alloc, problem, cost, tree, vectors);
+        return proves(rt, alloc, problem, cost, tree, vectors, workers);
     };
     match fixing_problem(alloc, problem, vectors, cost, fixing)? {
-        Some(left) => proves(alloc, &left, cost, tree, vectors),
+        Some(left) => proves(rt, alloc, &left, cost, tree, vectors, workers),
         None => Ok(false),
     }
 }
 
 // Whether a tree of a problem is whole and sound for the cost, or for none.
-fn proves(
+fn proves<R: Threads + Sync>(
+    rt: &R,
     alloc: Global,
     problem: &Problem,
     cost: Option<u64>,
     tree: &Tree,
     vectors: &VectorList,
+    workers: u32,
 ) -> Result<bool, Memory>
     requires { All (IsVector problem.now) vectors.now }
     ensures sound { IfOk result (λ yes. IsTrue yes →
         IsSound problem.now vectors.now cost (whole_of problem.now) tree.now) }
     ensures whole { IfOk result (λ yes. IsTrue yes → IsWhole tree.now) }
 {
-    let tables = leaf_tables(alloc, problem, vectors.items())?;
+    let tables = leaf_tables(rt, alloc, problem, vectors.items(), workers)?;
     is_proof(alloc, problem, &tables, cost, tree.items())
 }
 

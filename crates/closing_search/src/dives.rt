@@ -73,10 +73,10 @@ fn go_on(
     next: &mut Relaxation,
 ) -> Result<bool, Memory> {
     for count in [leaders.len() / PART + 1, 1, 0] {
-        next.copy_from(alloc, now)?;
+        next.copy_from(now)?;
         keep_first(task, next, leaders, count);
         if is_solved(alloc, task, state, next)? {
-            now.copy_from(alloc, next)?;
+            now.copy_from(next)?;
             return Ok(true);
         }
     }

@@ -1,16 +1,20 @@
 //! The exact test of a tree: whether it is whole and each of its leaves is closed.
 
-ghost use Rattle.std.specs.Prelude.{◌≡◌, ◌∷◌, List, All, IsTrue, IfOk};
+ghost use Rattle.std.specs.Prelude.{◌≡◌, ◌∷◌, ◌++◌, List, All, IsTrue, IfOk};
+ghost use denote.Param.Send.{IsSync};
 ghost use Rattle.choice_problem.specs.declared.nodes.Node.{Node};
 ghost use Rattle.choice_problem.specs.Bounds.{AreRanges, IsVector, whole_of};
 ghost use Rattle.choice_problem.specs.Trees.{AreSound, IsSound, IsWhole, LeafHolds, NodeHolds};
 ghost use Rattle.choice_problem.specs.Walks.{CanStand};
+ghost use Rattle.price_table.specs.Tables.{IsTableFor, vectors_of};
 ghost use Rattle.closing_search.specs.Tables.{AreLeafTables, listed_in};
 
 use choice_problem::{Node, Problem, RangeWalk, Ranges, SCALE_BOUND, Vector, over_closes};
 use price_table::{PriceTable, closes, price_table, tables_of};
 use slot_text::Memory;
 use std::alloc::Global;
+use std::thread;
+use std::thread::Threads;
 
 // The table of the zero vector, and those of the listed vectors.
 #[derive(Drop)]
@@ -141,18 +145,152 @@ pub(crate) fn are_vectors(problem: &Problem, vectors: &[Vector]) -> bool
     true
 }
 
-/// The tables of the zero vector and of these.
-pub(crate) fn leaf_tables(
+/// The tables of the zero vector and of these, on up to four threads.
+pub(crate) fn leaf_tables<R: Threads + Sync>(
+    rt: &R,
     alloc: Global,
     problem: &Problem,
     vectors: &[Vector],
+    workers: u32,
 ) -> Result<Tables, Memory>
     requires { All (IsVector problem.now) vectors.now }
     ensures tables { IfOk result (AreLeafTables problem.now) }
     ensures vectors { IfOk result (λ tables. listed_in tables ≡ vectors.now) }
 {
-    let listed = tables_of(alloc, problem, vectors)?;
+    let listed = listed_tables(rt, alloc, problem, vectors, workers)?;
     let none = Vector::new(Vec::new(alloc));
     let zero = price_table(alloc, problem, &none)?;
     Ok(Tables { zero, listed })
+}
+
+// The tables of vectors, on up to four threads.
+fn listed_tables<R: Threads + Sync>(
+    rt: &R,
+    alloc: Global,
+    problem: &Problem,
+    vectors: &[Vector],
+    workers: u32,
+) -> Result<Vec<PriceTable>, Memory>
+    requires vectors { All (IsVector problem.now) vectors.now }
+    ensures valid { IfOk result (λ tables. All (IsTableFor problem.now) tables.items) }
+    ensures vectors { IfOk result (λ tables. vectors_of tables.items ≡ vectors.now) }
+{
+    match workers {
+        0 | 1 => tables_of(alloc, problem, vectors),
+        2 | 3 => tables_by_two(rt, alloc, problem, vectors),
+        _ => tables_by_four(rt, alloc, problem, vectors),
+    }
+}
+
+// The tables of vectors, on two threads.
+fn tables_by_two<R: Threads + Sync>(
+    rt: &R,
+    alloc: Global,
+    problem: &Problem,
+    vectors: &[Vector],
+) -> Result<Vec<PriceTable>, Memory>
+    requires vectors { All (IsVector problem.now) vectors.now }
+    ensures valid { IfOk result (λ tables. All (IsTableFor problem.now) tables.items) }
+    ensures vectors { IfOk result (λ tables. vectors_of tables.items ≡ vectors.now) }
+{
+    let (front, back) = vectors.split_at(vectors.len() / 2);
+    tables_of_both(rt, alloc, problem, front, back)
+}
+
+// The tables of vectors, on four threads.
+fn tables_by_four<R: Threads + Sync>(
+    rt: &R,
+    alloc: Global,
+    problem: &Problem,
+    vectors: &[Vector],
+) -> Result<Vec<PriceTable>, Memory>
+    requires vectors { All (IsVector problem.now) vectors.now }
+    ensures valid { IfOk result (λ tables. All (IsTableFor problem.now) tables.items) }
+    ensures vectors { IfOk result (λ tables. vectors_of tables.items ≡ vectors.now) }
+{
+    let (front, back) = vectors.split_at(vectors.len() / 2);
+    tables_of_four(rt, alloc, problem, front, back)
+}
+
+// The tables of some vectors and of others, on two threads.
+fn tables_of_both<R: Threads + Sync>(
+    rt: &R,
+    alloc: Global,
+    problem: &Problem,
+    front: &[Vector],
+    back: &[Vector],
+) -> Result<Vec<PriceTable>, Memory>
+    requires front { All (IsVector problem.now) front.now }
+    requires back { All (IsVector problem.now) back.now }
+    ensures valid { IfOk result (λ tables. All (IsTableFor problem.now) tables.items) }
+    ensures vectors { IfOk result (λ tables. vectors_of tables.items ≡ front.now ++ back.now) }
+{
+    let (first, last) = thread::join(
+        rt,
+        || -> Result<Vec<PriceTable>, Memory>
+            requires { All (IsVector problem.now) front.now }
+            ensures valid { IfOk result
+                (λ tables. All (IsTableFor problem.entry.now) tables.items) }
+            ensures vectors { IfOk result (λ tables. vectors_of tables.items ≡ front.entry.now) }
+        { tables_of(alloc, problem, front) },
+        || -> Result<Vec<PriceTable>, Memory>
+            requires { All (IsVector problem.now) back.now }
+            ensures valid { IfOk result
+                (λ tables. All (IsTableFor problem.entry.now) tables.items) }
+            ensures vectors { IfOk result (λ tables. vectors_of tables.items ≡ back.entry.now) }
+        { tables_of(alloc, problem, back) },
+    );
+    joined(problem, front, back, first?, last?)
+}
+
+// The tables of some vectors and of others, on four threads.
+fn tables_of_four<R: Threads + Sync>(
+    rt: &R,
+    alloc: Global,
+    problem: &Problem,
+    front: &[Vector],
+    back: &[Vector],
+) -> Result<Vec<PriceTable>, Memory>
+    requires front { All (IsVector problem.now) front.now }
+    requires back { All (IsVector problem.now) back.now }
+    ensures valid { IfOk result (λ tables. All (IsTableFor problem.now) tables.items) }
+    ensures vectors { IfOk result (λ tables. vectors_of tables.items ≡ front.now ++ back.now) }
+{
+    let (first, last) = thread::join(
+        rt,
+        || -> Result<Vec<PriceTable>, Memory>
+            requires { IsSync R.row × All (IsVector problem.now) front.now }
+            ensures valid { IfOk result
+                (λ tables. All (IsTableFor problem.entry.now) tables.items) }
+            ensures vectors { IfOk result (λ tables. vectors_of tables.items ≡ front.entry.now) }
+        { tables_by_two(rt, alloc, problem, front) },
+        || -> Result<Vec<PriceTable>, Memory>
+            requires { IsSync R.row × All (IsVector problem.now) back.now }
+            ensures valid { IfOk result
+                (λ tables. All (IsTableFor problem.entry.now) tables.items) }
+            ensures vectors { IfOk result (λ tables. vectors_of tables.items ≡ back.entry.now) }
+        { tables_by_two(rt, alloc, problem, back) },
+    );
+    joined(problem, front, back, first?, last?)
+}
+
+// The tables of some vectors and of others, one after another.
+fn joined(
+    _problem: &Problem,
+    _front: &[Vector],
+    _back: &[Vector],
+    first: Vec<PriceTable>,
+    last: Vec<PriceTable>,
+) -> Result<Vec<PriceTable>, Memory>
+    requires first { All (IsTableFor _problem.now) first.items }
+    requires last { All (IsTableFor _problem.now) last.items }
+    requires front { vectors_of first.items ≡ _front.now }
+    requires back { vectors_of last.items ≡ _back.now }
+    ensures valid { IfOk result (λ tables. All (IsTableFor _problem.now) tables.items) }
+    ensures vectors { IfOk result (λ tables. vectors_of tables.items ≡ _front.now ++ _back.now) }
+{
+    let mut tables = first;
+    let mut rest = last;
+    tables.append(&mut rest)?;
+    Ok(tables)
 }

@@ -1,19 +1,16 @@
 //! The growth of a tree by free splits.
 
+use crate::ahead::{Ahead, Known, NODE_PIVOTS};
 use crate::allowed::Allowed;
 use crate::entries::Entry;
 use crate::pricings::{Pricing, closing};
 use crate::rounding::take_rounded;
 use crate::splits::{Split, best_split};
-use crate::states::{Ahead, NEVER, Open, State, Task};
-use relaxed_problem::{End, Ended, Relaxation, Work};
+use crate::states::{NEVER, Open, State, Task};
+use relaxed_problem::{End, Ended, Relaxation};
 use slot_text::Memory;
 use std::alloc::Global;
-use std::thread;
 use std::thread::Threads;
-
-// The most pivots of one node.
-const NODE_PIVOTS: u32 = 20_000;
 
 /// Visits open nodes, the last one first, until none is left, so many were visited, or one stays
 /// open.
@@ -28,7 +25,7 @@ pub(crate) fn grow<R: Threads + Sync>(
         if state.steps == 0 {
             return Ok(());
         }
-        solve_ahead(rt, alloc, task, state);
+        solve_ahead(rt, alloc, task, state)?;
         if !visit_next(rt, alloc, task, state)? {
             return Ok(());
         }
@@ -43,105 +40,113 @@ fn visit_next<R: Threads + Sync>(
     task: &Task<'_>,
     state: &mut State,
 ) -> Result<bool, Memory> {
-    match state.open.pop() {
-        Some(mut open) => visit(rt, alloc, task, state, &mut open),
-        None => Ok(false),
+    let Some(mut open) = state.open.pop() else {
+        return Ok(false);
+    };
+    match visit(rt, alloc, task, state, &mut open)? {
+        Outcome::Waits => {
+            open.made = None;
+            state.add_open(open)?;
+            Ok(true)
+        }
+        Outcome::Done => Ok(true),
+        Outcome::Stays => Ok(false),
     }
 }
 
-// Where there are several threads and the next node is not solved, solves it and those behind it,
-// side by side.
-fn solve_ahead<R: Threads + Sync>(rt: &R, alloc: Global, task: &Task<'_>, state: &mut State) {
-    let threads = state.threads();
-    if threads < 2 || state.open.len() < 2 || is_ready(&state.open, state.cost) {
-        return;
-    }
-    solve_last(rt, alloc, task, state, threads);
-}
-
-// Solves the last open nodes, one on each thread.
-fn solve_last<R: Threads + Sync>(
+// Where there are several threads and the next node is not solved, solves it, and goes on with
+// those behind it side by side.
+fn solve_ahead<R: Threads + Sync>(
     rt: &R,
     alloc: Global,
     task: &Task<'_>,
     state: &mut State,
-    threads: usize,
-) {
-    let first = state.open.len().saturating_sub(threads);
-    let (cost, enough) = (state.cost, state.enough());
-    let next = &mut state.open[first..];
-    let pricings = state.pricings.as_slice();
-    thread::for_each_mut(
-        rt,
-        next,
-        threads.max(1),
-        &|_, open| prepare(alloc, task, pricings, cost, enough, open),
-    );
-}
-
-// Whether the last one of some open nodes was solved before its turn.
-fn is_ready(open: &[Open], cost: Option<u64>) -> bool {
-    match open.last() {
-        Some(next) => next.is_ahead(cost),
-        None => true,
+) -> Result<(), Memory> {
+    if state.threads() < 2 || state.open.len() < 2 || is_ready(task, state)? {
+        return Ok(());
     }
-}
-
-// Solves a node before its turn, where no vector that there is closes it. Where memory runs out, it
-// stays as it was.
-fn prepare(
-    alloc: Global,
-    task: &Task<'_>,
-    pricings: &[Pricing],
-    cost: Option<u64>,
-    enough: f64,
-    open: &mut Open,
-) {
-    if open.is_ahead(cost) {
-        return;
-    }
-    if let Err(Memory) = complete_values(task, pricings, open) {
-        return;
-    }
-    if closing(pricings, &open.values, cost).is_none() {
-        open.ahead = match solution(alloc, task, &open.relaxation, cost, enough) {
-            Ok(ahead) => Some(ahead),
-            Err(Memory) => None,
-        };
-    }
-}
-
-// The solution of a relaxation, for this cost.
-fn solution(
-    alloc: Global,
-    task: &Task<'_>,
-    relaxation: &Relaxation,
-    cost: Option<u64>,
-    enough: f64,
-) -> Result<Ahead, Memory> {
-    let mut relaxation = relaxation.copy(alloc)?;
-    let mut work = Work::new(alloc, task.program)?;
-    let ended = relaxation.solve_by(alloc, task.program, &mut work, NODE_PIVOTS, enough)?;
-    Ok(Ahead {
-        relaxation,
-        ended,
+    let enough = state.enough();
+    state.lend();
+    let State {
+        places,
+        pricings,
         cost,
-    })
+        ..
+    } = state;
+    let known = Known {
+        pricings,
+        cost: *cost,
+        enough,
+    };
+    places.solve(rt, alloc, task, known);
+    state.take_back()
 }
 
-// Closes or splits a node. Answers whether it did.
+// Whether the last open node is solved, or a vector that there is closes it.
+fn is_ready(task: &Task<'_>, state: &mut State) -> Result<bool, Memory> {
+    let State {
+        open,
+        pricings,
+        cost,
+        ..
+    } = state;
+    let Some(next) = open.last_mut() else {
+        return Ok(true);
+    };
+    if next.is_ahead(*cost) {
+        return Ok(true);
+    }
+    next.complete_values(task, pricings)?;
+    Ok(closing(pricings, &next.values, *cost).is_some())
+}
+
+// What a visit of a node came to: it is closed or split; or it waits for its next turn, as others
+// have a lower bound; or it stays open.
+enum Outcome {
+    Done,
+    Waits,
+    Stays,
+}
+
+// What a visit came to that closed or split a node, or did not.
+fn outcome_of(is_done: bool) -> Outcome {
+    if is_done {
+        Outcome::Done
+    } else {
+        Outcome::Stays
+    }
+}
+
+// Closes or splits a node, or lets it wait.
 fn visit<R: Threads + Sync>(
     rt: &R,
     alloc: Global,
     task: &Task<'_>,
     state: &mut State,
     open: &mut Open,
-) -> Result<bool, Memory> {
-    complete_values(task, &state.pricings, open)?;
+) -> Result<Outcome, Memory> {
+    open.complete_values(task, &state.pricings)?;
     if state.close_by_known(open) {
-        return Ok(true);
+        return Ok(Outcome::Done);
     }
-    match first_end(alloc, task, state, open)? {
+    let end = first_end(alloc, task, state, open)?;
+    if end == End::Solved && state.is_behind(open.relaxation.value()) {
+        return Ok(Outcome::Waits);
+    }
+    let is_done = close_or_split(rt, alloc, task, state, open, end)?;
+    Ok(outcome_of(is_done))
+}
+
+// Closes or splits a node whose relaxation ended so. Answers whether it did.
+fn close_or_split<R: Threads + Sync>(
+    rt: &R,
+    alloc: Global,
+    task: &Task<'_>,
+    state: &mut State,
+    open: &mut Open,
+    end: End,
+) -> Result<bool, Memory> {
+    match end {
         End::Spent => Ok(false),
         End::Solved => bound_or_split(rt, alloc, task, state, open),
         End::Infeasible => close_empty(alloc, task, state, open),
@@ -155,7 +160,7 @@ fn visit<R: Threads + Sync>(
     }
 }
 
-// Solves a node, or takes the solution that was made before its turn, if it is for this cost. What
+// Solves a node, or ends the solution that was begun before its turn, if it is for this cost. What
 // it took is counted from the node that was split.
 fn first_end(
     alloc: Global,
@@ -164,19 +169,33 @@ fn first_end(
     open: &mut Open,
 ) -> Result<End, Memory> {
     let ended = match open.ahead.take() {
-        Some(ahead) if ahead.cost == state.cost => {
-            let Ahead {
-                relaxation,
-                ended,
-                ..
-            } = ahead;
-            open.relaxation = relaxation;
-            ended
-        }
+        Some(ahead) if ahead.cost == state.cost => ended_of(alloc, task, state, open, ahead)?,
         _ => solved(alloc, task, state, &mut open.relaxation)?,
     };
     state.spend(task.program, open.whole(ended));
     Ok(ended.end)
+}
+
+// Ends a solution, and makes it the node's.
+fn ended_of(
+    alloc: Global,
+    task: &Task<'_>,
+    state: &mut State,
+    open: &mut Open,
+    ahead: Ahead,
+) -> Result<Ended, Memory> {
+    let enough = state.enough();
+    let mut ahead = ahead;
+    if !ahead.is_done(state.cost) {
+        ahead.advance(alloc, task, enough, &mut state.work, NODE_PIVOTS)?;
+    }
+    let Ahead {
+        relaxation,
+        ended,
+        ..
+    } = ahead;
+    open.relaxation = relaxation;
+    Ok(ended)
 }
 
 // Goes on with a relaxation, until it passes the cost.
@@ -220,16 +239,6 @@ fn solve_whole(
     Ok(ended.end)
 }
 
-// Computes the bounds of the vectors that were added since the node was made.
-fn complete_values(task: &Task<'_>, pricings: &[Pricing], open: &mut Open) -> Result<(), Memory> {
-    let known = open.values.len();
-    for pricing in pricings.iter().skip(known) {
-        let value = pricing.value(task.problem, task.reduced, &open.allowed);
-        open.values.push(value)?;
-    }
-    Ok(())
-}
-
 // Closes a node whose relaxation has no solution.
 fn close_empty(
     alloc: Global,
@@ -267,8 +276,7 @@ fn prices_of(
     state: &State,
     open: &Open,
 ) -> Result<Pricing, Memory> {
-    let vector = open.relaxation.vector(alloc, task.problem, task.program)?;
-    Pricing::new(alloc, task, &state.base, vector, 1_024)
+    Pricing::of(alloc, task, &state.base, &open.relaxation)
 }
 
 // Closes or splits a node whose relaxation is solved.
@@ -280,7 +288,7 @@ fn bound_or_split<R: Threads + Sync>(
     open: &Open,
 ) -> Result<bool, Memory> {
     let mut pricing = None;
-    if state.wants_prices(open.relaxation.value()) {
+    if state.may_close(open.relaxation.value()) {
         let found = prices_of(alloc, task, state, open)?;
         if state.is_closed_by(task, open, &found) {
             state.close_by(open, found)?;
@@ -288,23 +296,29 @@ fn bound_or_split<R: Threads + Sync>(
         }
         pricing = Some(found);
     }
-    if let Some(split) = split_of(rt, alloc, task, state, open)? {
+    let makes = pricing.is_none() && state.has_room();
+    if let Some(split) = split_of(rt, alloc, task, state, open, makes)? {
+        if makes {
+            pricing = state.places.take_pricing();
+        }
         state.take_pricing(pricing)?;
         return divide(alloc, task, state, open, split);
     }
     close_by_prices(alloc, task, state, open)
 }
 
-// The best split of a node whose relaxation is solved; where there is none, takes its choice.
+// The best split of a node whose relaxation is solved; where there is none, takes its choice. A
+// thread makes the prices of the node meanwhile, if they are to be made.
 fn split_of<R: Threads + Sync>(
     rt: &R,
     alloc: Global,
     task: &Task<'_>,
     state: &mut State,
     open: &Open,
+    makes_prices: bool,
 ) -> Result<Option<Split>, Memory> {
     let shares = open.relaxation.shares(alloc, task.program)?;
-    let split = best_split(rt, alloc, task, state, open, &shares)?;
+    let split = best_split(rt, alloc, task, state, open, &shares, makes_prices)?;
     if split.is_none() {
         take_rounded(alloc, task, state, &open.relaxation, &shares)?;
     }
@@ -367,15 +381,14 @@ fn push_part(
     allowed.keep(task.problem, task.reduced, split.unit, split.rule, is_high);
     let values = moved_values(alloc, task, state, open, split.unit, &allowed)?;
     let (relaxation, made) = state.places.part(alloc, is_high)?;
-    state.open.push(Open {
+    state.add_open(Open {
         entry,
         allowed,
         values,
         relaxation,
         made,
         ahead: None,
-    })?;
-    Ok(())
+    })
 }
 
 // The bounds of a part of a node, in which a unit may take other alternatives.

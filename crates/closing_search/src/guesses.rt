@@ -14,7 +14,6 @@ use crate::trees::vector_of;
 use choice_problem::{Choice, PRICED_SCALE, Problem, Ranges, Vector, VectorList, cost_of};
 use cost_fixing::{Fixing, Left, left_of};
 use price_table::{PriceTable, bound, price_table};
-use reduced_problem::Reduced;
 use relaxed_problem::Relaxation;
 use slot_text::Memory;
 use std::alloc::Global;
@@ -43,11 +42,18 @@ const FIRST_PATIENCE: u64 = 300_000_000;
 
 const MOST_PATIENCE: u64 = 1_000_000_000;
 
-// The most steps of a tree after which the guess rises fast.
-const FEW_STEPS: u64 = 100_000_000;
+// The most steps of trees after which the guess rises very fast, and fast.
+const VERY_FEW_STEPS: u64 = 1_000_000;
 
-// The first guess is above the bound by one part in so many, and no guess by more than the bound.
+const FEW_STEPS: u64 = 20_000_000;
+
+// The first guess is above the bound by one part in so many, or by less where a fixing would leave
+// many alternatives for each unit; and no guess by more than the bound.
 const FIRST_PART: u64 = 1_000;
+
+const MANY_LEFT: u64 = 8;
+
+const LEAST_GAP: u64 = 16;
 
 /// What is known between guesses: the best choice and its cost, if there is one; how much the next
 /// guess is above the bound of the problem; how many steps are left; and what the trees showed.
@@ -68,6 +74,9 @@ pub(crate) struct Guesses {
     patience: u64,
     // How many trees there were.
     trees: u32,
+    // Whether the next first relaxation is solved from the start, not from that of the problem, and
+    // the last nodes are searched first, not those of low bounds.
+    is_anew: bool,
     is_over: bool,
 }
 
@@ -85,47 +94,62 @@ pub(crate) struct Guessed {
 pub(crate) fn close_by_guesses<R: Threads + Sync>(
     rt: &R,
     alloc: Global,
-    problem: &Problem,
+    task: &Task<'_>,
+    ground: Ground<'_>,
     vector: &Vector,
     best: Option<Choice>,
-    most: u32,
-    workers: u32,
 ) -> Result<Guessed, Memory>
-    requires { IsVector problem.now vector.now }
+    requires { IsVector task.now.problem.now vector.now }
 {
+    let problem = task.problem;
     let table = price_table(alloc, problem, vector)?;
-    let mut guesses = Guesses::new(problem, best, bound_at(alloc, problem, &table)?);
-    let found = close_in_turn(
-        rt,
-        alloc,
-        problem,
+    let priced = priced_flags(alloc, task, ground.root)?;
+    let whole = Whole {
+        task,
+        ground,
+        priced: &priced,
         vector,
-        &table,
-        &mut guesses,
-        most,
-        workers,
-    )?;
+        table: &table,
+    };
+    let mut guesses = Guesses::new(problem, best, bound_at(alloc, problem, &table)?);
+    let found = close_in_turn(rt, alloc, whole, &mut guesses)?;
     Ok(guesses.with(found))
+}
+
+// The whole problem, its first relaxation, flags of the classes that have a price there, the vector
+// of these prices, and its price table.
+#[derive(Clone, Copy)]
+struct Whole<'a> {
+    task: &'a Task<'a>,
+    ground: Ground<'a>,
+    priced: &'a [bool],
+    vector: &'a Vector,
+    table: &'a PriceTable,
+}
+
+// For each class whether it has a price.
+fn priced_flags(alloc: Global, task: &Task<'_>, root: &Relaxation) -> Result<Vec<bool>, Memory> {
+    let mut flags = Vec::with_capacity(alloc, task.reduced.classes().len())?;
+    for (class, _) in (0..).zip(task.reduced.classes()) {
+        flags.push(root.is_priced(class))?;
+    }
+    Ok(flags)
 }
 
 // Tries guesses one after the other.
 fn close_in_turn<R: Threads + Sync>(
     rt: &R,
     alloc: Global,
-    problem: &Problem,
-    vector: &Vector,
-    table: &PriceTable,
+    whole: Whole<'_>,
     guesses: &mut Guesses,
-    most: u32,
-    workers: u32,
 ) -> Result<Option<Found>, Memory>
-    requires { IsTableFor problem.now table.now }
+    requires { IsTableFor whole.task.now.problem.now whole.table.now }
 {
     for _ in 0..MOST_GUESSES {
         if guesses.is_over {
             break;
         }
-        let found = close_at(rt, alloc, problem, vector, table, guesses, most, workers)?;
+        let found = close_at(rt, alloc, whole, guesses)?;
         if found.is_some() {
             return Ok(found);
         }
@@ -146,27 +170,25 @@ fn bound_at(alloc: Global, problem: &Problem, table: &PriceTable) -> Result<u64,
 fn close_at<R: Threads + Sync>(
     rt: &R,
     alloc: Global,
-    problem: &Problem,
-    vector: &Vector,
-    table: &PriceTable,
+    whole: Whole<'_>,
     guesses: &mut Guesses,
-    most: u32,
-    workers: u32,
 ) -> Result<Option<Found>, Memory>
-    requires { IsTableFor problem.now table.now }
+    requires { IsTableFor whole.task.now.problem.now whole.table.now }
 {
     let cost = guesses.next();
-    let Some(left) = left_of(alloc, problem, table, PRICED_SCALE, cost)? else {
-        guesses.rise(0);
+    let Some(left) = left_of(alloc, whole.task.problem, whole.table, PRICED_SCALE, cost)? else {
+        guesses.rise(FAST);
         return Ok(None);
     };
+    if guesses.lower(left.problem()) {
+        return Ok(None);
+    }
     let fixed = Fixed {
-        problem,
+        whole,
         left: &left,
-        vector,
         cost,
     };
-    close_left(rt, alloc, fixed, guesses, most, workers)
+    close_left(rt, alloc, fixed, guesses)
 }
 
 // Tries a guess by trees of what a fixing leaves.
@@ -175,49 +197,68 @@ fn close_left<R: Threads + Sync>(
     alloc: Global,
     fixed: Fixed<'_>,
     guesses: &mut Guesses,
-    most: u32,
-    workers: u32,
 ) -> Result<Option<Found>, Memory> {
-    let problem = fixed.left.problem();
-    let reduced = Reduced::of(alloc, problem)?;
-    let program = unbarred_program(alloc, problem, &reduced)?;
-    let quotas = quotas_of(alloc, &reduced)?;
+    let (whole, problem) = (fixed.whole, fixed.left.problem());
+    let narrowed = whole.task.reduced.narrowed(alloc, problem, whole.priced)?;
+    let mut program = unbarred_program(alloc, problem, &narrowed.reduced)?;
+    if !guesses.is_anew {
+        program.change_as(whole.task.program);
+    }
+    let quotas = quotas_of(alloc, &narrowed.reduced)?;
     let task = Task {
         problem,
-        reduced: &reduced,
+        reduced: &narrowed.reduced,
         quotas: &quotas,
         program: &program,
     };
-    close_task(rt, alloc, fixed, &task, guesses, most, workers)
+    close_task(rt, alloc, fixed, &task, &narrowed.numbers, guesses)
 }
 
-// Tries a guess by trees over a program of what a fixing leaves.
+// Tries a guess by trees over a program of what a fixing leaves, where these are the numbers of the
+// whole problem's classes.
 fn close_task<R: Threads + Sync>(
     rt: &R,
     alloc: Global,
     fixed: Fixed<'_>,
     task: &Task<'_>,
+    numbers: &[u32],
     guesses: &mut Guesses,
-    most: u32,
-    workers: u32,
 ) -> Result<Option<Found>, Memory> {
-    let mut root = Relaxation::start(alloc, task.program)?;
+    let mut root = first_root(alloc, fixed.whole, task, numbers, guesses.is_anew)?;
     let ended = root.solve(alloc, task.program, FIRST_PIVOTS, NEVER)?;
     let ground = Ground {
         root: &root,
         ended,
-        most,
-        workers,
+        ..fixed.whole.ground
     };
     trees_at(rt, alloc, fixed, task, ground, guesses)
 }
 
-// A problem, what a fixing of it leaves, and the vector and the cost of the fixing.
+// The relaxation from which that of what is left goes on: the one of the whole problem, whose
+// alternatives the fixing leaves, on the classes that have these numbers now; or where that is not
+// wanted, or cannot be, the start.
+fn first_root(
+    alloc: Global,
+    whole: Whole<'_>,
+    task: &Task<'_>,
+    numbers: &[u32],
+    is_anew: bool,
+) -> Result<Relaxation, Memory> {
+    if !is_anew {
+        let solved = whole.ground.root;
+        let carried = solved.carried(alloc, whole.task.program, task.program, numbers)?;
+        if let Some(root) = carried {
+            return Ok(root);
+        }
+    }
+    Relaxation::start(alloc, task.program)
+}
+
+// A problem, what a fixing of it leaves, and the cost of the fixing.
 #[derive(Clone, Copy)]
 struct Fixed<'a> {
-    problem: &'a Problem,
+    whole: Whole<'a>,
     left: &'a Left,
-    vector: &'a Vector,
     cost: u64,
 }
 
@@ -274,7 +315,7 @@ fn take_grown(
     } = grown;
     let choice = whole_choice(alloc, fixed.left, best)?;
     guesses.learn(
-        fixed.problem,
+        fixed.whole.task.problem,
         choice,
         is_known,
         is_ended,
@@ -282,7 +323,7 @@ fn take_grown(
         most.saturating_sub(steps),
     );
     match found {
-        Some(found) => fixed_found(alloc, guesses, found, fixed.vector, fixed.cost),
+        Some(found) => fixed_found(alloc, guesses, found, fixed.whole.vector, fixed.cost),
         None => Ok(None),
     }
 }
@@ -353,6 +394,7 @@ impl Guesses {
             is_thorough: false,
             patience: FIRST_PATIENCE,
             trees: 0,
+            is_anew: false,
             is_over: false,
         };
         guesses.take(problem, best);
@@ -422,16 +464,18 @@ impl Guesses {
         } else {
             self.steps.min(most)
         };
+        let is_by_bounds = !self.is_anew && self.ways != 1;
         Limits {
             visits,
             steps,
-            first_steps: if self.cost.is_some() {
+            first_steps: if self.cost.is_some() || is_by_bounds {
                 steps
             } else {
                 self.patience
             },
             is_by_quotas: self.ways != 1,
             is_thorough: self.is_thorough,
+            is_by_bounds,
         }
     }
 
@@ -454,6 +498,7 @@ impl Guesses {
         } else if is_better {
             self.is_best = is_ended;
             self.ways = 0;
+            self.is_anew = false;
         } else if is_ended && is_known {
             self.is_best = true;
             self.look_on();
@@ -464,14 +509,18 @@ impl Guesses {
         } else if !is_ended && self.cost.is_none() && self.patience < MOST_PATIENCE {
             self.draw_again();
         } else {
-            self.rise(steps);
+            self.rise(rise_after(is_ended, steps));
         }
     }
 
-    // Goes on with a guess that is one greater, and with more steps before a choice must be found.
+    // Goes on with a guess that is one greater, where the last nodes are searched first, and with
+    // more steps before a choice must be found, where that was so.
     fn draw_again(&mut self) {
         self.gap = self.gap.saturating_add(1);
-        self.patience = self.patience.saturating_mul(2);
+        if self.is_anew {
+            self.patience = self.patience.saturating_mul(2);
+        }
+        self.is_anew = true;
         self.ways = 0;
     }
 
@@ -482,17 +531,50 @@ impl Guesses {
         self.ways = 0;
     }
 
-    // Takes a greater guess, after a tree of so many steps.
-    fn rise(&mut self, steps: u64) {
-        let more = if steps > FEW_STEPS {
-            self.gap / 8
-        } else {
-            self.gap
-        };
+    // Takes a lower guess, where it is the first one and many alternatives are left. Answers
+    // whether it does.
+    fn lower(&mut self, left: &Problem) -> bool {
+        let most = u64::from(left.units()).saturating_mul(MANY_LEFT);
+        let is_low = self.trees > 0 || self.gap < LEAST_GAP || count_alts(left) <= most;
+        if !is_low {
+            self.gap = self.gap / 4;
+        }
+        !is_low
+    }
+
+    // Takes a greater guess: what it is above the bound rises by so many eighths.
+    fn rise(&mut self, eighths: u64) {
+        let more = self.gap.saturating_mul(eighths) / 8;
         self.gap = self.gap.saturating_add(more).saturating_add(1);
         self.ways = 0;
         if self.gap > self.bound.saturating_add(self.bound) {
             self.is_over = true;
         }
+    }
+}
+
+// How many alternatives all units have.
+fn count_alts(problem: &Problem) -> u64 {
+    let mut count: u64 = 0;
+    for unit in 0..problem.units() {
+        count = count.saturating_add(u64::from(problem.alts(unit)));
+    }
+    count
+}
+
+// By how many eighths guesses rise fast.
+const FAST: u64 = 8;
+
+// By how many eighths a guess rises after a tree of so many steps, that ended or did not. The nodes
+// of a tree grow fast with the guess while no choice is below it, and less fast from there on.
+fn rise_after(is_ended: bool, steps: u64) -> u64 {
+    if steps <= VERY_FEW_STEPS {
+        3 * FAST
+    } else if steps <= FEW_STEPS {
+        FAST
+    } else if is_ended {
+        4
+    } else {
+        1
     }
 }

@@ -11,7 +11,8 @@ use std::alloc::Global;
 use std::thread::Threads;
 
 /// What a tree may take: so many visits and steps, of which it must find a choice within the first
-/// ones; whether splits by the uses of quotas come first; and whether more splits are looked at.
+/// ones; whether splits by the uses of quotas come first; whether more splits are looked at; and
+/// whether nodes of low bounds are searched first.
 #[derive(Clone, Copy, Debug)]
 pub(crate) struct Limits {
     pub(crate) visits: u32,
@@ -19,6 +20,7 @@ pub(crate) struct Limits {
     pub(crate) first_steps: u64,
     pub(crate) is_by_quotas: bool,
     pub(crate) is_thorough: bool,
+    pub(crate) is_by_bounds: bool,
 }
 
 /// What a tree came to: what may close the problem, the best choice that is below the guess,
@@ -87,6 +89,7 @@ fn first_state(
     state.spend(task.program, ground.ended);
     state.is_by_quotas = limits.is_by_quotas && state.is_by_quotas;
     state.is_thorough = limits.is_thorough;
+    state.is_by_bounds = limits.is_by_bounds;
     if start.is_none() {
         state.cost = Some(guess);
     }

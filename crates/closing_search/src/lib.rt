@@ -5,6 +5,7 @@
 #![tactic(auto)]
 
 mod accepted;
+mod ahead;
 mod allowed;
 mod barred;
 mod closed;

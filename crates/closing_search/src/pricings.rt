@@ -6,6 +6,7 @@ use crate::spans::{Spans, within};
 use crate::states::Task;
 use choice_problem::{Alt, Price, Problem, Vector};
 use reduced_problem::{Class, Reduced};
+use relaxed_problem::Relaxation;
 use slot_text::Memory;
 use std::alloc::Global;
 
@@ -42,6 +43,17 @@ impl Pricing {
         pricing.add_prices(task.reduced);
         pricing.add_leasts(task.problem, task.reduced, base)?;
         Ok(pricing)
+    }
+
+    // The prices of a relaxation.
+    pub(crate) fn of(
+        alloc: Global,
+        task: &Task<'_>,
+        base: &Allowed,
+        relaxation: &Relaxation,
+    ) -> Result<Pricing, Memory> {
+        let vector = relaxation.vector(alloc, task.problem, task.program)?;
+        Pricing::new(alloc, task, base, vector, 1_024)
     }
 
     // Adds the prices of the vector.

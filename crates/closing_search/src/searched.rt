@@ -39,11 +39,12 @@ const ROOT_PIVOTS: u32 = 50_000;
 /// "Special facilities in a general mathematical programming system for non-convex problems using
 /// ordered sets of variables"). In the end a tree whose splits cut ranges is made of it. Its work
 /// is bounded by counts of nodes and pivots, and the same problem, start and budget give the same
-/// answer for each number of workers: these solve the two parts of a node, and look at its splits,
+/// answer for each number of workers: these look at the splits of a node, and solve open ones,
 /// side by side, on at most so many threads, while the tree grows as with one. The test at its end
-/// takes one step an alternative for each leaf.
+/// takes one step an alternative for each leaf, and makes a price table of each vector, on up to
+/// four threads.
 ///
-/// Memory: for each open node two relaxations; and with several workers sixteen more.
+/// Memory: for each open node two relaxations; and with several workers up to thirty-two more.
 pub fn closing_search<R: Threads + Sync>(
     rt: &R,
     alloc: Global,
@@ -58,20 +59,22 @@ pub fn closing_search<R: Threads + Sync>(
         (λ x. EndsAtMost problem.now (choice_cost problem.now x) ending)) }
 {
     let found = unpriced(alloc, problem)?;
-    if let Some(closed) = accepted(alloc, problem, &start, budget, found)? {
+    if let Some(closed) = accepted(rt, alloc, problem, &start, budget, found, workers)? {
         return Ok(Ending::Closed(closed));
     }
     let findings = searched(rt, alloc, problem, &start, budget, workers)?;
-    ending_of(alloc, problem, start, budget, findings)
+    ending_of(rt, alloc, problem, start, budget, findings, workers)
 }
 
 // The ending by what a search found.
-fn ending_of(
+fn ending_of<R: Threads + Sync>(
+    rt: &R,
     alloc: Global,
     problem: &Problem,
     start: Option<Choice>,
     budget: u32,
     findings: Findings,
+    workers: u32,
 ) -> Result<Ending, Memory>
     requires start { IfSome start (IsFeasible problem.now) }
     requires vector { IsVector problem.now findings.vector }
@@ -85,7 +88,7 @@ fn ending_of(
         vector,
     } = findings;
     if let Some(found) = found {
-        if let Some(closed) = accepted(alloc, problem, &start, budget, found)? {
+        if let Some(closed) = accepted(rt, alloc, problem, &start, budget, found, workers)? {
             return Ok(Ending::Closed(closed));
         }
     }
@@ -112,7 +115,7 @@ fn searched<R: Threads + Sync>(
 ) -> Result<Findings, Memory>
     ensures { IfOk result (λ s. IsVector problem.now s.vector) }
 {
-    let reduced = Reduced::of(alloc, problem)?;
+    let reduced = Reduced::by_workers(rt, alloc, problem, workers)?;
     let program = unbarred_program(alloc, problem, &reduced)?;
     let quotas = quotas_of(alloc, &reduced)?;
     let task = Task {
@@ -198,11 +201,10 @@ fn settled_by_more<R: Threads + Sync>(
 ) -> Result<(Option<Found>, Option<Choice>), Memory>
     requires { IsVector task.now.problem.now vector.now }
 {
-    let (most, workers) = (ground.most, ground.workers);
-    if ground.ended.end == End::Infeasible || most <= FEW_VISITS {
+    if ground.ended.end == End::Infeasible || ground.most <= FEW_VISITS {
         return further_trees(rt, alloc, task, ground, best);
     }
-    let guessed = close_by_guesses(rt, alloc, task.problem, vector, best, most, workers)?;
+    let guessed = close_by_guesses(rt, alloc, task, ground, vector, best)?;
     let Guessed {
         found,
         best,

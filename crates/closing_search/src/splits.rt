@@ -1,7 +1,8 @@
 //! Where a search splits a node: at a unit of whose alternatives the relaxation takes shares, so
 //! that both parts have a greater bound.
 
-use crate::looks::Basis;
+use crate::ahead::Known;
+use crate::looks::{Basis, MOST_BESIDE};
 use crate::rules::{Rule, uses_of_part};
 use crate::states::{NEVER, Open, State, Task};
 use relaxed_problem::{End, Relaxation, Share};
@@ -63,45 +64,73 @@ pub(crate) fn best_split<R: Threads + Sync>(
     state: &mut State,
     open: &Open,
     shares: &[Share],
+    makes_prices: bool,
 ) -> Result<Option<Split>, Memory> {
-    let candidates = candidates(alloc, task, state, &open.relaxation, shares)?;
+    let found = candidates(alloc, task, state, &open.relaxation, shares)?;
     let looks = looks_of(state);
+    let field = Field {
+        open,
+        candidates: first_of(&found, looks.most),
+        looks,
+    };
     let mut pick = Pick {
         best: None,
         most: -1.0,
         idle: 0,
     };
-    let mut rest = first_of(&candidates, looks.most);
-    for _ in 0..candidates.len() {
-        if rest.is_empty() || pick.idle >= looks.idle {
+    state.places.begin(makes_prices);
+    let mut first = 0;
+    for _ in 0..field.candidates.len() {
+        let end = group_end(state, &pick, field, first);
+        if end <= first || pick.idle >= looks.idle {
             break;
         }
-        let group = first_of(rest, group_size(state, &pick, looks));
-        look_at_group(rt, alloc, task, state, open, group, looks);
-        rest = after(rest, group.len());
-        take_looks(task, state, open, group, looks, &mut pick)?;
+        look_at_group(rt, alloc, task, state, field, (first, end))?;
+        take_looks(task, state, field, (first, end), &mut pick)?;
+        first = end;
     }
     Ok(pick.best)
 }
 
-// Looks at the splits of a group.
+// A node, its splits that may be looked at, and how they are.
+#[derive(Clone, Copy)]
+struct Field<'a> {
+    open: &'a Open,
+    candidates: &'a [Candidate],
+    looks: Looks,
+}
+
+// Looks at the splits from one to another.
 fn look_at_group<R: Threads + Sync>(
     rt: &R,
     alloc: Global,
     task: &Task<'_>,
     state: &mut State,
-    open: &Open,
-    group: &[Candidate],
-    looks: Looks,
-) {
-    let basis = Basis {
-        relaxation: &open.relaxation,
-        pivots: looks.pivots,
-        enough: state.enough(),
+    field: Field<'_>,
+    span: (usize, usize),
+) -> Result<(), Memory> {
+    let enough = state.enough();
+    state.lend();
+    let State {
+        places,
+        pricings,
+        cost,
+        base,
+        ..
+    } = state;
+    let known = Known {
+        pricings,
+        cost: *cost,
+        enough,
     };
-    let threads = state.threads();
-    let places = &mut state.places;
-    places.look_at(rt, alloc, task, basis, group, threads);
+    let basis = Basis {
+        relaxation: &field.open.relaxation,
+        base,
+        pivots: field.looks.pivots,
+        enough,
+    };
+    places.look_at(rt, alloc, task, known, basis, field.candidates, span);
+    state.take_back()
 }
 
 // The best split of those that were looked at, what its parts gain, and how many looks followed it.
@@ -112,12 +141,16 @@ struct Pick {
     idle: u32,
 }
 
-// How many splits are looked at side by side: as many as must be looked at in any case, where there
-// is room, but enough for all threads.
-fn group_size(state: &State, pick: &Pick, looks: Looks) -> usize {
-    let sure = looks.idle.saturating_sub(pick.idle) as usize;
-    let enough = state.threads() / 2;
-    sure.max(enough).max(1).min(state.places.count() / 2)
+// The end of the splits that are looked at side by side, from this one on: on several threads as
+// many as must be looked at in any case.
+fn group_end(state: &State, pick: &Pick, field: Field<'_>, first: usize) -> usize {
+    let sure = if state.threads() < 2 {
+        1
+    } else {
+        field.looks.idle.saturating_sub(pick.idle) as usize
+    };
+    let end = first.saturating_add(sure.max(1).min(MOST_BESIDE));
+    end.min(field.candidates.len())
 }
 
 // The first ones, at most so many.
@@ -129,28 +162,20 @@ fn first_of(candidates: &[Candidate], most: usize) -> &[Candidate] {
     }
 }
 
-// Those after the first ones, of which there are so many.
-fn after(candidates: &[Candidate], count: usize) -> &[Candidate] {
-    if count < candidates.len() {
-        &candidates[count..]
-    } else {
-        &[]
-    }
-}
-
-// Takes the looks at a group of splits in turn, until so many without a better one followed a best
-// one.
+// Takes the looks at the splits from one to another in turn, until so many without a better one
+// followed a best one.
 fn take_looks(
     task: &Task<'_>,
     state: &mut State,
-    open: &Open,
-    group: &[Candidate],
-    looks: Looks,
+    field: Field<'_>,
+    span: (usize, usize),
     pick: &mut Pick,
 ) -> Result<(), Memory> {
-    for (place, candidate) in group.iter().enumerate() {
-        if pick.idle < looks.idle {
-            take_look(task, state, open, place, candidate.split, pick)?;
+    for place in span.0..span.1 {
+        if pick.idle < field.looks.idle {
+            if let Some(candidate) = field.candidates.get(place) {
+                take_look(task, state, field.open, place, candidate.split, pick)?;
+            }
         }
     }
     Ok(())

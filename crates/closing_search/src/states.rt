@@ -1,8 +1,9 @@
 //! What a search knows while its tree grows.
 
+use crate::ahead::{Ahead, sum_of};
 use crate::allowed::Allowed;
 use crate::entries::Entry;
-use crate::looks::{MOST_BESIDE, Places};
+use crate::looks::Places;
 use crate::pricings::{Pricing, closing};
 use crate::rules::Rule;
 use crate::scores::Scores;
@@ -64,14 +65,6 @@ pub(crate) struct Open {
     pub(crate) ahead: Option<Ahead>,
 }
 
-/// A solution of an open node that was made before its turn, when this was the least cost.
-#[derive(Drop)]
-pub(crate) struct Ahead {
-    pub(crate) relaxation: Relaxation,
-    pub(crate) ended: Ended,
-    pub(crate) cost: Option<u64>,
-}
-
 impl Open {
     // The first node, on these alternatives, which goes on from a relaxation.
     fn first(alloc: Global, root: &Relaxation, allowed: Allowed) -> Result<Open, Memory> {
@@ -86,26 +79,20 @@ impl Open {
         })
     }
 
-    // Whether it was solved before its turn, for this cost.
-    pub(crate) fn is_ahead(&self, cost: Option<u64>) -> bool {
-        match &self.ahead {
-            Some(ahead) => ahead.cost == cost,
-            None => false,
-        }
-    }
-
     // What a solution took, with what was made before it.
     pub(crate) fn whole(&self, ended: Ended) -> Ended {
         match self.made {
-            Some(made) => Ended {
-                pivots: ended.pivots.saturating_add(made.pivots),
-                changes: ended.changes.saturating_add(made.changes),
-                ..ended
-            },
+            Some(made) => sum_of(made, ended),
             None => ended,
         }
     }
 }
+
+// With so many open nodes, the last ones are searched first in any case.
+const MANY_OPEN: usize = 160;
+
+// How much lower a bound must be that is searched first.
+const LOWER: f64 = 0.01;
 
 /// The tree so far; its open nodes, those to be searched first last; the vectors that close leaves
 /// and those of split nodes, the one without prices first; the best choice; how many steps of
@@ -122,6 +109,8 @@ pub(crate) struct State {
     pub(crate) work: Work,
     pub(crate) is_by_quotas: bool,
     pub(crate) is_thorough: bool,
+    // Whether open nodes of low bounds are searched first, while there are not many.
+    pub(crate) is_by_bounds: bool,
     // The alternatives that may be taken before any split.
     pub(crate) base: Allowed,
     // What splits gained so far.
@@ -168,11 +157,11 @@ impl State {
         workers: u32,
     ) -> Result<State, Memory> {
         let is_alone = workers < 2 || task.program.columns().len() < MANY_COLUMNS;
-        let beside = if is_alone { 1 } else { MOST_BESIDE };
+        let threads = if is_alone { 1 } else { workers as usize };
         let base = allowed.copy(alloc)?;
         let work = Work::new(alloc, task.program)?;
         let scores = Scores::none(alloc, task.problem.units())?;
-        let places = Places::new(alloc, task, root, beside)?;
+        let places = Places::new(alloc, task, root, threads)?;
         Ok(State {
             entries: Vec::new(alloc),
             open: Vec::new(alloc),
@@ -183,11 +172,45 @@ impl State {
             work,
             is_by_quotas: !task.quotas.is_empty(),
             is_thorough: false,
+            is_by_bounds: false,
             base,
             scores,
             places,
             workers,
         })
+    }
+
+    // Adds an open node: the last one, or where those of low bounds are searched first, behind
+    // those of no lower bounds.
+    pub(crate) fn add_open(&mut self, open: Open) -> Result<(), Memory> {
+        let place = self.place_of(open.relaxation.value());
+        if place <= self.open.len() {
+            self.open.insert(place, open)?;
+        }
+        Ok(())
+    }
+
+    // The place of an open node with this bound.
+    fn place_of(&self, bound: f64) -> usize {
+        if self.goes_by_bounds() {
+            self.open
+                .partition_point(|other| other.relaxation.value() >= bound)
+        } else {
+            self.open.len()
+        }
+    }
+
+    // Whether open nodes of low bounds are searched first now.
+    fn goes_by_bounds(&self) -> bool {
+        self.is_by_bounds && self.open.len() < MANY_OPEN
+    }
+
+    // Whether a node with this bound must wait for the next open one, whose bound is lower.
+    pub(crate) fn is_behind(&self, bound: f64) -> bool {
+        match self.open.last() {
+            Some(next) => self.goes_by_bounds() && next.relaxation.value() + LOWER < bound,
+            None => false,
+        }
     }
 
     // Adds the first node, on these alternatives, which goes on from a relaxation.
@@ -234,7 +257,7 @@ impl State {
 
     // On how many threads nodes are searched.
     pub(crate) fn threads(&self) -> usize {
-        if self.places.count() > 2 {
+        if self.places.threads() > 1 {
             self.workers as usize
         } else {
             1
@@ -306,7 +329,7 @@ impl State {
     // node becomes in the end.
     pub(crate) fn take_pricing(&mut self, pricing: Option<Pricing>) -> Result<(), Memory> {
         match pricing {
-            Some(pricing) if self.pricings.len() < MOST_TAKEN => {
+            Some(pricing) if self.has_room() => {
                 self.pricings.push(pricing)?;
                 Ok(())
             }
@@ -314,10 +337,14 @@ impl State {
         }
     }
 
-    // Whether the prices of a solved relaxation can be of use: they may close its node, or there is
-    // room for them.
-    pub(crate) fn wants_prices(&self, value: f64) -> bool {
-        value > self.enough() - 1.0 || self.pricings.len() < MOST_TAKEN
+    // Whether the prices of a solved relaxation of this value may close its node.
+    pub(crate) fn may_close(&self, value: f64) -> bool {
+        value > self.enough() - 1.0
+    }
+
+    // Whether there is room for the vectors of nodes that are split.
+    pub(crate) fn has_room(&self) -> bool {
+        self.pricings.len() < MOST_TAKEN
     }
 
     // Whether a vector closes a node.
@@ -353,6 +380,16 @@ impl State {
         let number = u32::try_from(self.entries.len()).unwrap_or(u32::MAX);
         self.entries.push(Entry::Open)?;
         Ok(number)
+    }
+
+    // Lends the last open nodes to the threads, the last one first.
+    pub(crate) fn lend(&mut self) {
+        self.places.lend(&mut self.open);
+    }
+
+    // Takes the open nodes back.
+    pub(crate) fn take_back(&mut self) -> Result<(), Memory> {
+        self.places.give_back(&mut self.open)
     }
 
     // The value above which a relaxation shows that no choice in its ranges is cheaper than the

@@ -5,7 +5,7 @@ use Rattle.closing_search.proofs.AcceptedLemmas.{closes-whole}
 use Rattle.closing_search.proofs.accepted.closes_whole.Goals as goal
 
 pub returns : goal.returns
-returns c =
+returns g c =
     let p = c.args.problem.now in
     let few : IsTrue c.has_few_nodes.result = search rules in
     let listed : IsTrue c.are_listable.result = search rules in
@@ -16,6 +16,6 @@ returns c =
     c.is_sound.ensures.holds c.is_sound.ensures.sound c.is_sound.ensures.whole
 
 pub is_sound-requires : goal.is_sound-requires
-is_sound-requires c =
+is_sound-requires g c =
     let checked : IsTrue c.are_vectors.result = search rules in
-    subst (All (IsVector c.args.problem.now)) c.items.ensures (c.are_vectors.ensures checked)
+    (search rules, subst (All (IsVector c.args.problem.now)) c.items.ensures (c.are_vectors.ensures checked))

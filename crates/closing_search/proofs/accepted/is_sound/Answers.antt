@@ -4,7 +4,7 @@ use Rattle.closing_search.proofs.AcceptedLemmas.{left-vectors}
 use Rattle.closing_search.proofs.accepted.is_sound.Goals as goal
 
 pub proves-requires-in-Some-2 : goal.proves-requires-in-Some-2
-proves-requires-in-Some-2 c =
+proves-requires-in-Some-2 g c =
     let p = c.args.problem.now in
     let is : c.in-Some-2.left ≡ tree_problem p c.args.vectors.now (Some c.in-Some.fixing) = search rules in
-    left-vectors c.left_problems.ensures.vectors p c.in-Some-2.left c.args.vectors.now c.in-Some.fixing is c.requires
+    (search rules, left-vectors c.left_problems.ensures.vectors p c.in-Some-2.left c.args.vectors.now c.in-Some.fixing is c.requires)
