@@ -21,6 +21,8 @@ mod leaves;
 #[cfg(test)]
 mod many_vectors;
 #[cfg(test)]
+mod narrowed;
+#[cfg(test)]
 mod open;
 #[cfg(test)]
 mod problems;

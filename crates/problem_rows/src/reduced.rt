@@ -147,7 +147,12 @@ fn agrees(alloc: Global, problem: &Problem) -> Result<bool, Fail> {
 }
 
 // The same of the choice of a number, if it is one.
-fn agrees_at(alloc: Global, problem: &Problem, kept: &Reduced, number: u32) -> Result<bool, Fail> {
+pub(crate) fn agrees_at(
+    alloc: Global,
+    problem: &Problem,
+    kept: &Reduced,
+    number: u32,
+) -> Result<bool, Fail> {
     let choice = numbered(alloc, problem, number)?;
     if !choice.is_for(problem) {
         return Ok(true);
