@@ -4,7 +4,7 @@ use crate::classes::{UserRun, is_marked};
 use crate::left_parts::LeftParts;
 use crate::numbers::{as_number, mix, put_number};
 use crate::reduce::Reduced;
-use crate::rows::Rows;
+use crate::rows::{Rows, from_place};
 use slot_text::Memory;
 use std::alloc::Global;
 
@@ -207,7 +207,7 @@ pub(crate) fn candidates_of(
 // A key of the runs from a place on, that depends on them alone.
 fn key_of(runs: &[UserRun], start: usize) -> u64 {
     let mut key: u64 = 0;
-    for run in runs.iter().skip(start) {
+    for run in from_place(runs, start) {
         let ends = (u64::from(run.first) << 32) | u64::from(run.end);
         key = key.wrapping_add(mix(mix(ends).wrapping_add(u64::from(run.uses))));
     }

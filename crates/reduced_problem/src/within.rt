@@ -2,7 +2,7 @@
 
 use crate::candidates::Candidates;
 use crate::classes::{ClassUse, UserRun, set_mark};
-use crate::rows::Rows;
+use crate::rows::{Rows, from_place};
 
 // How many classes are tried for one.
 const MOST_TRIED: usize = 256;
@@ -68,7 +68,7 @@ fn has_all(outer: &[UserRun], inner: &[UserRun]) -> bool {
 // How many of these runs are done, of which so many were, where those within this one are, too.
 fn found_after(run: &UserRun, inner: &[UserRun], found: usize) -> usize {
     let mut count = found;
-    for wanted in inner.iter().skip(found) {
+    for wanted in from_place(inner, found) {
         if wanted.first < run.first || run.end < wanted.end || run.uses < wanted.uses {
             return count;
         }
