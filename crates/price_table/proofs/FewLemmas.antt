@@ -15,8 +15,8 @@ use Rattle.choice_problem.specs.Problems.{ProblemView, ChooserView, IsChooser, r
 use Rattle.choice_problem.specs.Bounds.{price_at, priced, IsVector}
 use Rattle.finite_sums.proofs.SumLemmas.{count_below-none}
 use Rattle.price_table.specs.Tables.{named_price, PricesUnit}
-use Rattle.price_table.specs.Few.{AreFewPrices, strip_priced, capped_priced}
-use Rattle.price_table.specs.Named.{AreNamed, is_named}
+use Rattle.price_table.specs.Private.Few.{AreFewPrices, strip_priced, capped_priced}
+use Rattle.price_table.specs.Private.Named.{NamedAreMarked, is_named}
 use Rattle.price_table.proofs.TableLemmas.{priced-le}
 
 -- prices by rising resource: those of resources below one come first
@@ -167,7 +167,7 @@ named-priced prices m costs (Some k) l = l k refl ∙ ap (λ v. min v (2 ^ 128 -
 
 -- the capped costs of a unit's parts price its alternatives, where those are right that an alternative names
 pub capped_priced-PricesUnit : (p : ProblemView) (prices : List Price) (u : ℕ) (costs : List ℕ) (named : List Bool) → IsVector p prices → resource_count p ≤ 1000000 →
-    IsChooser (chooser_at p u) → AreNamed (chooser_at p u).alts (part_count p u) named → length costs ≡ part_count p u →
+    IsChooser (chooser_at p u) → NamedAreMarked (chooser_at p u).alts (part_count p u) named → length costs ≡ part_count p u →
     ((k : ℕ) → k < part_count p u → is_named named k ≡ true → slice_index costs k ≡ capped_priced prices (part_at (chooser_at p u) k)) →
     PricesUnit p prices u costs
 capped_priced-PricesUnit p prices u costs named v few m h count each = record {

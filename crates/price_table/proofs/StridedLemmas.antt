@@ -7,7 +7,7 @@ use Rattle.choice_problem.specs.Strips.{run_start, IsStripInRange}
 use Rattle.finite_sums.specs.Sums.{sum_below}
 use Rattle.finite_sums.proofs.SumLemmas.{sum_below-same, sum_below-add, sum_below-more_le}
 use Rattle.price_table.specs.Strips.{AreSums, run_cost, strip_cost}
-use Rattle.price_table.specs.Strided.{IsTotalled, AreGapTotals, strided_cost}
+use Rattle.price_table.specs.Private.Strided.{IsTotalled, AreGapTotals, strided_cost}
 
 -- sums do not fall
 pub AreSums-rising : (numbers sums : List ℕ) → AreSums numbers sums → (i j : ℕ) → i ≤ j → j < length sums → slice_index sums i ≤ slice_index sums j

@@ -7,9 +7,9 @@ ghost use Rattle.choice_problem.specs.Problems.{unit_count, resource_count};
 ghost use Rattle.choice_problem.specs.Bounds.{IsVector, price_at};
 ghost use Rattle.std.specs.Option.{ForSome};
 ghost use Rattle.price_table.specs.Tables.{PricesUnit, alt_in};
-ghost use Rattle.price_table.specs.Named.{AreNamed, IsMarked};
-ghost use Rattle.price_table.specs.Few.{AreFewPrices, strip_priced, capped_priced};
-ghost use Rattle.price_table.specs.Folded.{IsFolded};
+ghost use Rattle.price_table.specs.Private.Named.{NamedAreMarked, IsMarked};
+ghost use Rattle.price_table.specs.Private.Few.{AreFewPrices, strip_priced, capped_priced};
+ghost use Rattle.price_table.specs.Private.Folded.{IsFolded};
 
 use crate::folded::{Folded, strip_price};
 use crate::strips::UnitPrices;
@@ -109,7 +109,7 @@ fn named_parts(alloc: Global, alts: &[Alt], parts: usize) -> Result<Vec<bool>, M
         ForSome (alt_in alts.now a).one (λ k. k < parts) }
     requires two { (a : ℕ) → a < length alts.now →
         ForSome (alt_in alts.now a).two (λ k. k < parts) }
-    ensures { IfOk result (λ named. AreNamed alts.now parts named.items) }
+    ensures { IfOk result (λ named. NamedAreMarked alts.now parts named.items) }
 {
     let mut named = vec![in alloc; false; parts]?;
     for alt in alts {

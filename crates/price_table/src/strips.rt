@@ -5,7 +5,7 @@ ghost use Rattle.choice_problem.specs.declared.problems.TheConstants.{MOST_RESOU
 ghost use Rattle.choice_problem.specs.Strips.{IsStripInRange};
 ghost use Rattle.choice_problem.specs.Problems.{resource_count};
 ghost use Rattle.price_table.specs.Strips.{ArePrices, AreSums, strip_cost};
-ghost use Rattle.price_table.specs.Strided.{IsTotalled, AreGapTotals, strided_cost};
+ghost use Rattle.price_table.specs.Private.Strided.{IsTotalled, AreGapTotals, strided_cost};
 
 use crate::bounds::{Least, first_least};
 use choice_problem::{Part, Problem, Ranges, Strip};
@@ -54,7 +54,7 @@ pub struct StripPrices {
 
 impl Model for StripPrices {
     ghost use Rattle.std.specs.Prelude.{List, ℕ};
-    ghost use Rattle.price_table.specs.Strided.{AreGapTotals};
+    ghost use Rattle.price_table.specs.Private.Strided.{AreGapTotals};
 
     ghost Value = { List ℕ };
 

@@ -1,7 +1,7 @@
 use Rattle.std.proofs.Common.{◌≡◌, ℕ, ◌<◌, [], true, length}
 use Rattle.std.specs.Prelude.{slice_index, slice_index_or}
-use Rattle.price_table.specs.Few.{capped_priced}
-use Rattle.price_table.specs.Named.{is_named}
+use Rattle.price_table.specs.Private.Few.{capped_priced}
+use Rattle.price_table.specs.Private.Named.{is_named}
 use Rattle.price_table.proofs.few.looked_up.Given as goal
 
 abbrev pub invariant-loop-place : goal.invariant-loop-place

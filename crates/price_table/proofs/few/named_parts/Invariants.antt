@@ -1,7 +1,7 @@
 use Rattle.std.proofs.Common.{◌≡◌, ℕ, ◌<◌, true, length}
 use Rattle.std.specs.Option.{ForSome}
 use Rattle.price_table.specs.Tables.{alt_in}
-use Rattle.price_table.specs.Named.{is_named}
+use Rattle.price_table.specs.Private.Named.{is_named}
 use Rattle.price_table.proofs.few.named_parts.Given as goal
 
 abbrev pub invariant-loop-alt : goal.invariant-loop-alt

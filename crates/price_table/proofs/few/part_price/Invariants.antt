@@ -1,5 +1,5 @@
 use Rattle.std.proofs.Common.{◌≡◌, take}
-use Rattle.price_table.specs.Few.{capped_priced}
+use Rattle.price_table.specs.Private.Few.{capped_priced}
 use Rattle.price_table.proofs.few.part_price.Given as goal
 
 abbrev pub invariant-loop-strip : goal.invariant-loop-strip

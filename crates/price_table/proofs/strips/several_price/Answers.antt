@@ -1,5 +1,5 @@
 use Rattle.std.proofs.Common.{◌≡◌, sym, ◌∙◌, subst}
-use Rattle.price_table.specs.Strided.{AreGapTotals}
+use Rattle.price_table.specs.Private.Strided.{AreGapTotals}
 use Rattle.price_table.proofs.StridedLemmas.{strided_cost-is}
 use Rattle.price_table.proofs.strips.several_price.Goals as goal
 

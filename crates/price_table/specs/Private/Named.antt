@@ -14,7 +14,7 @@ pub record IsMarked (part : Option ℕ) (old new : List Bool) : Type 0 where
   pub others : (k : ℕ) → is_named old k ≡ true → is_named new k ≡ true
 
 -- the parts that the alternatives name are marked
-pub record AreNamed (alts : List Alt) (parts : ℕ) (named : List Bool) : Type 0 where
+pub record NamedAreMarked (alts : List Alt) (parts : ℕ) (named : List Bool) : Type 0 where
   pub count : length named ≡ parts
   pub one : (a : ℕ) → a < length alts → ForSome (alt_in alts a).one (λ k. is_named named k ≡ true)
   pub two : (a : ℕ) → a < length alts → ForSome (alt_in alts a).two (λ k. is_named named k ≡ true)
