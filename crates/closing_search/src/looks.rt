@@ -256,16 +256,16 @@ impl Looker {
         }
     }
 
-    // Solves its node, the first thread's, or goes on with it until that is done.
+    // Solves its node, the caller's, or goes on with it until that is done.
     fn solve(
         &mut self,
         alloc: Global,
         task: &Task<'_>,
         known: Known<'_>,
         queue: &Queue,
-        is_first: bool,
+        is_callers: bool,
     ) {
-        if is_first {
+        if is_callers {
             let _went_on = self.go_on(alloc, task, known, NODE_PIVOTS);
             queue.end();
         } else {
@@ -299,8 +299,9 @@ impl Looker {
     }
 }
 
-/// The places of looks, by threads, how many looks of a node were made, and the relaxations of the
-/// parts of the best split of the last node that was looked at.
+/// The places of looks, by threads, of which the last one is that of the caller, which goes on at
+/// once while the others start; how many looks of a node were made; and the relaxations of the parts
+/// of the best split of the last node that was looked at.
 #[derive(Drop)]
 pub(crate) struct Places {
     lookers: Vec<Looker>,
@@ -343,22 +344,22 @@ impl Places {
 
     // The prices of the node, if they were made.
     pub(crate) fn take_pricing(&mut self) -> Option<Pricing> {
-        match self.lookers.first_mut() {
+        match self.lookers.last_mut() {
             Some(looker) => looker.pricing.take(),
             None => None,
         }
     }
 
-    // Lends the last ones of some nodes to the threads, the last one first.
+    // Lends the last ones of some nodes to the threads, the last one to the last.
     pub(crate) fn lend(&mut self, nodes: &mut Vec<Open>) {
-        for looker in self.lookers.iter_mut() {
+        for looker in self.lookers.iter_mut().rev() {
             looker.open = nodes.pop();
         }
     }
 
     // Gives the nodes back that were lent, the last one last.
     pub(crate) fn give_back(&mut self, nodes: &mut Vec<Open>) -> Result<(), Memory> {
-        for looker in self.lookers.iter_mut().rev() {
+        for looker in self.lookers.iter_mut() {
             if let Some(open) = looker.open.take() {
                 nodes.push(open)?;
             }
@@ -401,14 +402,14 @@ impl Places {
                     basis,
                     candidates,
                     &queue,
-                    makes && place == 0,
+                    makes && place.saturating_add(1) == threads,
                 )
             },
         );
         self.made = most.min(queue.next.load(Ordering::SeqCst) as usize);
     }
 
-    // Solves the node of the first thread, and goes on with those of others meanwhile.
+    // Solves the node of the caller's thread, and goes on with those of others meanwhile.
     pub(crate) fn solve<R: Threads + Sync>(
         &mut self,
         rt: &R,
@@ -422,7 +423,10 @@ impl Places {
             rt,
             &mut self.lookers,
             threads,
-            &|place, looker| looker.solve(alloc, task, known, &queue, place == 0),
+            &|place, looker| {
+                let is_callers = place.saturating_add(1) == threads;
+                looker.solve(alloc, task, known, &queue, is_callers)
+            },
         );
     }
 
