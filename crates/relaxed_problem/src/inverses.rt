@@ -86,12 +86,13 @@ impl Inverse {
         }
     }
 
-    // The product with a column.
+    // The product with a column, of which many entries are 0.
     pub(crate) fn times(&self, alloc: Global, column: &[f64]) -> Result<Vec<f64>, Memory> {
+        let entries = entries_of(alloc, column)?;
         let mut products = Vec::with_capacity(alloc, self.count)?;
         let room = self.room;
         for block in self.cells.chunks(room.saturating_mul(AT_ONCE).max(1)) {
-            add_products(block, room, column, &mut products)?;
+            add_products(block, room, &entries, &mut products)?;
         }
         Ok(products)
     }
@@ -214,38 +215,61 @@ impl Inverse {
 // How many products are added up side by side.
 const AT_ONCE: usize = 4;
 
-// Adds the products of some rows with a column.
+// The entries of a column that are not 0, and their places.
+fn entries_of(alloc: Global, column: &[f64]) -> Result<Vec<(usize, f64)>, Memory> {
+    let mut entries = Vec::with_capacity(alloc, column.len())?;
+    for (place, entry) in column.iter().enumerate() {
+        if *entry != 0.0 {
+            entries.push((place, *entry))?;
+        }
+    }
+    Ok(entries)
+}
+
+// Adds the products of some rows with a column of these entries.
 fn add_products(
     block: &[f64],
     room: usize,
-    column: &[f64],
+    entries: &[(usize, f64)],
     products: &mut Vec<f64>,
 ) -> Result<(), Memory> {
     if block.len() / AT_ONCE == room {
-        products.extend_from_slice(&products_at_once(block, room, column))?;
+        products.extend_from_slice(&products_at_once(block, room, entries))?;
         return Ok(());
     }
     for row in block.chunks(room.max(1)) {
-        products.push(product(row, column))?;
+        products.push(product_with(row, entries))?;
     }
     Ok(())
 }
 
 // The products of four rows with a column, each added up in the column's order.
-fn products_at_once(block: &[f64], room: usize, column: &[f64]) -> [f64; AT_ONCE] {
+fn products_at_once(block: &[f64], room: usize, entries: &[(usize, f64)]) -> [f64; AT_ONCE] {
     let one = row_of(block, room, 0);
     let two = row_of(block, room, 1);
     let three = row_of(block, room, 2);
     let four = row_of(block, room, 3);
     let mut sums = [0.0; AT_ONCE];
-    let rows = one.iter().zip(two).zip(three.iter().zip(four));
-    for (((a, b), (c, d)), entry) in rows.zip(column) {
-        sums[0] += *a * *entry;
-        sums[1] += *b * *entry;
-        sums[2] += *c * *entry;
-        sums[3] += *d * *entry;
+    for (place, entry) in entries {
+        let (first, second) = (one.get(*place), two.get(*place));
+        let (third, fourth) = (three.get(*place), four.get(*place));
+        if let (Some(a), Some(b), Some(c), Some(d)) = (first, second, third, fourth) {
+            sums[0] += *a * *entry;
+            sums[1] += *b * *entry;
+            sums[2] += *c * *entry;
+            sums[3] += *d * *entry;
+        }
     }
     sums
+}
+
+// The product of a row with a column, added up in the column's order.
+fn product_with(row: &[f64], entries: &[(usize, f64)]) -> f64 {
+    let mut total = 0.0;
+    for (place, entry) in entries {
+        total += value_at(row, *place) * *entry;
+    }
+    total
 }
 
 // A row of some.

@@ -82,6 +82,10 @@ pub struct Work {
     // For each falling unit without basic alternatives the alternative that comes to its bound
     // first, and where.
     pub(crate) breakpoints: Vec<Entering>,
+    // The unit of each basic alternative, before a pivot.
+    pub(crate) units: Vec<u32>,
+    // The parts of each basic alternative and of its unit's key, before a pivot.
+    pub(crate) pairs: Vec<(Pair, Pair)>,
     // The alternatives that become keys in this pivot, in the order in which they come to their
     // bounds.
     pub(crate) new_keys: Vec<u32>,
@@ -115,6 +119,8 @@ impl Work {
             sums: Vec::new(alloc),
             counts: Vec::new(alloc),
             breakpoints: Vec::new(alloc),
+            units: Vec::new(alloc),
+            pairs: Vec::new(alloc),
             new_keys: Vec::new(alloc),
             nearby: Nearby::empty(alloc),
         }
@@ -167,7 +173,8 @@ impl Relaxation {
     ) -> Result<Leaving, Memory> {
         let mut leaving = Leaving::nothing();
         fill(&mut work.sums, 0.0);
-        self.offer_basics(program, work, &mut leaving);
+        self.take_pairs(program, work)?;
+        self.offer_basics(work, &mut leaving);
         self.offer_keys(alloc, program, work, &mut leaving)?;
         self.take_loads(program, work);
         let classes = self.most_passed(program, &work.loads);
@@ -177,11 +184,21 @@ impl Relaxation {
         Ok(leaving)
     }
 
+    // Notes the parts of the basic alternatives and of their units' keys.
+    fn take_pairs(&self, program: &Program<'_>, work: &mut Work) -> Result<(), Memory> {
+        work.pairs.clear();
+        for (place, unit) in self.basics.iter().zip(&work.units) {
+            let key = self.key_place(*unit);
+            work.pairs.push((program.pair(*place), program.pair(key)))?;
+        }
+        Ok(())
+    }
+
     // Offers the basic alternatives, and adds up their values.
-    fn offer_basics(&self, program: &Program<'_>, work: &mut Work, leaving: &mut Leaving) {
+    fn offer_basics(&self, work: &mut Work, leaving: &mut Leaving) {
         for (at, (place, value)) in self.basics.iter().zip(&self.values).enumerate() {
-            let column = program.column(*place);
-            add(&mut work.sums, column.unit as usize, *value);
+            let unit = number_or_max(&work.units, at);
+            add(&mut work.sums, unit as usize, *value);
             let violation = self.violation(*place, *value);
             if violation > 0.0 {
                 let square = self.inverse.square(at) + NOTHING;
@@ -203,7 +220,7 @@ impl Relaxation {
             if value_at(&work.counts, unit as usize) > 0.0 {
                 let violation = self.violation(self.key_place(unit), 1.0 - sum);
                 if violation > 0.0 {
-                    let row = self.unit_row(alloc, program, unit)?;
+                    let row = self.unit_row(alloc, &work.units, unit)?;
                     leaving.offer(Place::Key(unit), violation, product(&row, &row) + NOTHING);
                 }
             }
@@ -285,10 +302,9 @@ impl Relaxation {
         class: u32,
     ) -> Result<Vec<f64>, Memory> {
         program.add_price(class, 1.0, &mut work.parts);
-        let mut weights = Vec::with_capacity(alloc, self.basics.len())?;
-        for place in &self.basics {
-            let key = program.pair(self.key_place(program.column(*place).unit));
-            weights.push(work.at(key) - work.at(program.pair(*place)))?;
+        let mut weights = Vec::with_capacity(alloc, work.pairs.len())?;
+        for (basic, key) in &work.pairs {
+            weights.push(work.at(*key) - work.at(*basic))?;
         }
         program.clear_users(class, &mut work.parts);
         Ok(weights)

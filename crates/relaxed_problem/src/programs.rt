@@ -1,7 +1,7 @@
 //! The alternatives that take part in a relaxation.
 
 use crate::named::{NamedParts, NamedRun, Pair};
-use crate::slots::{add, is_set, number_or_max, place_after, value_at};
+use crate::slots::{add, add_each, fill, is_set, number_or_max, place_after, value_at};
 use choice_problem::{Alt, Problem};
 use reduced_problem::{ClassUse, Reduced};
 use slot_text::Memory;
@@ -10,6 +10,14 @@ use std::num::nearest_i64_to_f64;
 
 // How much the costs are changed at most, so that few are equal.
 const MOST_CHANGE: f64 = 0.0001;
+
+// How many uses are added side by side.
+const AT_ONCE: usize = 4;
+
+// How many parts a short run has at most, and twice as many.
+const WIDE: usize = 12;
+
+const STEPS: usize = 24;
 
 /// The number of no part.
 pub const NO_PART: u32 = u32::MAX;
@@ -323,9 +331,14 @@ impl<'a> Program<'a> {
 
     // Adds so many times the uses of a part.
     fn add_part(&self, part: u32, by: f64, loads: &mut [f64]) {
-        for entry in self.reduced.part_uses(part) {
-            add(loads, entry.class as usize, by * f64::from(entry.uses));
+        let (blocks, rest) = self.reduced.part_uses(part).as_chunks::<AT_ONCE>();
+        for block in blocks {
+            add_use(&block[0], by, loads);
+            add_use(&block[1], by, loads);
+            add_use(&block[2], by, loads);
+            add_use(&block[3], by, loads);
         }
+        add_each_use(rest, by, loads);
     }
 
     // How often an alternative uses a class.
@@ -336,13 +349,10 @@ impl<'a> Program<'a> {
 
     // Adds the price of a class, so often as a part uses it, to numbers of the named parts.
     pub(crate) fn add_price(&self, class: u32, price: f64, parts: &mut [f64]) {
+        let mut steps = [0.0; STEPS];
+        fill(&mut steps[..WIDE], price);
         for run in self.users(class) {
-            add_in(
-                parts,
-                run.first as usize,
-                run.end as usize,
-                price * f64::from(run.uses),
-            );
+            add_run(parts, run, price, &steps);
         }
     }
 
@@ -351,6 +361,42 @@ impl<'a> Program<'a> {
         for run in self.users(class) {
             clear_in(parts, run.first as usize, run.end as usize);
         }
+    }
+}
+
+// Adds so many times some uses of classes.
+fn add_each_use(uses: &[ClassUse], by: f64, loads: &mut [f64]) {
+    for entry in uses {
+        add_use(entry, by, loads);
+    }
+}
+
+// Adds so many times the uses of a class.
+fn add_use(entry: &ClassUse, by: f64, loads: &mut [f64]) {
+    add(loads, entry.class as usize, times(by, entry.uses));
+}
+
+// So many times a number.
+fn times(value: f64, count: u32) -> f64 {
+    if count == 1 {
+        value
+    } else {
+        value * f64::from(count)
+    }
+}
+
+// Adds a price, so often as they use its class, to the numbers of a run of parts. Most runs are
+// short and use it once. There as many numbers are added for each run, of `steps`: as often the
+// price as the run has parts, and then 0.
+fn add_run(parts: &mut [f64], run: &NamedRun, price: f64, steps: &[f64; STEPS]) {
+    let first = run.first as usize;
+    let end = run.end as usize;
+    let wide = first.saturating_add(WIDE);
+    if run.uses == 1 && first <= end && end <= wide && wide <= parts.len() {
+        let place = wide - end;
+        add_each(&mut parts[first..wide], &steps[place..place + WIDE]);
+    } else {
+        add_in(parts, first, end, times(price, run.uses));
     }
 }
 

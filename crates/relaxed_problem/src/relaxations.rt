@@ -272,17 +272,19 @@ impl Relaxation {
         put_number(&mut self.keys, unit as usize, place);
     }
 
-    // Makes a basic alternative the key of its unit; the key takes its place.
+    // Makes a basic alternative the key of its unit; the key takes its place. These are the units of
+    // the basic alternatives.
     pub(crate) fn switch_key(
         &mut self,
         alloc: Global,
         program: &Program<'_>,
+        units: &[u32],
         place: usize,
     ) -> Result<(), Memory> {
         let new = number_or_max(&self.basics, place);
         let unit = program.column(new).unit;
         let old = self.key_place(unit);
-        let mut row = self.unit_row(alloc, program, unit)?;
+        let mut row = self.unit_row(alloc, units, unit)?;
         negate(&mut row);
         self.inverse.put_row(place, row);
         self.set_key(program, unit, new);
@@ -290,16 +292,16 @@ impl Relaxation {
         Ok(())
     }
 
-    // The sum of the rows of a unit's basic alternatives.
+    // The sum of the rows of a unit's basic alternatives, of which these are the units.
     pub(crate) fn unit_row(
         &self,
         alloc: Global,
-        program: &Program<'_>,
+        units: &[u32],
         unit: u32,
     ) -> Result<Vec<f64>, Memory> {
         let mut sums = vec![in alloc; 0.0; self.priced.len()]?;
-        for (place, row) in self.basics.iter().zip(self.inverse.rows()) {
-            if program.column(*place).unit == unit {
+        for (other, row) in units.iter().zip(self.inverse.rows()) {
+            if *other == unit {
                 add_multiple(&mut sums, row, 1.0);
             }
         }

@@ -64,15 +64,63 @@ pub(crate) fn is_among(numbers: &[u32], number: u32) -> bool {
     false
 }
 
+// How many numbers are looked at side by side.
+const AT_ONCE: usize = 4;
+
 // The least of some numbers, or 0 where it is less.
 pub(crate) fn least_or_zero(values: &[f64]) -> f64 {
+    let (blocks, rest) = values.as_chunks::<AT_ONCE>();
+    let mut leasts = [0.0; AT_ONCE];
+    for block in blocks {
+        leasts[0] = lesser(block[0], leasts[0]);
+        leasts[1] = lesser(block[1], leasts[1]);
+        leasts[2] = lesser(block[2], leasts[2]);
+        leasts[3] = lesser(block[3], leasts[3]);
+    }
+    lesser(least_of(&leasts), least_of(rest))
+}
+
+// The least of some numbers, or 0 where it is less, looked at one after another.
+fn least_of(values: &[f64]) -> f64 {
     let mut least = 0.0;
     for value in values {
-        if *value < least {
-            least = *value;
-        }
+        least = lesser(*value, least);
     }
     least
+}
+
+// The lesser of two numbers.
+fn lesser(one: f64, other: f64) -> f64 {
+    if one < other { one } else { other }
+}
+
+// The sum of the squares of the differences of the numbers of two lists of equal
+// length.
+pub(crate) fn square_distance(values: &[f64], others: &[f64]) -> f64 {
+    let (blocks, rest) = values.as_chunks::<AT_ONCE>();
+    let (other_blocks, other_rest) = others.as_chunks::<AT_ONCE>();
+    let mut sums = [0.0; AT_ONCE];
+    for (block, other) in blocks.iter().zip(other_blocks) {
+        sums[0] += square(block[0] - other[0]);
+        sums[1] += square(block[1] - other[1]);
+        sums[2] += square(block[2] - other[2]);
+        sums[3] += square(block[3] - other[3]);
+    }
+    sums[0] + sums[1] + sums[2] + sums[3] + rest_distance(rest, other_rest)
+}
+
+// The sum of the squares of the differences of the numbers of two lists.
+fn rest_distance(values: &[f64], others: &[f64]) -> f64 {
+    let mut total = 0.0;
+    for (value, other) in values.iter().zip(others) {
+        total += square(*value - *other);
+    }
+    total
+}
+
+// The square of a number.
+fn square(value: f64) -> f64 {
+    value * value
 }
 
 // The place that is so many after another one.
@@ -137,6 +185,13 @@ pub(crate) fn copy_span(values: &mut [f64], from: &[f64], span: (usize, usize)) 
     let (first, end) = span;
     if first <= end && end <= values.len() {
         copy_into(&mut values[first..end], part_of(from, span));
+    }
+}
+
+// Adds one list of numbers to another.
+pub(crate) fn add_each(values: &mut [f64], other: &[f64]) {
+    for (slot, value) in values.iter_mut().zip(other) {
+        *slot += *value;
     }
 }
 

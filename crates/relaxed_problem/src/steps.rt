@@ -108,26 +108,29 @@ impl Relaxation {
         if self.value > stop_above {
             return Ok(Some(End::Above));
         }
-        self.count_basics(program, work);
+        self.count_basics(program, work)?;
         if !self.mend_keys(alloc, program, work)? {
             self.ray = Vec::new(alloc);
             return Ok(Some(End::Infeasible));
         }
         self.take_values(alloc, program)?;
         let leaving = self.leaving(alloc, program, work)?;
-        match self.leaving_place(alloc, program, leaving.place)? {
+        match self.leaving_place(alloc, program, &work.units, leaving.place)? {
             Place::Nothing => Ok(Some(End::Solved)),
             place => self.pivot(alloc, program, work, Leaving { place, ..leaving }),
         }
     }
 
-    // Counts the basic alternatives of the units.
-    fn count_basics(&self, program: &Program<'_>, work: &mut Work) {
+    // Notes the units of the basic alternatives, and counts these of each unit.
+    fn count_basics(&self, program: &Program<'_>, work: &mut Work) -> Result<(), Memory> {
         fill(&mut work.counts, 0.0);
+        work.units.clear();
         for place in &self.basics {
             let unit = program.column(*place).unit;
             add(&mut work.counts, unit as usize, 1.0);
+            work.units.push(unit)?;
         }
+        Ok(())
     }
 
     // Replaces keys that may not be taken. Answers whether each unit has an alternative.
@@ -141,7 +144,7 @@ impl Relaxation {
             if self.is_shut(self.key_place(unit)) {
                 if value_at(&work.counts, unit as usize) > 0.0 {
                     let place = self.allowed_basic(program, unit);
-                    self.switch_key(alloc, program, place)?;
+                    self.switch_key(alloc, program, &work.units, place)?;
                 } else if !self.set_best_key(program, unit) {
                     return Ok(false);
                 }
@@ -182,13 +185,14 @@ impl Relaxation {
         &mut self,
         alloc: Global,
         program: &Program<'_>,
+        units: &[u32],
         place: Place,
     ) -> Result<Place, Memory> {
         match place {
             Place::Key(unit) => {
                 let at = self.greatest_basic(program, unit);
                 let is_high = self.key_value(program, unit) > 0.0;
-                self.switch_key(alloc, program, at)?;
+                self.switch_key(alloc, program, units, at)?;
                 Ok(Place::Basic(at, is_high))
             }
             other => Ok(other),

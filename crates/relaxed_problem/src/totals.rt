@@ -5,7 +5,12 @@ use crate::named::Pair;
 use crate::nearby::MANY_COLUMNS;
 use crate::programs::Program;
 use crate::relaxations::Relaxation;
-use crate::slots::{NOTHING, add, copy_into, fill, size_of_number};
+use crate::slots::{
+    NOTHING, add, copy_into, fill, part_of, place_after, size_of_number, square_distance,
+};
+
+// At most the square of a change of how much of a part is taken, by which it counts as the same.
+const NO_SQUARE: f64 = 0.0000000000000000000000001;
 
 impl Relaxation {
     // Computes how often each class is used: for programs of many alternatives from how often it
@@ -14,7 +19,7 @@ impl Relaxation {
         if program.columns().len() < MANY_COLUMNS {
             self.sum_loads(program, &mut work.loads);
         } else {
-            self.take_targets(program, &mut work.targets);
+            self.take_targets(program, &work.pairs, &mut work.targets);
             self.move_totals(program, &work.targets);
             copy_into(&mut work.loads, &self.totals);
         }
@@ -34,25 +39,39 @@ impl Relaxation {
     }
 
     // Computes how much of each named part is taken.
-    fn take_targets(&self, program: &Program<'_>, targets: &mut [f64]) {
+    fn take_targets(&self, program: &Program<'_>, pairs: &[(Pair, Pair)], targets: &mut [f64]) {
         fill(targets, 0.0);
         for key in &self.keys {
             add_pair(targets, program.pair(*key), 1.0);
         }
-        for (place, value) in self.basics.iter().zip(&self.values) {
-            let key = self.key_place(program.column(*place).unit);
-            add_pair(targets, program.pair(*place), *value);
-            add_pair(targets, program.pair(key), -*value);
+        for ((basic, key), value) in pairs.iter().zip(&self.values) {
+            add_pair(targets, *basic, *value);
+            add_pair(targets, *key, -*value);
         }
     }
 
     // Changes how often each class is used, where so much of each named part is taken.
     fn move_totals(&mut self, program: &Program<'_>, targets: &[f64]) {
-        for (part, (amount, target)) in (0..).zip(self.amounts.iter_mut().zip(targets)) {
-            let more = *target - *amount;
-            if size_of_number(more) > NOTHING {
-                program.add_named(part, more, &mut self.totals);
-                *amount = *target;
+        for unit in 0..program.units() {
+            let span = program.part_span(unit);
+            let taken = part_of(targets, span);
+            if square_distance(part_of(&self.amounts, span), taken) > NO_SQUARE {
+                self.move_span(program, taken, span);
+            }
+        }
+    }
+
+    // The same for the named parts from one place to another.
+    fn move_span(&mut self, program: &Program<'_>, targets: &[f64], span: (usize, usize)) {
+        let (first, end) = span;
+        if first <= end && end <= self.amounts.len() {
+            let amounts = self.amounts[first..end].iter_mut();
+            for (part, (amount, target)) in (place_after(0, first)..).zip(amounts.zip(targets)) {
+                let more = *target - *amount;
+                if size_of_number(more) > NOTHING {
+                    program.add_named(part, more, &mut self.totals);
+                    *amount = *target;
+                }
             }
         }
     }
