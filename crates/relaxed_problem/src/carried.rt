@@ -103,10 +103,11 @@ impl Relaxation {
         let weights = self.changed_weights(alloc, program)?;
         let prices = self.inverse.weighted(alloc, &weights)?;
         let mut limits = 0.0;
-        for (class, price) in self.priced.iter().zip(&prices) {
-            put(&mut self.prices, *class as usize, *price);
-            program.add_price(*class, *price, &mut self.parts);
-            limits += *price * program.limit(*class);
+        for (at, price) in prices.iter().enumerate() {
+            let class = number_or_max(&self.priced, at);
+            put(&mut self.prices, class as usize, *price);
+            program.add_price(class, *price, &mut self.parts);
+            limits += *price * program.limit(class);
         }
         self.value = self.keys_cost(program) - limits;
         Ok(())

@@ -11,7 +11,8 @@ use crate::nearby::Near;
 use crate::programs::Program;
 use crate::relaxations::Relaxation;
 use crate::slots::{
-    LEAST_PIVOT, NOTHING, PASSED, above_zero, least_or_zero, part_of, put, size_of_number, value_at,
+    LEAST_PIVOT, NOTHING, PASSED, above_zero, least_or_zero, number_or_max, part_of, put,
+    size_of_number, value_at,
 };
 use slot_text::Memory;
 
@@ -160,9 +161,10 @@ impl Relaxation {
     // The slack that comes to its bound first.
     fn first_slack(&self, direction: &[f64]) -> Entering {
         let mut first = Entering::nothing();
-        for (at, (class, step)) in self.priced.iter().zip(direction).enumerate() {
+        for (at, step) in direction.iter().enumerate() {
             if *step < -LEAST_PIVOT {
-                let price = above_zero(value_at(&self.prices, *class as usize));
+                let class = number_or_max(&self.priced, at);
+                let price = above_zero(value_at(&self.prices, class as usize));
                 let _is_first = first.offer(Entering {
                     entry: Entry::Slack(at),
                     length: price / -*step,

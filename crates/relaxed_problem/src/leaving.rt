@@ -187,22 +187,22 @@ impl Relaxation {
     // Notes the parts of the basic alternatives and of their units' keys.
     fn take_pairs(&self, program: &Program<'_>, work: &mut Work) -> Result<(), Memory> {
         work.pairs.clear();
-        for (place, unit) in self.basics.iter().zip(&work.units) {
-            let key = self.key_place(*unit);
-            work.pairs.push((program.pair(*place), program.pair(key)))?;
+        for (at, unit) in work.units.iter().enumerate() {
+            let key = program.pair(self.key_place(*unit));
+            work.pairs.push((program.pair(self.basic(at)), key))?;
         }
         Ok(())
     }
 
     // Offers the basic alternatives, and adds up their values.
     fn offer_basics(&self, work: &mut Work, leaving: &mut Leaving) {
-        for (at, (place, value)) in self.basics.iter().zip(&self.values).enumerate() {
-            let unit = number_or_max(&work.units, at);
-            add(&mut work.sums, unit as usize, *value);
-            let violation = self.violation(*place, *value);
+        for (at, unit) in work.units.iter().enumerate() {
+            let value = self.basic_value(at);
+            add(&mut work.sums, *unit as usize, value);
+            let violation = self.violation(self.basic(at), value);
             if violation > 0.0 {
                 let square = self.inverse.square(at) + NOTHING;
-                leaving.offer(Place::Basic(at, *value > 0.0), violation, square);
+                leaving.offer(Place::Basic(at, value > 0.0), violation, square);
             }
         }
     }

@@ -12,7 +12,9 @@ use crate::leaving::Work;
 use crate::named::Pair;
 use crate::programs::Program;
 use crate::relaxations::Relaxation;
-use crate::slots::{copy_span, number_or_max, part_of, place_after, put, put_number, value_at};
+use crate::slots::{
+    add_multiple, copy_span, number_or_max, part_of, place_after, put, put_number, value_at,
+};
 use slot_text::Memory;
 use std::alloc::Global;
 
@@ -129,9 +131,7 @@ impl Nearby {
 
     // Moves the parts of the units along a direction of which these are the least steps.
     pub(crate) fn slip(&mut self, leasts: &[f64], length: f64) {
-        for (slip, least) in self.slips.iter_mut().zip(leasts) {
-            *slip += length * *least;
-        }
+        add_multiple(&mut self.slips, leasts, length);
     }
 
     // Computes how much less the parts of a unit cost now than when its list was made.

@@ -172,12 +172,22 @@ impl Relaxation {
         for place in &self.keys {
             total += program.column(*place).cost;
         }
-        for (place, value) in self.basics.iter().zip(&self.values) {
-            let column = program.column(*place);
+        for at in 0..self.basics.len() {
+            let column = program.column(self.basic(at));
             let key = program.column(self.key_place(column.unit));
-            total += *value * (column.cost - key.cost);
+            total += self.basic_value(at) * (column.cost - key.cost);
         }
         total
+    }
+
+    // A basic alternative by its place among these.
+    pub(crate) fn basic(&self, at: usize) -> u32 {
+        number_or_max(&self.basics, at)
+    }
+
+    // The value of a basic alternative by its place among these.
+    pub(crate) fn basic_value(&self, at: usize) -> f64 {
+        value_at(&self.values, at)
     }
 
     /// The reduced cost of a column of the program, with changed costs, by its place.
@@ -226,9 +236,10 @@ impl Relaxation {
 
     // Adds the places of the basic alternatives and their shares.
     fn add_basics(&self, places: &mut Vec<(u32, f64)>) -> Result<(), Memory> {
-        for (place, value) in self.basics.iter().zip(&self.values) {
-            if *value > PASSED {
-                places.push((*place, *value))?;
+        for at in 0..self.basics.len() {
+            let value = self.basic_value(at);
+            if value > PASSED {
+                places.push((self.basic(at), value))?;
             }
         }
         Ok(())
@@ -247,9 +258,9 @@ impl Relaxation {
     // The sum of the values of each unit's basic alternatives.
     fn sums(&self, alloc: Global, program: &Program<'_>) -> Result<Vec<f64>, Memory> {
         let mut sums = vec![in alloc; 0.0; self.keys.len()]?;
-        for (place, value) in self.basics.iter().zip(&self.values) {
-            let unit = program.column(*place).unit;
-            add(&mut sums, unit as usize, *value);
+        for at in 0..self.basics.len() {
+            let unit = program.column(self.basic(at)).unit;
+            add(&mut sums, unit as usize, self.basic_value(at));
         }
         Ok(sums)
     }

@@ -169,9 +169,9 @@ impl Relaxation {
     fn greatest_basic(&self, program: &Program<'_>, unit: u32) -> usize {
         let mut found = self.basics.len();
         let mut most = -1.0;
-        for (at, (place, value)) in self.basics.iter().zip(&self.values).enumerate() {
-            let size = size_of_number(*value);
-            if program.column(*place).unit == unit && size > most {
+        for at in 0..self.basics.len() {
+            let size = size_of_number(self.basic_value(at));
+            if program.column(self.basic(at)).unit == unit && size > most {
                 found = at;
                 most = size;
             }
@@ -202,9 +202,9 @@ impl Relaxation {
     // The value of a key.
     fn key_value(&self, program: &Program<'_>, unit: u32) -> f64 {
         let mut left = 1.0;
-        for (place, value) in self.basics.iter().zip(&self.values) {
-            if program.column(*place).unit == unit {
-                left -= *value;
+        for at in 0..self.basics.len() {
+            if program.column(self.basic(at)).unit == unit {
+                left -= self.basic_value(at);
             }
         }
         left
@@ -262,9 +262,9 @@ impl Relaxation {
 
     // How the prices of the parts move.
     fn price_parts(&self, program: &Program<'_>, work: &mut Work, direction: &[f64], place: Place) {
-        for (class, step) in self.priced.iter().zip(direction) {
+        for (at, step) in direction.iter().enumerate() {
             if size_of_number(*step) > NOTHING {
-                program.add_price(*class, *step, &mut work.parts);
+                program.add_price(number_or_max(&self.priced, at), *step, &mut work.parts);
             }
         }
         if let Place::Class(class) = place {
@@ -274,8 +274,9 @@ impl Relaxation {
 
     // Moves the prices of the classes.
     fn move_prices(&mut self, direction: &[f64], place: Place, length: f64) {
-        for (class, step) in self.priced.iter().zip(direction) {
-            add(&mut self.prices, *class as usize, length * *step);
+        for (at, step) in direction.iter().enumerate() {
+            let class = number_or_max(&self.priced, at);
+            add(&mut self.prices, class as usize, length * *step);
         }
         if let Place::Class(class) = place {
             add(&mut self.prices, class as usize, length);
@@ -294,9 +295,9 @@ impl Relaxation {
 
     // Notes the classes whose prices rise along a direction.
     fn add_rises(&mut self, direction: &[f64]) -> Result<(), Memory> {
-        for (class, step) in self.priced.iter().zip(direction) {
+        for (at, step) in direction.iter().enumerate() {
             if *step > 0.0 {
-                self.ray.push((*class, *step))?;
+                self.ray.push((number_or_max(&self.priced, at), *step))?;
             }
         }
         Ok(())

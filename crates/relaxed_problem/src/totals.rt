@@ -6,7 +6,7 @@ use crate::nearby::MANY_COLUMNS;
 use crate::programs::Program;
 use crate::relaxations::Relaxation;
 use crate::slots::{
-    NOTHING, add, copy_into, fill, part_of, place_after, size_of_number, square_distance,
+    NOTHING, add, copy_into, fill, part_of, place_after, size_of_number, square_distance, value_at,
 };
 
 // At most the square of a change of how much of a part is taken, by which it counts as the same.
@@ -28,12 +28,13 @@ impl Relaxation {
     // Adds up how often each class is used.
     fn sum_loads(&self, program: &Program<'_>, loads: &mut [f64]) {
         copy_into(loads, &self.loads);
-        for (place, value) in self.basics.iter().zip(&self.values) {
-            if size_of_number(*value) > NOTHING {
-                let column = program.column(*place);
+        for at in 0..self.basics.len() {
+            let value = self.basic_value(at);
+            if size_of_number(value) > NOTHING {
+                let column = program.column(self.basic(at));
                 let key = program.column(self.key_place(column.unit));
-                program.add_uses(&column, *value, loads);
-                program.add_uses(&key, -*value, loads);
+                program.add_uses(&column, value, loads);
+                program.add_uses(&key, -value, loads);
             }
         }
     }
@@ -44,9 +45,10 @@ impl Relaxation {
         for key in &self.keys {
             add_pair(targets, program.pair(*key), 1.0);
         }
-        for ((basic, key), value) in pairs.iter().zip(&self.values) {
-            add_pair(targets, *basic, *value);
-            add_pair(targets, *key, -*value);
+        for (at, (basic, key)) in pairs.iter().enumerate() {
+            let value = self.basic_value(at);
+            add_pair(targets, *basic, value);
+            add_pair(targets, *key, -value);
         }
     }
 
@@ -64,13 +66,14 @@ impl Relaxation {
     // The same for the named parts from one place to another.
     fn move_span(&mut self, program: &Program<'_>, targets: &[f64], span: (usize, usize)) {
         let (first, end) = span;
+        let start = place_after(0, first);
         if first <= end && end <= self.amounts.len() {
-            let amounts = self.amounts[first..end].iter_mut();
-            for (part, (amount, target)) in (place_after(0, first)..).zip(amounts.zip(targets)) {
-                let more = *target - *amount;
+            for (number, amount) in self.amounts[first..end].iter_mut().enumerate() {
+                let target = value_at(targets, number);
+                let more = target - *amount;
                 if size_of_number(more) > NOTHING {
-                    program.add_named(part, more, &mut self.totals);
-                    *amount = *target;
+                    program.add_named(place_after(start, number), more, &mut self.totals);
+                    *amount = target;
                 }
             }
         }
