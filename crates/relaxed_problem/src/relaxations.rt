@@ -283,8 +283,8 @@ impl Relaxation {
         put_number(&mut self.keys, unit as usize, place);
     }
 
-    // Makes a basic alternative the key of its unit; the key takes its place. These are the units of
-    // the basic alternatives.
+    // Makes a basic alternative the key of its unit; the key takes its place. These are the units
+    // of the basic alternatives.
     pub(crate) fn switch_key(
         &mut self,
         alloc: Global,
