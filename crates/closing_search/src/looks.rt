@@ -300,8 +300,8 @@ impl Looker {
 }
 
 /// The places of looks, by threads, of which the last one is that of the caller, which goes on at
-/// once while the others start; how many looks of a node were made; and the relaxations of the parts
-/// of the best split of the last node that was looked at.
+/// once while the others start; how many looks of a node were made; and the relaxations of the
+/// parts of the best split of the last node that was looked at.
 #[derive(Drop)]
 pub(crate) struct Places {
     lookers: Vec<Looker>,

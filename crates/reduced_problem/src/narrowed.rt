@@ -30,9 +30,9 @@ pub struct Narrowed {
 impl Reduced {
     /// The reduction of a problem with the same units, parts and resources as the whole one that
     /// this is of, and some of its alternatives. Left out are the classes of the whole that the
-    /// units' greatest uses cannot pass any more, all but one of those that have the same users now,
-    /// and those whose users are among those of another with no greater limit, as far as that is
-    /// found. Of the classes with a flag of their number, only those are left out that have the
+    /// units' greatest uses cannot pass any more, all but one of those that have the same users
+    /// now, and those whose users are among those of another with no greater limit, as far as that
+    /// is found. Of the classes with a flag of their number, only those are left out that have the
     /// users of another one, or none.
     ///
     /// Some steps a part, an alternative that is left, a run of a class's users, and a class that a
