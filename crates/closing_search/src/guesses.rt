@@ -5,7 +5,6 @@
 ghost use Rattle.choice_problem.specs.Bounds.{IsVector};
 ghost use Rattle.price_table.specs.Tables.{IsTableFor};
 
-use crate::accepted::{Found, are_listable};
 use crate::barred::unbarred_program;
 use crate::leftovers::{Ground, Grown, Limits, grow_left};
 use crate::quotas::quotas_of;
@@ -18,6 +17,7 @@ use relaxed_problem::Relaxation;
 use slot_text::Memory;
 use std::alloc::Global;
 use std::thread::Threads;
+use tested_trees::{Found, are_listable};
 
 // The most trees of all guesses, and the most steps of the relaxations of all of them.
 const MOST_GUESSES: u32 = 96;

@@ -1,6 +1,5 @@
 //! A tree of what a fixing leaves.
 
-use crate::accepted::Found;
 use crate::growing::grow;
 use crate::states::{State, Task};
 use crate::trees::found_in;
@@ -9,6 +8,7 @@ use relaxed_problem::{End, Ended, Relaxation};
 use slot_text::Memory;
 use std::alloc::Global;
 use std::thread::Threads;
+use tested_trees::Found;
 
 /// What a tree may take: so many visits and steps, of which it must find a choice within the first
 /// ones; whether splits by the uses of quotas come first; whether more splits are looked at; and

@@ -1,17 +1,14 @@
 //! Closes problems of choice by trees of free splits: a split may cut the range of any unit
 //! anywhere, where the search of `search_workers` has one rule. What is searched here, and how, is
-//! not proved and need not be: an answer is given only after an exact test of its tree, its vectors
-//! and its choice.
+//! not proved and need not be: an answer is given only after the exact test of `tested_trees`.
 #![tactic(auto)]
 
-mod accepted;
 mod ahead;
 mod allowed;
 mod barred;
-mod closed;
 mod dives;
+mod endings;
 mod entries;
-mod exact;
 mod growing;
 mod guesses;
 mod improving;
@@ -35,5 +32,5 @@ mod states;
 mod trees;
 mod unpriced;
 
-pub use closed::{Closed, Ending};
+pub use endings::Ending;
 pub use searched::closing_search;

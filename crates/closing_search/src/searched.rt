@@ -3,11 +3,10 @@
 ghost use Rattle.std.specs.Prelude.{IfOk, IfSome};
 ghost use Rattle.choice_problem.specs.Bounds.{IsVector};
 ghost use Rattle.choice_problem.specs.Choices.{IsFeasible, choice_cost};
-ghost use Rattle.closing_search.specs.Closed.{IsEnding, EndsAtMost};
+ghost use Rattle.closing_search.specs.Endings.{IsEnding, EndsAtMost};
 
-use crate::accepted::{Found, accepted, known_best};
 use crate::barred::unbarred_program;
-use crate::closed::Ending;
+use crate::endings::Ending;
 use crate::guesses::{Guessed, close_by_guesses};
 use crate::leftovers::Ground;
 use crate::quotas::quotas_of;
@@ -20,6 +19,7 @@ use relaxed_problem::{End, Relaxation};
 use slot_text::Memory;
 use std::alloc::Global;
 use std::thread::Threads;
+use tested_trees::{Found, accepted, known_best};
 
 // The most pivots of the first relaxation.
 const ROOT_PIVOTS: u32 = 50_000;

@@ -1,6 +1,5 @@
 //! Trees that may close a problem, and the choices for them.
 
-use crate::accepted::{Found, are_listable};
 use crate::growing::grow;
 use crate::improving::improve;
 use crate::leftovers::Ground;
@@ -11,6 +10,7 @@ use relaxed_problem::{End, Relaxation};
 use slot_text::Memory;
 use std::alloc::Global;
 use std::thread::Threads;
+use tested_trees::{Found, are_listable};
 
 /// The most nodes of a tree.
 pub(crate) const MOST_NODES: u32 = 40_000;

@@ -1,9 +1,9 @@
 //! A problem that is closed without prices.
 
-use crate::accepted::Found;
 use choice_problem::{Alt, Choice, Node, Problem, VectorList};
 use slot_text::Memory;
 use std::alloc::Global;
+use tested_trees::Found;
 
 /// The choice of each unit's cheapest alternative, and a leaf that closes all of them without
 /// prices.

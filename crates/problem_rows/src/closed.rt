@@ -8,10 +8,11 @@ use crate::draws::{Draws, choices_of, drawn, numbered};
 use crate::problems::problem;
 use crate::texts::{halves, number, piece};
 use choice_problem::{Choice, Problem, cost_of, fits};
-use closing_search::{Closed, Ending, closing_search};
+use closing_search::{Ending, closing_search};
 use std::alloc::Global;
 use std::test::Fail;
 use std::thread::Threads;
+use tested_trees::Closed;
 
 // The choice that a text says, if it says one and that is feasible.
 fn start(alloc: Global, problem: &Problem, text: &str) -> Result<Option<Choice>, Fail>

@@ -2,10 +2,11 @@
 
 use crate::draws::Draws;
 use choice_problem::{Alt, Chooser, Node, Part, Problem, Strip};
-use closing_search::{Closed, Ending, closing_search};
+use closing_search::{Ending, closing_search};
 use std::alloc::Global;
 use std::test::Fail;
 use std::thread::Threads;
+use tested_trees::Closed;
 
 // How many units there are, how many alternatives each has, how many resources there are, and how
 // often each may be used.

@@ -4,9 +4,10 @@
 use crate::closed::{closed_cost, least_cost};
 use crate::draws::Draws;
 use choice_problem::{Alt, Chooser, Part, Problem, Strip};
-use closing_search::{Closed, Ending, closing_search};
+use closing_search::{Ending, closing_search};
 use std::alloc::Global;
 use std::test::Fail;
+use tested_trees::Closed;
 
 // How many of the drawn problems a fixing closes, at least.
 const FIXED: u32 = 15;

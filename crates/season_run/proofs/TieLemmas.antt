@@ -6,11 +6,12 @@ use Rattle.season_days.specs.declared.declaration.Declaration.{Declaration}
 use Rattle.choice_problem.specs.declared.vectors.Price.{Price}
 use Rattle.choice_problem.specs.Problems.{ProblemView}
 use Rattle.choice_problem.specs.Choices.{IsChoice, IsFeasible, IsBest, choice_cost}
-use Rattle.closing_search.specs.Closed.{IsClosed, IsClosedAtMost, IsEnding, EndsAtMost}
-use Rattle.closing_search.specs.declared.closed.Closed.{Closed}
-use Rattle.closing_search.specs.declared.closed.Closed.TheVariants as closed
-use Rattle.closing_search.specs.declared.closed.Ending.{Ending}
-use Rattle.closing_search.specs.declared.closed.Ending.TheVariants as free
+use Rattle.tested_trees.specs.Closed.{IsClosed, IsClosedAtMost}
+use Rattle.closing_search.specs.Endings.{IsEnding, EndsAtMost}
+use Rattle.tested_trees.specs.declared.closed.Closed.{Closed}
+use Rattle.tested_trees.specs.declared.closed.Closed.TheVariants as closed
+use Rattle.closing_search.specs.declared.endings.Ending.{Ending}
+use Rattle.closing_search.specs.declared.endings.Ending.TheVariants as free
 use Rattle.search_workers.specs.Outcomes.{IsOutcome, IsSettled, OutcomeCostsAtMost}
 use Rattle.search_workers.specs.declared.outcomes.Outcome.{Outcome}
 use Rattle.search_workers.specs.declared.outcomes.Outcome.TheVariants as ends

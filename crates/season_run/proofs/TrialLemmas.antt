@@ -11,11 +11,12 @@ use Rattle.choice_problem.specs.Bounds.{IsVector, IsPrice, price_at}
 use Rattle.search_workers.specs.declared.outcomes.Outcome.{Outcome}
 use Rattle.search_workers.specs.declared.outcomes.Outcome.TheVariants as ends
 use Rattle.search_workers.specs.Outcomes.{IsBestFound, IsOutcome, IsSettled, IsSearched, AreListed, AreAllOf, AreFurther, choice_count}
-use Rattle.closing_search.specs.Closed.{IsClosed, IsEnding}
-use Rattle.closing_search.specs.declared.closed.Closed.{Closed}
-use Rattle.closing_search.specs.declared.closed.Closed.TheVariants as closed
-use Rattle.closing_search.specs.declared.closed.Ending.{Ending}
-use Rattle.closing_search.specs.declared.closed.Ending.TheVariants as free
+use Rattle.tested_trees.specs.Closed.{IsClosed}
+use Rattle.closing_search.specs.Endings.{IsEnding}
+use Rattle.tested_trees.specs.declared.closed.Closed.{Closed}
+use Rattle.tested_trees.specs.declared.closed.Closed.TheVariants as closed
+use Rattle.closing_search.specs.declared.endings.Ending.{Ending}
+use Rattle.closing_search.specs.declared.endings.Ending.TheVariants as free
 use Rattle.season_run.specs.declared.trials.StageEnd.{StageEnd}
 use Rattle.cost_fixing.specs.declared.fixings.Fixing.{Fixing}
 use Rattle.season_run.specs.Ends.{AreStageVectors, IsStageEnd, IsStageEndBy}

@@ -4,11 +4,11 @@ use Rattle.std.specs.Prelude.{◌≡◌, ◌⊎◌, ℕ, ◌<◌, ◌≤◌, Lis
 use Rattle.choice_problem.specs.declared.vectors.Price.{Price}
 use Rattle.choice_problem.specs.Problems.{ProblemView, unit_count}
 use Rattle.choice_problem.specs.Choices.{choice_cost}
-use Rattle.closing_search.specs.Closed.{IsEnding, EndsAtMost}
-use Rattle.closing_search.specs.declared.closed.Closed.{Closed}
-use Rattle.closing_search.specs.declared.closed.Closed.TheVariants as closed
-use Rattle.closing_search.specs.declared.closed.Ending.{Ending}
-use Rattle.closing_search.specs.declared.closed.Ending.TheVariants as free
+use Rattle.closing_search.specs.Endings.{IsEnding, EndsAtMost}
+use Rattle.tested_trees.specs.declared.closed.Closed.{Closed}
+use Rattle.tested_trees.specs.declared.closed.Closed.TheVariants as closed
+use Rattle.closing_search.specs.declared.endings.Ending.{Ending}
+use Rattle.closing_search.specs.declared.endings.Ending.TheVariants as free
 use Rattle.search_workers.specs.Outcomes.{IsOutcome, IsSettled, OutcomeCostsAtMost}
 use Rattle.search_workers.specs.declared.outcomes.Outcome.{Outcome}
 use Rattle.search_workers.specs.declared.outcomes.Outcome.TheVariants as ends

@@ -8,12 +8,13 @@ ghost use Rattle.season_run.specs.Searches.{IsFreeSearch, KeepsKnown, closed_end
 ghost use Rattle.season_run.specs.Steps.{IsTrialEnd};
 
 use choice_problem::{Choice, Problem, Vector};
-use closing_search::{Closed, Ending, closing_search};
+use closing_search::{Ending, closing_search};
 use cost_fixing::Fixing;
 use search_workers::{Outcome, search, search_from};
 use slot_text::Memory;
 use std::alloc::Global;
 use std::thread::Threads;
+use tested_trees::Closed;
 use worker_gate::Gate;
 
 /// The greatest budget with which a stage is searched from its greedy choice and by the vectors of

@@ -8,10 +8,11 @@ use crate::joint::{joint_problem, joint_units, read_choice, start_of};
 use crate::pairs::Pair;
 use crate::scales::Scale;
 use choice_problem::{Choice, Problem, cost_of, fits};
-use closing_search::{Closed, Ending, closing_search};
+use closing_search::{Ending, closing_search};
 use slot_text::Memory;
 use std::alloc::Global;
 use std::thread::Threads;
+use tested_trees::Closed;
 
 /// The most units that a joint problem may have.
 pub const MOST_JOINT_UNITS: u32 = 256;

@@ -1,5 +1,5 @@
 use Rattle.std.proofs.Common.{refl}
-use Rattle.closing_search.specs.declared.closed.Ending.TheVariants as free
+use Rattle.closing_search.specs.declared.endings.Ending.TheVariants as free
 use Rattle.season_run.proofs.trials.settle_busy.Goals as goal
 
 pub returns-in-Closed-clause-searches : goal.returns-in-Closed-clause-searches

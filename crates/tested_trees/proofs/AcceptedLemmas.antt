@@ -5,16 +5,16 @@ use Rattle.choice_problem.specs.declared.nodes.Node.{Node}
 use Rattle.choice_problem.specs.declared.vectors.Price.{Price}
 use Rattle.choice_problem.specs.Problems.{ProblemView}
 use Rattle.choice_problem.specs.Choices.{choice_cost}
-use Rattle.closing_search.specs.declared.closed.Closed.{Closed}
+use Rattle.tested_trees.specs.declared.closed.Closed.{Closed}
 use Rattle.choice_problem.specs.Bounds.{IsVector, whole_of}
 use Rattle.choice_problem.specs.Trees.{IsSound, IsWhole, node_count}
 use Rattle.cost_fixing.specs.declared.fixings.Fixing.{Fixing}
 use Rattle.choice_problem.specs.Trees.{vector_at}
 use Rattle.cost_fixing.specs.Fixings.{FixingHolds, left_problem, tree_problem}
 use Rattle.std.proofs.lemmas.List.Elements.{All-weaker}
-use Rattle.closing_search.specs.declared.exact.Tables.{Tables}
-use Rattle.closing_search.specs.Tables.{listed_in}
-use Rattle.closing_search.specs.Closed.{ClosesWhole, IsClosedAtMost}
+use Rattle.tested_trees.specs.declared.exact.Tables.{Tables}
+use Rattle.tested_trees.specs.Private.Tables.{listed_in}
+use Rattle.tested_trees.specs.Closed.{ClosesWhole, IsClosedAtMost}
 
 -- a cost within that of the start
 pub within-start : (p : ProblemView) (start : Option (List ℕ)) (cost : ℕ) (closed : Closed) → ((most : ℕ) → cost ≤ most → IsClosedAtMost most closed) →

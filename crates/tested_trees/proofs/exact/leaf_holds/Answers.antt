@@ -1,8 +1,8 @@
 use Rattle.std.proofs.Common.{rules, ◌-◌, ◌<◌, length}
 use Rattle.std.proofs.lemmas.List.{get_or_read}
 use Rattle.choice_problem.specs.declared.closing.TheConstants.{SCALE_BOUND}
-use Rattle.closing_search.proofs.ExactLemmas.{leaf-listed}
-use Rattle.closing_search.proofs.exact.leaf_holds.Goals as goal
+use Rattle.tested_trees.proofs.ExactLemmas.{leaf-listed}
+use Rattle.tested_trees.proofs.exact.leaf_holds.Goals as goal
 
 pub returns : goal.returns
 returns c = λ yes.

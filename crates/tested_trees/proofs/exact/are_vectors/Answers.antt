@@ -3,8 +3,8 @@ use Rattle.std.proofs.lemmas.List.{take_more}
 use Rattle.std.proofs.lemmas.List.Elements.{All-push}
 use Rattle.choice_problem.specs.declared.vectors.Price.{Price}
 use Rattle.choice_problem.specs.Bounds.{IsVector}
-use Rattle.closing_search.proofs.ExactLemmas.{all-taken}
-use Rattle.closing_search.proofs.exact.are_vectors.Goals as goal
+use Rattle.tested_trees.proofs.ExactLemmas.{all-taken}
+use Rattle.tested_trees.proofs.exact.are_vectors.Goals as goal
 
 pub loop-vector-preserved : goal.loop-vector-preserved
 loop-vector-preserved c =

@@ -8,10 +8,8 @@ use Rattle.choice_problem.specs.Bounds.{IsVector, whole_of}
 use Rattle.choice_problem.specs.Trees.{IsSound, IsWhole, node_count}
 use Rattle.cost_fixing.specs.declared.fixings.Fixing.{Fixing}
 use Rattle.cost_fixing.specs.Fixings.{FixingHolds, tree_problem}
-use Rattle.closing_search.specs.declared.closed.Closed.{Closed}
-use Rattle.closing_search.specs.declared.closed.Closed.TheVariants.{Optimal, Infeasible}
-use Rattle.closing_search.specs.declared.closed.Ending.{Ending}
-use Rattle.closing_search.specs.declared.closed.Ending.TheVariants as ends
+use Rattle.tested_trees.specs.declared.closed.Closed.{Closed}
+use Rattle.tested_trees.specs.declared.closed.Closed.TheVariants.{Optimal, Infeasible}
 
 -- A whole tree of at most so many nodes that is sound for the cost, or for none, with at most 64
 -- vectors of the problem, of which all but the first have together at most 1,000,000 prices. Where
@@ -44,14 +42,3 @@ IsClosedAtMost most (Infeasible tree vectors) = ⊥
 abbrev pub IsKnownAtMost : ProblemView → ℕ → Option (List ℕ) → Type 0
 IsKnownAtMost p most None = ⊥
 IsKnownAtMost p most (Some x) = choice_cost p x ≤ most
-
--- the problem is closed, or what is known is a feasible choice, or none, and a vector of the
--- problem
-abbrev pub IsEnding : ProblemView → ℕ → Ending → Type 0
-IsEnding p budget (ends.Closed closed) = IsClosed p budget closed
-IsEnding p budget (ends.Open best vector) = IfSome best (IsFeasible p) × IsVector p vector
-
--- the best choice, or the best one that is known, costs at most this
-abbrev pub EndsAtMost : ProblemView → ℕ → Ending → Type 0
-EndsAtMost p most (ends.Closed closed) = IsClosedAtMost most closed
-EndsAtMost p most (ends.Open best vector) = IsKnownAtMost p most best

@@ -5,9 +5,9 @@ use Rattle.choice_problem.specs.declared.nodes.Node.{Node}
 use Rattle.choice_problem.specs.declared.nodes.Node.TheVariants.{Split}
 use Rattle.choice_problem.specs.Bounds.{AreRanges, whole_of}
 use Rattle.choice_problem.specs.Trees.{AreSound}
-use Rattle.closing_search.specs.Tables.{listed_in}
-use Rattle.closing_search.proofs.ExactLemmas.{sound-next, whole-next, sound-end, whole-end}
-use Rattle.closing_search.proofs.exact.is_proof.Goals as goal
+use Rattle.tested_trees.specs.Private.Tables.{listed_in}
+use Rattle.tested_trees.proofs.ExactLemmas.{sound-next, whole-next, sound-end, whole-end}
+use Rattle.tested_trees.proofs.exact.is_proof.Goals as goal
 
 abbrev no_node : Node
 no_node = Split 0 0 None

@@ -6,7 +6,7 @@ ghost use Rattle.choice_problem.specs.Choices.{IsFeasible, choice_cost};
 ghost use Rattle.choice_problem.specs.Bounds.{IsVector, whole_of};
 ghost use Rattle.choice_problem.specs.Trees.{IsSound, IsWhole, node_count};
 ghost use Rattle.cost_fixing.specs.Fixings.{FixingHolds, tree_problem};
-ghost use Rattle.closing_search.specs.Closed.{ClosesWhole, IsClosed, IsClosedAtMost, IsKnownAtMost};
+ghost use Rattle.tested_trees.specs.Closed.{ClosesWhole, IsClosed, IsClosedAtMost, IsKnownAtMost};
 
 use crate::closed::Closed;
 use crate::exact::{are_vectors, is_proof, leaf_tables};
@@ -19,19 +19,26 @@ use slot_text::Memory;
 use std::alloc::Global;
 use std::thread::Threads;
 
-// A tree that was found, with the vectors that its leaves name, the fixing of the problem that it
-// is a tree of, if there is one, and the choice that it is to prove best, if any. Nothing is known
-// of them.
+/// A tree that was found: its nodes, in preorder; the vectors that its leaves name by their numbers,
+/// from 1; the fixing of the problem that it is a tree of what it leaves of, if there is one; and
+/// the choice that it is to prove best, or none where it is to prove that there is none. Nothing is
+/// known of them.
 #[derive(Drop)]
-pub(crate) struct Found {
-    pub(crate) choice: Option<Choice>,
-    pub(crate) fixing: Option<Fixing>,
-    pub(crate) nodes: Vec<Node>,
-    pub(crate) vectors: VectorList,
+pub struct Found {
+    pub choice: Option<Choice>,
+    pub fixing: Option<Fixing>,
+    pub nodes: Vec<Node>,
+    pub vectors: VectorList,
 }
 
-/// The answer that was found, if it passes the test.
-pub(crate) fn accepted<R: Threads + Sync>(
+/// What was found, if it passes the test; whoever found it, and how, is not asked. It passes only
+/// where its tree has at most `budget` nodes and proves what it is to prove, within the limits on
+/// vectors and prices, and its choice is feasible and no dearer than the start, which is a feasible
+/// choice, where there is one. Nothing is promised of what does not pass.
+///
+/// The test takes one step an alternative for each leaf, and a price table for each vector, made on
+/// up to four threads, and at most so many as there are workers. Only memory may run out.
+pub fn accepted<R: Threads + Sync>(
     rt: &R,
     alloc: Global,
     problem: &Problem,
@@ -63,8 +70,10 @@ pub(crate) fn accepted<R: Threads + Sync>(
     }
 }
 
-/// The cheaper one of a start and of a choice that was found, if this is feasible.
-pub(crate) fn known_best(
+/// The cheaper one of a start, which is a feasible choice, and of a choice that was found, if this
+/// is feasible: the start where both cost the same. It takes what it takes to sum the loads of a
+/// choice up.
+pub fn known_best(
     alloc: Global,
     problem: &Problem,
     start: Option<Choice>,
@@ -285,8 +294,9 @@ fn has_few_nodes(tree: &Tree, budget: u32) -> bool
     tree.items().len() < 1 << 32 && count_nodes(tree) <= budget
 }
 
-/// Whether vectors keep the limits on their number and on their prices.
-pub(crate) fn are_listable(vectors: &VectorList) -> bool
+/// Whether vectors keep the limits on their number, 64, and on their prices, 1,000,000 after the
+/// first one.
+pub fn are_listable(vectors: &VectorList) -> bool
     ensures few { IsTrue result → length vectors.now ≤ 64 }
     ensures prices { IsTrue result →
         sum_by (λ (prices : List Price). length prices) (drop 1 vectors.now) ≤ 1000000 }

@@ -7,7 +7,7 @@ ghost use Rattle.choice_problem.specs.Bounds.{AreRanges, IsVector, whole_of};
 ghost use Rattle.choice_problem.specs.Trees.{AreSound, IsSound, IsWhole, LeafHolds, NodeHolds};
 ghost use Rattle.choice_problem.specs.Walks.{CanStand};
 ghost use Rattle.price_table.specs.Tables.{IsTableFor, vectors_of};
-ghost use Rattle.closing_search.specs.Tables.{AreLeafTables, listed_in};
+ghost use Rattle.tested_trees.specs.Private.Tables.{AreLeafTables, listed_in};
 
 use choice_problem::{Node, Problem, RangeWalk, Ranges, SCALE_BOUND, Vector, over_closes};
 use price_table::{PriceTable, closes, price_table, tables_of};

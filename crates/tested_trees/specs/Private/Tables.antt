@@ -1,9 +1,9 @@
--- Tables that a tree is tested with. Contracts of private functions alone cite this.
+-- Tables that a tree is tested with.
 use Rattle.std.specs.Prelude.{◌≡◌, List, [], All}
 use Rattle.choice_problem.specs.declared.vectors.Price.{Price}
 use Rattle.choice_problem.specs.Problems.{ProblemView}
 use Rattle.price_table.specs.Tables.{IsTableFor, vectors_of}
-use Rattle.closing_search.specs.declared.exact.Tables.{Tables}
+use Rattle.tested_trees.specs.declared.exact.Tables.{Tables}
 
 -- the zero vector's table, and tables of vectors for the problem
 pub record AreLeafTables (p : ProblemView) (tables : Tables) : Type 0 where

@@ -4,9 +4,9 @@ use Rattle.choice_problem.specs.Choices.{choice_cost}
 use Rattle.choice_problem.specs.Bounds.{whole_of}
 use Rattle.choice_problem.specs.Trees.{IsSound}
 use Rattle.cost_fixing.specs.Fixings.{FixingHolds, tree_problem}
-use Rattle.closing_search.specs.declared.closed.Closed.TheVariants.{Optimal}
-use Rattle.closing_search.proofs.AcceptedLemmas.{within-start}
-use Rattle.closing_search.proofs.accepted.optimal.Goals as goal
+use Rattle.tested_trees.specs.declared.closed.Closed.TheVariants.{Optimal}
+use Rattle.tested_trees.proofs.AcceptedLemmas.{within-start}
+use Rattle.tested_trees.proofs.accepted.optimal.Goals as goal
 
 pub returns-clause-closed : goal.returns-clause-closed
 returns-clause-closed c =

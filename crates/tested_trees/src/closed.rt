@@ -1,6 +1,6 @@
 //! What is answered of a problem that was closed.
 
-use choice_problem::{Choice, Tree, Vector, VectorList};
+use choice_problem::{Choice, Tree, VectorList};
 use cost_fixing::Fixing;
 
 /// A best choice of a problem, or that it has none, with the tree that proves it and the vectors
@@ -20,18 +20,5 @@ pub enum Closed {
     Infeasible {
         tree: Tree,
         vectors: VectorList,
-    },
-}
-
-/// How a search by free splits ended.
-#[derive(Drop)]
-pub enum Ending {
-    /// The problem is closed.
-    Closed(Closed),
-    /// It is not closed. The choice, if there is one, is the best one that is known; and the vector
-    /// is that of a relaxation of the whole problem, whose bound is mostly good.
-    Open {
-        best: Option<Choice>,
-        vector: Vector,
     },
 }

@@ -1,7 +1,7 @@
 use Rattle.std.proofs.Common.{take}
 use Rattle.std.specs.Prelude.{All}
 use Rattle.choice_problem.specs.Bounds.{IsVector}
-use Rattle.closing_search.proofs.exact.are_vectors.Given as goal
+use Rattle.tested_trees.proofs.exact.are_vectors.Given as goal
 
 abbrev pub invariant-loop-vector : goal.invariant-loop-vector
 invariant-loop-vector l = All (IsVector l.problem) (take l.vector-index l.vectors)

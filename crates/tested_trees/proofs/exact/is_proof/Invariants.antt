@@ -2,8 +2,8 @@ use Rattle.std.proofs.Common.{◌∷◌, [], drop}
 use Rattle.std.specs.Prelude.{All}
 use Rattle.choice_problem.specs.Bounds.{AreRanges, whole_of}
 use Rattle.choice_problem.specs.Trees.{AreSound, IsWhole}
-use Rattle.closing_search.specs.Tables.{listed_in}
-use Rattle.closing_search.proofs.exact.is_proof.Given as goal
+use Rattle.tested_trees.specs.Private.Tables.{listed_in}
+use Rattle.tested_trees.proofs.exact.is_proof.Given as goal
 
 abbrev pub invariant-loop-node : goal.invariant-loop-node
 invariant-loop-node l = record {

@@ -1,0 +1,2 @@
+-- What contracts of private functions alone cite: the tables that a tree is tested with.
+pub mod Tables

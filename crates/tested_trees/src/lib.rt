@@ -1,0 +1,11 @@
+//! The exact test of trees that a search found. How they were found is not proved and need not be:
+//! what is answered passed the test of its tree, its vectors and its choice, in whole numbers and by
+//! the definition of a proof.
+#![tactic(auto)]
+
+mod accepted;
+mod closed;
+mod exact;
+
+pub use accepted::{Found, accepted, are_listable, known_best};
+pub use closed::Closed;
