@@ -1,2 +1,2 @@
 mod ExactLemmas
-mod AcceptedLemmas
+mod FoundLemmas

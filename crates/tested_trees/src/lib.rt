@@ -3,9 +3,9 @@
 //! the definition of a proof.
 #![tactic(auto)]
 
-mod accepted;
 mod closed;
 mod exact;
+mod found;
 
-pub use accepted::{Found, accepted, are_listable, known_best};
 pub use closed::Closed;
+pub use found::{Found, accepted, are_listable, known_best};

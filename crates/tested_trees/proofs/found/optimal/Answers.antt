@@ -5,8 +5,8 @@ use Rattle.choice_problem.specs.Bounds.{whole_of}
 use Rattle.choice_problem.specs.Trees.{IsSound}
 use Rattle.cost_fixing.specs.Fixings.{FixingHolds, tree_problem}
 use Rattle.tested_trees.specs.declared.closed.Closed.TheVariants.{Optimal}
-use Rattle.tested_trees.proofs.AcceptedLemmas.{within-start}
-use Rattle.tested_trees.proofs.accepted.optimal.Goals as goal
+use Rattle.tested_trees.proofs.FoundLemmas.{within-start}
+use Rattle.tested_trees.proofs.found.optimal.Goals as goal
 
 pub returns-clause-closed : goal.returns-clause-closed
 returns-clause-closed c =

@@ -1,8 +1,8 @@
 use Rattle.std.proofs.Common.{rules, subst}
 use Rattle.std.specs.Prelude.{IsTrue, All}
 use Rattle.choice_problem.specs.Bounds.{IsVector}
-use Rattle.tested_trees.proofs.AcceptedLemmas.{closes-whole}
-use Rattle.tested_trees.proofs.accepted.closes_whole.Goals as goal
+use Rattle.tested_trees.proofs.FoundLemmas.{closes-whole}
+use Rattle.tested_trees.proofs.found.closes_whole.Goals as goal
 
 pub returns : goal.returns
 returns g c =

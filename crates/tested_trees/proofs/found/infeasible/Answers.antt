@@ -1,4 +1,4 @@
-use Rattle.tested_trees.proofs.accepted.infeasible.Goals as goal
+use Rattle.tested_trees.proofs.found.infeasible.Goals as goal
 
 pub returns : goal.returns
 returns c =

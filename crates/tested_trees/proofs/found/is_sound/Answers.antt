@@ -1,7 +1,7 @@
 use Rattle.std.proofs.Common.{rules, ◌≡◌, Some}
 use Rattle.cost_fixing.specs.Fixings.{tree_problem}
-use Rattle.tested_trees.proofs.AcceptedLemmas.{left-vectors}
-use Rattle.tested_trees.proofs.accepted.is_sound.Goals as goal
+use Rattle.tested_trees.proofs.FoundLemmas.{left-vectors}
+use Rattle.tested_trees.proofs.found.is_sound.Goals as goal
 
 pub proves-requires-in-Some-2 : goal.proves-requires-in-Some-2
 proves-requires-in-Some-2 g c =
