@@ -20,9 +20,8 @@ use std::alloc::Global;
 use std::thread::Threads;
 
 /// A tree that was found: its nodes, in preorder; the vectors that its leaves name by their numbers,
-/// from 1; the fixing of the problem that it is a tree of what it leaves of, if there is one; and
-/// the choice that it is to prove best, or none where it is to prove that there is none. Nothing is
-/// known of them.
+/// from 1; the fixing, where it is a tree of what one leaves of the problem; and the choice that it
+/// is to prove best, or none where it is to prove that there is none. Nothing is known of them.
 #[derive(Drop)]
 pub struct Found {
     pub choice: Option<Choice>,
@@ -31,13 +30,14 @@ pub struct Found {
     pub vectors: VectorList,
 }
 
-/// What was found, if it passes the test; whoever found it, and how, is not asked. It passes only
-/// where its tree has at most `budget` nodes and proves what it is to prove, within the limits on
-/// vectors and prices, and its choice is feasible and no dearer than the start, which is a feasible
-/// choice, where there is one. Nothing is promised of what does not pass.
+/// What was found, if it passes the test: only where the tree has at most `budget` nodes and proves
+/// what it is to prove, at most 64 vectors have at most 1,000,000 prices after the first one, and
+/// the choice is feasible and no dearer than the start, where there is one. A start is a feasible
+/// choice. Who found it, and how, is not asked; and nothing is promised of what does not pass.
 ///
-/// The test takes one step an alternative for each leaf, and a price table for each vector, made on
-/// up to four threads, and at most so many as there are workers. Only memory may run out.
+/// The test takes one step an alternative for each leaf, and what a price table takes for each
+/// vector; the tables are made on up to four threads, and on no more than there are workers. Memory
+/// alone may run out.
 pub fn accepted<R: Threads + Sync>(
     rt: &R,
     alloc: Global,
@@ -71,8 +71,7 @@ pub fn accepted<R: Threads + Sync>(
 }
 
 /// The cheaper one of a start, which is a feasible choice, and of a choice that was found, if this
-/// is feasible: the start where both cost the same. It takes what it takes to sum the loads of a
-/// choice up.
+/// is feasible; the start where both cost the same. Memory alone may run out.
 pub fn known_best(
     alloc: Global,
     problem: &Problem,
