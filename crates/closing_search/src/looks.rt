@@ -1,6 +1,8 @@
 //! Looks at the parts of splits, side by side on threads. What a look finds depends on its node and
 //! its split alone, so that the answer is the same for each number of threads.
 
+ghost use Rattle.std.specs.Thread.{IsSync};
+
 use crate::ahead::{Known, NODE_PIVOTS};
 use crate::allowed::Allowed;
 use crate::pricings::Pricing;
@@ -299,6 +301,80 @@ impl Looker {
     }
 }
 
+// What threads are to do: to look at the splits of a node, whose prices the caller's thread makes
+// where they are to be made; or else to solve nodes.
+#[derive(Clone, Copy)]
+struct Errand<'a> {
+    alloc: Global,
+    task: &'a Task<'a>,
+    known: Known<'a>,
+    field: Option<(Basis<'a>, &'a [Candidate])>,
+    queue: &'a Queue,
+    makes_prices: bool,
+}
+
+impl Errand<'_> {
+    // Does it on one thread, that of the caller or another one.
+    fn run(&self, looker: &mut Looker, is_callers: bool) {
+        let (alloc, task, known) = (self.alloc, self.task, self.known);
+        match self.field {
+            Some((basis, candidates)) => {
+                let makes_prices = self.makes_prices && is_callers;
+                looker.look(
+                    alloc,
+                    task,
+                    known,
+                    basis,
+                    candidates,
+                    self.queue,
+                    makes_prices,
+                )
+            }
+            None => looker.solve(alloc, task, known, self.queue, is_callers),
+        }
+    }
+}
+
+// Of so many lookers the last one's thread, which is the caller's, starts those of all others.
+const STARTED_BY_CALLER: usize = 3;
+
+// Lets all do it, the last one on the caller's thread. Of four, `for_each_mut` would let the caller
+// start two threads and the first of these a third one; two that different threads start at the
+// same time often come to one processor while another one is idle. So the caller starts them all.
+fn run_all<R: Threads + Sync>(rt: &R, lookers: &mut [Looker], errand: Errand<'_>) {
+    let before = lookers.len().saturating_sub(STARTED_BY_CALLER);
+    if before == 0 {
+        run_some(rt, lookers, errand, true);
+        return;
+    }
+    let (others, last) = lookers.split_at_mut(before);
+    thread::join_mut(
+        rt,
+        &mut ||
+            requires { IsSync R.row }
+        { run_some(rt, others, errand, false) },
+        &mut ||
+            requires { IsSync R.row }
+        { run_some(rt, last, errand, true) },
+    );
+}
+
+// Lets some do it, the last one of which is the caller's or not.
+fn run_some<R: Threads + Sync>(
+    rt: &R,
+    lookers: &mut [Looker],
+    errand: Errand<'_>,
+    are_callers: bool,
+) {
+    let threads = lookers.len().max(1);
+    thread::for_each_mut(
+        rt,
+        lookers,
+        threads,
+        &|place, looker| { errand.run(looker, are_callers && place.saturating_add(1) == threads) },
+    );
+}
+
 /// The places of looks, by threads, of which the last one is that of the caller, which goes on at
 /// once while the others start; how many looks of a node were made; and the relaxations of the
 /// parts of the best split of the last node that was looked at.
@@ -387,25 +463,16 @@ impl Places {
         let taken = span.0.saturating_mul(2);
         let most = candidates.len().saturating_mul(2);
         let queue = Queue::of_looks(self.made, taken, sure, most);
-        let threads = self.lookers.len().max(1);
-        let makes = self.makes_prices;
+        let errand = Errand {
+            alloc,
+            task,
+            known,
+            field: Some((basis, candidates)),
+            queue: &queue,
+            makes_prices: self.makes_prices,
+        };
         self.makes_prices = false;
-        thread::for_each_mut(
-            rt,
-            &mut self.lookers,
-            threads,
-            &|place, looker| {
-                looker.look(
-                    alloc,
-                    task,
-                    known,
-                    basis,
-                    candidates,
-                    &queue,
-                    makes && place.saturating_add(1) == threads,
-                )
-            },
-        );
+        run_all(rt, &mut self.lookers, errand);
         self.made = most.min(queue.next.load(Ordering::SeqCst) as usize);
     }
 
@@ -418,16 +485,15 @@ impl Places {
         known: Known<'_>,
     ) {
         let queue = Queue::of_one();
-        let threads = self.lookers.len().max(1);
-        thread::for_each_mut(
-            rt,
-            &mut self.lookers,
-            threads,
-            &|place, looker| {
-                let is_callers = place.saturating_add(1) == threads;
-                looker.solve(alloc, task, known, &queue, is_callers)
-            },
-        );
+        let errand = Errand {
+            alloc,
+            task,
+            known,
+            field: None,
+            queue: &queue,
+            makes_prices: false,
+        };
+        run_all(rt, &mut self.lookers, errand);
     }
 
     // How the look of this number ended, and the value that it reached.
