@@ -19,7 +19,7 @@ use slot_text::Memory;
 use std::alloc::Global;
 use std::thread::Threads;
 
-/// A tree that was found: its nodes, in preorder; the vectors that its leaves name by their numbers,
+/// A tree that was found: its nodes, in preorder; the vectors that its leaves name by number,
 /// from 1; the fixing, where it is a tree of what one leaves of the problem; and the choice that it
 /// is to prove best, or none where it is to prove that there is none. Nothing is known of them.
 #[derive(Drop)]
