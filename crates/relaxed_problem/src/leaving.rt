@@ -177,7 +177,7 @@ impl Relaxation {
         self.offer_basics(work, &mut leaving);
         self.offer_keys(alloc, program, work, &mut leaving)?;
         self.take_loads(program, work);
-        let classes = self.most_passed(program, &work.loads);
+        let classes = self.most_passed(program, self.class_loads(program, work));
         for class in classes {
             self.offer_class(alloc, program, work, class, &mut leaving)?;
         }
@@ -264,7 +264,8 @@ impl Relaxation {
         class: u32,
         leaving: &mut Leaving,
     ) -> Result<(), Memory> {
-        let violation = value_at(&work.loads, class as usize) - program.limit(class);
+        let load = value_at(self.class_loads(program, work), class as usize);
+        let violation = load - program.limit(class);
         if class != u32::MAX && violation > 0.0 {
             let direction = self.class_direction(alloc, program, work, class)?;
             let square = 1.0 + product(&direction, &direction);

@@ -48,6 +48,8 @@ pub struct Relaxation {
     // pivot, and how often that uses each class.
     pub(crate) amounts: Vec<f64>,
     pub(crate) totals: Vec<f64>,
+    // And the key of each unit of which nothing else was taken then; else no alternative.
+    pub(crate) alone: Vec<u32>,
     // The value of each basic alternative.
     pub(crate) values: Vec<f64>,
     // Where there is no solution: prices of classes that show it.
@@ -86,6 +88,7 @@ impl Relaxation {
             loads: Vec::new(alloc),
             amounts: Vec::new(alloc),
             totals: Vec::new(alloc),
+            alone: Vec::new(alloc),
             values: Vec::new(alloc),
             ray: Vec::new(alloc),
             value: 0.0,
@@ -103,6 +106,7 @@ impl Relaxation {
         if program.columns().len() >= MANY_COLUMNS {
             self.amounts = vec![in alloc; 0.0; program.parts()]?;
             self.totals = vec![in alloc; 0.0; classes]?;
+            self.alone = vec![in alloc; u32::MAX; program.units() as usize]?;
         }
         Ok(())
     }
@@ -130,6 +134,7 @@ impl Relaxation {
             loads: Vec::from_slice(alloc, &self.loads)?,
             amounts: Vec::from_slice(alloc, &self.amounts)?,
             totals: Vec::from_slice(alloc, &self.totals)?,
+            alone: Vec::from_slice(alloc, &self.alone)?,
             values: Vec::from_slice(alloc, &self.values)?,
             ray: Vec::from_slice(alloc, &self.ray)?,
             value: self.value,
@@ -149,6 +154,7 @@ impl Relaxation {
         refill(&mut self.loads, &other.loads)?;
         refill(&mut self.amounts, &other.amounts)?;
         refill(&mut self.totals, &other.totals)?;
+        refill(&mut self.alone, &other.alone)?;
         refill(&mut self.values, &other.values)?;
         refill(&mut self.ray, &other.ray)?;
         self.value = other.value;

@@ -6,7 +6,8 @@ use crate::nearby::MANY_COLUMNS;
 use crate::programs::Program;
 use crate::relaxations::Relaxation;
 use crate::slots::{
-    NOTHING, add, copy_into, fill, part_of, place_after, size_of_number, square_distance, value_at,
+    NOTHING, add, copy_into, fill, number_or_max, part_of, place_after, put_number, size_of_number,
+    square_distance, value_at,
 };
 
 // At most the square of a change of how much of a part is taken, by which it counts as the same.
@@ -19,9 +20,17 @@ impl Relaxation {
         if program.columns().len() < MANY_COLUMNS {
             self.sum_loads(program, &mut work.loads);
         } else {
-            self.take_targets(program, &work.pairs, &mut work.targets);
-            self.move_totals(program, &work.targets);
-            copy_into(&mut work.loads, &self.totals);
+            self.take_targets(program, work);
+            self.move_totals(program, work);
+        }
+    }
+
+    // How often each class is used, as it was computed.
+    pub(crate) fn class_loads<'a>(&'a self, program: &Program<'_>, work: &'a Work) -> &'a [f64] {
+        if program.columns().len() < MANY_COLUMNS {
+            &work.loads
+        } else {
+            &self.totals
         }
     }
 
@@ -39,12 +48,21 @@ impl Relaxation {
         }
     }
 
-    // Computes how much of each named part is taken.
-    fn take_targets(&self, program: &Program<'_>, pairs: &[(Pair, Pair)], targets: &mut [f64]) {
-        fill(targets, 0.0);
-        for key in &self.keys {
-            add_pair(targets, program.pair(*key), 1.0);
+    // Whether a unit takes its key alone, as before the last pivot.
+    fn is_alone(&self, work: &Work, unit: u32) -> bool {
+        value_at(&work.counts, unit as usize) == 0.0
+            && number_or_max(&self.alone, unit as usize) == self.key_place(unit)
+    }
+
+    // Computes how much is taken of each named part of the other units.
+    fn take_targets(&self, program: &Program<'_>, work: &mut Work) {
+        for unit in 0..program.units() {
+            if !self.is_alone(work, unit) {
+                clear_span(&mut work.targets, program.part_span(unit));
+                add_pair(&mut work.targets, program.pair(self.key_place(unit)), 1.0);
+            }
         }
+        let Work { targets, pairs, .. } = work;
         for (at, (basic, key)) in pairs.iter().enumerate() {
             let value = self.basic_value(at);
             add_pair(targets, *basic, value);
@@ -52,14 +70,27 @@ impl Relaxation {
         }
     }
 
-    // Changes how often each class is used, where so much of each named part is taken.
-    fn move_totals(&mut self, program: &Program<'_>, targets: &[f64]) {
+    // Changes how often each class is used, where so much of each named part of these is taken.
+    fn move_totals(&mut self, program: &Program<'_>, work: &Work) {
         for unit in 0..program.units() {
-            let span = program.part_span(unit);
-            let taken = part_of(targets, span);
-            if square_distance(part_of(&self.amounts, span), taken) > NO_SQUARE {
-                self.move_span(program, taken, span);
+            if !self.is_alone(work, unit) {
+                self.move_unit(program, &work.targets, program.part_span(unit));
+                let is_key = value_at(&work.counts, unit as usize) == 0.0;
+                let key = if is_key {
+                    self.key_place(unit)
+                } else {
+                    u32::MAX
+                };
+                put_number(&mut self.alone, unit as usize, key);
             }
+        }
+    }
+
+    // The same for the named parts of a unit.
+    fn move_unit(&mut self, program: &Program<'_>, targets: &[f64], span: (usize, usize)) {
+        let taken = part_of(targets, span);
+        if square_distance(part_of(&self.amounts, span), taken) > NO_SQUARE {
+            self.move_span(program, taken, span);
         }
     }
 
@@ -77,6 +108,14 @@ impl Relaxation {
                 }
             }
         }
+    }
+}
+
+// Makes the numbers from one place to another 0.
+fn clear_span(values: &mut [f64], span: (usize, usize)) {
+    let (first, end) = span;
+    if first <= end && end <= values.len() {
+        fill(&mut values[first..end], 0.0);
     }
 }
 
