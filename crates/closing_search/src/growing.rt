@@ -13,24 +13,24 @@ use std::alloc::Global;
 use std::thread::Threads;
 
 /// Visits open nodes, the last one first, until none is left, so many were visited, or one stays
-/// open.
+/// open. Answers whether it can go on.
 pub(crate) fn grow<R: Threads + Sync>(
     rt: &R,
     alloc: Global,
     task: &Task<'_>,
     state: &mut State,
     most: u32,
-) -> Result<(), Memory> {
+) -> Result<bool, Memory> {
     for _ in 0..most {
         if state.steps == 0 {
-            return Ok(());
+            return Ok(false);
         }
         solve_ahead(rt, alloc, task, state)?;
         if !visit_next(rt, alloc, task, state)? {
-            return Ok(());
+            return Ok(false);
         }
     }
-    Ok(())
+    Ok(true)
 }
 
 // Visits the last open node, if there is one. Answers whether it did and none stays open.

@@ -28,8 +28,8 @@ const ALL_STEPS: u64 = 6_000_000_000;
 const FIRST_PIVOTS: u32 = 50_000;
 
 // The most visits and steps of the trees of a guess: one that splits by uses of quotas first; where
-// its visits stopped it, a short one by numbers alone; and where that one did not end, one by
-// quotas with more visits.
+// its visits stopped it, or the first of them did not raise its bound, a short one by numbers
+// alone; and where that one did not end, one by quotas with more visits.
 const LIMITS: [(u32, u64); 3] = [
     (600, 1_000_000_000),
     (600, 100_000_000),
@@ -464,7 +464,7 @@ impl Guesses {
         } else {
             self.steps.min(most)
         };
-        let is_by_bounds = !self.is_anew && self.ways != 1;
+        let is_by_bounds = !self.is_anew;
         Limits {
             visits,
             steps,
@@ -476,6 +476,7 @@ impl Guesses {
             is_by_quotas: self.ways != 1,
             is_thorough: self.is_thorough,
             is_by_bounds,
+            must_rise: is_by_bounds && self.ways == 0,
         }
     }
 

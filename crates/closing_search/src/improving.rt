@@ -128,5 +128,6 @@ fn seek<R: Threads + Sync>(
 ) -> Result<(), Memory> {
     place_by(alloc, task, state, first)?;
     dive(alloc, task, state, first)?;
-    grow(rt, alloc, task, state, most)
+    let _goes_on = grow(rt, alloc, task, state, most)?;
+    Ok(())
 }

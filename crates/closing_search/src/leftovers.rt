@@ -11,8 +11,9 @@ use std::thread::Threads;
 use tested_trees::Found;
 
 /// What a tree may take: so many visits and steps, of which it must find a choice within the first
-/// ones; whether splits by the uses of quotas come first; whether more splits are looked at; and
-/// whether nodes of low bounds are searched first.
+/// ones; whether splits by the uses of quotas come first; whether more splits are looked at;
+/// whether nodes of low bounds are searched first; and whether the first visits must raise the
+/// least bound.
 #[derive(Clone, Copy, Debug)]
 pub(crate) struct Limits {
     pub(crate) visits: u32,
@@ -21,7 +22,14 @@ pub(crate) struct Limits {
     pub(crate) is_by_quotas: bool,
     pub(crate) is_thorough: bool,
     pub(crate) is_by_bounds: bool,
+    pub(crate) must_rise: bool,
 }
+
+// How many visits are the first ones, and by which part of what the least bound lacks of the cost
+// they must raise it, where they must: where splits gain so little, others gain more.
+const RISING_VISITS: u32 = 100;
+
+const RISING_PART: f64 = 20.0;
 
 /// What a tree came to: what may close the problem, the best choice that is below the guess,
 /// whether it ended, or was stopped by its visits, and how many steps are left.
@@ -97,8 +105,8 @@ fn first_state(
     Ok(state)
 }
 
-// Grows a tree by its first steps, and where a choice is known then by the others. Answers how many
-// steps were not given to it.
+// Grows a tree by its first steps, and where a choice is known then by the others, unless its first
+// visits do not raise its bound as they must. Answers how many steps were not given to it.
 fn grow_on<R: Threads + Sync>(
     rt: &R,
     alloc: Global,
@@ -108,14 +116,24 @@ fn grow_on<R: Threads + Sync>(
     most: u32,
 ) -> Result<u64, Memory> {
     let visits = limits.visits.min(most);
-    grow(rt, alloc, task, state, visits)?;
+    let first = visits.min(RISING_VISITS);
+    let bound = state.least_bound();
+    let goes_on = grow(rt, alloc, task, state, first)?;
+    if goes_on && (!limits.must_rise || has_risen(state, bound)) {
+        let _goes_on = grow(rt, alloc, task, state, visits.saturating_sub(first))?;
+    }
     let rest = limits.steps.saturating_sub(limits.first_steps);
     if state.steps > 0 || state.best.is_none() {
         return Ok(rest);
     }
     state.steps = rest;
-    grow(rt, alloc, task, state, visits)?;
+    let _goes_on = grow(rt, alloc, task, state, visits)?;
     Ok(0)
+}
+
+// Whether the least bound, which was this, has risen by the part of what it lacked of the cost.
+fn has_risen(state: &State, bound: f64) -> bool {
+    (state.least_bound() - bound) * RISING_PART >= state.enough() - bound
 }
 
 // What a state has come to, where so many steps were not given to it.

@@ -318,6 +318,17 @@ impl State {
         self.steps = self.steps.saturating_sub(pivots.saturating_add(changes));
     }
 
+    // The least bound of an open node.
+    pub(crate) fn least_bound(&self) -> f64 {
+        let mut least = NEVER;
+        for open in &self.open {
+            if open.relaxation.value() < least {
+                least = open.relaxation.value();
+            }
+        }
+        least
+    }
+
     // Closes an entry.
     pub(crate) fn close(&mut self, entry: u32, closed: Entry) {
         if let Some(place) = self.entries.get_mut(entry as usize) {

@@ -47,7 +47,7 @@ fn found_from<R: Threads + Sync>(
 ) -> Result<Option<Found>, Memory> {
     let copy = copy_if_any(alloc, start)?;
     state.take_any(alloc, task.problem, copy)?;
-    grow(rt, alloc, task, state, most)?;
+    let _goes_on = grow(rt, alloc, task, state, most)?;
     found_in(alloc, task, state, most)
 }
 
@@ -99,7 +99,7 @@ fn grow_trees<R: Threads + Sync>(
 ) -> Result<Option<Found>, Memory> {
     for _ in 1..MOST_TREES {
         let known = state.cost;
-        grow(rt, alloc, task, state, most)?;
+        let _goes_on = grow(rt, alloc, task, state, most)?;
         let found = found_in(alloc, task, state, most)?;
         if found.is_some() || !begin_next(alloc, task, state, root, known)? {
             return Ok(found);

@@ -13,8 +13,11 @@ use crate::slots::{
 use slot_text::Memory;
 use std::alloc::Global;
 
-// How many of the most passed classes are looked at.
+// How many of the most passed classes are looked at, and in how many pivots after all were counted
+// the same ones are, while some of them are passed still.
 const LOOKED_AT: usize = 8;
+
+const LOOKED_AT_AGAIN: u32 = 4;
 
 // How many users for each basic alternative are many.
 const MANY_USERS: usize = 8;
@@ -91,9 +94,19 @@ pub struct Work {
     pub(crate) new_keys: Vec<u32>,
     // The alternatives that may come to their bounds soon.
     pub(crate) nearby: Nearby,
+    // The classes that were passed most when all were counted, and in how many pivots they may be
+    // looked at again.
+    tops: [u32; LOOKED_AT],
+    again: u32,
 }
 
 impl Work {
+    // Begins a solution: all classes are to be counted.
+    pub(crate) fn begin(&mut self, program: &Program<'_>, parts: &[f64]) {
+        self.nearby.begin(program, parts);
+        self.again = 0;
+    }
+
     // How many units changed their keys in the last pivot, each change counted.
     pub(crate) fn changes(&self) -> u32 {
         u32::try_from(self.new_keys.len()).unwrap_or(u32::MAX)
@@ -123,6 +136,8 @@ impl Work {
             pairs: Vec::new(alloc),
             new_keys: Vec::new(alloc),
             nearby: Nearby::empty(alloc),
+            tops: [u32::MAX; LOOKED_AT],
+            again: 0,
         }
     }
 
@@ -176,11 +191,16 @@ impl Relaxation {
         self.take_pairs(program, work)?;
         self.offer_basics(work, &mut leaving);
         self.offer_keys(alloc, program, work, &mut leaving)?;
-        self.take_loads(program, work);
-        let classes = self.most_passed(program, self.class_loads(program, work));
-        for class in classes {
-            self.offer_class(alloc, program, work, class, &mut leaving)?;
+        if work.again > 0 {
+            work.again -= 1;
+            if self.offer_tops(alloc, program, work, &mut leaving)? {
+                return Ok(leaving);
+            }
         }
+        self.take_loads(program, work);
+        work.tops = self.most_passed(program, self.class_loads(program, work));
+        work.again = LOOKED_AT_AGAIN;
+        let _are_passed = self.offer_tops(alloc, program, work, &mut leaving)?;
         Ok(leaving)
     }
 
@@ -255,7 +275,24 @@ impl Relaxation {
         tops.classes
     }
 
-    // Offers a class.
+    // Offers the classes that were passed most, where they are. Answers whether some are.
+    fn offer_tops(
+        &self,
+        alloc: Global,
+        program: &Program<'_>,
+        work: &mut Work,
+        leaving: &mut Leaving,
+    ) -> Result<bool, Memory> {
+        let mut are_passed = false;
+        let tops = work.tops;
+        for class in tops {
+            let is_passed = self.offer_class(alloc, program, work, class, leaving)?;
+            are_passed = are_passed || is_passed;
+        }
+        Ok(are_passed)
+    }
+
+    // Offers a class without a price, where it is passed. Answers whether it is.
     fn offer_class(
         &self,
         alloc: Global,
@@ -263,20 +300,32 @@ impl Relaxation {
         work: &mut Work,
         class: u32,
         leaving: &mut Leaving,
-    ) -> Result<(), Memory> {
-        let load = value_at(self.class_loads(program, work), class as usize);
-        let violation = load - program.limit(class);
-        if class != u32::MAX && violation > 0.0 {
-            let direction = self.class_direction(alloc, program, work, class)?;
-            let square = 1.0 + product(&direction, &direction);
-            leaving.offer(Place::Class(class), violation, square);
+    ) -> Result<bool, Memory> {
+        if class == u32::MAX || number_or_max(&self.places, class as usize) != u32::MAX {
+            return Ok(false);
         }
-        Ok(())
+        let weights = self.class_weights(alloc, program, work, class)?;
+        let violation = self.load_of(class, &weights) - program.limit(class);
+        if violation <= PASSED {
+            return Ok(false);
+        }
+        let direction = self.inverse.weighted(alloc, &weights)?;
+        let square = 1.0 + product(&direction, &direction);
+        leaving.offer(Place::Class(class), violation, square);
+        Ok(true)
     }
 
-    // How the prices change while that of a class without one rises by 1. Where the class has many
-    // users, its uses are looked up in the parts of the basic alternatives; else it is priced in
-    // those of its users.
+    // How often a class is used, where the keys of the basic alternatives use it so much more often
+    // than these.
+    fn load_of(&self, class: u32, weights: &[f64]) -> f64 {
+        let mut load = value_at(&self.loads, class as usize);
+        for (at, weight) in weights.iter().enumerate() {
+            load -= *weight * self.basic_value(at);
+        }
+        load
+    }
+
+    // How the prices change while that of a class without one rises by 1.
     pub(crate) fn class_direction(
         &self,
         alloc: Global,
@@ -284,13 +333,26 @@ impl Relaxation {
         work: &mut Work,
         class: u32,
     ) -> Result<Vec<f64>, Memory> {
-        let users = program.users(class).len();
-        let weights = if users / MANY_USERS > self.basics.len() {
-            self.looked_up(alloc, program, class)?
-        } else {
-            self.priced_weights(alloc, program, work, class)?
-        };
+        let weights = self.class_weights(alloc, program, work, class)?;
         self.inverse.weighted(alloc, &weights)
+    }
+
+    // How often the keys of the basic alternatives use a class more than these. Where the class has
+    // many users, its uses are looked up in the parts of the basic alternatives; else it is priced
+    // in those of its users.
+    fn class_weights(
+        &self,
+        alloc: Global,
+        program: &Program<'_>,
+        work: &mut Work,
+        class: u32,
+    ) -> Result<Vec<f64>, Memory> {
+        let users = program.users(class).len();
+        if users / MANY_USERS > self.basics.len() {
+            self.looked_up(alloc, program, class)
+        } else {
+            self.priced_weights(alloc, program, work, class)
+        }
     }
 
     // How often the keys of the basic alternatives use a class more than these, by pricing its
