@@ -9,6 +9,7 @@ mod barred;
 mod dives;
 mod endings;
 mod entries;
+mod fewer;
 mod growing;
 mod guesses;
 mod improving;

@@ -1,6 +1,7 @@
 //! The tree of ranges that a grown tree stands for.
 
 use crate::entries::{Entry, has_open};
+use crate::fewer::with_fewer;
 use crate::rules::Rule;
 use crate::sides::Sides;
 use crate::spans::Spans;
@@ -37,7 +38,7 @@ pub(crate) fn nodes_of(
         return Ok(None);
     }
     let used = cover(state, &mut nodes, &mut closing);
-    Ok(Some((nodes, used)))
+    Ok(Some(with_fewer(alloc, task, state, most, (nodes, used))?))
 }
 
 // Makes the nodes, at most so many, and for each the vectors that close it, as bits. Answers
@@ -131,8 +132,8 @@ fn close_leaves(state: &State, nodes: &mut [Node], closing: &mut [u128], vector:
     }
 }
 
-// A leaf that a vector closes.
-fn leaf_by(state: &State, vector: u32) -> Node {
+/// A leaf that a vector closes.
+pub(crate) fn leaf_by(state: &State, vector: u32) -> Node {
     Node::Leaf {
         vector,
         scale: match state.pricings.get(vector as usize) {

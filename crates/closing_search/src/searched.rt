@@ -37,9 +37,10 @@ const ROOT_PIVOTS: u32 = 50_000;
 /// in some pivots (strong branching: Applegate, Bixby, Chvátal and Cook 1995, "Finding cuts in the
 /// TSP"), by its uses of a quota where these differ (branching on sets: Beale and Tomlin 1970,
 /// "Special facilities in a general mathematical programming system for non-convex problems using
-/// ordered sets of variables"). In the end a tree whose splits cut ranges is made of it. Its work
-/// is bounded by counts of nodes and pivots, and the same problem, start and budget give the same
-/// answer for each number of workers: these look at the splits of a node, and solve open ones,
+/// ordered sets of variables"). In the end a tree whose splits cut ranges is made of it, and where
+/// its leaves name too many vectors, those of some are split further, by what the others close. Its
+/// work is bounded by counts of nodes and pivots, and the same problem, start and budget give the
+/// same answer for each number of workers: these look at the splits of a node, and solve open ones,
 /// side by side, on at most so many threads, while the tree grows as with one. The test at its end
 /// takes one step an alternative for each leaf, and makes a price table of each vector, on up to
 /// four threads.
