@@ -28,10 +28,10 @@ const ALL_STEPS: u64 = 6_000_000_000;
 const FIRST_PIVOTS: u32 = 50_000;
 
 // The most visits and steps of the trees of a guess: one that splits by uses of quotas first; where
-// its visits stopped it, or the first of them did not raise its bound, a short one by numbers
-// alone; and where that one did not end, one by quotas with more visits.
+// it was stopped, as a rule since its first visits did not raise its bound, a short one by numbers
+// alone; and where that one did not end, one by quotas whose bound need not rise.
 const LIMITS: [(u32, u64); 3] = [
-    (600, 1_000_000_000),
+    (20_000, 1_000_000_000),
     (600, 100_000_000),
     (20_000, 1_000_000_000),
 ];
