@@ -13,10 +13,10 @@ use crate::slots::{
 use slot_text::Memory;
 use std::alloc::Global;
 
-// How many of the most passed classes are looked at, and in how many pivots after all were counted
-// the same ones are, while some of them are passed still.
-const LOOKED_AT: usize = 8;
+/// How many of the most passed classes are looked at.
+pub(crate) const LOOKED_AT: usize = 8;
 
+// In how many pivots after all were counted the same ones are, while some are passed still.
 const LOOKED_AT_AGAIN: u32 = 4;
 
 // How many users for each basic alternative are many.
@@ -94,19 +94,9 @@ pub struct Work {
     pub(crate) new_keys: Vec<u32>,
     // The alternatives that may come to their bounds soon.
     pub(crate) nearby: Nearby,
-    // The classes that were passed most when all were counted, and in how many pivots they may be
-    // looked at again.
-    tops: [u32; LOOKED_AT],
-    again: u32,
 }
 
 impl Work {
-    // Begins a solution: all classes are to be counted.
-    pub(crate) fn begin(&mut self, program: &Program<'_>, parts: &[f64]) {
-        self.nearby.begin(program, parts);
-        self.again = 0;
-    }
-
     // How many units changed their keys in the last pivot, each change counted.
     pub(crate) fn changes(&self) -> u32 {
         u32::try_from(self.new_keys.len()).unwrap_or(u32::MAX)
@@ -136,8 +126,6 @@ impl Work {
             pairs: Vec::new(alloc),
             new_keys: Vec::new(alloc),
             nearby: Nearby::empty(alloc),
-            tops: [u32::MAX; LOOKED_AT],
-            again: 0,
         }
     }
 
@@ -191,15 +179,15 @@ impl Relaxation {
         self.take_pairs(program, work)?;
         self.offer_basics(work, &mut leaving);
         self.offer_keys(alloc, program, work, &mut leaving)?;
-        if work.again > 0 {
-            work.again -= 1;
+        if self.again > 0 {
+            self.again -= 1;
             if self.offer_tops(alloc, program, work, &mut leaving)? {
                 return Ok(leaving);
             }
         }
         self.take_loads(program, work);
-        work.tops = self.most_passed(program, self.class_loads(program, work));
-        work.again = LOOKED_AT_AGAIN;
+        self.tops = self.most_passed(program, self.class_loads(program, work));
+        self.again = LOOKED_AT_AGAIN;
         let _are_passed = self.offer_tops(alloc, program, work, &mut leaving)?;
         Ok(leaving)
     }
@@ -284,8 +272,7 @@ impl Relaxation {
         leaving: &mut Leaving,
     ) -> Result<bool, Memory> {
         let mut are_passed = false;
-        let tops = work.tops;
-        for class in tops {
+        for class in self.tops {
             let is_passed = self.offer_class(alloc, program, work, class, leaving)?;
             are_passed = are_passed || is_passed;
         }

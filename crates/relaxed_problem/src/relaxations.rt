@@ -2,6 +2,7 @@
 //! take.
 
 use crate::inverses::Inverse;
+use crate::leaving::LOOKED_AT;
 use crate::nearby::MANY_COLUMNS;
 use crate::programs::Program;
 use crate::slots::{
@@ -50,6 +51,10 @@ pub struct Relaxation {
     pub(crate) totals: Vec<f64>,
     // And the key of each unit of which nothing else was taken then; else no alternative.
     pub(crate) alone: Vec<u32>,
+    // The classes that were passed most when all were counted, and in how many pivots they may be
+    // looked at again.
+    pub(crate) tops: [u32; LOOKED_AT],
+    pub(crate) again: u32,
     // The value of each basic alternative.
     pub(crate) values: Vec<f64>,
     // Where there is no solution: prices of classes that show it.
@@ -89,6 +94,8 @@ impl Relaxation {
             amounts: Vec::new(alloc),
             totals: Vec::new(alloc),
             alone: Vec::new(alloc),
+            tops: [u32::MAX; LOOKED_AT],
+            again: 0,
             values: Vec::new(alloc),
             ray: Vec::new(alloc),
             value: 0.0,
@@ -135,6 +142,8 @@ impl Relaxation {
             amounts: Vec::from_slice(alloc, &self.amounts)?,
             totals: Vec::from_slice(alloc, &self.totals)?,
             alone: Vec::from_slice(alloc, &self.alone)?,
+            tops: self.tops,
+            again: self.again,
             values: Vec::from_slice(alloc, &self.values)?,
             ray: Vec::from_slice(alloc, &self.ray)?,
             value: self.value,
@@ -155,6 +164,8 @@ impl Relaxation {
         refill(&mut self.amounts, &other.amounts)?;
         refill(&mut self.totals, &other.totals)?;
         refill(&mut self.alone, &other.alone)?;
+        self.tops = other.tops;
+        self.again = other.again;
         refill(&mut self.values, &other.values)?;
         refill(&mut self.ray, &other.ray)?;
         self.value = other.value;
