@@ -18,7 +18,7 @@ const RESOURCES: u32 = 80;
 
 const LIMIT: i64 = 4;
 
-fn crowd(alloc: Global) -> Result<Problem, Fail> {
+pub(crate) fn crowd(alloc: Global) -> Result<Problem, Fail> {
     let mut draws = Draws { last: 1 };
     let mut units = Vec::new(alloc);
     for _ in 0..UNITS {

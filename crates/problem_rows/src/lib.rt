@@ -25,6 +25,8 @@ mod narrowed;
 #[cfg(test)]
 mod open;
 #[cfg(test)]
+mod parted;
+#[cfg(test)]
 mod problems;
 #[cfg(test)]
 mod reduced;
