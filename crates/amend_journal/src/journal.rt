@@ -57,9 +57,9 @@ impl<K: SlotDisk> Model for Journal<K> {
 }
 
 impl<K: Disk> Journal<K> {
-    /// Opens the file of a disk as a journal, and gives its pairs. It begins with a sync. A file of
-    /// at most 17 bytes is made anew, whatever it holds. What lies behind the first closed gate is
-    /// not read. It takes memory for the pairs, and for the text of one at a time.
+    /// Opens the file of a disk as a journal, and gives its pairs. It begins with a sync. Of up to
+    /// 17 bytes none is read: the file is begun afresh. Nor is any behind the first closed gate. It
+    /// takes memory for the pairs, and for the text of one at a time.
     pub fn open(
         alloc: Global,
         disk: K,

@@ -15,9 +15,9 @@ use slot_text::Memory;
 use std::alloc::Global;
 use window_counts::{Counts, place_alt};
 
-/// The units in order each take the cheapest alternative that fits with those already taken, the
-/// lowest number on ties. None exactly where some unit in order finds no alternative. It counts in
-/// an array of one number a resource; a unit takes one step an alternative for each one that it
+/// Unit after unit is given its cheapest alternative beside which no limit is passed, of several
+/// the one of the lowest number. None exactly where one of them has no such alternative. It counts
+/// in an array of one number a resource; a unit takes one step an alternative for each one that it
 /// tries, and one step a use and strip of those.
 pub fn greedy(alloc: Global, problem: &Problem) -> Result<Option<Choice>, Memory>
     ensures some { IfOk result (λ found. IfSome found

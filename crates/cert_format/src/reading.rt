@@ -63,9 +63,9 @@ fn whole_cert(alloc: Global, bytes: &[u8]) -> Result<Certificate, CertFault>
 
 /// The certificate that the bytes spell, all of the bytes.
 ///
-/// `BadLine` names the first line that is not in the form at its place, from 1; where the bytes end
-/// early or go on after `END`, it is the line after the last good one. One pass over the bytes;
-/// memory is taken for lines that were read, and never for a count that is only stated.
+/// `BadLine` names the first line that is not in the form at its place, from 1: that behind the
+/// last good line, where the bytes end there or go on behind `END`. One pass over the bytes; memory
+/// is taken for lines that were read, and never for a count that is only stated.
 pub fn read_cert(alloc: Global, bytes: &[u8]) -> Result<Certificate, CertFault>
     requires { length bytes.now ≤ LONGEST_CERT }
     // What is read is spelled so.

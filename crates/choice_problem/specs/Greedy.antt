@@ -1,4 +1,5 @@
--- The greedy choice: the units in order each take the cheapest alternative that fits with those before.
+-- The greedy choice: unit after unit is given its cheapest alternative beside which no limit is
+-- passed.
 use Rattle.std.specs.Prelude.{◌≡◌, ℕ, ◌+◌, ◌<◌, ◌≤◌, List, length, slice_index, Option, Some, None}
 use Rattle.finite_sums.specs.Sums.{sum_below}
 use Rattle.choice_problem.specs.Problems.{ProblemView, unit_count, alt_count, resource_count, alt_cost, alt_uses, limit_of}

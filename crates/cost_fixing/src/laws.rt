@@ -92,8 +92,8 @@ pub fn left_problems()
         IsTableFor p t → IsTableFor (left_problem p prices scale cost) t }
 {}
 
-/// Of problems with the same numbers the same alternatives are out: what is left of one has the same
-/// numbers as what is left of the other, and a fixing holds of both or of none.
+/// Of problems with the same numbers the same alternatives are out: what is left of one has the
+/// same numbers as what is left of the other, and a fixing holds of both or of none.
 pub fn alike_fixings()
     ensures tree { (p q : ProblemView) (vectors : List (List Price)) (fixing : Option Fixing) →
         AreAlike p q → AreAlike (tree_problem p vectors fixing) (tree_problem q vectors fixing) }

@@ -25,8 +25,8 @@ pub enum CabinetFault {
 ///
 /// A cabinet may tell what it holds; then contracts know the bytes under each name, and what a call
 /// answers and leaves is exact but for want of memory. One that does not tell answers with a fault
-/// only where the count of its faults rose in that call. The count never falls, and a call that
-/// answers `Ok` leaves it as it was.
+/// only where the count of its faults rose in that call. No call lowers the count, and none raises
+/// it that answers `Ok`.
 ///
 /// Every cabinet has a log of what passed through it, whether it tells what it holds or not: the
 /// name and the bytes of each read that answered `Ok` and of each write, also of one that failed.

@@ -6,7 +6,7 @@ ghost use Rattle.incumbent_word.specs.Core.{EachOnce};
 ghost use Rattle.incumbent_word.specs.declared.view.Terms.{Terms};
 ghost use Rattle.incumbent_word.specs.declared.view.Event.{Event};
 
-/// Over every list of events: the least cost is the smallest of the start and of all posted costs,
+/// Over every list of events: the least cost is the start or a posted cost, whichever is lowest,
 /// and it never rises. No worker ever saw a cost below the last least one, above the start or above
 /// its own best. Each piece below the claimed count and each number below the taken count, cut at
 /// their bounds, is one worker's, once.

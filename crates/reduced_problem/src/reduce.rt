@@ -69,8 +69,8 @@ impl Reduced {
     }
 
     /// The same reduction as that of `of`, for each number of workers. Of a problem of 4,096 parts
-    /// or more, so many of them compare classes, and list what parts use, side by side; each takes
-    /// up to eight bytes a class more than one alone.
+    /// or more, so many of them list the users of classes, compare classes, and list what parts
+    /// use, side by side; each takes up to eight bytes a class more than one alone.
     pub fn by_workers<R: Threads + Sync>(
         rt: &R,
         alloc: Global,

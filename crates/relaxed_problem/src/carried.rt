@@ -7,16 +7,13 @@ use crate::slots::{number_or_max, place_after, put, put_number};
 use slot_text::Memory;
 use std::alloc::Global;
 
-/// The number of no class.
-pub const NO_CLASS: u32 = u32::MAX;
-
 impl Relaxation {
     /// The same basis for another program of the same units, which numbers their parts alike.
     /// `classes` has for each class of the first program the number of one of the other program
-    /// that the same parts use equally often, or `NO_CLASS`; where it is empty, both have the same
-    /// classes. None where a key or a basic alternative does not take part in the other program, or
-    /// where a class with a price has no class there. All alternatives may be taken. Prices and
-    /// values are computed anew, with the changed costs of the other program.
+    /// that the same parts use equally often, or `reduced_problem::NO_CLASS`; where it is empty,
+    /// both have the same classes. None where a key or a basic alternative does not take part in
+    /// the other program, or where a class with a price has no class there. All alternatives may be
+    /// taken. Prices and values are computed anew, with the changed costs of the other program.
     ///
     /// It takes a step for each class and part, for each use of a key, for each alternative beside
     /// a key or a basic alternative, and some for each entry of the inverse.

@@ -75,7 +75,8 @@ pub struct Work {
     pub(crate) leasts: Vec<f64>,
     // The units of which some alternatives may become cheaper beside their keys.
     pub(crate) falling: Vec<Falling>,
-    // How much of each named part is taken, and how often each class is used.
+    // How much of each named part is taken of a program of many alternatives; and of one of few,
+    // how often each class is used.
     pub(crate) targets: Vec<f64>,
     pub(crate) loads: Vec<f64>,
     // For each unit the sum of the values of its basic alternatives.

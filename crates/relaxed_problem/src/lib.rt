@@ -22,7 +22,6 @@ mod steps;
 mod totals;
 mod vectors;
 
-pub use carried::NO_CLASS;
 pub use leaving::Work;
 pub use programs::{Column, NO_PART, Program};
 pub use relaxations::{Relaxation, Share};

@@ -45,8 +45,8 @@ pub struct Relaxation {
     pub(crate) prices: Vec<f64>,
     // How often the keys use each class.
     pub(crate) loads: Vec<f64>,
-    // Of a program of many alternatives, how much of each named part was taken before the last
-    // pivot, and how often that uses each class.
+    // Of a program of many alternatives, how much of each named part was taken when all uses were
+    // last counted, and how often that uses each class.
     pub(crate) amounts: Vec<f64>,
     pub(crate) totals: Vec<f64>,
     // And the key of each unit of which nothing else was taken then; else no alternative.

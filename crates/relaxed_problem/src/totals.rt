@@ -15,7 +15,7 @@ const NO_SQUARE: f64 = 0.0000000000000000000000001;
 
 impl Relaxation {
     // Computes how often each class is used: for programs of many alternatives from how often it
-    // was used before the last pivot.
+    // was used when this was last computed.
     pub(crate) fn take_loads(&mut self, program: &Program<'_>, work: &mut Work) {
         if program.columns().len() < MANY_COLUMNS {
             self.sum_loads(program, &mut work.loads);
@@ -48,7 +48,7 @@ impl Relaxation {
         }
     }
 
-    // Whether a unit takes its key alone, as before the last pivot.
+    // Whether a unit takes its key alone, as when all uses were last counted.
     fn is_alone(&self, work: &Work, unit: u32) -> bool {
         value_at(&work.counts, unit as usize) == 0.0
             && number_or_max(&self.alone, unit as usize) == self.key_place(unit)

@@ -194,9 +194,8 @@ fn put_quota(
     Ok(())
 }
 
-/// Appends for each capacity line and start the greatest load over the days of the line, and the
-/// first day that has it, where it is not 0; and last the load of the night quota: one step a
-/// resource.
+/// For each start of each capacity line appends the load of the line's fullest day, where it is not
+/// 0, and the first such day; and last the load of the night quota: one step a resource.
 pub fn put_profile(
     alloc: Global,
     out: &mut Vec<u8>,

@@ -109,8 +109,8 @@ abbrev pub version_for : List StageCert → ℕ
 version_for [] = 2
 version_for (c ∷ certs) = option_map_or (λ f. 3) c.fixing (version_for certs)
 
--- The certificate of a run: of version 2, or 3 where some stage has a fixing, and valid, so that a
--- stage is NOT TRIED exactly where stage 1 or stage 2 before it has no allotment and each other
+-- The certificate of a run: of version 2, or 3 where some stage has a fixing, and valid, so that
+-- exactly the stages behind a stage 1 or 2 without an allotment are NOT TRIED, and each other
 -- stage has a proof; each stage that was tried ended within the budget; and each stage is within
 -- the limits of a season's stages.
 pub record IsRun (s : SubmissionView) (budget : ℕ) (c : Certificate) : Type 0 where

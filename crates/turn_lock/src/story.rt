@@ -1,8 +1,8 @@
 //! Values that have a history.
 ghost use Rattle.std.specs.Prelude.{◌≡◌, ℕ, List, length};
 
-/// A value of such a type means an origin and a list of entries, each with the number of its
-/// caller.
+/// A value of such a type stands for an origin and for entries in a list; each entry has its
+/// caller's number.
 ///
 /// The origin is what the value was made with, as the state before the first entry. No seat changes
 /// it.
