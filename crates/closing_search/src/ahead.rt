@@ -143,6 +143,13 @@ impl Open {
         }
         Ok(())
     }
+
+    // Computes the bound of a vector anew, in whose place there is another one now.
+    pub(crate) fn revalue(&mut self, task: &Task<'_>, vector: u32, pricing: &Pricing) {
+        if let Some(value) = self.values.get_mut(vector as usize) {
+            *value = pricing.value(task.problem, task.reduced, &self.allowed);
+        }
+    }
 }
 
 /// How a solution ended that went on from another one, and what both took.

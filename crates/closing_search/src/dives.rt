@@ -9,14 +9,17 @@ use std::alloc::Global;
 use std::num::saturating_f64_to_i64;
 
 // How many times units are given their alternatives; one unit of how many of those with shares at a
-// time; and the pivots of each time.
+// time, and of how many in a fine dive; and the pivots of each time.
 const ROUNDS: u32 = 400;
 
 const PART: usize = 8;
 
+const FINE_PART: usize = 200;
+
 const PIVOTS: u32 = 4_000;
 
-/// Looks for a choice from a relaxation that is solved.
+/// Looks for a choice from a relaxation that is solved, and then for a better one by a fine dive, in
+/// which few units are given their alternatives at a time.
 pub(crate) fn dive(
     alloc: Global,
     task: &Task<'_>,
@@ -25,7 +28,12 @@ pub(crate) fn dive(
 ) -> Result<(), Memory> {
     let mut now = relaxation.copy(alloc)?;
     let mut next = relaxation.copy(alloc)?;
-    dive_by(alloc, task, state, &mut now, &mut next)
+    dive_by(alloc, task, state, &mut now, &mut next, false)?;
+    if state.steps == 0 {
+        return Ok(());
+    }
+    now.copy_from(relaxation)?;
+    dive_by(alloc, task, state, &mut now, &mut next, true)
 }
 
 // Looks for a choice from a relaxation that is solved, with another one beside it.
@@ -35,9 +43,10 @@ fn dive_by(
     state: &mut State,
     now: &mut Relaxation,
     next: &mut Relaxation,
+    is_fine: bool,
 ) -> Result<(), Memory> {
     for _ in 0..ROUNDS {
-        if !dive_on(alloc, task, state, now, next)? {
+        if !dive_on(alloc, task, state, now, next, is_fine)? {
             return Ok(());
         }
     }
@@ -52,6 +61,7 @@ fn dive_on(
     state: &mut State,
     now: &mut Relaxation,
     next: &mut Relaxation,
+    is_fine: bool,
 ) -> Result<bool, Memory> {
     let shares = now.shares(alloc, task.program)?;
     let leaders = leaders_of(alloc, &shares)?;
@@ -59,20 +69,28 @@ fn dive_on(
         take_rounded(alloc, task, state, now, &shares)?;
         return Ok(false);
     }
-    go_on(alloc, task, state, &leaders, now, next)
+    let count = count_of(&leaders, is_fine);
+    go_on(alloc, task, state, &leaders, count, now, next)
 }
 
-// Gives the first units their alternatives, or the first one alone, or takes this alternative away
-// from it. Answers whether a relaxation is solved then.
+// How many units are given their alternatives at a time.
+fn count_of(leaders: &[Leader], is_fine: bool) -> usize {
+    let part = if is_fine { FINE_PART } else { PART };
+    leaders.len() / part + 1
+}
+
+// Gives so many first units their alternatives, or the first one alone, or takes this alternative
+// away from it. Answers whether a relaxation is solved then.
 fn go_on(
     alloc: Global,
     task: &Task<'_>,
     state: &mut State,
     leaders: &[Leader],
+    most: usize,
     now: &mut Relaxation,
     next: &mut Relaxation,
 ) -> Result<bool, Memory> {
-    for count in [leaders.len() / PART + 1, 1, 0] {
+    for count in [most, 1, 0] {
         next.copy_from(now)?;
         keep_first(task, next, leaders, count);
         if is_solved(alloc, task, state, next)? {

@@ -1,5 +1,6 @@
 //! A tree while it grows.
 
+use crate::pieces::bit_of;
 use crate::rules::Rule;
 
 /// A node of a tree that grows.
@@ -26,4 +27,15 @@ pub(crate) fn has_open(entries: &[Entry]) -> bool {
         }
     }
     false
+}
+
+/// The vectors that close entries, as bits.
+pub(crate) fn named_in(entries: &[Entry]) -> u128 {
+    let mut named = 0;
+    for entry in entries {
+        if let Entry::Closed(vector) = entry {
+            named |= bit_of(*vector);
+        }
+    }
+    named
 }

@@ -10,11 +10,11 @@ use choice_problem::Node;
 use slot_text::Memory;
 use std::alloc::Global;
 
-// How many vectors leaves may name, so that there is room for that of a fixing; and how many more
-// are too many.
+// How many vectors leaves may name, so that there is room for that of a fixing; and how many are
+// spared at most.
 const ROOM: u32 = 63;
 
-const TOO_MANY: u32 = 32;
+const MOST_SPARED: u32 = 32;
 
 // How many parts may be cut off a leaf at first, and how many then.
 const FEW_PARTS: u32 = 250;
@@ -31,7 +31,7 @@ pub(crate) fn with_fewer(
     tree: (Vec<Node>, u128),
 ) -> Result<(Vec<Node>, u128), Memory> {
     let mut tree = tree;
-    if has_room(tree.1) || listed(tree.1) > ROOM + TOO_MANY {
+    if has_room(tree.1) || count_of(tree.1) > ROOM + MOST_SPARED {
         return Ok(tree);
     }
     for parts in [FEW_PARTS, MANY_PARTS] {
@@ -42,11 +42,11 @@ pub(crate) fn with_fewer(
 
 // Whether there is room for vectors.
 fn has_room(used: u128) -> bool {
-    listed(used) <= ROOM
+    count_of(used) <= ROOM
 }
 
 // How many vectors are used, but for the one without prices.
-fn listed(used: u128) -> u32 {
+fn count_of(used: u128) -> u32 {
     let mut count: u32 = 0;
     for vector in 1..128 {
         if used & bit_of(vector) != 0 {
@@ -56,8 +56,8 @@ fn listed(used: u128) -> u32 {
     count
 }
 
-// Spares vectors, those that the fewest leaves name first, until there is room for the others. The
-// limits are those of the nodes and of the parts of a leaf.
+// Spares vectors, those that the fewest leaves name first, until there is room for the others, or
+// too few are left to be tried. The limits are those of the nodes and of the parts of a leaf.
 fn spared(
     alloc: Global,
     task: &Task<'_>,
@@ -68,7 +68,7 @@ fn spared(
     let (mut nodes, mut used) = tree;
     let mut left = used;
     for _ in 0..128 {
-        if has_room(used) {
+        if has_room(used) || count_of(used).saturating_sub(ROOM) > count_of(left) {
             break;
         }
         let Some(vector) = least_named(&nodes, left) else {
@@ -141,17 +141,17 @@ fn without(
             return Ok(None);
         };
         if is_leaf_of(node, vector) {
-            let part = Part::of(alloc, task, state, &closers, spans)?;
-            if !part.split_up(alloc, task, state, limits.1, &mut made)? {
+            let rest = Remainder::of(alloc, task, state, &closers, spans)?;
+            if !rest.split_up(alloc, task, state, limits.1, &mut made)? {
                 return Ok(None);
             }
         } else {
             made.push(*node)?;
             push_ranges(alloc, node, spans, &mut waiting)?;
         }
-    }
-    if made.len() > limits.0 as usize {
-        return Ok(None);
+        if made.len() > limits.0 as usize {
+            return Ok(None);
+        }
     }
     Ok(Some(made))
 }
@@ -198,7 +198,7 @@ fn push_ranges(
 // What is left of a leaf: its ranges, the vectors that may close it, its bounds at these, and the
 // unit that is looked at next.
 #[derive(Drop)]
-struct Part<'a> {
+struct Remainder<'a> {
     spans: Spans,
     closers: &'a [u32],
     values: Vec<i64>,
@@ -234,7 +234,7 @@ impl Run {
     }
 }
 
-impl<'a> Part<'a> {
+impl<'a> Remainder<'a> {
     // All of a leaf.
     fn of(
         alloc: Global,
@@ -242,7 +242,7 @@ impl<'a> Part<'a> {
         state: &State,
         closers: &'a [u32],
         spans: Spans,
-    ) -> Result<Part<'a>, Memory> {
+    ) -> Result<Remainder<'a>, Memory> {
         let mut values = Vec::with_capacity(alloc, closers.len())?;
         for vector in closers {
             let value = match state.pricings.get(*vector as usize) {
@@ -251,7 +251,7 @@ impl<'a> Part<'a> {
             };
             values.push(value)?;
         }
-        Ok(Part {
+        Ok(Remainder {
             spans,
             closers,
             values,
@@ -269,18 +269,18 @@ impl<'a> Part<'a> {
         most: u32,
         made: &mut Vec<Node>,
     ) -> Result<bool, Memory> {
-        let mut part = self;
+        let mut rest = self;
         let mut behind = Vec::new(alloc);
         for _ in 0..most {
-            if let Some(vector) = part.closer(state) {
+            if let Some(vector) = rest.closer(state) {
                 made.push(leaf_by(state, vector))?;
                 push_back(&behind, made)?;
                 return Ok(true);
             }
-            let Some(run) = part.next_run(task, state) else {
+            let Some(run) = rest.next_run(task, state) else {
                 return Ok(false);
             };
-            part.cut_off(task, state, run, made, &mut behind)?;
+            rest.cut_off(task, state, run, made, &mut behind)?;
         }
         Ok(false)
     }

@@ -33,7 +33,7 @@ pub(crate) fn grow<R: Threads + Sync>(
     Ok(true)
 }
 
-// Visits the last open node, if there is one. Answers whether it did and none stays open.
+// Visits the last open node, if there is one. Answers whether it did and this does not stay open.
 fn visit_next<R: Threads + Sync>(
     rt: &R,
     alloc: Global,
@@ -50,7 +50,11 @@ fn visit_next<R: Threads + Sync>(
             Ok(true)
         }
         Outcome::Done => Ok(true),
-        Outcome::Stays => Ok(false),
+        Outcome::Stays => {
+            open.made = None;
+            state.open.push(open)?;
+            Ok(false)
+        }
     }
 }
 
@@ -249,7 +253,7 @@ fn close_empty(
     for greatest in [1, 1_024, 1_048_576] {
         let pricing = ray_of(alloc, task, state, open, greatest)?;
         if state.is_closed_by(task, open, &pricing) {
-            state.close_by(open, pricing)?;
+            state.close_by(task, open, pricing)?;
             return Ok(true);
         }
     }
@@ -291,7 +295,7 @@ fn bound_or_split<R: Threads + Sync>(
     if state.may_close(open.relaxation.value()) {
         let found = prices_of(alloc, task, state, open)?;
         if state.is_closed_by(task, open, &found) {
-            state.close_by(open, found)?;
+            state.close_by(task, open, found)?;
             return Ok(true);
         }
         pricing = Some(found);
@@ -335,7 +339,7 @@ fn close_by_prices(
     let pricing = prices_of(alloc, task, state, open)?;
     let is_closed = state.is_closed_by(task, open, &pricing);
     if is_closed {
-        state.close_by(open, pricing)?;
+        state.close_by(task, open, pricing)?;
     }
     Ok(is_closed)
 }

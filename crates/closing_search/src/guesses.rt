@@ -28,8 +28,8 @@ const ALL_STEPS: u64 = 6_000_000_000;
 const FIRST_PIVOTS: u32 = 50_000;
 
 // The most visits and steps of the trees of a guess: one that splits by uses of quotas first; where
-// it was stopped, as a rule since its first visits did not raise its bound, a short one by numbers
-// alone; and where that one did not end, one by quotas whose bound need not rise.
+// its first visits did not raise its bound, a short one by numbers alone; and where that one did not
+// end, one by quotas whose bound need not rise.
 const LIMITS: [(u32, u64); 3] = [
     (20_000, 1_000_000_000),
     (600, 100_000_000),
@@ -310,7 +310,7 @@ fn take_grown(
         found,
         best,
         is_ended,
-        is_stopped,
+        is_flat,
         steps,
     } = grown;
     let choice = whole_choice(alloc, fixed.left, best)?;
@@ -319,7 +319,7 @@ fn take_grown(
         choice,
         is_known,
         is_ended,
-        is_stopped,
+        is_flat,
         most.saturating_sub(steps),
     );
     match found {
@@ -481,14 +481,15 @@ impl Guesses {
     }
 
     // Notes what a tree of so many steps showed, which began with the best choice or not: whether
-    // it ended, or was stopped by its visits.
+    // it ended, or was stopped since its bound did not rise. One that ended with a better choice and
+    // could not be listed is followed by one that looks at more splits.
     fn learn(
         &mut self,
         problem: &Problem,
         choice: Option<Choice>,
         is_known: bool,
         is_ended: bool,
-        is_stopped: bool,
+        is_flat: bool,
         steps: u64,
     ) {
         let is_better = self.take(problem, choice);
@@ -498,12 +499,13 @@ impl Guesses {
             self.is_over = true;
         } else if is_better {
             self.is_best = is_ended;
+            self.is_thorough = self.is_thorough || is_ended;
             self.ways = 0;
             self.is_anew = false;
         } else if is_ended && is_known {
             self.is_best = true;
             self.look_on();
-        } else if !is_ended && (self.ways == 1 || (self.ways == 0 && is_stopped)) {
+        } else if !is_ended && (self.ways == 1 || is_flat) {
             self.ways = self.ways.saturating_add(1);
         } else if is_known {
             self.look_on();

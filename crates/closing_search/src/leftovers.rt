@@ -13,7 +13,7 @@ use tested_trees::Found;
 /// What a tree may take: so many visits and steps, of which it must find a choice within the first
 /// ones; whether splits by the uses of quotas come first; whether more splits are looked at;
 /// whether nodes of low bounds are searched first; and whether the first visits must raise the
-/// least bound.
+/// least bound, where splits by quotas come first.
 #[derive(Clone, Copy, Debug)]
 pub(crate) struct Limits {
     pub(crate) visits: u32,
@@ -32,13 +32,14 @@ const RISING_VISITS: u32 = 100;
 const RISING_PART: f64 = 20.0;
 
 /// What a tree came to: what may close the problem, the best choice that is below the guess,
-/// whether it ended, or was stopped by its visits, and how many steps are left.
+/// whether it ended, or was stopped since its first visits did not raise its bound, and how many
+/// steps are left.
 #[derive(Drop)]
 pub(crate) struct Grown {
     pub(crate) found: Option<Found>,
     pub(crate) best: Option<Choice>,
     pub(crate) is_ended: bool,
-    pub(crate) is_stopped: bool,
+    pub(crate) is_flat: bool,
     pub(crate) steps: u64,
 }
 
@@ -49,7 +50,7 @@ impl Grown {
             found: None,
             best: None,
             is_ended: false,
-            is_stopped: false,
+            is_flat: false,
             steps: 0,
         }
     }
@@ -79,8 +80,8 @@ pub(crate) fn grow_left<R: Threads + Sync>(
         return Ok(Grown::nothing());
     }
     let mut state = first_state(alloc, task, ground, start, guess, limits)?;
-    let rest = grow_on(rt, alloc, task, &mut state, limits, ground.most)?;
-    grown_of(alloc, task, state, rest, ground.most)
+    let growth = grow_on(rt, alloc, task, &mut state, limits, ground.most)?;
+    grown_of(alloc, task, state, growth, ground.most)
 }
 
 // A state in which choices below the guess alone are looked for, or below a start.
@@ -105,8 +106,16 @@ fn first_state(
     Ok(state)
 }
 
+// How a tree grew: whether it was stopped since its first visits did not raise its bound, and how
+// many steps were not given to it.
+#[derive(Clone, Copy)]
+struct Growth {
+    is_flat: bool,
+    rest: u64,
+}
+
 // Grows a tree by its first steps, and where a choice is known then by the others, unless its first
-// visits do not raise its bound as they must. Answers how many steps were not given to it.
+// visits do not raise its bound as they must.
 fn grow_on<R: Threads + Sync>(
     rt: &R,
     alloc: Global,
@@ -114,21 +123,23 @@ fn grow_on<R: Threads + Sync>(
     state: &mut State,
     limits: Limits,
     most: u32,
-) -> Result<u64, Memory> {
+) -> Result<Growth, Memory> {
     let visits = limits.visits.min(most);
     let first = visits.min(RISING_VISITS);
     let bound = state.least_bound();
     let goes_on = grow(rt, alloc, task, state, first)?;
-    if goes_on && (!limits.must_rise || has_risen(state, bound)) {
+    let must_rise = limits.must_rise && state.is_by_quotas;
+    let is_flat = goes_on && must_rise && !has_risen(state, bound);
+    if goes_on && !is_flat {
         let _goes_on = grow(rt, alloc, task, state, visits.saturating_sub(first))?;
     }
     let rest = limits.steps.saturating_sub(limits.first_steps);
     if state.steps > 0 || state.best.is_none() {
-        return Ok(rest);
+        return Ok(Growth { is_flat, rest });
     }
     state.steps = rest;
     let _goes_on = grow(rt, alloc, task, state, visits)?;
-    Ok(0)
+    Ok(Growth { is_flat, rest: 0 })
 }
 
 // Whether the least bound, which was this, has risen by the part of what it lacked of the cost.
@@ -136,12 +147,12 @@ fn has_risen(state: &State, bound: f64) -> bool {
     (state.least_bound() - bound) * RISING_PART >= state.enough() - bound
 }
 
-// What a state has come to, where so many steps were not given to it.
+// What a state has come to that grew so.
 fn grown_of(
     alloc: Global,
     task: &Task<'_>,
     state: State,
-    rest: u64,
+    growth: Growth,
     most: u32,
 ) -> Result<Grown, Memory> {
     let is_ended = state.open.is_empty() && state.steps > 0;
@@ -151,8 +162,8 @@ fn grown_of(
         found,
         best: state.into_best(),
         is_ended,
-        is_stopped: !is_ended && steps > 0,
-        steps: steps.saturating_add(rest),
+        is_flat: growth.is_flat,
+        steps: steps.saturating_add(growth.rest),
     })
 }
 

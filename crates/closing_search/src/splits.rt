@@ -27,8 +27,8 @@ const FEW_LOOKS: Looks = Looks {
 };
 
 const MANY_LOOKS: Looks = Looks {
-    most: 200,
-    idle: 60,
+    most: 64,
+    idle: 16,
     pivots: 50,
 };
 

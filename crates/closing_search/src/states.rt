@@ -2,8 +2,9 @@
 
 use crate::ahead::{Ahead, sum_of};
 use crate::allowed::Allowed;
-use crate::entries::Entry;
+use crate::entries::{Entry, named_in};
 use crate::looks::Places;
+use crate::pieces::bit_of;
 use crate::pricings::{Pricing, closing};
 use crate::rules::Rule;
 use crate::scores::Scores;
@@ -364,15 +365,46 @@ impl State {
         pricing.closes(value, self.cost)
     }
 
-    // Closes a node by a new vector that does. Where there is no room for it, the entry stays open,
-    // and the search goes on for better choices alone.
-    pub(crate) fn close_by(&mut self, open: &Open, pricing: Pricing) -> Result<(), Memory> {
-        if self.pricings.len() < MOST_PRICINGS {
-            let vector = u32::try_from(self.pricings.len()).unwrap_or(u32::MAX);
+    // Closes a node by a new vector that does. Where there is no room for it, it takes the place of
+    // one that closes no node; where each closes some, the entry stays open, and the search goes on
+    // for better choices alone.
+    pub(crate) fn close_by(
+        &mut self,
+        task: &Task<'_>,
+        open: &Open,
+        pricing: Pricing,
+    ) -> Result<(), Memory> {
+        let count = self.pricings.len();
+        if count < MOST_PRICINGS {
+            let vector = u32::try_from(count).unwrap_or(u32::MAX);
             self.close(open.entry, Entry::Closed(vector));
             self.pricings.push(pricing)?;
+        } else if let Some(vector) = self.idle_vector() {
+            self.close(open.entry, Entry::Closed(vector));
+            self.replace(task, vector, pricing);
         }
         Ok(())
+    }
+
+    // The first vector with prices that closes no node, if there is one.
+    fn idle_vector(&self) -> Option<u32> {
+        let named = named_in(&self.entries);
+        for (vector, _) in (0..).zip(&self.pricings) {
+            if vector > 0 && named & bit_of(vector) == 0 {
+                return Some(vector);
+            }
+        }
+        None
+    }
+
+    // Puts a vector in the place of another one that closes no node.
+    fn replace(&mut self, task: &Task<'_>, vector: u32, pricing: Pricing) {
+        for open in self.open.iter_mut() {
+            open.revalue(task, vector, &pricing);
+        }
+        if let Some(place) = self.pricings.get_mut(vector as usize) {
+            *place = pricing;
+        }
     }
 
     // Closes a node by a vector that there is. Answers whether one does.

@@ -15,8 +15,8 @@ use tested_trees::{Found, are_listable};
 /// The most nodes of a tree.
 pub(crate) const MOST_NODES: u32 = 40_000;
 
-// The most steps of the relaxations of all trees but the first one, and of that; how many trees are
-// tried.
+// The most steps of the relaxations of all trees but the first one, and of that; and how many trees
+// there are at most, that one among them.
 const TREE_STEPS: u64 = 2_000_000_000;
 
 const FIRST_STEPS: u64 = 20_000_000;
