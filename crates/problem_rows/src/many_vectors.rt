@@ -1,5 +1,6 @@
 //! Drawn problems whose trees take more vectors than a list may have: what fixings leave closes
-//! them, and leaves of vectors that few name are split further.
+//! them, leaves of vectors that few name are split further, and vectors that close no node give way
+//! to others.
 
 use crate::closed::{closed_cost, least_cost};
 use crate::draws::Draws;
@@ -102,17 +103,31 @@ fn count_vectors(ending: &Ending) -> usize {
     }
 }
 
+// Eight units, and 18 of each of eight resources, drawn from this number on.
+fn eight_from(alloc: Global, last: u64) -> Result<Problem, Fail> {
+    let mut draws = Draws { last };
+    drawn_tight(alloc, &mut draws, 8, 8, 18)
+}
+
 // The leaves of its tree name 67 vectors, and that of the fixing comes to these: four are spared.
 #[test]
 fn a_problem_of_too_many_vectors_is_closed(rt: HostRuntime) -> Result<(), Fail> {
     let alloc = rt.alloc();
-    let mut draws = Draws {
-        last: 2_431_800_024_951_663_711,
-    };
-    let problem = drawn_tight(alloc, &mut draws, 8, 8, 18)?;
+    let problem = eight_from(alloc, 2_431_800_024_951_663_711)?;
     let ending = closing_search(&rt, alloc, &problem, None, 8_000, 1)?;
     let want = least_cost(alloc, &problem)?;
     assert!(rt; closed_cost(&ending) == Some(want));
     assert!(rt; count_vectors(&ending) == 64);
+    Ok(())
+}
+
+// Its tree makes more vectors than the 128 that are kept; those that close no node give way.
+#[test]
+fn a_problem_of_more_vectors_than_are_kept_is_closed(rt: HostRuntime) -> Result<(), Fail> {
+    let alloc = rt.alloc();
+    let problem = eight_from(alloc, 42_219_684_172_493_183)?;
+    let ending = closing_search(&rt, alloc, &problem, None, 8_000, 1)?;
+    let want = least_cost(alloc, &problem)?;
+    assert!(rt; closed_cost(&ending) == Some(want));
     Ok(())
 }

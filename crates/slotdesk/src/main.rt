@@ -12,7 +12,7 @@ use slot_program::desk;
 use slot_text::Memory;
 use std::alloc::Global;
 use std::env;
-use std::fs::{File, OpenOptions, TryLockError};
+use std::fs::{File, OpenOptions};
 use std::io::ErrorKind;
 use std::net::{Net, OpenListener, TcpListener, TcpStream};
 use std::path::Path;
@@ -160,17 +160,22 @@ fn disk_for<R: Files<File = File>>(
 
 /// The file of a journal, with an exclusive lock, so that no second desk writes it. Its folder is
 /// synced, so that a file just made is found again after a stop.
+///
+/// The folder is opened three times before it: where the standard input, output and error of the
+/// program are closed, these take their places, and what is printed does not get into the journal.
 fn open_journal<R: Files<File = File>>(rt: &R, name: &str) -> Option<File> {
+    let folder = File::open(rt, folder_of(name)).ok()?;
+    let _second = File::open(rt, folder_of(name)).ok()?;
+    let _third = File::open(rt, folder_of(name)).ok()?;
     let file = OpenOptions::new()
         .read(true)
         .write(true)
         .create(true)
         .open(rt, name)
         .ok()?;
-    if matches!(file.try_lock(), Err(TryLockError::WouldBlock)) {
+    if file.try_lock().is_err() {
         return None;
     }
-    let folder = File::open(rt, folder_of(name)).ok()?;
     folder.sync_all().ok()?;
     Some(file)
 }
