@@ -1,10 +1,10 @@
 //! Fewer vectors for a tree of ranges: a leaf of a vector that few leaves name is split further, by
 //! what other vectors close, until one of them closes the rest.
 
+use crate::costs::{Costs, ends_of, least_of};
 use crate::pieces::{bit_of, leaf_by};
 use crate::pricings::Pricing;
-use crate::rules::unit_alts;
-use crate::spans::{Spans, within};
+use crate::spans::Spans;
 use crate::states::{State, Task};
 use choice_problem::Node;
 use slot_text::Memory;
@@ -21,6 +21,14 @@ const FEW_PARTS: u32 = 250;
 
 const MANY_PARTS: u32 = 2_000;
 
+// A problem, what is known of its tree, and the priced costs at the vectors of that.
+#[derive(Clone, Copy)]
+struct Priced<'a> {
+    task: &'a Task<'a>,
+    state: &'a State,
+    costs: &'a Costs,
+}
+
 /// The nodes of a tree, at most so many, and the vectors that its leaves name, as bits: where there
 /// is no room for these, without some, as far as others close the parts of their leaves.
 pub(crate) fn with_fewer(
@@ -34,8 +42,14 @@ pub(crate) fn with_fewer(
     if has_room(tree.1) || count_of(tree.1) > ROOM + MOST_SPARED {
         return Ok(tree);
     }
+    let costs = Costs::of(alloc, task, &state.pricings)?;
+    let priced = Priced {
+        task,
+        state,
+        costs: &costs,
+    };
     for parts in [FEW_PARTS, MANY_PARTS] {
-        tree = spared(alloc, task, state, (most, parts), tree)?;
+        tree = spared(alloc, priced, (most, parts), tree)?;
     }
     Ok(tree)
 }
@@ -60,8 +74,7 @@ fn count_of(used: u128) -> u32 {
 // too few are left to be tried. The limits are those of the nodes and of the parts of a leaf.
 fn spared(
     alloc: Global,
-    task: &Task<'_>,
-    state: &State,
+    priced: Priced<'_>,
     limits: (u32, u32),
     tree: (Vec<Node>, u128),
 ) -> Result<(Vec<Node>, u128), Memory> {
@@ -76,7 +89,7 @@ fn spared(
         };
         left = without_bit(left, vector);
         let others = without_bit(used, vector);
-        let found = without(alloc, task, state, limits, &nodes, vector, others)?;
+        let found = without(alloc, priced, limits, &nodes, vector, others)?;
         if let Some(fewer) = found {
             nodes = fewer;
             used = others;
@@ -125,8 +138,7 @@ fn leaves_of(nodes: &[Node]) -> [u32; 128] {
 // be within the limits.
 fn without(
     alloc: Global,
-    task: &Task<'_>,
-    state: &State,
+    priced: Priced<'_>,
     limits: (u32, u32),
     nodes: &[Node],
     vector: u32,
@@ -134,15 +146,15 @@ fn without(
 ) -> Result<Option<Vec<Node>>, Memory> {
     let closers = numbers_of(alloc, others)?;
     let mut waiting = Vec::new(alloc);
-    waiting.push(Spans::whole(alloc, task.problem)?)?;
+    waiting.push(Spans::whole(alloc, priced.task.problem)?)?;
     let mut made = Vec::new(alloc);
     for node in nodes {
         let Some(spans) = waiting.pop() else {
             return Ok(None);
         };
         if is_leaf_of(node, vector) {
-            let rest = Remainder::of(alloc, task, state, &closers, spans)?;
-            if !rest.split_up(alloc, task, state, limits.1, &mut made)? {
+            let rest = Remainder::of(alloc, priced, &closers, spans)?;
+            if !rest.split_up(alloc, priced, limits.1, &mut made)? {
                 return Ok(None);
             }
         } else {
@@ -202,6 +214,8 @@ struct Remainder<'a> {
     spans: Spans,
     closers: &'a [u32],
     values: Vec<i64>,
+    // For each vector and unit, by how much the priced costs in the unit's range of the leaf differ.
+    spreads: Vec<i64>,
     unit: u32,
 }
 
@@ -238,25 +252,38 @@ impl<'a> Remainder<'a> {
     // All of a leaf.
     fn of(
         alloc: Global,
-        task: &Task<'_>,
-        state: &State,
+        priced: Priced<'_>,
         closers: &'a [u32],
         spans: Spans,
     ) -> Result<Remainder<'a>, Memory> {
-        let mut values = Vec::with_capacity(alloc, closers.len())?;
-        for vector in closers {
-            let value = match state.pricings.get(*vector as usize) {
-                Some(pricing) => pricing.range_value(task.problem, task.reduced, &spans),
-                None => i64::MIN,
-            };
-            values.push(value)?;
-        }
-        Ok(Remainder {
+        let mut rest = Remainder {
             spans,
             closers,
-            values,
+            values: Vec::with_capacity(alloc, closers.len())?,
+            spreads: Vec::new(alloc),
             unit: 0,
-        })
+        };
+        for vector in closers {
+            rest.add_bound(priced, *vector)?;
+        }
+        Ok(rest)
+    }
+
+    // Adds the bound at a vector, and the spreads of its costs.
+    fn add_bound(&mut self, priced: Priced<'_>, vector: u32) -> Result<(), Memory> {
+        let mut total: i64 = 0;
+        for unit in 0..priced.task.problem.units() {
+            let costs = priced.costs.within(vector, unit, self.spans.of(unit));
+            let (least, greatest) = ends_of(costs);
+            total = total.saturating_add(least);
+            self.spreads.push(greatest.saturating_sub(least))?;
+        }
+        let limits = match priced.state.pricings.get(vector as usize) {
+            Some(pricing) => pricing.limits,
+            None => i64::MAX,
+        };
+        self.values.push(total.saturating_sub(limits))?;
+        Ok(())
     }
 
     // Cuts off runs of units in turn, at most so many, until a vector closes the rest. Adds the
@@ -264,23 +291,22 @@ impl<'a> Remainder<'a> {
     fn split_up(
         self,
         alloc: Global,
-        task: &Task<'_>,
-        state: &State,
+        priced: Priced<'_>,
         most: u32,
         made: &mut Vec<Node>,
     ) -> Result<bool, Memory> {
         let mut rest = self;
         let mut behind = Vec::new(alloc);
         for _ in 0..most {
-            if let Some(vector) = rest.closer(state) {
-                made.push(leaf_by(state, vector))?;
+            if let Some(vector) = rest.closer(priced.state) {
+                made.push(leaf_by(priced.state, vector))?;
                 push_back(&behind, made)?;
                 return Ok(true);
             }
-            let Some(run) = rest.next_run(task, state) else {
+            let Some(run) = rest.next_run(priced) else {
                 return Ok(false);
             };
-            rest.cut_off(task, state, run, made, &mut behind)?;
+            rest.cut_off(priced, run, made, &mut behind)?;
         }
         Ok(false)
     }
@@ -298,10 +324,10 @@ impl<'a> Remainder<'a> {
     }
 
     // The longest run of the next unit that has one, if there is one.
-    fn next_run(&mut self, task: &Task<'_>, state: &State) -> Option<Run> {
-        let units = task.problem.units();
+    fn next_run(&mut self, priced: Priced<'_>) -> Option<Run> {
+        let units = priced.task.problem.units();
         for _ in 0..units {
-            let found = self.longest_run(task, state);
+            let found = self.longest_run(priced);
             if found.is_some() {
                 return found;
             }
@@ -312,54 +338,54 @@ impl<'a> Remainder<'a> {
     }
 
     // The longest run of the unit, if there is one.
-    fn longest_run(&self, task: &Task<'_>, state: &State) -> Option<Run> {
+    fn longest_run(&self, priced: Priced<'_>) -> Option<Run> {
         let mut found = None;
         let mut longest: u32 = 0;
+        let mut place = self.unit as usize;
         for (vector, value) in self.closers.iter().zip(&self.values) {
-            if let Some(pricing) = state.pricings.get(*vector as usize) {
-                let (low, high) = self.runs(task, state, pricing, *value);
-                let length = low.max(high);
-                if length > longest {
-                    longest = length;
-                    found = Some(Run {
-                        vector: *vector,
-                        length,
-                        is_low: low >= high,
-                    });
-                }
+            let (low, high) = self.runs(priced, *vector, *value, self.spread(place));
+            let length = low.max(high);
+            if length > longest {
+                longest = length;
+                found = Some(Run {
+                    vector: *vector,
+                    length,
+                    is_low: low >= high,
+                });
             }
+            place = place.saturating_add(priced.task.problem.units() as usize);
         }
         found
     }
 
-    // How many of the lowest and of the highest alternatives of the unit a vector closes, whose
-    // bound is this; none, where it closes all.
-    fn runs(&self, task: &Task<'_>, state: &State, pricing: &Pricing, value: i64) -> (u32, u32) {
-        let span = self.spans.of(self.unit);
-        let least = pricing.least_within(task.problem, task.reduced, self.unit, span);
-        let others = value.saturating_sub(least);
-        let first = task.reduced.first_part(self.unit);
-        let (mut low, mut high, mut is_low) = (0, 0, true);
-        for alt in within(unit_alts(task.problem, self.unit), span) {
-            let bound = others.saturating_add(pricing.cost(alt, first));
-            if pricing.closes(bound, state.cost) {
-                high = u32::saturating_add(high, 1);
-                if is_low {
-                    low = high;
-                }
-            } else {
-                high = 0;
-                is_low = false;
-            }
+    // The spread at a place.
+    fn spread(&self, place: usize) -> i64 {
+        match self.spreads.get(place) {
+            Some(spread) => *spread,
+            None => 0,
         }
-        if is_low { (0, 0) } else { (low, high) }
+    }
+
+    // How many of the lowest and of the highest alternatives of the unit a vector closes, whose
+    // bound is this; none, where it closes all. Their costs differ by no more than the spread.
+    fn runs(&self, priced: Priced<'_>, vector: u32, value: i64, spread: i64) -> (u32, u32) {
+        let Some(pricing) = priced.state.pricings.get(vector as usize) else {
+            return (0, 0);
+        };
+        let cost = priced.state.cost;
+        if !pricing.closes(value.saturating_add(spread), cost) {
+            return (0, 0);
+        }
+        let span = self.spans.of(self.unit);
+        let costs = priced.costs.within(vector, self.unit, span);
+        let others = value.saturating_sub(least_of(costs));
+        ends_closed(pricing, cost, costs, others)
     }
 
     // Cuts a run of the unit off: adds the split and the leaf, or keeps that for behind the rest.
     fn cut_off(
         &mut self,
-        task: &Task<'_>,
-        state: &State,
+        priced: Priced<'_>,
         run: Run,
         made: &mut Vec<Node>,
         behind: &mut Vec<Node>,
@@ -368,30 +394,45 @@ impl<'a> Remainder<'a> {
         made.push(Node::Split {
             unit: self.unit,
             cut: run.cut(span),
-            seen: state.cost,
+            seen: priced.state.cost,
         })?;
-        let leaf = leaf_by(state, run.vector);
+        let leaf = leaf_by(priced.state, run.vector);
         if run.is_low {
             made.push(leaf)?;
         } else {
             behind.push(leaf)?;
         }
-        self.shrink(task, state, span, run.rest(span));
+        self.shrink(priced, span, run.rest(span));
         Ok(())
     }
 
     // Leaves the rest of the unit's range alone.
-    fn shrink(&mut self, task: &Task<'_>, state: &State, span: (u32, u32), rest: (u32, u32)) {
-        let (problem, reduced) = (task.problem, task.reduced);
+    fn shrink(&mut self, priced: Priced<'_>, span: (u32, u32), rest: (u32, u32)) {
         for (vector, value) in self.closers.iter().zip(self.values.iter_mut()) {
-            if let Some(pricing) = state.pricings.get(*vector as usize) {
-                let before = pricing.least_within(problem, reduced, self.unit, span);
-                let after = pricing.least_within(problem, reduced, self.unit, rest);
-                *value = value.saturating_add(after.saturating_sub(before));
-            }
+            let before = least_of(priced.costs.within(*vector, self.unit, span));
+            let after = least_of(priced.costs.within(*vector, self.unit, rest));
+            *value = value.saturating_add(after.saturating_sub(before));
         }
         self.spans.set(self.unit, rest);
     }
+}
+
+// How many of the first and of the last costs close ranges beside so much of the others; none where
+// all do.
+fn ends_closed(pricing: &Pricing, cost: Option<u64>, costs: &[i64], others: i64) -> (u32, u32) {
+    let (mut low, mut high, mut is_low) = (0, 0, true);
+    for more in costs {
+        if pricing.closes(others.saturating_add(*more), cost) {
+            high = u32::saturating_add(high, 1);
+            if is_low {
+                low = high;
+            }
+        } else {
+            high = 0;
+            is_low = false;
+        }
+    }
+    if is_low { (0, 0) } else { (low, high) }
 }
 
 // Adds nodes to others, the last one first.

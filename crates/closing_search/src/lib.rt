@@ -6,6 +6,7 @@
 mod ahead;
 mod allowed;
 mod barred;
+mod costs;
 mod dives;
 mod endings;
 mod entries;

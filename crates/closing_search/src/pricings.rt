@@ -17,7 +17,7 @@ pub(crate) struct Pricing {
     pub(crate) vector: Vector,
     pub(crate) scale: u32,
     parts: Vec<i64>,
-    limits: i64,
+    pub(crate) limits: i64,
     leasts: Vec<i64>,
 }
 
