@@ -23,9 +23,9 @@ use worker_gate::RealGate;
 
 // Rows: the greatest length of the history, and, behind a colon, the call of the link that fails;
 // the input, how the session ends, and an `H` for each reply that it was sent. `;` stands for LF,
-// `~` for CR, `#` for a message of one query with its empty line, and a number in braces for so many
-// blanks. `journal` in place of the length is a ledger with an empty journal; then the call counts
-// those of its disk, five of the opening and four for each ask.
+// `~` for CR, `#` for a message of one query with its empty line, and a number in braces for so
+// many blanks. `journal` in place of the length is a ledger with an empty journal; then the call
+// counts those of its disk, five of the opening and four for each ask.
 //
 // A line that is not empty has at most 200 bytes, its blanks in front and a CR without LF counted;
 // blanks alone are an empty line, however many.

@@ -8,8 +8,8 @@ use slot_text::Memory;
 use std::alloc::Global;
 use std::num::saturating_f64_to_i64;
 
-// How many times units are given their alternatives; one unit of how many of those with shares at a
-// time, and of how many in a fine dive; and the pivots of each time.
+// How many times units are given their alternatives, at most; one unit of how many of those with
+// shares at a time, and of how many in a fine dive; and the pivots of each time.
 const ROUNDS: u32 = 400;
 
 const PART: usize = 8;
@@ -18,8 +18,8 @@ const FINE_PART: usize = 200;
 
 const PIVOTS: u32 = 4_000;
 
-/// Looks for a choice from a relaxation that is solved, and then for a better one by a fine dive, in
-/// which few units are given their alternatives at a time.
+/// Looks for a choice from a relaxation that is solved, and then for a better one by a fine dive,
+/// in which few units are given their alternatives at a time.
 pub(crate) fn dive(
     alloc: Global,
     task: &Task<'_>,
@@ -29,9 +29,6 @@ pub(crate) fn dive(
     let mut now = relaxation.copy(alloc)?;
     let mut next = relaxation.copy(alloc)?;
     dive_by(alloc, task, state, &mut now, &mut next, false)?;
-    if state.steps == 0 {
-        return Ok(());
-    }
     now.copy_from(relaxation)?;
     dive_by(alloc, task, state, &mut now, &mut next, true)
 }
@@ -46,7 +43,7 @@ fn dive_by(
     is_fine: bool,
 ) -> Result<(), Memory> {
     for _ in 0..ROUNDS {
-        if !dive_on(alloc, task, state, now, next, is_fine)? {
+        if state.steps == 0 || !dive_on(alloc, task, state, now, next, is_fine)? {
             return Ok(());
         }
     }
@@ -90,9 +87,11 @@ fn go_on(
     now: &mut Relaxation,
     next: &mut Relaxation,
 ) -> Result<bool, Memory> {
-    for count in [most, 1, 0] {
+    let counts = [most, 1, 0];
+    let counts = if most > 1 { &counts[..] } else { &counts[1..] };
+    for count in counts {
         next.copy_from(now)?;
-        keep_first(task, next, leaders, count);
+        keep_first(task, next, leaders, *count);
         if is_solved(alloc, task, state, next)? {
             now.copy_from(next)?;
             return Ok(true);

@@ -28,8 +28,8 @@ const ALL_STEPS: u64 = 6_000_000_000;
 const FIRST_PIVOTS: u32 = 50_000;
 
 // The most visits and steps of the trees of a guess: one that splits by uses of quotas first; where
-// its first visits did not raise its bound, a short one by numbers alone; and where that one did not
-// end, one by quotas whose bound need not rise.
+// its first visits did not raise its bound, a short one by numbers alone; and where that one did
+// not end, one by quotas whose bound need not rise.
 const LIMITS: [(u32, u64); 3] = [
     (20_000, 1_000_000_000),
     (600, 100_000_000),
@@ -67,7 +67,8 @@ pub(crate) struct Guesses {
     // Whether the best choice is best, as far as a tree showed it that could not be listed.
     is_best: bool,
     // How many trees the guess has had, and whether they look at more splits, for fewer vectors:
-    // after a tree that showed the best choice and could not be listed.
+    // after a tree that showed the best choice and could not be listed, and after one that began
+    // with the best choice and did not end.
     ways: usize,
     is_thorough: bool,
     // Within how many steps a tree must find a choice while none is known.
@@ -481,8 +482,8 @@ impl Guesses {
     }
 
     // Notes what a tree of so many steps showed, which began with the best choice or not: whether
-    // it ended, or was stopped since its bound did not rise. One that ended with a better choice and
-    // could not be listed is followed by one that looks at more splits.
+    // it ended, or was stopped since its bound did not rise. One that ended with a better choice
+    // and could not be listed is followed by one that looks at more splits.
     fn learn(
         &mut self,
         problem: &Problem,

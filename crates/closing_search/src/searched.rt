@@ -45,7 +45,7 @@ const ROOT_PIVOTS: u32 = 50_000;
 /// takes one step an alternative for each leaf, and makes a price table of each vector, on up to
 /// four threads.
 ///
-/// Memory: for each open node two relaxations; and up to thirty-five more, four with one worker.
+/// Memory: for each open node two relaxations; and up to some 75 more, 12 with one worker.
 pub fn closing_search<R: Threads + Sync>(
     rt: &R,
     alloc: Global,

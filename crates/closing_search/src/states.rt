@@ -53,8 +53,8 @@ impl Task<'_> {
     }
 }
 
-/// An open node: its entry, the alternatives that may be taken, their bounds at the vectors that
-/// there were when it was made, and a relaxation from which to go on.
+/// An open node: its entry, the alternatives that may be taken, their bounds at the first vectors,
+/// as far as they were computed, and a relaxation from which to go on.
 #[derive(Drop)]
 pub(crate) struct Open {
     pub(crate) entry: u32,

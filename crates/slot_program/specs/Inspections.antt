@@ -67,8 +67,8 @@ caps_line caps windows =
     codes "CAPS " ++ (decimal caps ++ (codes " WINDOWS " ++ (decimal windows ++ 10 ∷ [])))
 
 -- the airport and the season; the messages; the units, and those of each group; the dates of all
--- units, and the movements of their requested times; the capacity lines, and their windows, of which
--- the night quota is one
+-- units, and the movements of their requested times; the capacity lines, and their windows, of
+-- which the night quota is one
 abbrev pub season_counts : SubmissionView → List ℕ
 season_counts s =
     season_line s.declaration

@@ -82,7 +82,8 @@ usage_steps names =
     season_steps names (certificate_steps names (reads (name_at names 3) LONGEST_FILE
     ∷ judges reports_form (name_at names 3) ∷ judges next_season (name_at names 3) ∷ []))
 
--- behind a certificate that is valid asks are read, and the lines that they leave waiting are counted
+-- behind a certificate that is valid asks are read, and the lines that they leave waiting are
+-- counted
 abbrev pub waiting_steps : List Word → List Step → List Step
 waiting_steps names steps =
     season_steps names (certificate_steps names (reads (name_at names 3) LONGEST_FILE
@@ -196,9 +197,10 @@ two_files names place one two =
 abbrev pub IsSettledStatus : ℕ → Type 0
 IsSettledStatus status = Contains (0 ∷ 8 ∷ []) status
 
--- A season was run with a budget of nodes for each stage: one certificate of that run is spelled, in
--- at most as many bytes as are read of one; the replies are given by its choices, the lines are
--- those of its stages, and so is the status. It is 0 or 8 where the budget is enough for each stage.
+-- A season was run with a budget of nodes for each stage: one certificate of that run is spelled,
+-- in at most as many bytes as are read of one; the replies are given by its choices, the lines are
+-- those of its stages, and so is the status. It is 0 or 8 where the budget is enough for each
+-- stage.
 pub record IsRunOutput (s : SubmissionView) (nodes : ℕ) (certificate replies : List ℕ) (status : ℕ)
     (text : List ℕ) : Type 0 where
   pub proved : Certificate
@@ -280,9 +282,9 @@ pub record IsUsage (names : List Word) (capacity requests certificate operated :
   pub written : writes ≡ one_file names 4 next
   pub status_is : status ≡ 0
 
--- The certificate that was read is valid for the season, the asks are answered from the book with the
--- slots that it gives, and the lines that wait after them are searched; the stage is written before
--- the replies.
+-- The certificate that was read is valid for the season, the asks are answered from the book with
+-- the slots that it gives, and the lines that wait after them are searched; the stage is written
+-- before the replies.
 pub record IsReclearing (names : List Word) (nodes : ℕ)
     (capacity requests certificate asks : List ℕ) (writes : List NamedBytes) (status : ℕ)
     (text : List ℕ) : Type 0 where
@@ -315,8 +317,8 @@ pub record IsRechecking (capacity requests certificate asks extra : List ℕ)
   pub printed : text ≡ codes "YES\n"
   pub status_is : status ≡ 0
 
--- The certificate that was read is valid for the season. The report on it is written before the page
--- of that report.
+-- The certificate that was read is valid for the season. The report on it is written before the
+-- page of that report.
 pub record IsReporting (names : List Word) (capacity requests certificate : List ℕ)
     (writes : List NamedBytes) (status : ℕ) (text : List ℕ) : Type 0 where
   pub season : SubmissionView
@@ -380,12 +382,12 @@ FileWorks (Usage names) (capacity ∷ requests ∷ certificate ∷ operated ∷ 
     IsUsage names capacity.bytes requests.bytes certificate.bytes operated.bytes writes status text
 FileWorks (Reclear names nodes workers) (capacity ∷ requests ∷ certificate ∷ asks ∷ []) writes
     status text =
-    IsReclearing names nodes capacity.bytes requests.bytes certificate.bytes asks.bytes writes status
-    text
+    IsReclearing names nodes capacity.bytes requests.bytes certificate.bytes asks.bytes writes
+    status text
 FileWorks (Recheck names) (capacity ∷ requests ∷ certificate ∷ asks ∷ extra ∷ []) writes status
     text =
-    IsRechecking capacity.bytes requests.bytes certificate.bytes asks.bytes extra.bytes writes status
-    text
+    IsRechecking capacity.bytes requests.bytes certificate.bytes asks.bytes extra.bytes writes
+    status text
 FileWorks (Report names) (capacity ∷ requests ∷ certificate ∷ []) writes status text =
     IsReporting names capacity.bytes requests.bytes certificate.bytes writes status text
 FileWorks (Inspect names) (capacity ∷ requests ∷ []) writes status text =
@@ -520,17 +522,18 @@ pub record MarksAreProved (capacity requests : List ℕ) (s : SubmissionView) (c
 
 -- The marks are true. Of `allocate`: of the certificate that is written, whose stage lines are
 -- printed, for the season that was read. Of all other commands that read a certificate: of the one
--- that was read. Of `trial`: of the one whose lines are printed, for the generated
--- season. `make` proves nothing. And of `amend`: what is written are the answers of one legal history
--- from the certificate's book. Of `serve`: what is written is the text of such a history, by which
--- each worker answered the clients of its door. Of `resume`: the same, of the history that follows
--- the pairs of the journal; these, answered anew, and it are one legal history from the
--- certificate's book, and the journal keeps all of it. Of `usage`: what is written and printed is
--- what the certificate's book keeps, by the reports that were read. Of `reclear` and `recheck`: what
--- the stage that was written or read says of the lines that wait is so beside the book that the asks
--- left, which fits together with what is allotted. Of `report`: what is written is the report on the
--- certificate and the page of that report, and the tally of all units is printed. `inspect` proves
--- nothing of a certificate: what is printed are the counts of the season that the two files make.
+-- that was read. Of `trial`: of the one whose lines are printed, for the generated season. `make`
+-- proves nothing. And of `amend`: what is written are the answers of one legal history from the
+-- certificate's book. Of `serve`: what is written is the text of such a history, by which each
+-- worker answered the clients of its door. Of `resume`: the same, of the history that follows the
+-- pairs of the journal; these, answered anew, and it are one legal history from the certificate's
+-- book, and the journal keeps all of it. Of `usage`: what is written and printed is what the
+-- certificate's book keeps, by the reports that were read. Of `reclear` and `recheck`: what the
+-- stage that was written or read says of the lines that wait is so beside the book that the asks
+-- left, which fits together with what is allotted. Of `report`: what is written is the report on
+-- the certificate and the page of that report, and the tally of all units is printed. `inspect`
+-- proves nothing of a certificate: what is printed are the counts of the season that the two files
+-- make.
 abbrev pub HeadlineHolds : Job → List NamedBytes → List NamedBytes → OutsideChange → ℕ → List ℕ
     → Type 0
 HeadlineHolds (Allocate names nodes workers) (capacity ∷ requests ∷ [])

@@ -55,10 +55,10 @@ pub record IsSeasonOf (capacity requests : List ℕ) (s : SubmissionView) : Type
 -- ---- judgements, in the order in which commands make them
 
 -- capacity_form: a capacity file. requests_form: messages that make a submission under it.
--- certificate_form: a certificate. valid_certificate: it is valid for the submission.
--- reports_form: reports of what was operated in the season. next_season: there is a season of the
--- same half one year later. waiting_limit: no more lines wait after asks than a stage may have units.
--- extra_form: one more stage. valid_extra: no line of it fails, on the problem of the lines that wait.
+-- certificate_form: a certificate. valid_certificate: it is valid for the submission. reports_form:
+-- reports of what was operated in the season. next_season: there is a season of the same half one
+-- year later. waiting_limit: no more lines wait after asks than a stage may have units. extra_form:
+-- one more stage. valid_extra: no line of it fails, on the problem of the lines that wait.
 -- capacity_cause, requests_cause: as capacity_form and requests_form, and a refusal says why.
 pub data Judgement : Type 0 where
   capacity_form : Judgement

@@ -1,5 +1,5 @@
--- The waiting list of a desk: what asks leave unmet beside the book that they left, and one more stage
--- for it.
+-- The waiting list of a desk: what asks leave unmet beside the book that they left, and one more
+-- stage for it.
 use Rattle.std.specs.Prelude.{◌≡◌, ◌≢◌, ℕ, ◌+◌, ◌*◌, ◌≤◌, List, [], ◌∷◌, ◌++◌, length, codes}
 use Rattle.std.specs.Prelude.{Option, Some, None, IfSome}
 use Rattle.std.specs.List.{flat_map}
@@ -60,9 +60,9 @@ waiting_text count stage =
     codes "WAITING " ++ (decimal count ++ (10 ∷ mark_line 5 stage))
 
 -- The problem of lines that wait beside a book is searched as that of a stage of a season, with a
--- budget of nodes; the stage is spelled, in at most as many bytes as are read of one, the replies are
--- given by its choice, its line is printed, and the status is that of its mark. It is 0 where the
--- budget is enough.
+-- budget of nodes; the stage is spelled, in at most as many bytes as are read of one, the replies
+-- are given by its choice, its line is printed, and the status is that of its mark. It is 0 where
+-- the budget is enough.
 pub record IsWaitingOutput (b : SlotBook) (lines : List Line) (header : Option Header) (nodes : ℕ)
     (extra replies : List ℕ) (status : ℕ) (text : List ℕ) : Type 0 where
   pub problem : ProblemView
@@ -78,8 +78,8 @@ pub record IsWaitingOutput (b : SlotBook) (lines : List Line) (header : Option H
   pub status_is : status ≡ marks_status (stage ∷ [])
   pub settled : 2 * choice_count problem ≤ nodes + 1 → status ≡ 0
 
--- so of the lines that the asks leave waiting; the replies are dated as the first good message of the
--- asks
+-- so of the lines that the asks leave waiting; the replies are dated as the first good message of
+-- the asks
 pub record IsRecleared (s : SubmissionView) (c : Certificate) (asks : List ℕ) (nodes : ℕ)
     (extra replies : List ℕ) (status : ℕ) (text : List ℕ) : Type 0 where
   pub history : List Entry
@@ -93,10 +93,10 @@ pub record IsRecleared (s : SubmissionView) (c : Certificate) (asks : List ℕ) 
 
 -- ---- the headline
 
--- The asks are answered by one history; and what the stage says of the lines that wait is so, beside
--- the book that the history left: marked OPTIMAL it has an allotment that displaces least of all that
--- fit what the book leaves, marked OPEN none displaces less than its bound. The holdings and what is
--- allotted fit together.
+-- The asks are answered by one history; and what the stage says of the lines that wait is so,
+-- beside the book that the history left: marked OPTIMAL it has an allotment that displaces least of
+-- all that fit what the book leaves, marked OPEN none displaces less than its bound. The holdings
+-- and what is allotted fit together.
 pub record StageIsProved (s : SubmissionView) (c : Certificate) (asks : List ℕ)
     (history : List Entry) (stage : StageCert) : Type 0 where
   pub asked : IsAskedOf s c asks history
