@@ -5,8 +5,9 @@ use crate::rules::unit_alts;
 use crate::spans::{Spans, within};
 use crate::states::Task;
 use choice_problem::{Alt, Price, Problem, Vector};
-use reduced_problem::{Class, Reduced};
+use reduced_problem::Reduced;
 use relaxed_problem::Relaxation;
+use resource_classes::Class;
 use slot_text::Memory;
 use std::alloc::Global;
 

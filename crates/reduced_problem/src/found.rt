@@ -1,6 +1,6 @@
 //! What is found of a problem's marked resources, before it is known which of them are kept.
 
-use crate::classes::{Class, is_marked, marked_classes};
+use crate::classes::is_marked;
 use crate::covered::Compared;
 use crate::edges::{Edge, edges_of};
 use crate::grids::{Grids, counts_below};
@@ -15,6 +15,7 @@ use crate::sweeps::Sweeps;
 use crate::user_runs::UserRuns;
 use crate::users::Users;
 use choice_problem::Problem;
+use resource_classes::{Class, ClassList, marked_classes};
 use slot_text::Memory;
 use std::alloc::Global;
 
@@ -22,7 +23,7 @@ use std::alloc::Global;
 // are at one of its places alone, and say which parts use it and how often.
 #[derive(Drop)]
 pub(crate) struct Found {
-    pub(crate) classes: Vec<Class>,
+    pub(crate) classes: ClassList,
     pub(crate) grids: Grids,
     pub(crate) hits: Vec<Hit>,
     // The hits by column.
@@ -50,9 +51,9 @@ impl Found {
         alloc: Global,
         resources: u32,
         sweeps: &Sweeps,
-        classes: Vec<Class>,
+        classes: ClassList,
     ) -> Result<Found, Memory> {
-        let grids = Grids::of(alloc, &sweeps.gaps, resources, &classes)?;
+        let grids = Grids::of(alloc, &sweeps.gaps, resources, classes.items())?;
         let runs = UserRuns::of(alloc, sweeps)?;
         Ok(Found {
             classes,
@@ -67,7 +68,7 @@ impl Found {
     fn find(&mut self, alloc: Global, sweeps: &Sweeps) -> Result<(), Memory> {
         self.hits = hits_of(alloc, sweeps, &self.runs, &self.grids)?;
         self.columns = by_column(alloc, &self.hits, self.grids.columns.len())?;
-        let classes = self.classes.len();
+        let classes = self.classes.items().len();
         let flags = unsettled(alloc, &self.grids, &self.columns, &self.runs, classes)?;
         if flags.contains(&true) {
             self.settle(alloc, &flags)?;
@@ -85,7 +86,7 @@ impl Found {
     // What is compared, once the users of the classes are known.
     pub(crate) fn compared<'a>(&'a self, users: &'a Users) -> Compared<'a> {
         Compared {
-            classes: &self.classes,
+            classes: self.classes.items(),
             order: &self.grids.order,
             hits: &self.columns.items,
             runs: &self.runs,
@@ -100,7 +101,7 @@ impl Found {
         outline: &Outline,
         marks: &[bool],
     ) -> Result<Kept, Memory> {
-        let flags = kept_flags(alloc, &self.classes, marks)?;
+        let flags = kept_flags(alloc, self.classes.items(), marks)?;
         let numbers = counts_below(alloc, &flags, 0)?;
         let edges = self.edges(alloc, &flags, outline.parts.len())?;
         Ok(Kept {

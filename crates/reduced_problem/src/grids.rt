@@ -2,8 +2,9 @@
 //! its number, and a column, what is left. The first resources of a strip's runs are one below
 //! another.
 
-use crate::classes::{Class, is_marked, set_mark};
+use crate::classes::{is_marked, set_mark};
 use crate::numbers::{as_number, number_at};
+use resource_classes::Class;
 use slot_text::Memory;
 use std::alloc::Global;
 

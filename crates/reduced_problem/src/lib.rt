@@ -35,6 +35,6 @@ mod user_runs;
 mod users;
 mod within;
 
-pub use classes::{Class, ClassUse, UserRun};
+pub use classes::{ClassUse, UserRun};
 pub use narrowed::{NO_CLASS, Narrowed};
 pub use reduce::Reduced;

@@ -1,16 +1,17 @@
 //! The reduction of what is left of a problem, from the classes of the whole one.
 
 ghost use Rattle.std.specs.Prelude.{IfOk};
-ghost use Rattle.reduced_problem.specs.Reduced.{ArePicked};
+ghost use Rattle.resource_classes.specs.Classes.{ArePicked};
 
 use crate::candidates::{Candidates, candidates_of};
-use crate::classes::{Class, is_marked, marked_classes, set_mark};
+use crate::classes::{is_marked, set_mark};
 use crate::left_parts::LeftParts;
 use crate::left_uses::{kept_uses, uses_of};
 use crate::numbers::{number_at, put_number};
 use crate::reduce::Reduced;
 use crate::within::unmark_within;
 use choice_problem::Problem;
+use resource_classes::{Class, ClassList, marked_classes};
 use slot_text::Memory;
 use std::alloc::Global;
 
@@ -103,8 +104,8 @@ fn classes_of(
     problem: &Problem,
     whole: &[Class],
     kept: &[bool],
-) -> Result<Vec<Class>, Memory>
-    ensures { IfOk result (λ classes. ArePicked problem.now classes.items) }
+) -> Result<ClassList, Memory>
+    ensures { IfOk result (λ classes. ArePicked problem.now classes) }
 {
     let mut marks = vec![in alloc; false; problem.resources() as usize]?;
     for (class, is_kept) in whole.iter().zip(kept) {

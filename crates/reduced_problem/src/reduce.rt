@@ -1,9 +1,9 @@
 //! The reduction of a problem.
 
 ghost use Rattle.std.specs.Prelude.{IfOk};
-ghost use Rattle.reduced_problem.specs.Reduced.{ArePicked};
+ghost use Rattle.resource_classes.specs.Classes.{ArePicked};
 
-use crate::classes::{Class, ClassUse, UserRun, marked_classes};
+use crate::classes::{ClassUse, UserRun};
 use crate::covered::{Compared, Near, judged_pieces, unmark_covered};
 use crate::found::Found;
 use crate::greatest::joined_uses;
@@ -16,6 +16,7 @@ use crate::sums::resource_keys;
 use crate::team::Team;
 use crate::users::{Users, kept_users, row_pieces};
 use choice_problem::Problem;
+use resource_classes::{Class, ClassList, marked_classes};
 use slot_text::Memory;
 use std::alloc::Global;
 use std::marker::Model;
@@ -30,7 +31,7 @@ const LEAST_PARTS: usize = 4_096;
 /// strips, 24 bytes a part, and 12 bytes a run of a class's users.
 #[derive(Drop)]
 pub struct Reduced {
-    classes: Vec<Class>,
+    classes: ClassList,
     units: Vec<u32>,
     uses: PartUses,
     users: Rows<UserRun>,
@@ -38,16 +39,16 @@ pub struct Reduced {
 
 impl Model for Reduced {
     ghost use Rattle.std.specs.Prelude.{List};
-    ghost use Rattle.reduced_problem.specs.declared.classes.Class.{Class};
+    ghost use Rattle.resource_classes.specs.declared.classes.Class.{Class};
 
     ghost Value = { List Class };
 
-    ghost view = { λ r. r.classes.items };
+    ghost view = { λ r. r.classes };
 }
 
 impl Reduced {
     ghost use Rattle.std.specs.Prelude.{◌≡◌, IfOk};
-    ghost use Rattle.reduced_problem.specs.Reduced.{ArePicked};
+    ghost use Rattle.resource_classes.specs.Classes.{ArePicked};
 
     /// The classes of a problem. A resource is left out where the units' greatest uses of it
     /// together are within its limit, where another one with the same users and uses has a lower
@@ -96,11 +97,11 @@ impl Reduced {
     pub(crate) fn with(
         &self,
         alloc: Global,
-        classes: Vec<Class>,
+        classes: ClassList,
         uses: Rows<ClassUse>,
         users: Rows<UserRun>,
     ) -> Result<Reduced, Memory>
-        ensures { IfOk result (λ other. other ≡ classes.items) }
+        ensures { IfOk result (λ other. other ≡ classes) }
     {
         Ok(Reduced {
             classes,
@@ -114,7 +115,7 @@ impl Reduced {
     pub fn classes(&self) -> &[Class]
         ensures { result.now ≡ self.now }
     {
-        &self.classes
+        self.classes.items()
     }
 
     /// The number of a unit's first part, or past the units how many parts there are.
@@ -205,7 +206,7 @@ fn finish_by<R: Threads + Sync>(
 fn kept_classes(alloc: Global, found: &Found, marks: &mut [bool]) -> Result<Rows<UserRun>, Memory> {
     let users = class_users(alloc, found)?;
     judge(alloc, found.compared(&users), marks)?;
-    kept_users(alloc, &users, &found.runs, &found.classes, marks)
+    kept_users(alloc, &users, &found.runs, found.classes.items(), marks)
 }
 
 // The users of all classes.
@@ -214,7 +215,12 @@ fn class_users(alloc: Global, found: &Found) -> Result<Users, Memory> {
     for piece in pieces.iter_mut() {
         piece.make(alloc, &found.grids, &found.columns);
     }
-    Users::of(alloc, pieces, &found.grids.order, found.classes.len())
+    Users::of(
+        alloc,
+        pieces,
+        &found.grids.order,
+        found.classes.items().len(),
+    )
 }
 
 // Takes the marks of classes away whose users are among those of others.

@@ -31,7 +31,7 @@ impl<R: Threads + Sync> Team<'_, R> {
     ) -> Result<Rows<UserRun>, Memory> {
         let users = self.class_users(alloc, found)?;
         self.judge(alloc, found.compared(&users), marks)?;
-        kept_users(alloc, &users, &found.runs, &found.classes, marks)
+        kept_users(alloc, &users, &found.runs, found.classes.items(), marks)
     }
 
     // The users of all classes.
@@ -43,7 +43,12 @@ impl<R: Threads + Sync> Team<'_, R> {
             self.workers.max(1),
             &|_, piece| piece.make(alloc, &found.grids, &found.columns),
         );
-        Users::of(alloc, pieces, &found.grids.order, found.classes.len())
+        Users::of(
+            alloc,
+            pieces,
+            &found.grids.order,
+            found.classes.items().len(),
+        )
     }
 
     // Takes the marks of classes away whose users are among those of others.

@@ -7,7 +7,8 @@ use crate::named::Pair;
 use crate::programs::Program;
 use crate::relaxations::Relaxation;
 use crate::slots::{place_after, value_at};
-use choice_problem::{HIGHEST_PRICE, PRICED_SCALE, Price, Problem, Vector};
+use choice_problem::{PRICED_SCALE, Problem, Vector};
+use resource_classes::priced_vector;
 use slot_text::Memory;
 use std::alloc::Global;
 use std::num::{nearest_i64_to_f64, saturating_f64_to_i64};
@@ -92,8 +93,8 @@ impl Relaxation {
         ensures { IfOk result (λ vector. IsVector problem.now vector) }
     {
         self.keep_away(program, rounded);
-        let entries = entries_of_prices(alloc, program, &rounded.prices)?;
-        Ok(vector_for(alloc, problem, entries))
+        let classes = program.reduced().classes();
+        priced_vector(alloc, problem, classes, &rounded.prices)
     }
 
     // Raises the prices of resources of limit 0 where excluded alternatives are cheaper than the
@@ -166,24 +167,6 @@ impl Rounded {
     }
 }
 
-// The entries of the prices of classes that are not 0.
-fn entries_of_prices(
-    alloc: Global,
-    program: &Program<'_>,
-    prices: &[i64],
-) -> Result<Vec<Price>, Memory> {
-    let mut entries = Vec::new(alloc);
-    for (class, price) in program.reduced().classes().iter().zip(prices) {
-        if *price > 0 {
-            entries.push(Price {
-                resource: class.resource,
-                price: (*price).min(HIGHEST_PRICE),
-            })?;
-        }
-    }
-    Ok(entries)
-}
-
 // Puts a price at a class.
 fn put_price(prices: &mut [i64], class: u32, price: i64) {
     if let Some(slot) = prices.get_mut(class as usize) {
@@ -200,16 +183,4 @@ fn greatest_of(ray: &[(u32, f64)]) -> f64 {
         }
     }
     most
-}
-
-// The vector of these prices, where it is one for the problem, and else the one without prices.
-fn vector_for(alloc: Global, problem: &Problem, entries: Vec<Price>) -> Vector
-    ensures { IsVector problem.now result }
-{
-    let vector = Vector::new(entries);
-    if vector.is_for(problem) {
-        vector
-    } else {
-        Vector::new(Vec::new(alloc))
-    }
 }

@@ -5,7 +5,8 @@ use crate::pairs::{Pair, Place};
 use crate::scales::Scale;
 use crate::strips::class_part;
 use choice_problem::{Alt, Choice, Chooser, Part, Problem};
-use reduced_problem::{Class, Reduced};
+use reduced_problem::Reduced;
+use resource_classes::Class;
 use slot_text::Memory;
 use std::alloc::Global;
 

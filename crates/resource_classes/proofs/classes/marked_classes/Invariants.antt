@@ -1,7 +1,7 @@
 use Rattle.std.proofs.Common.{◌<◌, All}
-use Rattle.reduced_problem.specs.Reduced.{ArePicked}
-use Rattle.reduced_problem.specs.declared.classes.Class.{Class}
-use Rattle.reduced_problem.proofs.classes.marked_classes.Given as goal
+use Rattle.resource_classes.specs.Classes.{ArePicked}
+use Rattle.resource_classes.specs.declared.classes.Class.{Class}
+use Rattle.resource_classes.proofs.classes.marked_classes.Given as goal
 
 abbrev pub invariant-loop-number : goal.invariant-loop-number
 invariant-loop-number l = record {

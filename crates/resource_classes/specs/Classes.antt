@@ -1,7 +1,7 @@
 -- Classes of a problem's resources, each with the resource that stands for it.
 use Rattle.std.specs.Prelude.{◌≡◌, ◌<◌, List, All, AllPairs, pos}
 use Rattle.choice_problem.specs.Problems.{ProblemView, resource_count, limit_of}
-use Rattle.reduced_problem.specs.declared.classes.Class.{Class}
+use Rattle.resource_classes.specs.declared.classes.Class.{Class}
 
 -- the class names a resource of the problem, and has its limit
 pub record IsClassOf (p : ProblemView) (c : Class) : Type 0 where
