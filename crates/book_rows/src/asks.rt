@@ -2,8 +2,6 @@
 //! on Saturday 25 October; 5 May and 7 April are Mondays.
 
 use crate::walk::walk;
-use std::alloc::Global;
-use std::test::Fail;
 
 // New requests. The window from 0600 to 0659 holds two arrivals a day. The third gets 0700, at 30
 // minutes a date; 0555 would displace 35. Then all that is not U by the clock: a clash comes before
@@ -365,17 +363,8 @@ const TABLES: [&str; 8] = [
 ];
 
 #[test]
-fn asks_are_answered_as_worked(rt: HostRuntime) -> Result<(), Fail> {
-    let wrong = all_wrong(rt.alloc())?;
-    assert_eq!(rt; wrong.as_str(), "");
-    Ok(())
-}
-
-// The rows that want something else than is found.
-fn all_wrong(alloc: Global) -> Result<String, Fail> {
-    let mut wrong = String::new(alloc);
+fn asks_are_answered_as_worked(rt: HostRuntime) {
     for rows in TABLES {
-        walk(alloc, rows, &mut wrong)?;
+        walk(&rt, rt.alloc(), rows);
     }
-    Ok(wrong)
 }

@@ -1,5 +1,6 @@
 //! Thousands of drawn asks: what the book keeps beside its holdings against a listing of them.
 
+ghost use Rattle.std.specs.Prelude.{◌≤◌, length};
 ghost use Rattle.holding_book.specs.Asks.{CanAsk};
 
 use crate::answers::{put_answer, spelled};
@@ -8,9 +9,8 @@ use crate::draws::{Draws, drawn_ask};
 use crate::listed::{Listed, all_fit, by_listing, has_flight};
 use holding_book::{Answer, Book, Holding, asks_new};
 use scr_reader::{Flight, Item};
-use season_days::Declaration;
 use std::alloc::Global;
-use std::test::Fail;
+use std::process::Abort;
 
 // Windows that overlap, on some weekdays, for departures alone and for both kinds over midnight,
 // and a quota at night.
@@ -55,118 +55,135 @@ impl Seen {
 }
 
 #[test]
-fn kept_counts_agree_with_a_listing(rt: HostRuntime) -> Result<(), Fail> {
-    let mut book = start_book(rt.alloc(), CAPACITY, REQUESTS, "0 0;;;")?;
-    let mut seen = Seen { counts: [0; 8] };
-    let fits = fits_after(rt.alloc(), &mut book, &mut seen)?;
-    assert!(rt; fits && seen.has_all(), "{:?}", seen.counts);
-    Ok(())
+fn kept_counts_agree_with_a_listing(rt: HostRuntime) {
+    let mut book = start_book(&rt, rt.alloc(), CAPACITY, REQUESTS, "0 0;;;");
+    put_asks(&rt, rt.alloc(), &mut book);
 }
 
-// Whether all holdings fit after all asks.
-fn fits_after(alloc: Global, book: &mut Book, seen: &mut Seen) -> Result<bool, Fail> {
+// Puts all asks to the book: each answer is there often, and all holdings fit after them.
+fn put_asks(rt: &impl Abort, alloc: Global, book: &mut Book) {
     let mut draws = Draws { last: 29 };
+    let mut seen = Seen { counts: [0; 8] };
     for number in 0..ASKS {
-        step(alloc, book, &mut draws, seen, number)?;
+        step(rt, alloc, book, &mut draws, &mut seen, number);
     }
-    all_fit(alloc, book.declaration(), book.holdings())
+    assert!(rt; seen.has_all(), "{:?}", seen.counts);
+    assert!(rt;
+        all_fit(rt, alloc, book.declaration(), book.holdings()),
+        "what is held"
+    );
 }
 
 // One ask, if what was drawn is one.
 fn step(
+    rt: &impl Abort,
     alloc: Global,
     book: &mut Book,
     draws: &mut Draws,
     seen: &mut Seen,
     number: u32,
-) -> Result<(), Fail> {
+) {
     let drawn = drawn_ask(draws, book.holdings());
-    match spelled(alloc, book.declaration(), &drawn)? {
-        Some(ask) => put_ask(alloc, book, seen, number, &ask),
-        None => Ok(()),
+    if let Some(ask) = spelled(rt, alloc, book.declaration(), &drawn) {
+        put_ask(rt, alloc, book, seen, number, &ask);
     }
 }
 
 // The answer to an ask and the holdings after it are those of the listing.
 fn put_ask(
+    rt: &impl Abort,
     alloc: Global,
     book: &mut Book,
     seen: &mut Seen,
     number: u32,
     ask: &Item,
-) -> Result<(), Fail>
+)
     requires { CanAsk book.old.book.declaration ask.now }
 {
-    let wanted = by_listing(alloc, book.declaration(), book.holdings(), ask)?;
-    let answer = answered(alloc, book, ask, number % 2 == 0)?;
+    let wanted = by_listing(rt, alloc, book.declaration(), book.holdings(), ask);
+    let answer = answered(rt, alloc, book, ask, number % 2 == 0);
     seen.note(&answer);
-    compare(alloc, book, ask, number, &answer, &wanted)
+    compare(rt, alloc, book, ask, number, &answer, &wanted);
+    check_places(rt, book);
 }
 
 fn compare(
+    rt: &impl Abort,
     alloc: Global,
     book: &Book,
     ask: &Item,
     number: u32,
     answer: &Answer,
     wanted: &Listed,
-) -> Result<(), Fail> {
-    let found = text(alloc, book.declaration(), ask, answer)?;
-    let due = text(alloc, book.declaration(), ask, &wanted.answer)?;
+) {
+    let mut found = Vec::new(alloc);
+    let mut due = Vec::new(alloc);
+    put_answer(
+        rt,
+        alloc,
+        &mut found,
+        &book.declaration().season,
+        ask,
+        answer,
+    );
+    put_answer(
+        rt,
+        alloc,
+        &mut due,
+        &book.declaration().season,
+        ask,
+        &wanted.answer,
+    );
     if found.as_slice() != due.as_slice() || book.holdings() != wanted.holdings.as_slice() {
-        return differ(alloc, number, &found, &due);
+        differ(rt, alloc, number, &found, &due);
     }
-    check_places(book)
 }
 
-fn differ(alloc: Global, number: u32, found: &[u8], due: &[u8]) -> Result<(), Fail> {
-    let found = String::from_utf8_lossy(alloc, found)?;
-    let due = String::from_utf8_lossy(alloc, due)?;
-    Err(Fail::new(format!(in alloc; "ask {number}: {found} for {due}")?))
+fn differ(rt: &impl Abort, alloc: Global, number: u32, found: &[u8], due: &[u8]) {
+    let found = String::from_utf8_lossy(alloc, found).expect(rt, "memory");
+    let due = String::from_utf8_lossy(alloc, due).expect(rt, "memory");
+    panic!(rt; "ask {number}: {found} for {due}");
 }
 
 // What the book answers, by itself or with the hint that was found before.
-fn answered(alloc: Global, book: &mut Book, ask: &Item, hinted: bool) -> Result<Answer, Fail>
+fn answered(rt: &impl Abort, alloc: Global, book: &mut Book, ask: &Item, hinted: bool) -> Answer
     requires { CanAsk book.old.book.declaration ask.now }
 {
-    if book.count() > 1_000_000 {
-        return Err("too many holdings".into());
-    }
+    assert!(rt; book.count() <= 1_000_000, "too many holdings");
     if hinted && asks_new(ask) {
-        let Some(hint) = book.hint(alloc, ask)? else {
-            return Err("no hint".into());
-        };
-        let room = book.prepare_with(alloc, ask, hint)?;
-        return Ok(book.apply_with(ask, room));
+        return by_hint(rt, alloc, book, ask);
     }
-    *book = book.copy(alloc)?;
-    Ok(book.apply(alloc, ask)?)
+    *book = book.copy(alloc).expect(rt, "memory");
+    book.apply(alloc, ask).expect(rt, "memory")
 }
 
-fn text(
-    alloc: Global,
-    declaration: &Declaration,
-    ask: &Item,
-    answer: &Answer,
-) -> Result<Vec<u8>, Fail> {
-    let mut out = Vec::new(alloc);
-    put_answer(alloc, &mut out, &declaration.season, ask, answer)?;
-    Ok(out)
+// What the book answers with the hint that was found before.
+fn by_hint(rt: &impl Abort, alloc: Global, book: &mut Book, ask: &Item) -> Answer
+    requires ask { CanAsk book.old.book.declaration ask.now }
+    requires few { length book.old.book.holdings ≤ 1000000 }
+{
+    let hint = book
+        .hint(alloc, ask)
+        .expect(rt, "memory")
+        .expect(rt, "a hint");
+    let room = book.prepare_with(alloc, ask, hint).expect(rt, "memory");
+    book.apply_with(ask, room)
 }
 
 // The places of each flight are those of the holdings that have it.
-fn check_places(book: &Book) -> Result<(), Fail> {
+fn check_places(rt: &impl Abort, book: &Book) {
     for number in 1..21 {
         let flight = Flight {
             airline: *b"BA\0",
             number,
             suffix: 0,
         };
-        if !are_places(book.holdings(), &flight, book.places(&flight)) {
-            return Err("places".into());
-        }
+        let places = book.places(&flight);
+        assert!(rt;
+            are_places(book.holdings(), &flight, places),
+            "places of {number}"
+        );
     }
-    Ok(())
 }
 
 fn are_places(holdings: &[Holding], flight: &Flight, places: &[u32]) -> bool {

@@ -1,7 +1,7 @@
 //! A ledger with a journal: what it answered stands in the journal, and a desk that opens the
 //! journal again goes on from there.
 
-ghost use Rattle.std.specs.Prelude.{◌≡◌, ◌≤◌, All, length, IfOk};
+ghost use Rattle.std.specs.Prelude.{◌≡◌, ◌≤◌, All, length, IfSome};
 ghost use Rattle.turn_lock.specs.Seats.{IsAtRest};
 ghost use Rattle.scr_reader.specs.Again.{IsFitItem};
 ghost use Rattle.amend_journal.specs.Format.{IsFit};
@@ -16,8 +16,8 @@ use holding_book::Book;
 use scr_reader::Item;
 use season_days::Season;
 use std::alloc::Global;
+use std::process::Abort;
 use std::sync::Wait;
-use std::test::Fail;
 
 /// Room for a journal of four pairs.
 const ROOM: usize = 1041;
@@ -51,126 +51,79 @@ struct Reached {
 
 /// Opens the journal of these bytes and asks what it lacks of the first so many asks, up to one
 /// that is refused. None where the opening failed.
-fn run<R: Wait>(
+fn run<R: Abort + Wait>(
     rt: &R,
     alloc: Global,
     bytes: &[u8],
     count: usize,
     failing: &[Failure],
-) -> Result<Option<Left>, Fail> {
-    let disk = disk_of(alloc, bytes, failing)?;
-    let book = small_book(alloc)?;
-    if book.count() > 1_000_000 {
-        return Err("too many".into());
-    }
+) -> Option<Left> {
+    let book = small_book(rt, alloc);
     let season = book.declaration().season;
-    match Journal::open(alloc, disk, &season) {
-        Ok((journal, pairs)) => {
-            let left = resumed(rt, alloc, journal, &pairs, book, &season, count)?;
-            Ok(Some(left))
-        }
-        Err(_) => Ok(None),
-    }
+    let (journal, pairs) = opened(rt, alloc, &season, bytes, failing)?;
+    let book = replayed(alloc, book, &pairs).expect(rt, "memory");
+    Some(go_on(rt, alloc, journal, book, &season, count))
 }
 
-/// Answers the pairs of a journal on a book, and goes on from there.
-fn resumed<R: Wait>(
-    rt: &R,
+/// The journal of these bytes on a disk some calls of which fail, and its pairs. None where the
+/// opening failed.
+fn opened(
+    rt: &impl Abort,
     alloc: Global,
-    journal: Journal<MemoryDisk>,
-    pairs: &[Asked],
-    book: Book,
     season: &Season,
-    count: usize,
-) -> Result<Left, Fail>
-    requires journal { journal.season ≡ book.book.declaration.season }
-    requires season { season.now ≡ book.book.declaration.season }
-    requires fit { All (IsFit book.book.declaration.season) pairs.now }
-    requires many { length pairs.now ≤ MOST_PAIRS }
-    requires few { length book.book.holdings ≤ 1000000 }
+    bytes: &[u8],
+    failing: &[Failure],
+) -> Option<(Journal<MemoryDisk>, Vec<Asked>)>
+    ensures journal { IfSome result (λ r. r.0.season ≡ season.now) }
+    ensures fit { IfSome result (λ r. All (IsFit season.now) r.1.items) }
+    ensures many { IfSome result (λ r. length r.1.items ≤ MOST_PAIRS) }
 {
-    let book = replayed(alloc, book, pairs)?;
-    go_on(rt, alloc, journal, book, season, count)
+    let disk = disk_of(rt, alloc, bytes, failing);
+    Journal::open(alloc, disk, season).ok()
 }
 
 /// A disk with room for a journal of four pairs that holds these bytes, some calls of which fail.
-fn disk_of(alloc: Global, bytes: &[u8], failing: &[Failure]) -> Result<MemoryDisk, Fail> {
-    if bytes.len() > ROOM {
-        return Err("too long".into());
-    }
-    let failing = failing.to_vec(alloc)?;
-    Ok(MemoryDisk::new(alloc, bytes, ROOM, 99, failing)?)
+fn disk_of(rt: &impl Abort, alloc: Global, bytes: &[u8], failing: &[Failure]) -> MemoryDisk {
+    assert!(rt; bytes.len() <= ROOM, "too long");
+    let failing = failing.to_vec(alloc).expect(rt, "memory");
+    MemoryDisk::new(alloc, bytes, ROOM, 99, failing).expect(rt, "memory")
 }
 
 /// Asks what a journal lacks of the first so many asks, by a ledger over the book of its pairs.
-fn go_on<R: Wait>(
+fn go_on<R: Abort + Wait>(
     rt: &R,
     alloc: Global,
     journal: Journal<MemoryDisk>,
     book: Book,
     season: &Season,
     count: usize,
-) -> Result<Left, Fail>
+) -> Left
     requires journal { journal.season ≡ book.book.declaration.season }
     requires season { season.now ≡ book.book.declaration.season }
 {
-    if book.count() > 2_000_000 {
-        return Err("too many".into());
-    }
     let found = journal.count() as usize;
-    let (ledger, first, second) = begun(alloc, journal, book)?;
-    run_by(rt, alloc, ledger, first, second, season, found, count)
-}
-
-/// A ledger of two callers with a journal, and their passes.
-fn begun(
-    alloc: Global,
-    journal: Journal<MemoryDisk>,
-    book: Book,
-) -> Result<
-    (
-        JournalLedger<MemoryDisk>,
-        JournalPass<MemoryDisk>,
-        JournalPass<MemoryDisk>,
-    ),
-    Fail,
->
-    requires journal { journal.season ≡ book.book.declaration.season }
-    requires few { length book.book.holdings ≤ 2000000 }
-    ensures callers { IfOk result (λ r. r.0.callers ≡ 2) }
-    ensures first { IfOk result (λ r. IsAtRest r.0 r.1) }
-    ensures second { IfOk result (λ r. IsAtRest r.0 r.2) }
-    ensures declared { IfOk result (λ r.
-        book.book.declaration ≡ r.0.origin.start.declaration) }
-{
-    let (ledger, mut passes) = JournalLedger::start(alloc, journal, book, 2)?;
-    match (passes.pop(), passes.pop()) {
-        (Some(second), Some(first)) => Ok((ledger, first, second)),
-        _ => Err("passes".into()),
-    }
-}
-
-/// What is left of a run by these two callers, whose journal had so many pairs.
-fn run_by<R: Wait>(
-    rt: &R,
-    alloc: Global,
-    ledger: JournalLedger<MemoryDisk>,
-    first: JournalPass<MemoryDisk>,
-    second: JournalPass<MemoryDisk>,
-    season: &Season,
-    found: usize,
-    count: usize,
-) -> Result<Left, Fail>
-    requires callers { ledger.callers ≡ 2 }
-    requires first { IsAtRest ledger first }
-    requires second { IsAtRest ledger second }
-    requires season { season.now ≡ ledger.origin.start.declaration.season }
-{
-    let (mut first, mut second) = (first, second);
     let mut reached = Reached {
         done: found,
         broken: false,
     };
+    let (book, disk) = run_by(rt, alloc, journal, book, season, &mut reached, count);
+    what_is_left(rt, alloc, found, reached, season, &book, &disk)
+}
+
+/// The book and the disk after the asks of two callers from the place on that is reached.
+fn run_by<R: Abort + Wait>(
+    rt: &R,
+    alloc: Global,
+    journal: Journal<MemoryDisk>,
+    book: Book,
+    season: &Season,
+    reached: &mut Reached,
+    count: usize,
+) -> (Book, MemoryDisk)
+    requires journal { journal.season ≡ book.book.declaration.season }
+    requires season { season.now ≡ book.book.declaration.season }
+{
+    let (ledger, mut first, mut second) = begun(rt, alloc, journal, book);
     ask_in_turn(
         rt,
         alloc,
@@ -178,35 +131,59 @@ fn run_by<R: Wait>(
         season,
         &mut first,
         &mut second,
-        &mut reached,
+        reached,
         count,
-    )?;
-    let (book, disk) = closed(alloc, ledger, first, second)?;
-    what_is_left(alloc, found, reached, season, &book, &disk)
+    );
+    closed(rt, alloc, ledger, first, second)
+}
+
+/// A ledger of two callers with a journal, and their passes.
+fn begun(
+    rt: &impl Abort,
+    alloc: Global,
+    journal: Journal<MemoryDisk>,
+    book: Book,
+) -> (
+    JournalLedger<MemoryDisk>,
+    JournalPass<MemoryDisk>,
+    JournalPass<MemoryDisk>,
+)
+    requires { journal.season ≡ book.book.declaration.season }
+    ensures callers { result.0.callers ≡ 2 }
+    ensures first { IsAtRest result.0 result.1 }
+    ensures second { IsAtRest result.0 result.2 }
+    ensures declared { book.book.declaration ≡ result.0.origin.start.declaration }
+{
+    assert!(rt; book.count() <= 2_000_000, "too many holdings");
+    let (ledger, mut passes) = JournalLedger::start(alloc, journal, book, 2).expect(rt, "memory");
+    let second = passes.pop().expect(rt, "a second pass");
+    let first = passes.pop().expect(rt, "a first pass");
+    (ledger, first, second)
 }
 
 /// What is left of a run that has ended with this book and this disk.
 fn what_is_left(
+    rt: &impl Abort,
     alloc: Global,
     found: usize,
     reached: Reached,
     season: &Season,
     book: &Book,
     disk: &MemoryDisk,
-) -> Result<Left, Fail> {
+) -> Left {
     let mut held = Vec::new(alloc);
-    put_holdings(alloc, &mut held, season, book.holdings())?;
-    let bytes = Vec::from_slice(alloc, disk.bytes())?;
-    Ok(Left {
+    put_holdings(rt, alloc, &mut held, season, book.holdings());
+    let bytes = Vec::from_slice(alloc, disk.bytes()).expect(rt, "memory");
+    Left {
         found,
         reached,
         held,
         bytes,
-    })
+    }
 }
 
 /// Asks from the place on that is reached, one caller's ask behind the other's, up to so many.
-fn ask_in_turn<R: Wait>(
+fn ask_in_turn<R: Abort + Wait>(
     rt: &R,
     alloc: Global,
     ledger: &JournalLedger<MemoryDisk>,
@@ -215,7 +192,7 @@ fn ask_in_turn<R: Wait>(
     second: &mut JournalPass<MemoryDisk>,
     reached: &mut Reached,
     count: usize,
-) -> Result<(), Fail>
+)
     requires first { IsAtRest ledger.now first.old }
     requires second { IsAtRest ledger.now second.old }
     requires season { season.now ≡ ledger.now.origin.start.declaration.season }
@@ -224,26 +201,25 @@ fn ask_in_turn<R: Wait>(
 {
     for (n, text) in ASKS.iter().enumerate() {
         if n == reached.done && n < count {
-            let ask = fit_ask(alloc, season, text)?;
+            let ask = fit_ask(rt, alloc, season, text);
             if n % 2 == 0 {
-                ask_one(rt, alloc, ledger, first, reached, &ask)?;
+                ask_one(rt, alloc, ledger, first, reached, &ask);
             } else {
-                ask_one(rt, alloc, ledger, second, reached, &ask)?;
+                ask_one(rt, alloc, ledger, second, reached, &ask);
             }
         }
     }
-    Ok(())
 }
 
 /// Asks once.
-fn ask_one<R: Wait>(
+fn ask_one<R: Abort + Wait>(
     rt: &R,
     alloc: Global,
     ledger: &JournalLedger<MemoryDisk>,
     pass: &mut JournalPass<MemoryDisk>,
     reached: &mut Reached,
     ask: &Item,
-) -> Result<(), Fail>
+)
     requires rest { IsAtRest ledger.now pass.old }
     requires fit { IsFitItem ledger.now.origin.start.declaration.season ask.now }
     ensures { IsAtRest ledger.now pass.new }
@@ -251,53 +227,49 @@ fn ask_one<R: Wait>(
     match ledger.amend(rt, alloc, pass, ask) {
         Ok(_answer) => reached.done = reached.done.wrapping_add(1),
         Err(JournalFault::Broken { faults: 1 }) => reached.broken = true,
-        Err(_) => return Err("refused".into()),
+        Err(fault) => panic!(rt; "refused: {fault:?}"),
     }
-    Ok(())
 }
 
 /// The book and the disk of a ledger of two callers.
 fn closed(
+    rt: &impl Abort,
     alloc: Global,
     ledger: JournalLedger<MemoryDisk>,
     first: JournalPass<MemoryDisk>,
     second: JournalPass<MemoryDisk>,
-) -> Result<(Book, MemoryDisk), Fail>
+) -> (Book, MemoryDisk)
     requires callers { ledger.callers ≡ 2 }
     requires first { IsAtRest ledger first }
     requires second { IsAtRest ledger second }
 {
-    let passes = vec![in alloc; first, second]?;
+    let passes = vec![in alloc; first, second].expect(rt, "memory");
     let (book, _history, disk) = ledger.close(passes);
-    Ok((book, disk))
+    (book, disk)
 }
 
-fn run_on<R: Wait>(rt: &R, alloc: Global, bytes: &[u8], count: usize) -> Result<Left, Fail> {
-    match run(rt, alloc, bytes, count, &[])? {
-        Some(left) => Ok(left),
-        None => Err("not opened".into()),
-    }
+fn run_on<R: Abort + Wait>(rt: &R, alloc: Global, bytes: &[u8], count: usize) -> Left {
+    run(rt, alloc, bytes, count, &[]).expect(rt, "a journal that is opened")
 }
 
 /// A ledger that ended behind any ask is opened again and goes on: the book and the journal are
 /// those of one that never ended.
 #[test]
-fn a_reopened_ledger_goes_on(rt: HostRuntime) -> Result<(), Fail> {
+fn a_reopened_ledger_goes_on(rt: HostRuntime) {
     let alloc = rt.alloc();
-    let whole = run_on(&rt, alloc, b"", 4)?;
+    let whole = run_on(&rt, alloc, b"", 4);
     assert!(rt; whole.reached == ALL && whole.bytes.len() == ROOM && !whole.held.is_empty());
     for count in 0..4 {
-        let first = run_on(&rt, alloc, b"", count)?;
+        let first = run_on(&rt, alloc, b"", count);
         assert!(rt; first.reached.done == count && first.bytes.len() == 17 + 256 * count);
-        assert!(rt; ends_alike(&rt, alloc, &first.bytes, &whole)?);
+        assert!(rt; ends_alike(&rt, alloc, &first.bytes, &whole));
     }
-    Ok(())
 }
 
 /// Whether a run over these bytes ends with all asks answered, as the whole one.
-fn ends_alike<R: Wait>(rt: &R, alloc: Global, bytes: &[u8], whole: &Left) -> Result<bool, Fail> {
-    let rest = run_on(rt, alloc, bytes, 4)?;
-    Ok(is_alike(&rest, whole))
+fn ends_alike<R: Abort + Wait>(rt: &R, alloc: Global, bytes: &[u8], whole: &Left) -> bool {
+    let rest = run_on(rt, alloc, bytes, 4);
+    is_alike(&rest, whole)
 }
 
 fn is_alike(rest: &Left, whole: &Left) -> bool {
@@ -310,35 +282,44 @@ fn is_alike(rest: &Left, whole: &Left) -> bool {
 /// answered stands in the journal, and one more may: a desk that opens it again ends with the same
 /// book.
 #[test]
-fn a_ledger_whose_disk_failed_is_opened_again(rt: HostRuntime) -> Result<(), Fail> {
+fn a_ledger_whose_disk_failed_is_opened_again(rt: HostRuntime) {
     let alloc = rt.alloc();
-    let whole = run_on(&rt, alloc, b"", 4)?;
+    let whole = run_on(&rt, alloc, b"", 4);
     for call in 0..21 {
         for part in [0, 1, 200, 999] {
             assert!(rt;
-                is_opened_again(&rt, alloc, &whole, call, part)?,
+                is_opened_again(&rt, alloc, &whole, call, part),
                 "call {call}"
             );
         }
     }
-    Ok(())
 }
 
-fn is_opened_again<R: Wait>(
+fn is_opened_again<R: Abort + Wait>(
     rt: &R,
     alloc: Global,
     whole: &Left,
     call: u64,
     part: usize,
-) -> Result<bool, Fail> {
-    match run(rt, alloc, b"", 4, &[Failure::after(call, part)])? {
-        Some(left) => Ok(
-            has_failed_at(call, left.reached)
-                && is_kept(rt, alloc, &left.bytes, left.reached.done)?
-                && ends_alike(rt, alloc, &left.bytes, whole)?,
-        ),
-        None => Ok(call < 5),
+) -> bool {
+    match run(rt, alloc, b"", 4, &[Failure::after(call, part)]) {
+        Some(left) => is_gone_on(rt, alloc, whole, call, &left),
+        None => call < 5,
     }
+}
+
+/// Whether a run whose disk failed at a call kept what it had answered, and one over its bytes ends
+/// as the whole one.
+fn is_gone_on<R: Abort + Wait>(
+    rt: &R,
+    alloc: Global,
+    whole: &Left,
+    call: u64,
+    left: &Left,
+) -> bool {
+    has_failed_at(call, left.reached)
+        && is_kept(rt, alloc, &left.bytes, left.reached.done)
+        && ends_alike(rt, alloc, &left.bytes, whole)
 }
 
 /// Whether the asks before the one at whose call the disk fails were answered, and it was refused.
@@ -347,39 +328,39 @@ fn has_failed_at(call: u64, reached: Reached) -> bool {
 }
 
 /// Whether a journal has so many pairs or one more.
-fn is_kept<R: Wait>(rt: &R, alloc: Global, bytes: &[u8], done: usize) -> Result<bool, Fail> {
-    let kept = run_on(rt, alloc, bytes, 0)?.reached.done;
-    Ok(kept == done || kept == done.wrapping_add(1))
+fn is_kept<R: Abort + Wait>(rt: &R, alloc: Global, bytes: &[u8], done: usize) -> bool {
+    let kept = run_on(rt, alloc, bytes, 0).reached.done;
+    kept == done || kept == done.wrapping_add(1)
 }
 
 /// Whether a run over an image of a stop finds so many pairs and ends as the whole one.
-fn is_resumed<R: Wait>(
+fn is_resumed<R: Abort + Wait>(
     rt: &R,
     alloc: Global,
     image: &[u8],
     found: usize,
     whole: &Left,
-) -> Result<bool, Fail> {
-    let rest = run_on(rt, alloc, image, 4)?;
-    Ok(rest.found == found && is_alike(&rest, whole))
+) -> bool {
+    let rest = run_on(rt, alloc, image, 4);
+    rest.found == found && is_alike(&rest, whole)
 }
 
 /// Whether each image is resumed that a stop leaves of a file past which these bytes are written:
 /// the file with each front of them.
-fn fronts_are_resumed<R: Wait>(
+fn fronts_are_resumed<R: Abort + Wait>(
     rt: &R,
     alloc: Global,
     file: &[u8],
     written: &[u8],
     found: usize,
     whole: &Left,
-) -> Result<bool, Fail> {
-    let mut image = Vec::from_slice(alloc, file)?;
+) -> bool {
+    let mut image = Vec::from_slice(alloc, file).expect(rt, "memory");
     for byte in written {
-        if !is_resumed(rt, alloc, &image, found, whole)? {
-            return Ok(false);
+        if !is_resumed(rt, alloc, &image, found, whole) {
+            return false;
         }
-        image.push(*byte)?;
+        image.push(*byte).expect(rt, "memory");
     }
     is_resumed(rt, alloc, &image, found, whole)
 }
@@ -388,62 +369,50 @@ fn fronts_are_resumed<R: Wait>(
 /// length from the old one on, and other bytes than the slot's. A desk that opens it finds the
 /// pairs that were answered, and ends with the same book and the same journal.
 #[test]
-fn each_torn_slot_is_resumed(rt: HostRuntime) -> Result<(), Fail> {
+fn each_torn_slot_is_resumed(rt: HostRuntime) {
     let alloc = rt.alloc();
-    let whole = run_on(&rt, alloc, b"", 4)?;
+    let whole = run_on(&rt, alloc, b"", 4);
     for filling in [0, 1, 255] {
-        assert!(rt; fronts_are_resumed(&rt, alloc, b"", &[filling; 17], 0, &whole)?);
+        assert!(rt; fronts_are_resumed(&rt, alloc, b"", &[filling; 17], 0, &whole));
     }
     for done in 0..3 {
-        assert!(rt; are_torn_resumed(&rt, alloc, done, &whole)?, "slot {done}");
+        assert!(rt; are_torn_resumed(&rt, alloc, done, &whole), "slot {done}");
     }
-    Ok(())
 }
 
-fn are_torn_resumed<R: Wait>(
-    rt: &R,
-    alloc: Global,
-    done: usize,
-    whole: &Left,
-) -> Result<bool, Fail> {
-    let file = run_on(rt, alloc, b"", done)?.bytes;
-    let Some(slot) = whole.bytes.get(file.len()..file.len().wrapping_add(256)) else {
-        return Ok(false);
-    };
-    Ok(
-        fronts_are_resumed(rt, alloc, &file, slot, done, whole)?
-            && fronts_are_resumed(rt, alloc, &file, &[0; 256], done, whole)?
-            && fronts_are_resumed(rt, alloc, &file, &[1; 256], done, whole)?
-            && fronts_are_resumed(rt, alloc, &file, &[255; 256], done, whole)?,
-    )
+fn are_torn_resumed<R: Abort + Wait>(rt: &R, alloc: Global, done: usize, whole: &Left) -> bool {
+    let file = run_on(rt, alloc, b"", done).bytes;
+    let slot = whole
+        .bytes
+        .get(file.len()..file.len().wrapping_add(256))
+        .expect(rt, "a slot");
+    fronts_are_resumed(rt, alloc, &file, slot, done, whole)
+        && fronts_are_resumed(rt, alloc, &file, &[0; 256], done, whole)
+        && fronts_are_resumed(rt, alloc, &file, &[1; 256], done, whole)
+        && fronts_are_resumed(rt, alloc, &file, &[255; 256], done, whole)
 }
 
 /// A stop while the gate of one of the first three slots is opened: it has any value.
 #[test]
-fn each_value_of_a_gate_is_resumed(rt: HostRuntime) -> Result<(), Fail> {
+fn each_value_of_a_gate_is_resumed(rt: HostRuntime) {
     let alloc = rt.alloc();
-    let whole = run_on(&rt, alloc, b"", 4)?;
+    let whole = run_on(&rt, alloc, b"", 4);
     for done in 0..3 {
-        assert!(rt; are_gates_resumed(&rt, alloc, done, &whole)?, "gate {done}");
+        assert!(rt; are_gates_resumed(&rt, alloc, done, &whole), "gate {done}");
     }
-    Ok(())
 }
 
-fn are_gates_resumed<R: Wait>(
-    rt: &R,
-    alloc: Global,
-    done: usize,
-    whole: &Left,
-) -> Result<bool, Fail> {
-    let mut image = run_on(rt, alloc, b"", done.wrapping_add(1))?.bytes;
+fn are_gates_resumed<R: Abort + Wait>(rt: &R, alloc: Global, done: usize, whole: &Left) -> bool {
+    let mut image = run_on(rt, alloc, b"", done.wrapping_add(1)).bytes;
     for value in 0..256_u32 {
-        if let Some(gate) = image.get_mut(done.wrapping_mul(256).wrapping_add(16)) {
-            *gate = value as u8;
-        }
+        let gate = image
+            .get_mut(done.wrapping_mul(256).wrapping_add(16))
+            .expect(rt, "a gate");
+        *gate = value as u8;
         let found = done.wrapping_add(usize::from(value == 1));
-        if !is_resumed(rt, alloc, &image, found, whole)? {
-            return Ok(false);
+        if !is_resumed(rt, alloc, &image, found, whole) {
+            return false;
         }
     }
-    Ok(true)
+    true
 }

@@ -1,86 +1,82 @@
 //! Asks of one caller and of two, one after the other and on threads of their own, to a ledger.
 
-ghost use Rattle.std.specs.Prelude.{◌≡◌, ◌≤◌, length, IfOk};
+ghost use Rattle.std.specs.Prelude.{◌≡◌, ◌≤◌, length};
 ghost use Rattle.std.specs.Thread.{IsSync};
 ghost use Rattle.turn_lock.specs.Seats.{IsAtRest};
 ghost use Rattle.holding_book.specs.Asks.{CanAsk};
 
-use crate::answers::{ask, fit_items_pair, put_answer, spelled};
+use crate::answers::{ask, put_answer, spelled};
 use crate::books::{small_book, start_book};
 use crate::lines::{data_lines, halves};
 use holding_book::{Answer, Book, Entry};
-use scr_reader::{Item, read_item};
+use scr_reader::Item;
 use season_days::Declaration;
 use slot_ledger::{Ledger, LedgerFault, Pass};
 use std::alloc::Global;
+use std::process::Abort;
 use std::sync::Wait;
-use std::test::Fail;
 use std::thread::{Threads, join};
 
-// A caller, what it was answered, and the lines of its asks.
+// A caller, and what it was answered.
 #[derive(Drop)]
 struct Caller {
     pass: Pass,
     said: Said,
-    asks: String,
 }
 
-// The entries of a caller as it knows them, the lengths of the history where it was full, and
-// whether something else went wrong.
+// The entries of a caller as it knows them, and the lengths of the history where it was full.
 #[derive(Drop)]
 struct Said {
     entries: Vec<Entry>,
     full: Vec<u64>,
-    failed: bool,
 }
 
 impl Said {
     // Keeps what was answered to an ask of this caller.
-    fn note(&mut self, caller: u32, ask: Item, answer: Result<Answer, LedgerFault>) {
-        let kept = match answer {
+    fn note(
+        &mut self,
+        rt: &impl Abort,
+        caller: u32,
+        ask: Item,
+        answer: Result<Answer, LedgerFault>,
+    ) {
+        match answer {
             Ok(answer) => {
                 let entry = Entry {
                     caller,
                     ask,
                     answer,
                 };
-                self.entries.push(entry).is_ok()
+                self.entries.push(entry).expect(rt, "memory");
             }
-            Err(LedgerFault::Full { length }) => self.full.push(length).is_ok(),
-            Err(LedgerFault::Memory) => false,
-        };
-        if !kept {
-            self.failed = true;
+            Err(LedgerFault::Full { length }) => self.full.push(length).expect(rt, "memory"),
+            Err(LedgerFault::Memory) => panic!(rt; "memory"),
         }
     }
 }
 
-// Puts the ask of which this is the text to the ledger, and keeps what is said.
-fn put_ask<R: Wait>(
+// Puts the ask of which this is a short line to the ledger, and keeps what is said.
+fn put_ask<R: Abort + Wait>(
     rt: &R,
     alloc: Global,
     ledger: &Ledger,
     declaration: &Declaration,
     pass: &mut Pass,
     said: &mut Said,
-    text: &str,
+    line: &str,
 )
     requires rest { IsAtRest ledger.now pass.old }
     requires declared { declaration.now ≡ ledger.now.origin.start.declaration }
     ensures { IsAtRest ledger.now pass.new }
 {
-    let Ok(Some(ask)) = read_item(alloc, &declaration.season, text.as_bytes()) else {
-        said.failed = true;
-        return;
-    };
-    fit_items_pair(&ask);
+    let ask = ask(rt, alloc, declaration, line);
     let answer = ledger.amend(rt, alloc, pass, &ask);
-    said.note(pass.number(), ask, answer);
+    said.note(rt, pass.number(), ask, answer);
 }
 
 // Puts the asks of two callers to the ledger one after the other, with a stroke between two lines.
 // Those of the second caller begin with `2`.
-fn put_in_order<R: Wait>(
+fn put_in_order<R: Abort + Wait>(
     rt: &R,
     alloc: Global,
     ledger: &Ledger,
@@ -104,7 +100,7 @@ fn put_in_order<R: Wait>(
 }
 
 // Puts the ask of which this is a short line to the ledger.
-fn put_line<R: Wait>(
+fn put_line<R: Abort + Wait>(
     rt: &R,
     alloc: Global,
     ledger: &Ledger,
@@ -116,117 +112,90 @@ fn put_line<R: Wait>(
     requires declared { declaration.now ≡ ledger.now.origin.start.declaration }
     ensures { IsAtRest ledger.now caller.new.pass }
 {
-    match data_lines(alloc, line) {
-        Ok(text) => put_ask(
-            rt,
-            alloc,
-            ledger,
-            declaration,
-            &mut caller.pass,
-            &mut caller.said,
-            &text,
-        ),
-        Err(_) => caller.said.failed = true,
-    }
-}
-
-// Puts the asks of one caller to the ledger.
-fn put_own<R: Wait>(
-    rt: &R,
-    alloc: Global,
-    ledger: &Ledger,
-    declaration: &Declaration,
-    caller: Caller,
-) -> Caller
-    requires rest { IsAtRest ledger.now caller.pass }
-    requires declared { declaration.now ≡ ledger.now.origin.start.declaration }
-    ensures { IsAtRest ledger.now result.pass }
-{
-    let mut caller = caller;
-    put_all(rt, alloc, ledger, declaration, &mut caller);
-    caller
-}
-
-fn put_all<R: Wait>(
-    rt: &R,
-    alloc: Global,
-    ledger: &Ledger,
-    declaration: &Declaration,
-    caller: &mut Caller,
-)
-    requires rest { IsAtRest ledger.now caller.old.pass }
-    requires declared { declaration.now ≡ ledger.now.origin.start.declaration }
-    ensures { IsAtRest ledger.now caller.new.pass }
-{
-    put_lines(
+    put_ask(
         rt,
         alloc,
         ledger,
         declaration,
         &mut caller.pass,
         &mut caller.said,
-        &caller.asks,
+        line,
     );
 }
 
-fn put_lines<R: Wait>(
+// Puts the asks of one caller to the ledger, with semicolons between their lines.
+fn put_own<R: Abort + Wait>(
     rt: &R,
     alloc: Global,
     ledger: &Ledger,
     declaration: &Declaration,
-    pass: &mut Pass,
-    said: &mut Said,
+    caller: Caller,
+    asks: &str,
+) -> Caller
+    requires rest { IsAtRest ledger.now caller.pass }
+    requires declared { declaration.now ≡ ledger.now.origin.start.declaration }
+    ensures { IsAtRest ledger.now result.pass }
+{
+    let mut caller = caller;
+    put_lines(rt, alloc, ledger, declaration, &mut caller, asks);
+    caller
+}
+
+fn put_lines<R: Abort + Wait>(
+    rt: &R,
+    alloc: Global,
+    ledger: &Ledger,
+    declaration: &Declaration,
+    caller: &mut Caller,
     asks: &str,
 )
-    requires rest { IsAtRest ledger.now pass.old }
+    requires rest { IsAtRest ledger.now caller.old.pass }
     requires declared { declaration.now ≡ ledger.now.origin.start.declaration }
-    ensures { IsAtRest ledger.now pass.new }
+    ensures { IsAtRest ledger.now caller.new.pass }
 {
-    for line in asks.split_inclusive('\n') {
-        put_ask(rt, alloc, ledger, declaration, pass, said, line);
+    for line in asks.split(';') {
+        put_line(rt, alloc, ledger, declaration, caller, line);
     }
 }
 
 // The lines of the answers of all entries, or of those of one caller.
 fn entry_lines(
+    rt: &impl Abort,
     alloc: Global,
     declaration: &Declaration,
     history: &[Entry],
     caller: Option<u32>,
-) -> Result<Vec<u8>, Fail> {
+) -> Vec<u8> {
     let mut out = Vec::new(alloc);
     for entry in history {
         if caller.is_none() || caller == Some(entry.caller) {
             put_answer(
+                rt,
                 alloc,
                 &mut out,
                 &declaration.season,
                 &entry.ask,
                 &entry.answer,
-            )?;
+            );
         }
     }
-    Ok(out)
+    out
 }
 
 // What the book answers to the asks of a history, one after the other.
-fn replay(alloc: Global, book: &mut Book, history: &[Entry]) -> Result<Vec<u8>, Fail> {
+fn replay(rt: &impl Abort, alloc: Global, book: &mut Book, history: &[Entry]) -> Vec<u8> {
     let mut out = Vec::new(alloc);
     for entry in history {
-        replay_one(alloc, book, &mut out, &entry.ask)?;
+        replay_one(rt, alloc, book, &mut out, &entry.ask);
     }
-    Ok(out)
+    out
 }
 
-fn replay_one(alloc: Global, book: &mut Book, out: &mut Vec<u8>, ask: &Item) -> Result<(), Fail> {
-    let Some(ask) = spelled(alloc, book.declaration(), ask)? else {
-        return Err("an ask without a spelling".into());
-    };
-    if book.count() > 1_000_000 {
-        return Err("too many holdings".into());
-    }
-    let answer = book.apply(alloc, &ask)?;
-    put_answer(alloc, out, &book.declaration().season, &ask, &answer)
+fn replay_one(rt: &impl Abort, alloc: Global, book: &mut Book, out: &mut Vec<u8>, ask: &Item) {
+    let ask = spelled(rt, alloc, book.declaration(), ask).expect(rt, "an ask with a spelling");
+    assert!(rt; book.count() <= 1_000_000, "too many holdings");
+    let answer = book.apply(alloc, &ask).expect(rt, "memory");
+    put_answer(rt, alloc, out, &book.declaration().season, &ask, &answer);
 }
 
 // What there is when a ledger of two callers has ended.
@@ -239,46 +208,40 @@ struct Ended {
 }
 
 // A ledger of two callers over a copy of the book, and their passes.
-fn begun(alloc: Global, book: &Book, most: u32) -> Result<(Ledger, Pass, Pass), Fail>
-    ensures callers { IfOk result (λ r. r.0.callers ≡ 2) }
-    ensures first { IfOk result (λ r. IsAtRest r.0 r.1) }
-    ensures second { IfOk result (λ r. IsAtRest r.0 r.2) }
-    ensures declared { IfOk result (λ r.
-        book.now.book.declaration ≡ r.0.origin.start.declaration) }
+fn begun(rt: &impl Abort, alloc: Global, book: &Book, most: u32) -> (Ledger, Pass, Pass)
+    ensures callers { result.0.callers ≡ 2 }
+    ensures first { IsAtRest result.0 result.1 }
+    ensures second { IsAtRest result.0 result.2 }
+    ensures declared { book.now.book.declaration ≡ result.0.origin.start.declaration }
 {
-    let copy = copied(alloc, book)?;
-    if most > 100_000 {
-        return Err("too many".into());
-    }
-    let (ledger, mut passes) = Ledger::start(alloc, copy, 2, most)?;
-    match (passes.pop(), passes.pop()) {
-        (Some(second), Some(first)) => Ok((ledger, first, second)),
-        _ => Err("passes".into()),
-    }
+    let copy = copied(rt, alloc, book);
+    assert!(rt; most <= 100_000, "too many");
+    let (ledger, mut passes) = Ledger::start(alloc, copy, 2, most).expect(rt, "memory");
+    let second = passes.pop().expect(rt, "a second pass");
+    let first = passes.pop().expect(rt, "a first pass");
+    (ledger, first, second)
 }
 
 // A copy of a book of few holdings.
-fn copied(alloc: Global, book: &Book) -> Result<Book, Fail>
-    ensures same { IfOk result (λ copy. copy.book ≡ book.now.book) }
-    ensures few { IfOk result (λ copy. length copy.book.holdings ≤ 1000000) }
+fn copied(rt: &impl Abort, alloc: Global, book: &Book) -> Book
+    ensures same { result.book ≡ book.now.book }
+    ensures few { length result.book.holdings ≤ 1000000 }
 {
-    if book.count() > 1_000_000 {
-        return Err("too many".into());
-    }
-    Ok(book.copy(alloc)?)
+    assert!(rt; book.count() <= 1_000_000, "too many holdings");
+    book.copy(alloc).expect(rt, "memory")
 }
 
 // A ledger of two callers over the book, closed after their asks in this order.
-fn run_in_order<R: Wait>(
+fn run_in_order<R: Abort + Wait>(
     rt: &R,
     alloc: Global,
     book: &Book,
     most: u32,
     asks: &str,
-) -> Result<Ended, Fail> {
-    let (ledger, first, second) = begun(alloc, book, most)?;
-    let mut first = new_caller(alloc, first, String::new(alloc));
-    let mut second = new_caller(alloc, second, String::new(alloc));
+) -> Ended {
+    let (ledger, first, second) = begun(rt, alloc, book, most);
+    let mut first = new_caller(alloc, first);
+    let mut second = new_caller(alloc, second);
     put_in_order(
         rt,
         alloc,
@@ -288,34 +251,36 @@ fn run_in_order<R: Wait>(
         &mut second,
         asks,
     );
-    closed(alloc, ledger, first, second)
+    closed(rt, alloc, ledger, first, second)
 }
 
 // The same after the asks of each on a thread of its own.
-fn run_on_threads<R: Threads + Wait + Sync>(
+fn run_on_threads<R: Abort + Threads + Wait + Sync>(
     rt: &R,
     alloc: Global,
     book: &Book,
     most: u32,
     one: &str,
     two: &str,
-) -> Result<Ended, Fail> {
-    let (one, two) = (data_lines(alloc, one)?, data_lines(alloc, two)?);
-    let (ledger, first, second) = begun(alloc, book, most)?;
-    let first = new_caller(alloc, first, one);
-    let second = new_caller(alloc, second, two);
-    let (first, second) = on_threads(rt, alloc, &ledger, book.declaration(), first, second);
-    closed(alloc, ledger, first, second)
+) -> Ended {
+    let (ledger, first, second) = begun(rt, alloc, book, most);
+    let first = new_caller(alloc, first);
+    let second = new_caller(alloc, second);
+    let declaration = book.declaration();
+    let (first, second) = on_threads(rt, alloc, &ledger, declaration, first, second, one, two);
+    closed(rt, alloc, ledger, first, second)
 }
 
 // Each caller puts its asks to the ledger on a thread of its own.
-fn on_threads<R: Threads + Wait + Sync>(
+fn on_threads<R: Abort + Threads + Wait + Sync>(
     rt: &R,
     alloc: Global,
     ledger: &Ledger,
     declaration: &Declaration,
     first: Caller,
     second: Caller,
+    one: &str,
+    two: &str,
 ) -> (Caller, Caller)
     requires first { IsAtRest ledger.now first.pass }
     requires second { IsAtRest ledger.now second.pass }
@@ -329,17 +294,17 @@ fn on_threads<R: Threads + Wait + Sync>(
             requires { IsSync R.row × IsAtRest ledger.now first.pass
                 × (declaration.now ≡ ledger.now.origin.start.declaration) }
             ensures { IsAtRest ledger.entry.now result.pass }
-        { put_own(rt, alloc, ledger, declaration, first) },
+        { put_own(rt, alloc, ledger, declaration, first, one) },
         || -> Caller
             requires { IsSync R.row × IsAtRest ledger.now second.pass
                 × (declaration.now ≡ ledger.now.origin.start.declaration) }
             ensures { IsAtRest ledger.entry.now result.pass }
-        { put_own(rt, alloc, ledger, declaration, second) },
+        { put_own(rt, alloc, ledger, declaration, second, two) },
     )
 }
 
-// A caller with these asks, which was answered nothing yet.
-fn new_caller(alloc: Global, pass: Pass, asks: String) -> Caller
+// A caller that was answered nothing yet.
+fn new_caller(alloc: Global, pass: Pass) -> Caller
     ensures { result.pass ≡ pass }
 {
     Caller {
@@ -347,13 +312,11 @@ fn new_caller(alloc: Global, pass: Pass, asks: String) -> Caller
         said: Said {
             entries: Vec::new(alloc),
             full: Vec::new(alloc),
-            failed: false,
         },
-        asks,
     }
 }
 
-fn closed(alloc: Global, ledger: Ledger, first: Caller, second: Caller) -> Result<Ended, Fail>
+fn closed(rt: &impl Abort, alloc: Global, ledger: Ledger, first: Caller, second: Caller) -> Ended
     requires callers { ledger.callers ≡ 2 }
     requires first { IsAtRest ledger first.pass }
     requires second { IsAtRest ledger second.pass }
@@ -361,43 +324,42 @@ fn closed(alloc: Global, ledger: Ledger, first: Caller, second: Caller) -> Resul
     let Caller {
         pass: one,
         said: first,
-        asks: _,
     } = first;
     let Caller {
         pass: two,
         said: second,
-        asks: _,
     } = second;
-    let passes = vec![in alloc; one, two]?;
+    let passes = vec![in alloc; one, two].expect(rt, "memory");
     let (book, history) = ledger.close(passes);
-    Ok(Ended {
+    Ended {
         book,
         history,
         first,
         second,
-    })
+    }
 }
 
 // Whether each caller was answered what its entries have, and the history is what the book answers
 // to its asks, with the holdings after them.
-fn is_one_history(alloc: Global, book: &mut Book, ended: &Ended) -> Result<bool, Fail> {
-    let declaration = ended.book.declaration();
-    let all = entry_lines(alloc, declaration, &ended.history, None)?;
-    let replayed = replay(alloc, book, &ended.history)?;
-    Ok(
-        replayed.as_slice() == all.as_slice()
-            && book.holdings() == ended.book.holdings()
-            && has_entries(alloc, ended, 0, &ended.first)?
-            && has_entries(alloc, ended, 1, &ended.second)?,
-    )
+fn is_one_history(rt: &impl Abort, alloc: Global, book: &mut Book, ended: &Ended) -> bool {
+    is_replayed(rt, alloc, book, ended)
+        && has_entries(rt, alloc, ended, 0, &ended.first)
+        && has_entries(rt, alloc, ended, 1, &ended.second)
 }
 
-// Whether a caller was answered what its entries have, and nothing went wrong.
-fn has_entries(alloc: Global, ended: &Ended, number: u32, said: &Said) -> Result<bool, Fail> {
+// Whether the history is what the book answers to its asks, with the holdings after them.
+fn is_replayed(rt: &impl Abort, alloc: Global, book: &mut Book, ended: &Ended) -> bool {
+    let all = entry_lines(rt, alloc, ended.book.declaration(), &ended.history, None);
+    let replayed = replay(rt, alloc, book, &ended.history);
+    replayed.as_slice() == all.as_slice() && book.holdings() == ended.book.holdings()
+}
+
+// Whether a caller was answered what its entries have.
+fn has_entries(rt: &impl Abort, alloc: Global, ended: &Ended, number: u32, said: &Said) -> bool {
     let declaration = ended.book.declaration();
-    let own = entry_lines(alloc, declaration, &ended.history, Some(number))?;
-    let known = entry_lines(alloc, declaration, &said.entries, Some(number))?;
-    Ok(own.as_slice() == known.as_slice() && !said.failed)
+    let own = entry_lines(rt, alloc, declaration, &ended.history, Some(number));
+    let known = entry_lines(rt, alloc, declaration, &said.entries, Some(number));
+    own.as_slice() == known.as_slice()
 }
 
 // Rows: the lines of the capacity file, of a season with the series BA001 at 0610; the greatest
@@ -427,61 +389,47 @@ FLEX 25;REFUSE NONE;CAP ARR 60 0600 0600 1234567 2|100000|2NBA003 0630/NBA002 06
     |KBA003 0630;UBA002 0630|0 0";
 
 #[test]
-fn callers_have_one_history(rt: HostRuntime) -> Result<(), Fail> {
+fn callers_have_one_history(rt: HostRuntime) {
     for row in ROWS.lines() {
-        assert!(rt; is_as_wanted(&rt, rt.alloc(), row)?, "{row}");
+        assert!(rt; is_as_wanted(&rt, rt.alloc(), row), "{row}");
     }
-    Ok(())
 }
 
 // Whether a ledger answers as a row wants.
-fn is_as_wanted<R: Wait>(rt: &R, alloc: Global, row: &str) -> Result<bool, Fail> {
+fn is_as_wanted<R: Abort + Wait>(rt: &R, alloc: Global, row: &str) -> bool {
     let (capacity, given) = halves(row, '|');
-    let mut book = start_book(alloc, capacity, "FBA001 0610", "0;;;")?;
+    let mut book = start_book(rt, alloc, capacity, "FBA001 0610", "0;;;");
     answers_as(rt, alloc, &mut book, given)
 }
 
 // Whether a ledger over the book answers as the rest of a row wants.
-fn answers_as<R: Wait>(rt: &R, alloc: Global, book: &mut Book, given: &str) -> Result<bool, Fail> {
+fn answers_as<R: Abort + Wait>(rt: &R, alloc: Global, book: &mut Book, given: &str) -> bool {
     let (most, given) = halves(given, '|');
     let (asks, wanted) = halves(given, '|');
-    let most = most.parse::<u32>()?;
-    let ended = run_in_order(rt, alloc, book, most, asks)?;
-    ended_as(alloc, book, &ended, most, wanted)
-}
-
-// Whether a ledger over the book has ended as a row wants.
-fn ended_as(
-    alloc: Global,
-    book: &mut Book,
-    ended: &Ended,
-    most: u32,
-    wanted: &str,
-) -> Result<bool, Fail> {
-    Ok(has_answers(alloc, ended, most, wanted)? && is_one_history(alloc, book, ended)?)
+    let most = most.parse::<u32>().expect(rt, "a length");
+    let ended = run_in_order(rt, alloc, book, most, asks);
+    has_answers(rt, alloc, &ended, most, wanted) && is_one_history(rt, alloc, book, &ended)
 }
 
 // Whether these lines were answered, and the history was full so often.
-fn has_answers(alloc: Global, ended: &Ended, most: u32, wanted: &str) -> Result<bool, Fail> {
+fn has_answers(rt: &impl Abort, alloc: Global, ended: &Ended, most: u32, wanted: &str) -> bool {
     let (answers, full) = halves(wanted, '|');
-    Ok(
-        has_lines(alloc, ended, answers)?
-            && was_full(alloc, ended, full)?
-            && are_all(&ended.first.full, most)
-            && are_all(&ended.second.full, most),
-    )
+    has_lines(rt, alloc, ended, answers)
+        && was_full(rt, alloc, ended, full)
+        && are_all(&ended.first.full, most)
+        && are_all(&ended.second.full, most)
 }
 
-fn has_lines(alloc: Global, ended: &Ended, answers: &str) -> Result<bool, Fail> {
-    let found = entry_lines(alloc, ended.book.declaration(), &ended.history, None)?;
-    let due = data_lines(alloc, answers)?;
-    Ok(found.as_slice() == due.as_bytes())
+fn has_lines(rt: &impl Abort, alloc: Global, ended: &Ended, answers: &str) -> bool {
+    let found = entry_lines(rt, alloc, ended.book.declaration(), &ended.history, None);
+    let due = data_lines(rt, alloc, answers);
+    found.as_slice() == due.as_bytes()
 }
 
-fn was_full(alloc: Global, ended: &Ended, wanted: &str) -> Result<bool, Fail> {
+fn was_full(rt: &impl Abort, alloc: Global, ended: &Ended, wanted: &str) -> bool {
     let (one, two) = (ended.first.full.len(), ended.second.full.len());
-    let full = format!(in alloc; "{one} {two}")?;
-    Ok(full.as_str() == wanted)
+    let full = format!(in alloc; "{one} {two}").expect(rt, "memory");
+    full.as_str() == wanted
 }
 
 fn are_all(lengths: &[u64], most: u32) -> bool {
@@ -494,84 +442,83 @@ fn are_all(lengths: &[u64], most: u32) -> bool {
 }
 
 #[test]
-fn callers_on_threads_have_one_history(rt: HostRuntime) -> Result<(), Fail> {
+fn callers_on_threads_have_one_history(rt: HostRuntime) {
     for _ in 0..20 {
-        assert!(rt; is_shared(&rt, rt.alloc())?);
+        assert!(rt; is_shared(&rt, rt.alloc()));
     }
-    Ok(())
 }
 
 // Whether two callers on threads have one history, in which one of them has the last place.
-fn is_shared<R: Threads + Wait + Sync>(rt: &R, alloc: Global) -> Result<bool, Fail> {
-    let mut book = small_book(alloc)?;
+fn is_shared<R: Abort + Threads + Wait + Sync>(rt: &R, alloc: Global) -> bool {
+    let mut book = small_book(rt, alloc);
     is_shared_over(rt, alloc, &mut book)
 }
 
-fn is_shared_over<R: Threads + Wait + Sync>(
+fn is_shared_over<R: Abort + Threads + Wait + Sync>(
     rt: &R,
     alloc: Global,
     book: &mut Book,
-) -> Result<bool, Fail> {
+) -> bool {
     let one = "QBA001;NBA002 0620;QBA099;DBA001 05MAY05MAY 1000000 0610";
     let two = "QBA001;NBA003 0630;QBA099;DBA001 05MAY05MAY 1000000 0610";
-    let ended = run_on_threads(rt, alloc, book, 8, one, two)?;
-    has_eight(alloc, book, &ended)
+    let ended = run_on_threads(rt, alloc, book, 8, one, two);
+    has_eight(rt, alloc, book, &ended)
 }
 
 // Whether a history of eight entries was never full, and is one.
-fn has_eight(alloc: Global, book: &mut Book, ended: &Ended) -> Result<bool, Fail> {
-    Ok(
-        ended.history.len() == 8
-            && ended.first.full.is_empty()
-            && ended.second.full.is_empty()
-            && has_last_place(alloc, ended)?
-            && is_one_history(alloc, book, ended)?,
-    )
+fn has_eight(rt: &impl Abort, alloc: Global, book: &mut Book, ended: &Ended) -> bool {
+    ended.history.len() == 8
+        && ended.first.full.is_empty()
+        && ended.second.full.is_empty()
+        && has_last_place(rt, alloc, ended)
+        && is_one_history(rt, alloc, book, ended)
 }
 
 // Whether one of the two got the last place of the hour, and the other an offer.
-fn has_last_place(alloc: Global, ended: &Ended) -> Result<bool, Fail> {
-    Ok(
-        have_second(alloc, ended, "KBA002 0620", "UBA003 0630;OBA003 0700")?
-            || have_second(alloc, ended, "UBA002 0620;OBA002 0555", "KBA003 0630")?,
-    )
+fn has_last_place(rt: &impl Abort, alloc: Global, ended: &Ended) -> bool {
+    have_second(rt, alloc, ended, "KBA002 0620", "UBA003 0630;OBA003 0700")
+        || have_second(rt, alloc, ended, "UBA002 0620;OBA002 0555", "KBA003 0630")
 }
 
 // Whether these lines are the second answers of the two callers.
-fn have_second(alloc: Global, ended: &Ended, first: &str, second: &str) -> Result<bool, Fail> {
+fn have_second(rt: &impl Abort, alloc: Global, ended: &Ended, first: &str, second: &str) -> bool {
     let declaration = ended.book.declaration();
-    let one = second_answer(alloc, declaration, &ended.first)?;
-    let two = second_answer(alloc, declaration, &ended.second)?;
-    let first = data_lines(alloc, first)?;
-    let second = data_lines(alloc, second)?;
-    Ok(one.as_slice() == first.as_bytes() && two.as_slice() == second.as_bytes())
+    has_second(rt, alloc, declaration, &ended.first, first)
+        && has_second(rt, alloc, declaration, &ended.second, second)
 }
 
-// The lines of the second answer of a caller.
-fn second_answer(alloc: Global, declaration: &Declaration, said: &Said) -> Result<Vec<u8>, Fail> {
-    let mut out = Vec::new(alloc);
-    let entry = said.entries.get(1).ok_or("a second entry")?;
+// Whether these lines are the second answer of a caller.
+fn has_second(
+    rt: &impl Abort,
+    alloc: Global,
+    declaration: &Declaration,
+    said: &Said,
+    wanted: &str,
+) -> bool {
+    let entry = said.entries.get(1).expect(rt, "a second entry");
+    let mut found = Vec::new(alloc);
     put_answer(
+        rt,
         alloc,
-        &mut out,
+        &mut found,
         &declaration.season,
         &entry.ask,
         &entry.answer,
-    )?;
-    Ok(out)
+    );
+    let due = data_lines(rt, alloc, wanted);
+    found.as_slice() == due.as_bytes()
 }
 
 #[test]
-fn a_full_history_stays(rt: HostRuntime) -> Result<(), Fail> {
+fn a_full_history_stays(rt: HostRuntime) {
     for most in [0, 1, 2, 100_000] {
-        assert!(rt; stays_full(&rt, rt.alloc(), most)?, "{most}");
+        assert!(rt; stays_full(&rt, rt.alloc(), most), "{most}");
     }
-    Ok(())
 }
 
 // Whether a history of so many entries is full, each of them a question that found nothing.
-fn stays_full<R: Wait>(rt: &R, alloc: Global, most: u32) -> Result<bool, Fail> {
-    let book = small_book(alloc)?;
+fn stays_full<R: Abort + Wait>(rt: &R, alloc: Global, most: u32) -> bool {
+    let book = small_book(rt, alloc);
     is_filled(rt, alloc, &book, most)
 }
 
@@ -586,12 +533,11 @@ fn are_questions(history: &[Entry]) -> bool {
 
 // Whether the ledger of one caller has so many questions after them and a request more, which is
 // not entered; it holds what the book holds.
-fn is_filled<R: Wait>(rt: &R, alloc: Global, book: &Book, most: u32) -> Result<bool, Fail> {
-    let (ledger, mut pass) = begun_alone(alloc, book, most)?;
-    let end = fill(rt, alloc, &ledger, book.declaration(), &mut pass, most)?;
-    let passes = vec![in alloc; pass]?;
-    let (after, history) = ledger.close(passes);
-    Ok(end == Some(u64::from(most)) && has_questions(book, &after, &history, most))
+fn is_filled<R: Abort + Wait>(rt: &R, alloc: Global, book: &Book, most: u32) -> bool {
+    let (ledger, mut pass) = begun_alone(rt, alloc, book, most);
+    let end = fill(rt, alloc, &ledger, book.declaration(), &mut pass, most);
+    let (after, history) = closed_alone(rt, alloc, ledger, pass);
+    end == Some(u64::from(most)) && has_questions(book, &after, &history, most)
 }
 
 // Whether a history has so many questions, with the book as it was.
@@ -602,47 +548,51 @@ fn has_questions(book: &Book, after: &Book, history: &[Entry], most: u32) -> boo
 }
 
 /// A ledger of one caller over a copy of the book, and its pass.
-pub(crate) fn begun_alone(alloc: Global, book: &Book, most: u32) -> Result<(Ledger, Pass), Fail>
-    ensures callers { IfOk result (λ r. r.0.callers ≡ 1) }
-    ensures rest { IfOk result (λ r. IsAtRest r.0 r.1) }
-    ensures declared { IfOk result (λ r.
-        book.now.book.declaration ≡ r.0.origin.start.declaration) }
+pub(crate) fn begun_alone(rt: &impl Abort, alloc: Global, book: &Book, most: u32) -> (Ledger, Pass)
+    ensures callers { result.0.callers ≡ 1 }
+    ensures rest { IsAtRest result.0 result.1 }
+    ensures declared { book.now.book.declaration ≡ result.0.origin.start.declaration }
 {
-    let copy = copied(alloc, book)?;
-    if most > 100_000 {
-        return Err("too many".into());
-    }
-    let (ledger, mut passes) = Ledger::start(alloc, copy, 1, most)?;
-    match passes.pop() {
-        Some(pass) => Ok((ledger, pass)),
-        None => Err("a pass".into()),
-    }
+    let copy = copied(rt, alloc, book);
+    assert!(rt; most <= 100_000, "too many");
+    let (ledger, mut passes) = Ledger::start(alloc, copy, 1, most).expect(rt, "memory");
+    let pass = passes.pop().expect(rt, "a pass");
+    (ledger, pass)
+}
+
+// The book and the history of a ledger of one caller.
+fn closed_alone(rt: &impl Abort, alloc: Global, ledger: Ledger, pass: Pass) -> (Book, Vec<Entry>)
+    requires callers { ledger.callers ≡ 1 }
+    requires rest { IsAtRest ledger pass }
+{
+    let passes = vec![in alloc; pass].expect(rt, "memory");
+    ledger.close(passes)
 }
 
 // Puts so many questions to the ledger, and a request: the length that the fault named.
-fn fill<R: Wait>(
+fn fill<R: Abort + Wait>(
     rt: &R,
     alloc: Global,
     ledger: &Ledger,
     declaration: &Declaration,
     pass: &mut Pass,
     most: u32,
-) -> Result<Option<u64>, Fail>
+) -> Option<u64>
     requires rest { IsAtRest ledger.now pass.old }
     requires declared { declaration.now ≡ ledger.now.origin.start.declaration }
     ensures { IsAtRest ledger.now pass.new }
 {
-    let question = ask(alloc, declaration, "QBA099")?;
-    let request = ask(alloc, declaration, "NBA002 0620")?;
+    let question = ask(rt, alloc, declaration, "QBA099");
+    let request = ask(rt, alloc, declaration, "NBA002 0620");
     ask_often(rt, alloc, ledger, declaration, pass, &question, most);
-    Ok(match ledger.amend(rt, alloc, pass, &request) {
+    match ledger.amend(rt, alloc, pass, &request) {
         Err(LedgerFault::Full { length }) => Some(length),
         _ => None,
-    })
+    }
 }
 
 // Puts one ask to the ledger so often.
-fn ask_often<R: Wait>(
+fn ask_often<R: Abort + Wait>(
     rt: &R,
     alloc: Global,
     ledger: &Ledger,
@@ -657,8 +607,6 @@ fn ask_often<R: Wait>(
     ensures { IsAtRest ledger.now pass.new }
 {
     for _ in 0..count {
-        if ledger.amend(rt, alloc, pass, ask).is_err() {
-            return;
-        }
+        let _answer = ledger.amend(rt, alloc, pass, ask).expect(rt, "an answer");
     }
 }

@@ -1,16 +1,14 @@
 //! Lines of messages in a short form.
 
-use std::alloc::{AllocError, Global};
-use std::test::Fail;
+use std::alloc::Global;
+use std::process::Abort;
 
-/// The lines of a text in which semicolons stand between them.
-pub(crate) fn lines(alloc: Global, text: &str) -> Result<String, Fail> {
-    let mut out = String::new(alloc);
+/// Appends the lines of a text in which semicolons stand between them.
+pub(crate) fn put_lines(rt: &impl Abort, out: &mut String, text: &str) {
     for line in text.split(';') {
-        out.push_str(line)?;
-        out.push('\n')?;
+        out.push_str(line).expect(rt, "memory");
+        out.push('\n').expect(rt, "memory");
     }
-    Ok(out)
 }
 
 /// What stands before a mark, and what stands behind it: nothing, where it is not there.
@@ -21,31 +19,34 @@ pub(crate) fn halves(text: &str, mark: char) -> (&str, &str) {
 /// The data lines for which a text stands, none for an empty one. Semicolons stand between lines. A
 /// line of two fields, as `NBA001 0610`, is an arrival from JFK on each day of S25; one of four, as
 /// `NBA001 05MAY05MAY 1000000 0610`, is one in a period. Every other line stands as it is.
-pub(crate) fn data_lines(alloc: Global, text: &str) -> Result<String, AllocError> {
+pub(crate) fn data_lines(rt: &impl Abort, alloc: Global, text: &str) -> String {
     let mut out = String::new(alloc);
-    if text.is_empty() {
-        return Ok(out);
-    }
-    for line in text.split(';') {
-        let line = data_line(alloc, line)?;
-        out.push_str(&line)?;
-    }
-    Ok(out)
+    put_data_lines(rt, &mut out, text);
+    out
 }
 
-fn data_line(alloc: Global, line: &str) -> Result<String, AllocError> {
-    let Some((dated, time)) = line.rsplit_once(' ') else {
-        return Ok(format!(in alloc; "{line}\n")?);
-    };
+fn put_data_lines(rt: &impl Abort, out: &mut String, text: &str) {
+    if text.is_empty() {
+        return;
+    }
+    for line in text.split(';') {
+        put_data_line(rt, out, line);
+    }
+}
+
+fn put_data_line(rt: &impl Abort, out: &mut String, line: &str) {
+    let (dated, time) = line.rsplit_once(' ').unwrap_or((line, ""));
     match line.split(' ').count() {
-        2 => Ok(format!(in alloc; "{dated} 30MAR25OCT 1234567 180320 JFK{time} J\n")?),
-        4 => Ok(format!(in alloc; "{dated} 180320 JFK{time} J\n")?),
-        _ => Ok(format!(in alloc; "{line}\n")?),
+        2 => write!(out, "{dated} 30MAR25OCT 1234567 180320 JFK{time} J\n").expect(rt, "memory"),
+        4 => write!(out, "{dated} 180320 JFK{time} J\n").expect(rt, "memory"),
+        _ => write!(out, "{line}\n").expect(rt, "memory"),
     }
 }
 
 /// The lines of one message of S25 at ABC with these data lines.
-pub(crate) fn message(alloc: Global, items: &str) -> Result<String, Fail> {
-    let items = data_lines(alloc, items)?;
-    Ok(format!(in alloc; "SCR\nS25\n20NOV\nABC\n{items}")?)
+pub(crate) fn message(rt: &impl Abort, alloc: Global, items: &str) -> String {
+    let mut out = String::new(alloc);
+    out.push_str("SCR\nS25\n20NOV\nABC\n").expect(rt, "memory");
+    put_data_lines(rt, &mut out, items);
+    out
 }

@@ -5,7 +5,7 @@ use holding_book::{Answer, Holding, HoldingList, State};
 use scr_reader::{Code, Flight, Item, Line, Stop};
 use season_days::{Day, Declaration, Kind, Night, Period, Rule, Season};
 use std::alloc::Global;
-use std::test::Fail;
+use std::process::Abort;
 
 /// An answer, and the holdings after it.
 #[derive(Drop)]
@@ -23,138 +23,160 @@ struct Moved {
 
 /// What is answered to an ask, and what is held after it.
 pub(crate) fn by_listing(
+    rt: &impl Abort,
     alloc: Global,
     declaration: &Declaration,
     held: &[Holding],
     ask: &Item,
-) -> Result<Listed, Fail> {
+) -> Listed {
     match ask {
-        Item::One(line) => of_line(alloc, declaration, held, line),
-        Item::Pair(historic, request) => of_pair(alloc, declaration, held, historic, request),
-        Item::Query(flight) => of_query(alloc, held, flight),
+        Item::One(line) => of_line(rt, alloc, declaration, held, line),
+        Item::Pair(historic, request) => of_pair(rt, alloc, declaration, held, historic, request),
+        Item::Query(flight) => of_query(rt, alloc, held, flight),
     }
 }
 
 fn of_line(
+    rt: &impl Abort,
     alloc: Global,
     declaration: &Declaration,
     held: &[Holding],
     line: &Line,
-) -> Result<Listed, Fail> {
+) -> Listed {
     match line.code {
-        Code::N | Code::B => of_new(alloc, declaration, held, line),
-        Code::D => released(alloc, &declaration.season, held, State::Confirmed, line),
-        Code::Z => released(alloc, &declaration.season, held, State::Offered, line),
-        Code::A => accepted(alloc, &declaration.season, held, line),
-        _ => stays(alloc, held, Answer::W),
+        Code::N | Code::B => of_new(rt, alloc, declaration, held, line),
+        Code::D => released(rt, alloc, &declaration.season, held, State::Confirmed, line),
+        Code::Z => released(rt, alloc, &declaration.season, held, State::Offered, line),
+        Code::A => accepted(rt, alloc, &declaration.season, held, line),
+        _ => stays(rt, alloc, held, Answer::W),
     }
 }
 
-fn stays(alloc: Global, held: &[Holding], answer: Answer) -> Result<Listed, Fail> {
-    Ok(Listed {
+fn stays(rt: &impl Abort, alloc: Global, held: &[Holding], answer: Answer) -> Listed {
+    Listed {
         answer,
-        holdings: Vec::from_slice(alloc, held)?,
-    })
+        holdings: Vec::from_slice(alloc, held).expect(rt, "memory"),
+    }
 }
 
 fn of_new(
+    rt: &impl Abort,
     alloc: Global,
     declaration: &Declaration,
     held: &[Holding],
     line: &Line,
-) -> Result<Listed, Fail> {
+) -> Listed {
     if clashes(&declaration.season, held, line) {
-        return stays(alloc, held, Answer::W);
+        return stays(rt, alloc, held, Answer::W);
     }
-    let Some(best) = best_of(alloc, declaration, held, line)? else {
-        return stays(alloc, held, Answer::U);
+    let Some(best) = best_of(rt, alloc, declaration, held, line) else {
+        return stays(rt, alloc, held, Answer::U);
     };
-    let mut holdings = Vec::from_slice(alloc, held)?;
+    let mut holdings = Vec::from_slice(alloc, held).expect(rt, "memory");
     let asked = best == *line;
-    holdings.push(Holding {
-        line: best,
-        state: if asked {
-            State::Confirmed
-        } else {
-            State::Offered
-        },
-    })?;
-    Ok(Listed {
+    holdings
+        .push(Holding {
+            line: best,
+            state: if asked {
+                State::Confirmed
+            } else {
+                State::Offered
+            },
+        })
+        .expect(rt, "memory");
+    Listed {
         answer: if asked {
             Answer::K
         } else {
             Answer::Offer(best)
         },
         holdings,
-    })
+    }
 }
 
 fn released(
+    rt: &impl Abort,
     alloc: Global,
     season: &Season,
     held: &[Holding],
     state: State,
     line: &Line,
-) -> Result<Listed, Fail> {
+) -> Listed {
     match place_of(season, held, state, line) {
-        None => stays(alloc, held, Answer::W),
-        Some(place) => Ok(Listed {
+        None => stays(rt, alloc, held, Answer::W),
+        Some(place) => Listed {
             answer: Answer::X,
-            holdings: without(alloc, season, held, place, line.period, None)?,
-        }),
+            holdings: without(rt, alloc, season, held, place, line.period, None),
+        },
     }
 }
 
-fn accepted(alloc: Global, season: &Season, held: &[Holding], line: &Line) -> Result<Listed, Fail> {
+fn accepted(
+    rt: &impl Abort,
+    alloc: Global,
+    season: &Season,
+    held: &[Holding],
+    line: &Line,
+) -> Listed {
     match place_of(season, held, State::Offered, line) {
-        None => stays(alloc, held, Answer::W),
-        Some(place) => Ok(Listed {
+        None => stays(rt, alloc, held, Answer::W),
+        Some(place) => Listed {
             answer: Answer::K,
-            holdings: without(alloc, season, held, place, line.period, Some(line.period))?,
-        }),
+            holdings: without(
+                rt,
+                alloc,
+                season,
+                held,
+                place,
+                line.period,
+                Some(line.period),
+            ),
+        },
     }
 }
 
 fn of_pair(
+    rt: &impl Abort,
     alloc: Global,
     declaration: &Declaration,
     held: &[Holding],
     historic: &Line,
     request: &Line,
-) -> Result<Listed, Fail> {
+) -> Listed {
     let season = &declaration.season;
     let Some(place) = place_of(season, held, State::Confirmed, historic) else {
-        return stays(alloc, held, Answer::W);
+        return stays(rt, alloc, held, Answer::W);
     };
-    let mut left = without(alloc, season, held, place, historic.period, None)?;
+    let mut left = without(rt, alloc, season, held, place, historic.period, None);
     if clashes(season, &left, request) {
-        return stays(alloc, held, Answer::W);
+        return stays(rt, alloc, held, Answer::W);
     }
-    let moves = moves_of(alloc, &declaration.season, &left)?;
-    if !fits_beside(alloc, declaration, &moves, request)? {
-        return stays(alloc, held, Answer::Held);
+    let moves = moves_of(rt, alloc, &declaration.season, &left);
+    if !fits_beside(rt, alloc, declaration, &moves, request) {
+        return stays(rt, alloc, held, Answer::Held);
     }
     left.push(Holding {
         line: *request,
         state: State::Confirmed,
-    })?;
-    Ok(Listed {
+    })
+    .expect(rt, "memory");
+    Listed {
         answer: Answer::KChanged,
         holdings: left,
-    })
+    }
 }
 
-fn of_query(alloc: Global, held: &[Holding], flight: &Flight) -> Result<Listed, Fail> {
+fn of_query(rt: &impl Abort, alloc: Global, held: &[Holding], flight: &Flight) -> Listed {
     let mut found = Vec::new(alloc);
     for holding in held {
         if has_flight(&holding.line, flight) {
-            found.push(*holding)?;
+            found.push(*holding).expect(rt, "memory");
         }
     }
     if found.is_empty() {
-        return stays(alloc, held, Answer::W);
+        return stays(rt, alloc, held, Answer::W);
     }
-    stays(alloc, held, Answer::Listed(HoldingList::new(found)))
+    stays(rt, alloc, held, Answer::Listed(HoldingList::new(found)))
 }
 
 /// Whether the line has the flight as its arrival or its departure.
@@ -241,17 +263,18 @@ fn place_of(season: &Season, held: &[Holding], state: State, line: &Line) -> Opt
 
 // The holdings, of which one is cut by a period and, where a period is given, confirmed in it.
 fn without(
+    rt: &impl Abort,
     alloc: Global,
     season: &Season,
     held: &[Holding],
     place: usize,
     cut: Period,
     confirmed: Option<Period>,
-) -> Result<Vec<Holding>, Fail> {
+) -> Vec<Holding> {
     let mut left = Vec::new(alloc);
     for (at, holding) in held.iter().enumerate() {
         if at == place {
-            push_parts(&mut left, season, holding, cut)?;
+            push_parts(rt, &mut left, season, holding, cut);
             if let Some(period) = confirmed {
                 left.push(Holding {
                     line: Line {
@@ -259,44 +282,47 @@ fn without(
                         ..holding.line
                     },
                     state: State::Confirmed,
-                })?;
+                })
+                .expect(rt, "memory");
             }
         } else {
-            left.push(*holding)?;
+            left.push(*holding).expect(rt, "memory");
         }
     }
-    Ok(left)
+    left
 }
 
 // The parts of a holding before a period, on its other weekdays, and after it.
 fn push_parts(
+    rt: &impl Abort,
     out: &mut Vec<Holding>,
     season: &Season,
     holding: &Holding,
     cut: Period,
-) -> Result<(), Fail> {
+) {
     let held = holding.line.period;
     if cut.first.0 > 0 {
         let last = Day(held.last.0.min(cut.first.0 - 1));
-        push_part(out, season, holding, Period { last, ..held })?;
+        push_part(rt, out, season, holding, Period { last, ..held });
     }
     let between = Period {
         first: Day(held.first.0.max(cut.first.0)),
         last: Day(held.last.0.min(cut.last.0)),
         days: held.days & !cut.days,
     };
-    push_part(out, season, holding, between)?;
+    push_part(rt, out, season, holding, between);
     let first = Day(held.first.0.max(cut.last.0.wrapping_add(1)));
-    push_part(out, season, holding, Period { first, ..held })
+    push_part(rt, out, season, holding, Period { first, ..held })
 }
 
 // A part, if it has a day.
 fn push_part(
+    rt: &impl Abort,
     out: &mut Vec<Holding>,
     season: &Season,
     holding: &Holding,
     period: Period,
-) -> Result<(), Fail> {
+) {
     for day in period.first.0..end_of(season, period) {
         if has_day(season, period, day) {
             out.push(Holding {
@@ -305,11 +331,11 @@ fn push_part(
                     ..holding.line
                 },
                 state: holding.state,
-            })?;
-            return Ok(());
+            })
+            .expect(rt, "memory");
+            return;
         }
     }
-    Ok(())
 }
 
 // ---- the times that fit
@@ -319,12 +345,13 @@ const SHIFTS: [i32; 5] = [-2, -1, 0, 1, 2];
 
 // The line at the first of the shifts that displace least, of those at which it fits.
 fn best_of(
+    rt: &impl Abort,
     alloc: Global,
     declaration: &Declaration,
     held: &[Holding],
     line: &Line,
-) -> Result<Option<Line>, Fail> {
-    let moves = moves_of(alloc, &declaration.season, held)?;
+) -> Option<Line> {
+    let moves = moves_of(rt, alloc, &declaration.season, held);
     let mut best = None;
     let mut least = 1_000;
     for one in SHIFTS {
@@ -333,31 +360,32 @@ fn best_of(
             if cost >= least {
                 continue;
             }
-            if let Some(moved) = fitting(alloc, declaration, &moves, line, one, two)? {
+            if let Some(moved) = fitting(rt, alloc, declaration, &moves, line, one, two) {
                 best = Some(moved);
                 least = cost;
             }
         }
     }
-    Ok(best)
+    best
 }
 
 // The line with so many steps added to each of its movements, if it may be moved so, and fits.
 fn fitting(
+    rt: &impl Abort,
     alloc: Global,
     declaration: &Declaration,
     moves: &[Moved],
     line: &Line,
     one: i32,
     two: i32,
-) -> Result<Option<Line>, Fail> {
+) -> Option<Line> {
     let Some(moved) = shifted(line, one, two) else {
-        return Ok(None);
+        return None;
     };
-    if fits_beside(alloc, declaration, moves, &moved)? {
-        Ok(Some(moved))
+    if fits_beside(rt, alloc, declaration, moves, &moved) {
+        Some(moved)
     } else {
-        Ok(None)
+        None
     }
 }
 
@@ -410,57 +438,57 @@ fn ground(line: &Line) -> i32 {
 // Whether each window in which the line has a movement holds no more than it may of these movements
 // and the line's own; and so the night.
 fn fits_beside(
+    rt: &impl Abort,
     alloc: Global,
     declaration: &Declaration,
     moves: &[Moved],
     line: &Line,
-) -> Result<bool, Fail> {
+) -> bool {
     let mut new = Vec::new(alloc);
-    push_moves(&mut new, &declaration.season, line)?;
-    let mut all = Vec::from_slice(alloc, moves)?;
-    all.extend_from_slice(&new)?;
+    push_moves(rt, &mut new, &declaration.season, line);
+    let mut all = Vec::from_slice(alloc, moves).expect(rt, "memory");
+    all.extend_from_slice(&new).expect(rt, "memory");
     for moved in &new {
         if !has_room(declaration, &all, *moved) {
-            return Ok(false);
+            return false;
         }
     }
-    Ok(true)
+    true
 }
 
-fn moves_of(alloc: Global, season: &Season, held: &[Holding]) -> Result<Vec<Moved>, Fail> {
+fn moves_of(rt: &impl Abort, alloc: Global, season: &Season, held: &[Holding]) -> Vec<Moved> {
     let mut all = Vec::new(alloc);
     for holding in held {
-        push_moves(&mut all, season, &holding.line)?;
+        push_moves(rt, &mut all, season, &holding.line);
     }
-    Ok(all)
+    all
 }
 
 // The movements of a line; those after the season's last date are not listed.
-fn push_moves(out: &mut Vec<Moved>, season: &Season, line: &Line) -> Result<(), Fail> {
+fn push_moves(rt: &impl Abort, out: &mut Vec<Moved>, season: &Season, line: &Line) {
     for day in line.period.first.0..end_of(season, line.period) {
         if has_day(season, line.period, day) {
-            push_move(out, season, true, line.arrival, day)?;
+            push_move(rt, out, season, true, line.arrival, day);
             let later = day.wrapping_add(u32::from(line.nights));
-            push_move(out, season, false, line.departure, later)?;
+            push_move(rt, out, season, false, line.departure, later);
         }
     }
-    Ok(())
 }
 
 fn push_move(
+    rt: &impl Abort,
     out: &mut Vec<Moved>,
     season: &Season,
     arrives: bool,
     stop: Option<Stop>,
     day: u32,
-) -> Result<(), Fail> {
+) {
     if let Some(stop) = stop {
         if day < season.length() {
             let at = day.wrapping_mul(1440).wrapping_add(u32::from(stop.minute));
-            out.push(Moved { arrives, at })?;
+            out.push(Moved { arrives, at }).expect(rt, "memory");
         }
     }
-    Ok(())
 }
 
 // Whether no window with this movement, and no night, holds more than it may.
@@ -544,15 +572,16 @@ fn night_load(night: Night, all: &[Moved]) -> u32 {
 
 /// Whether all holdings fit: each of their movements has room.
 pub(crate) fn all_fit(
+    rt: &impl Abort,
     alloc: Global,
     declaration: &Declaration,
     held: &[Holding],
-) -> Result<bool, Fail> {
-    let all = moves_of(alloc, &declaration.season, held)?;
+) -> bool {
+    let all = moves_of(rt, alloc, &declaration.season, held);
     for moved in &all {
         if !has_room(declaration, &all, *moved) {
-            return Ok(false);
+            return false;
         }
     }
-    Ok(true)
+    true
 }

@@ -1,7 +1,7 @@
 //! Sessions over links in memory, by a ledger of one caller, with a journal or without: how each
 //! one ends, and what it was sent.
 
-ghost use Rattle.std.specs.Prelude.{◌≡◌, IfOk};
+ghost use Rattle.std.specs.Prelude.{◌≡◌, ◌≤◌, length};
 ghost use Rattle.turn_lock.specs.Seats.{IsAtRest};
 ghost use Rattle.desk_links.specs.LinksInMemory.{IsUnused};
 
@@ -12,13 +12,14 @@ use amend_journal::{Journal, JournalLedger, JournalPass};
 use desk_disk::MemoryDisk;
 use desk_links::MemoryLink;
 use desk_outside::Failure;
-use season_days::Season;
+use holding_book::Book;
+use season_days::{Declaration, Season};
 use session_desk::{SessionEnd, SessionFault, serve_journaled, serve_link};
 use slot_ledger::{Ledger, Pass};
 use slot_text::Station;
 use std::alloc::Global;
+use std::process::Abort;
 use std::sync::Wait;
-use std::test::Fail;
 use worker_gate::RealGate;
 
 // Rows: the greatest length of the history, and, behind a colon, the call of the link that fails;
@@ -59,120 +60,110 @@ const QUERY: &str = "SCR\nS25\n20NOV\nABC\nQBA001\n\n";
 const REPLY: &str = "SCR\nS25\n20NOV\nABC\nHBA001 30MAR25OCT 1234567 180320 JFK0610 J\n\n";
 
 #[test]
-fn sessions_end(rt: HostRuntime) -> Result<(), Fail> {
+fn sessions_end(rt: HostRuntime) {
     for row in ROWS.lines() {
-        assert!(rt; is_as_wanted(&rt, rt.alloc(), row)?, "{row}");
+        check_row(&rt, rt.alloc(), row);
     }
-    Ok(())
 }
 
-fn is_as_wanted<R: Wait>(rt: &R, alloc: Global, row: &str) -> Result<bool, Fail> {
+// A session ends as its row wants.
+fn check_row<R: Abort + Wait>(rt: &R, alloc: Global, row: &str) {
     let (most, rest) = halves(row, '|');
     let (input, due) = halves(rest, '|');
-    let said = found(rt, alloc, most, input)?;
-    Ok(said.as_str() == due)
-}
-
-// What is said of what a row gives.
-fn found<R: Wait>(rt: &R, alloc: Global, most: &str, input: &str) -> Result<String, Fail> {
     let (most, call) = halves(most, ':');
-    match most {
+    let said = match most {
         "journal" => journaled(rt, alloc, call, input),
-        _ => session(rt, alloc, most.parse()?, call, input),
-    }
+        _ => session(rt, alloc, most.parse().expect(rt, "a length"), call, input),
+    };
+    assert!(rt; said.as_str() == due, "{row} has {said}");
 }
 
-fn failing_of(alloc: Global, call: &str) -> Result<Vec<Failure>, Fail> {
+fn failing_of(rt: &impl Abort, alloc: Global, call: &str) -> Vec<Failure> {
     let mut failing = Vec::new(alloc);
     if !call.is_empty() {
-        failing.push(Failure::at(call.parse()?))?;
+        let call = call.parse().expect(rt, "a call");
+        failing.push(Failure::at(call)).expect(rt, "memory");
     }
-    Ok(failing)
+    failing
 }
 
 // The bytes for which the text of an input stands.
-fn input_of(alloc: Global, text: &str) -> Result<Vec<u8>, Fail> {
+fn input_of(rt: &impl Abort, alloc: Global, text: &str) -> Vec<u8> {
     let mut out = Vec::new(alloc);
     for (place, part) in text.split('{').enumerate() {
-        if place == 0 {
-            put_text(&mut out, part)?;
-        } else {
-            let (blanks, rest) = halves(part, '}');
-            put_blanks(&mut out, blanks.parse()?)?;
-            put_text(&mut out, rest)?;
-        }
+        put_part(rt, &mut out, place, part);
     }
-    Ok(out)
+    out
 }
 
-fn put_blanks(out: &mut Vec<u8>, count: u32) -> Result<(), Fail> {
+// Appends a part, which begins with a number of blanks and a brace where it is not the first.
+fn put_part(rt: &impl Abort, out: &mut Vec<u8>, place: usize, part: &str) {
+    if place == 0 {
+        put_text(rt, out, part);
+    } else {
+        let (blanks, rest) = halves(part, '}');
+        put_blanks(rt, out, blanks.parse().expect(rt, "a number of blanks"));
+        put_text(rt, out, rest);
+    }
+}
+
+fn put_blanks(rt: &impl Abort, out: &mut Vec<u8>, count: u32) {
     for _ in 0..count {
-        out.push(b' ')?;
+        out.push(b' ').expect(rt, "memory");
     }
-    Ok(())
 }
 
-fn put_text(out: &mut Vec<u8>, text: &str) -> Result<(), Fail> {
+fn put_text(rt: &impl Abort, out: &mut Vec<u8>, text: &str) {
     for byte in text.as_bytes() {
         match *byte {
-            b'#' => out.extend_from_slice(QUERY.as_bytes())?,
-            b';' => out.push(b'\n')?,
-            b'~' => out.push(b'\r')?,
-            other => out.push(other)?,
+            b'#' => out.extend_from_slice(QUERY.as_bytes()).expect(rt, "memory"),
+            b';' => out.push(b'\n').expect(rt, "memory"),
+            b'~' => out.push(b'\r').expect(rt, "memory"),
+            other => out.push(other).expect(rt, "memory"),
         }
     }
-    Ok(())
 }
 
 // How a session over a link with this input ends, and what it was sent.
-fn session<R: Wait>(
-    rt: &R,
-    alloc: Global,
-    most: u32,
-    call: &str,
-    input: &str,
-) -> Result<String, Fail> {
-    let mut link = link_of(alloc, input, call)?;
-    session_over(rt, alloc, most, &mut link)
+fn session<R: Abort + Wait>(rt: &R, alloc: Global, most: u32, call: &str, input: &str) -> String {
+    let book = small_book(rt, alloc);
+    let mut link = link_of(rt, alloc, input, call);
+    session_over(rt, alloc, &book, most, &mut link)
 }
 
-fn session_over<R: Wait>(
+fn session_over<R: Abort + Wait>(
     rt: &R,
     alloc: Global,
+    book: &Book,
     most: u32,
     link: &mut MemoryLink,
-) -> Result<String, Fail>
+) -> String
     requires { IsUnused link.old }
 {
-    let book = small_book(alloc)?;
-    let (ledger, mut pass) = begun_alone(alloc, &book, most)?;
-    let season = book.declaration().season;
-    let airport = book.declaration().airport;
-    served(rt, alloc, &ledger, &mut pass, &season, airport, link)
+    let (ledger, mut pass) = begun_alone(rt, alloc, book, most);
+    served(rt, alloc, &ledger, &mut pass, book.declaration(), link)
 }
 
 // A link with the input of a text, of which a call is to fail, if one is named.
-fn link_of(alloc: Global, input: &str, call: &str) -> Result<MemoryLink, Fail>
-    ensures { IfOk result IsUnused }
+fn link_of(rt: &impl Abort, alloc: Global, input: &str, call: &str) -> MemoryLink
+    ensures { IsUnused result }
 {
-    let input = input_of(alloc, input)?;
-    let failing = failing_of(alloc, call)?;
-    Ok(MemoryLink::new(alloc, input, Vec::new(alloc), 1_000, failing)?)
+    let input = input_of(rt, alloc, input);
+    let failing = failing_of(rt, alloc, call);
+    MemoryLink::new(alloc, input, Vec::new(alloc), 1_000, failing).expect(rt, "memory")
 }
 
 // How a session over a link ends, and what it was sent.
-fn served<R: Wait>(
+fn served<R: Abort + Wait>(
     rt: &R,
     alloc: Global,
     ledger: &Ledger,
     pass: &mut Pass,
-    season: &Season,
-    airport: Station,
+    declaration: &Declaration,
     link: &mut MemoryLink,
-) -> Result<String, Fail>
+) -> String
     requires rest { IsAtRest ledger.now pass.old }
-    requires season { season.now ≡ ledger.now.origin.start.declaration.season }
-    requires airport { airport ≡ ledger.now.origin.start.declaration.airport }
+    requires declared { declaration.now ≡ ledger.now.origin.start.declaration }
     requires link { IsUnused link.old }
 {
     let end = serve_link(
@@ -181,56 +172,65 @@ fn served<R: Wait>(
         &RealGate,
         ledger.shared(),
         pass,
-        season,
-        airport,
+        &declaration.season,
+        declaration.airport,
         link,
         0,
     );
-    let sent = replies(alloc, link.sent())?;
-    said(alloc, end, &sent)
+    said(rt, alloc, end, link.sent())
 }
 
 // How a session ends by a ledger with an empty journal, calls of whose disk are to fail.
-fn journaled<R: Wait>(rt: &R, alloc: Global, call: &str, input: &str) -> Result<String, Fail> {
-    let mut link = link_of(alloc, input, "")?;
+fn journaled<R: Abort + Wait>(rt: &R, alloc: Global, call: &str, input: &str) -> String {
+    let mut link = link_of(rt, alloc, input, "");
     journaled_over(rt, alloc, call, &mut link)
 }
 
-fn journaled_over<R: Wait>(
+fn journaled_over<R: Abort + Wait>(
     rt: &R,
     alloc: Global,
     call: &str,
     link: &mut MemoryLink,
-) -> Result<String, Fail>
+) -> String
     requires { IsUnused link.old }
 {
-    let book = small_book(alloc)?;
-    if book.count() > 1_000_000 {
-        return Err("too many".into());
-    }
+    let book = small_book(rt, alloc);
     let season = book.declaration().season;
     let airport = book.declaration().airport;
-    let journal = journal_of(alloc, &season, call)?;
-    let (ledger, mut passes) = JournalLedger::start(alloc, journal, book, 1)?;
-    match passes.pop() {
-        Some(mut pass) => served_with(rt, alloc, &ledger, &mut pass, &season, airport, link),
-        None => Err("a pass".into()),
-    }
+    let (ledger, mut pass) = begun_journaled(rt, alloc, call, book);
+    served_journaled(rt, alloc, &ledger, &mut pass, &season, airport, link)
+}
+
+// A ledger of one caller over the book with an empty journal, and its pass.
+fn begun_journaled(
+    rt: &impl Abort,
+    alloc: Global,
+    call: &str,
+    book: Book,
+) -> (JournalLedger<MemoryDisk>, JournalPass<MemoryDisk>)
+    requires { length book.book.holdings ≤ 1000000 }
+    ensures rest { IsAtRest result.0 result.1 }
+    ensures declared { book.book.declaration ≡ result.0.origin.start.declaration }
+{
+    let journal = journal_of(rt, alloc, &book.declaration().season, call);
+    let (ledger, mut passes) = JournalLedger::start(alloc, journal, book, 1).expect(rt, "memory");
+    let pass = passes.pop().expect(rt, "a pass");
+    (ledger, pass)
 }
 
 // An empty journal, of whose disk a call is to fail, if one is named.
-fn journal_of(alloc: Global, season: &Season, call: &str) -> Result<Journal<MemoryDisk>, Fail>
-    ensures { IfOk result (λ journal. journal.season ≡ season.now) }
+fn journal_of(rt: &impl Abort, alloc: Global, season: &Season, call: &str) -> Journal<MemoryDisk>
+    ensures { result.season ≡ season.now }
 {
-    let disk = MemoryDisk::new(alloc, b"", 1_000, 99, failing_of(alloc, call)?)?;
-    match Journal::open(alloc, disk, season) {
-        Ok((journal, _)) => Ok(journal),
-        Err(_) => Err("not opened".into()),
-    }
+    let failing = failing_of(rt, alloc, call);
+    let disk = MemoryDisk::new(alloc, b"", 1_000, 99, failing).expect(rt, "memory");
+    let opened = Journal::open(alloc, disk, season).ok();
+    let (journal, _pairs) = opened.expect(rt, "a journal that is opened");
+    journal
 }
 
 // The same as `served`, by a ledger with a journal.
-fn served_with<R: Wait>(
+fn served_journaled<R: Abort + Wait>(
     rt: &R,
     alloc: Global,
     ledger: &JournalLedger<MemoryDisk>,
@@ -238,44 +238,50 @@ fn served_with<R: Wait>(
     season: &Season,
     airport: Station,
     link: &mut MemoryLink,
-) -> Result<String, Fail>
+) -> String
     requires rest { IsAtRest ledger.now pass.old }
     requires season { season.now ≡ ledger.now.origin.start.declaration.season }
     requires airport { airport ≡ ledger.now.origin.start.declaration.airport }
     requires link { IsUnused link.old }
 {
     let end = serve_journaled(rt, alloc, &RealGate, ledger, pass, season, airport, link, 0);
-    let sent = replies(alloc, link.sent())?;
-    said(alloc, end, &sent)
+    said(rt, alloc, end, link.sent())
 }
 
-fn said(alloc: Global, end: Result<SessionEnd, SessionFault>, sent: &str) -> Result<String, Fail> {
-    let (word, number) = match end {
-        Ok(SessionEnd::Ended) => ("Ended", None),
-        Ok(SessionEnd::Cut) => ("Cut", None),
-        Err(SessionFault::Link) => ("Link", None),
-        Err(SessionFault::TooLong) => ("TooLong", None),
-        Err(SessionFault::Full { length }) => ("Full", Some(length)),
-        Err(SessionFault::Broken { faults }) => ("Broken", Some(faults)),
-        Err(SessionFault::Memory) => return Err("memory ran out".into()),
-    };
-    Ok(match number {
-        Some(number) => format!(in alloc; "{word} {number} {sent}")?,
-        None => format!(in alloc; "{word} {sent}")?,
-    })
-}
-
-// An `H` for each reply to a query, where there is nothing else, and `-` for none.
-fn replies(alloc: Global, sent: &[u8]) -> Result<String, Fail> {
+// How a session ended, and an `H` for each reply that it was sent.
+fn said(
+    rt: &impl Abort,
+    alloc: Global,
+    end: Result<SessionEnd, SessionFault>,
+    sent: &[u8],
+) -> String {
     let mut out = String::new(alloc);
-    for part in sent.chunks(REPLY.len()) {
-        if part != REPLY.as_bytes() {
-            return Err("something else was sent".into());
+    put_end(rt, &mut out, end);
+    put_replies(rt, &mut out, sent);
+    out
+}
+
+fn put_end(rt: &impl Abort, out: &mut String, end: Result<SessionEnd, SessionFault>) {
+    match end {
+        Ok(SessionEnd::Ended) => out.push_str("Ended ").expect(rt, "memory"),
+        Ok(SessionEnd::Cut) => out.push_str("Cut ").expect(rt, "memory"),
+        Err(SessionFault::Link) => out.push_str("Link ").expect(rt, "memory"),
+        Err(SessionFault::TooLong) => out.push_str("TooLong ").expect(rt, "memory"),
+        Err(SessionFault::Full { length }) => write!(out, "Full {length} ").expect(rt, "memory"),
+        Err(SessionFault::Broken { faults }) => {
+            write!(out, "Broken {faults} ").expect(rt, "memory");
         }
-        out.push('H')?;
+        Err(SessionFault::Memory) => panic!(rt; "memory ran out"),
     }
-    if out.is_empty() {
-        out.push('-')?;
+}
+
+// Appends an `H` for each reply to a query, where there is nothing else, and `-` for none.
+fn put_replies(rt: &impl Abort, out: &mut String, sent: &[u8]) {
+    for part in sent.chunks(REPLY.len()) {
+        assert!(rt; part == REPLY.as_bytes(), "something else was sent");
+        out.push('H').expect(rt, "memory");
     }
-    Ok(out)
+    if sent.is_empty() {
+        out.push('-').expect(rt, "memory");
+    }
 }
