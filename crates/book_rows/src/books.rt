@@ -3,7 +3,7 @@
 ghost use Rattle.std.specs.Prelude.{◌≤◌, length};
 ghost use Rattle.cert_format.specs.Printable.{IsPrintable};
 
-use crate::lines::{message, put_lines};
+use crate::lines::{message, put_lines, put_number, put_texts};
 use capacity_file::read_capacity;
 use cert_checker::{Verdict, check};
 use cert_format::{Certificate, LONGEST_CERT, read_cert};
@@ -70,12 +70,17 @@ fn submission(rt: &impl Abort, alloc: Global, capacity: &str, requests: &str) ->
 
 // The text of a capacity file with these lines.
 fn capacity_text(rt: &impl Abort, alloc: Global, capacity: &str) -> String {
+    let shifts = if capacity.starts_with("FLEX") {
+        ""
+    } else {
+        "FLEX 60\nREFUSE NONE\n"
+    };
     let mut text = String::new(alloc);
-    text.push_str("AIRPORT ABC\nSEASON S25\nSTEP 5\nGROUND 40\n")
-        .expect(rt, "memory");
-    if !capacity.starts_with("FLEX") {
-        text.push_str("FLEX 60\nREFUSE NONE\n").expect(rt, "memory");
-    }
+    put_texts(
+        rt,
+        &mut text,
+        &["AIRPORT ABC\nSEASON S25\nSTEP 5\nGROUND 40\n", shifts],
+    );
     put_lines(rt, &mut text, capacity);
     text
 }
@@ -109,43 +114,38 @@ fn read(rt: &impl Abort, alloc: Global, text: &[u8]) -> Certificate
 
 fn certificate_text(rt: &impl Abort, alloc: Global, stages: &str) -> String {
     let mut text = String::new(alloc);
-    text.push_str("CERT 1\n").expect(rt, "memory");
-    for (before, stage) in stages.split(';').enumerate() {
-        put_stage(rt, &mut text, before, stage);
-    }
-    text.push_str("END\n").expect(rt, "memory");
+    put_texts(rt, &mut text, &["CERT 1\n"]);
+    put_stages(rt, &mut text, stages);
+    put_texts(rt, &mut text, &["END\n"]);
     text
 }
 
-// Appends the lines of a stage that stands behind so many: one that was not tried; one in which
-// this resource is over its limit; one that is open, with nothing or with choices that displace so
-// much before a colon; or else one with choices that displace nothing.
-fn put_stage(rt: &impl Abort, text: &mut String, before: usize, stage: &str) {
-    write!(text, "STAGE {} ", before.wrapping_add(1)).expect(rt, "memory");
+fn put_stages(rt: &impl Abort, text: &mut String, stages: &str) {
+    for (before, stage) in stages.split(';').enumerate() {
+        put_number(rt, text, "STAGE", before.wrapping_add(1), " ");
+        put_stage(rt, text, stage);
+    }
+}
+
+// Appends the lines of a stage, from its mark on: one that was not tried; one in which this
+// resource is over its limit; one that is open, with nothing or with choices that displace so much
+// before a colon; or else one with choices that displace nothing.
+fn put_stage(rt: &impl Abort, text: &mut String, stage: &str) {
     if let Some((cost, numbers)) = stage.split_once(':') {
         put_chosen(rt, text, "OPEN", numbers, cost, "U");
     } else if let Some(resource) = stage.strip_prefix("over ") {
-        put_bare(rt, text, "INFEASIBLE", "O ", resource);
+        let bare = "INFEASIBLE\nCHOICES NONE\nVECTORS 0\nTREE 1\nO ";
+        put_texts(rt, text, &[bare, resource, "\n"]);
     } else if stage == "open" {
-        put_bare(rt, text, "OPEN", "U", "");
+        put_texts(rt, text, &["OPEN\nCHOICES NONE\nVECTORS 0\nTREE 1\nU\n"]);
     } else if stage == "untried" {
-        text.push_str("NOT TRIED\n").expect(rt, "memory");
+        put_texts(rt, text, &["NOT TRIED\n"]);
     } else {
         put_chosen(rt, text, "OPTIMAL", stage, "0", "L 0 1 0");
     }
 }
 
-// Appends the lines of a stage with this mark and this leaf, and no choices.
-fn put_bare(rt: &impl Abort, text: &mut String, mark: &str, leaf: &str, resource: &str) {
-    write!(
-        text,
-        "{mark}\nCHOICES NONE\nVECTORS 0\nTREE 1\n{leaf}{resource}\n"
-    )
-    .expect(rt, "memory");
-}
-
-// Appends the lines of a stage with this mark, these choices and this leaf. The choices are the
-// numbers of alternatives, with blanks between.
+// Appends the lines of a stage with this mark, these choices and this leaf.
 fn put_chosen(
     rt: &impl Abort,
     text: &mut String,
@@ -154,10 +154,26 @@ fn put_chosen(
     cost: &str,
     leaf: &str,
 ) {
-    let count = numbers.split_whitespace().count();
-    write!(text, "{mark}\nCHOICES {count}\n").expect(rt, "memory");
+    put_texts(rt, text, &[mark, "\n"]);
+    put_choices(rt, text, numbers);
+    put_texts(
+        rt,
+        text,
+        &["COST ", cost, "\nVECTORS 0\nTREE 1\n", leaf, "\n"],
+    );
+}
+
+// Appends the lines of the choices of a stage: the numbers of alternatives, with blanks between.
+fn put_choices(rt: &impl Abort, text: &mut String, numbers: &str) {
+    put_number(
+        rt,
+        text,
+        "CHOICES",
+        numbers.split_whitespace().count(),
+        "\n",
+    );
     for (place, number) in numbers.split_whitespace().enumerate() {
-        write!(text, "C {place} {number}\n").expect(rt, "memory");
+        put_number(rt, text, "C", place, " ");
+        put_texts(rt, text, &[number, "\n"]);
     }
-    write!(text, "COST {cost}\nVECTORS 0\nTREE 1\n{leaf}\n").expect(rt, "memory");
 }

@@ -1,6 +1,6 @@
 //! Thousands of drawn asks: what the book keeps beside its holdings against a listing of them.
 
-ghost use Rattle.std.specs.Prelude.{◌≤◌, length};
+ghost use Rattle.std.specs.Prelude.{◌≡◌, ◌≤◌, length};
 ghost use Rattle.holding_book.specs.Asks.{CanAsk};
 
 use crate::answers::{put_answer, spelled};
@@ -153,8 +153,15 @@ fn answered(rt: &impl Abort, alloc: Global, book: &mut Book, ask: &Item, hinted:
     if hinted && asks_new(ask) {
         return by_hint(rt, alloc, book, ask);
     }
-    *book = book.copy(alloc).expect(rt, "memory");
+    renew(rt, alloc, book);
     book.apply(alloc, ask).expect(rt, "memory")
+}
+
+// Puts a copy in the place of the book.
+fn renew(rt: &impl Abort, alloc: Global, book: &mut Book)
+    ensures { book.new.book ≡ book.old.book }
+{
+    *book = book.copy(alloc).expect(rt, "memory");
 }
 
 // What the book answers with the hint that was found before.

@@ -9,6 +9,7 @@ ghost use Rattle.amend_journal.specs.declared.asked.TheConstants.{MOST_PAIRS};
 
 use crate::answers::{fit_ask, put_holdings};
 use crate::books::small_book;
+use crate::ledgers::copied;
 use amend_journal::{Asked, Journal, JournalFault, JournalLedger, JournalPass, replayed};
 use desk_disk::{Disk, MemoryDisk};
 use desk_outside::Failure;
@@ -59,10 +60,32 @@ fn run<R: Abort + Wait>(
     failing: &[Failure],
 ) -> Option<Left> {
     let book = small_book(rt, alloc);
-    let season = book.declaration().season;
-    let (journal, pairs) = opened(rt, alloc, &season, bytes, failing)?;
-    let book = replayed(alloc, book, &pairs).expect(rt, "memory");
-    Some(go_on(rt, alloc, journal, book, &season, count))
+    run_over(rt, alloc, &book, bytes, count, failing)
+}
+
+/// The same over a copy of a book.
+fn run_over<R: Abort + Wait>(
+    rt: &R,
+    alloc: Global,
+    book: &Book,
+    bytes: &[u8],
+    count: usize,
+    failing: &[Failure],
+) -> Option<Left> {
+    let season = &book.declaration().season;
+    let (journal, pairs) = opened(rt, alloc, season, bytes, failing)?;
+    let after = book_after(rt, alloc, book, &pairs);
+    Some(go_on(rt, alloc, journal, after, season, count))
+}
+
+/// A copy of the book after the pairs of a journal.
+fn book_after(rt: &impl Abort, alloc: Global, book: &Book, pairs: &[Asked]) -> Book
+    requires fit { All (IsFit book.now.book.declaration.season) pairs.now }
+    requires many { length pairs.now ≤ MOST_PAIRS }
+    ensures { result.book.declaration ≡ book.now.book.declaration }
+{
+    let copy = copied(rt, alloc, book);
+    replayed(alloc, copy, pairs).expect(rt, "memory")
 }
 
 /// The journal of these bytes on a disk some calls of which fail, and its pairs. None where the
@@ -260,10 +283,17 @@ fn a_reopened_ledger_goes_on(rt: HostRuntime) {
     let whole = run_on(&rt, alloc, b"", 4);
     assert!(rt; whole.reached == ALL && whole.bytes.len() == ROOM && !whole.held.is_empty());
     for count in 0..4 {
-        let first = run_on(&rt, alloc, b"", count);
-        assert!(rt; first.reached.done == count && first.bytes.len() == 17 + 256 * count);
-        assert!(rt; ends_alike(&rt, alloc, &first.bytes, &whole));
+        assert!(rt; is_reopened(&rt, alloc, count, &whole), "{count}");
     }
+}
+
+/// Whether a ledger that ended behind so many asks has their pairs, and ends as the whole one once
+/// it is opened again.
+fn is_reopened<R: Abort + Wait>(rt: &R, alloc: Global, count: usize, whole: &Left) -> bool {
+    let first = run_on(rt, alloc, b"", count);
+    first.reached.done == count
+        && first.bytes.len() == count.wrapping_mul(256).wrapping_add(17)
+        && ends_alike(rt, alloc, &first.bytes, whole)
 }
 
 /// Whether a run over these bytes ends with all asks answered, as the whole one.

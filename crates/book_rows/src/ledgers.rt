@@ -222,8 +222,8 @@ fn begun(rt: &impl Abort, alloc: Global, book: &Book, most: u32) -> (Ledger, Pas
     (ledger, first, second)
 }
 
-// A copy of a book of few holdings.
-fn copied(rt: &impl Abort, alloc: Global, book: &Book) -> Book
+/// A copy of a book of few holdings.
+pub(crate) fn copied(rt: &impl Abort, alloc: Global, book: &Book) -> Book
     ensures same { result.book ≡ book.now.book }
     ensures few { length result.book.holdings ≤ 1000000 }
 {
@@ -370,9 +370,10 @@ fn has_entries(rt: &impl Abort, alloc: Global, ended: &Ended, number: u32, said:
 // other may accept, and of two that ask for the last place the first one has it, and the other an
 // offer, or nothing where no shift fits.
 const ROWS: &str = "\
-CAP ARR 60 0600 0600 1234567 2|100000|NBA002 0620/NBA003 0630/ABA003 0700/DBA002 01JUN30JUN 1234567 \
-    0620/QBA002/ZBA009 0700|KBA002 0620;UBA003 0630;OBA003 0700;KBA003 0700;XBA002 01JUN30JUN \
-    1234567 0620;HBA002 30MAR31MAY 1234567 0620;HBA002 01JUL25OCT 1234567 0620;WBA009 0700|0 0
+CAP ARR 60 0600 0600 1234567 2|100000|NBA002 0620/NBA003 0630/ABA003 0700/\
+    DBA002 01JUN30JUN 1234567 0620/QBA002/ZBA009 0700\
+    |KBA002 0620;UBA003 0630;OBA003 0700;KBA003 0700;XBA002 01JUN30JUN 1234567 0620;\
+    HBA002 30MAR31MAY 1234567 0620;HBA002 01JUL25OCT 1234567 0620;WBA009 0700|0 0
 CAP ARR 60 0600 0600 1234567 2|100000|NBA001 05MAY05MAY 1000000 0800/ABA001 0610/FBA009 0900\
     |WBA001 05MAY05MAY 1000000 0800;WBA001 0610;WBA009 0900|0 0
 CAP ARR 60 0600 0600 1234567 2|2|NBA002 0620/2QBA002/NBA003 0630/2QBA001/2QBA099\
@@ -511,15 +512,10 @@ fn has_second(
 
 #[test]
 fn a_full_history_stays(rt: HostRuntime) {
+    let book = small_book(&rt, rt.alloc());
     for most in [0, 1, 2, 100_000] {
-        assert!(rt; stays_full(&rt, rt.alloc(), most), "{most}");
+        assert!(rt; is_filled(&rt, rt.alloc(), &book, most), "{most}");
     }
-}
-
-// Whether a history of so many entries is full, each of them a question that found nothing.
-fn stays_full<R: Abort + Wait>(rt: &R, alloc: Global, most: u32) -> bool {
-    let book = small_book(rt, alloc);
-    is_filled(rt, alloc, &book, most)
 }
 
 fn are_questions(history: &[Entry]) -> bool {
@@ -536,8 +532,8 @@ fn are_questions(history: &[Entry]) -> bool {
 fn is_filled<R: Abort + Wait>(rt: &R, alloc: Global, book: &Book, most: u32) -> bool {
     let (ledger, mut pass) = begun_alone(rt, alloc, book, most);
     let end = fill(rt, alloc, &ledger, book.declaration(), &mut pass, most);
-    let (after, history) = closed_alone(rt, alloc, ledger, pass);
-    end == Some(u64::from(most)) && has_questions(book, &after, &history, most)
+    assert!(rt; end == Some(u64::from(most)), "{most}: {end:?}");
+    has_ended(rt, alloc, ledger, pass, book, most)
 }
 
 // Whether a history has so many questions, with the book as it was.
@@ -560,13 +556,21 @@ pub(crate) fn begun_alone(rt: &impl Abort, alloc: Global, book: &Book, most: u32
     (ledger, pass)
 }
 
-// The book and the history of a ledger of one caller.
-fn closed_alone(rt: &impl Abort, alloc: Global, ledger: Ledger, pass: Pass) -> (Book, Vec<Entry>)
+// Whether the ledger of one caller ends with so many questions, and with the book as it was.
+fn has_ended(
+    rt: &impl Abort,
+    alloc: Global,
+    ledger: Ledger,
+    pass: Pass,
+    book: &Book,
+    most: u32,
+) -> bool
     requires callers { ledger.callers ≡ 1 }
     requires rest { IsAtRest ledger pass }
 {
     let passes = vec![in alloc; pass].expect(rt, "memory");
-    ledger.close(passes)
+    let (after, history) = ledger.close(passes);
+    has_questions(book, &after, &history, most)
 }
 
 // Puts so many questions to the ledger, and a request: the length that the fault named.

@@ -3,11 +3,28 @@
 use std::alloc::Global;
 use std::process::Abort;
 
+/// Appends texts, one behind the other.
+pub(crate) fn put_texts(rt: &impl Abort, out: &mut String, texts: &[&str]) {
+    for text in texts {
+        out.push_str(text).expect(rt, "memory");
+    }
+}
+
+/// Appends a word, a number and a text behind them.
+pub(crate) fn put_number(
+    rt: &impl Abort,
+    out: &mut String,
+    word: &str,
+    number: usize,
+    behind: &str,
+) {
+    write!(out, "{word} {number}{behind}").expect(rt, "memory");
+}
+
 /// Appends the lines of a text in which semicolons stand between them.
 pub(crate) fn put_lines(rt: &impl Abort, out: &mut String, text: &str) {
     for line in text.split(';') {
-        out.push_str(line).expect(rt, "memory");
-        out.push('\n').expect(rt, "memory");
+        put_texts(rt, out, &[line, "\n"]);
     }
 }
 
@@ -37,9 +54,13 @@ fn put_data_lines(rt: &impl Abort, out: &mut String, text: &str) {
 fn put_data_line(rt: &impl Abort, out: &mut String, line: &str) {
     let (dated, time) = line.rsplit_once(' ').unwrap_or((line, ""));
     match line.split(' ').count() {
-        2 => write!(out, "{dated} 30MAR25OCT 1234567 180320 JFK{time} J\n").expect(rt, "memory"),
-        4 => write!(out, "{dated} 180320 JFK{time} J\n").expect(rt, "memory"),
-        _ => write!(out, "{line}\n").expect(rt, "memory"),
+        2 => put_texts(
+            rt,
+            out,
+            &[dated, " 30MAR25OCT 1234567 180320 JFK", time, " J\n"],
+        ),
+        4 => put_texts(rt, out, &[dated, " 180320 JFK", time, " J\n"]),
+        _ => put_texts(rt, out, &[line, "\n"]),
     }
 }
 

@@ -69,29 +69,27 @@ fn of_new(
     if clashes(&declaration.season, held, line) {
         return stays(rt, alloc, held, Answer::W);
     }
-    let Some(best) = best_of(rt, alloc, declaration, held, line) else {
-        return stays(rt, alloc, held, Answer::U);
-    };
-    let mut holdings = Vec::from_slice(alloc, held).expect(rt, "memory");
-    let asked = best == *line;
-    holdings
-        .push(Holding {
-            line: best,
-            state: if asked {
-                State::Confirmed
-            } else {
-                State::Offered
-            },
-        })
-        .expect(rt, "memory");
-    Listed {
-        answer: if asked {
-            Answer::K
-        } else {
-            Answer::Offer(best)
-        },
-        holdings,
+    match best_of(rt, alloc, declaration, held, line) {
+        None => stays(rt, alloc, held, Answer::U),
+        Some(best) if best == *line => {
+            with_one(rt, alloc, held, best, State::Confirmed, Answer::K)
+        }
+        Some(best) => with_one(rt, alloc, held, best, State::Offered, Answer::Offer(best)),
     }
+}
+
+// An answer, and the holdings with one more.
+fn with_one(
+    rt: &impl Abort,
+    alloc: Global,
+    held: &[Holding],
+    line: Line,
+    state: State,
+    answer: Answer,
+) -> Listed {
+    let mut holdings = Vec::from_slice(alloc, held).expect(rt, "memory");
+    holdings.push(Holding { line, state }).expect(rt, "memory");
+    Listed { answer, holdings }
 }
 
 fn released(
@@ -147,23 +145,33 @@ fn of_pair(
     let Some(place) = place_of(season, held, State::Confirmed, historic) else {
         return stays(rt, alloc, held, Answer::W);
     };
-    let mut left = without(rt, alloc, season, held, place, historic.period, None);
-    if clashes(season, &left, request) {
+    let left = without(rt, alloc, season, held, place, historic.period, None);
+    of_request(rt, alloc, declaration, held, &left, request)
+}
+
+// What is answered to the request of a pair, without whose historic line these holdings are left.
+fn of_request(
+    rt: &impl Abort,
+    alloc: Global,
+    declaration: &Declaration,
+    held: &[Holding],
+    left: &[Holding],
+    request: &Line,
+) -> Listed {
+    if clashes(&declaration.season, left, request) {
         return stays(rt, alloc, held, Answer::W);
     }
-    let moves = moves_of(rt, alloc, &declaration.season, &left);
-    if !fits_beside(rt, alloc, declaration, &moves, request) {
+    if !fits_among(rt, alloc, declaration, left, request) {
         return stays(rt, alloc, held, Answer::Held);
     }
-    left.push(Holding {
-        line: *request,
-        state: State::Confirmed,
-    })
-    .expect(rt, "memory");
-    Listed {
-        answer: Answer::KChanged,
-        holdings: left,
-    }
+    with_one(
+        rt,
+        alloc,
+        left,
+        *request,
+        State::Confirmed,
+        Answer::KChanged,
+    )
 }
 
 fn of_query(rt: &impl Abort, alloc: Global, held: &[Holding], flight: &Flight) -> Listed {
@@ -173,10 +181,12 @@ fn of_query(rt: &impl Abort, alloc: Global, held: &[Holding], flight: &Flight) -
             found.push(*holding).expect(rt, "memory");
         }
     }
-    if found.is_empty() {
-        return stays(rt, alloc, held, Answer::W);
-    }
-    stays(rt, alloc, held, Answer::Listed(HoldingList::new(found)))
+    let answer = if found.is_empty() {
+        Answer::W
+    } else {
+        Answer::Listed(HoldingList::new(found))
+    };
+    stays(rt, alloc, held, answer)
 }
 
 /// Whether the line has the flight as its arrival or its departure.
@@ -454,6 +464,18 @@ fn fits_beside(
         }
     }
     true
+}
+
+// Whether the line fits beside these holdings.
+fn fits_among(
+    rt: &impl Abort,
+    alloc: Global,
+    declaration: &Declaration,
+    held: &[Holding],
+    line: &Line,
+) -> bool {
+    let moves = moves_of(rt, alloc, &declaration.season, held);
+    fits_beside(rt, alloc, declaration, &moves, line)
 }
 
 fn moves_of(rt: &impl Abort, alloc: Global, season: &Season, held: &[Holding]) -> Vec<Moved> {

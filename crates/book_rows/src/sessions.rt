@@ -1,12 +1,12 @@
 //! Sessions over links in memory, by a ledger of one caller, with a journal or without: how each
 //! one ends, and what it was sent.
 
-ghost use Rattle.std.specs.Prelude.{◌≡◌, ◌≤◌, length};
+ghost use Rattle.std.specs.Prelude.{◌≡◌};
 ghost use Rattle.turn_lock.specs.Seats.{IsAtRest};
 ghost use Rattle.desk_links.specs.LinksInMemory.{IsUnused};
 
 use crate::books::small_book;
-use crate::ledgers::begun_alone;
+use crate::ledgers::{begun_alone, copied};
 use crate::lines::halves;
 use amend_journal::{Journal, JournalLedger, JournalPass};
 use desk_disk::MemoryDisk;
@@ -16,7 +16,6 @@ use holding_book::Book;
 use season_days::{Declaration, Season};
 use session_desk::{SessionEnd, SessionFault, serve_journaled, serve_link};
 use slot_ledger::{Ledger, Pass};
-use slot_text::Station;
 use std::alloc::Global;
 use std::process::Abort;
 use std::sync::Wait;
@@ -61,19 +60,20 @@ const REPLY: &str = "SCR\nS25\n20NOV\nABC\nHBA001 30MAR25OCT 1234567 180320 JFK0
 
 #[test]
 fn sessions_end(rt: HostRuntime) {
+    let book = small_book(&rt, rt.alloc());
     for row in ROWS.lines() {
-        check_row(&rt, rt.alloc(), row);
+        check_row(&rt, rt.alloc(), &book, row);
     }
 }
 
 // A session ends as its row wants.
-fn check_row<R: Abort + Wait>(rt: &R, alloc: Global, row: &str) {
+fn check_row<R: Abort + Wait>(rt: &R, alloc: Global, book: &Book, row: &str) {
     let (most, rest) = halves(row, '|');
     let (input, due) = halves(rest, '|');
     let (most, call) = halves(most, ':');
     let said = match most {
-        "journal" => journaled(rt, alloc, call, input),
-        _ => session(rt, alloc, most.parse().expect(rt, "a length"), call, input),
+        "journal" => journaled(rt, alloc, book, call, input),
+        _ => session(rt, alloc, book, most, call, input),
     };
     assert!(rt; said.as_str() == due, "{row} has {said}");
 }
@@ -125,10 +125,17 @@ fn put_text(rt: &impl Abort, out: &mut Vec<u8>, text: &str) {
 }
 
 // How a session over a link with this input ends, and what it was sent.
-fn session<R: Abort + Wait>(rt: &R, alloc: Global, most: u32, call: &str, input: &str) -> String {
-    let book = small_book(rt, alloc);
+fn session<R: Abort + Wait>(
+    rt: &R,
+    alloc: Global,
+    book: &Book,
+    most: &str,
+    call: &str,
+    input: &str,
+) -> String {
+    let most = most.parse().expect(rt, "a length");
     let mut link = link_of(rt, alloc, input, call);
-    session_over(rt, alloc, &book, most, &mut link)
+    session_over(rt, alloc, book, most, &mut link)
 }
 
 fn session_over<R: Abort + Wait>(
@@ -181,39 +188,43 @@ fn served<R: Abort + Wait>(
 }
 
 // How a session ends by a ledger with an empty journal, calls of whose disk are to fail.
-fn journaled<R: Abort + Wait>(rt: &R, alloc: Global, call: &str, input: &str) -> String {
+fn journaled<R: Abort + Wait>(
+    rt: &R,
+    alloc: Global,
+    book: &Book,
+    call: &str,
+    input: &str,
+) -> String {
     let mut link = link_of(rt, alloc, input, "");
-    journaled_over(rt, alloc, call, &mut link)
+    journaled_over(rt, alloc, book, call, &mut link)
 }
 
 fn journaled_over<R: Abort + Wait>(
     rt: &R,
     alloc: Global,
+    book: &Book,
     call: &str,
     link: &mut MemoryLink,
 ) -> String
     requires { IsUnused link.old }
 {
-    let book = small_book(rt, alloc);
-    let season = book.declaration().season;
-    let airport = book.declaration().airport;
-    let (ledger, mut pass) = begun_journaled(rt, alloc, call, book);
-    served_journaled(rt, alloc, &ledger, &mut pass, &season, airport, link)
+    let (ledger, mut pass) = begun_journaled(rt, alloc, book, call);
+    served_journaled(rt, alloc, &ledger, &mut pass, book.declaration(), link)
 }
 
-// A ledger of one caller over the book with an empty journal, and its pass.
+// A ledger of one caller over a copy of the book with an empty journal, and its pass.
 fn begun_journaled(
     rt: &impl Abort,
     alloc: Global,
+    book: &Book,
     call: &str,
-    book: Book,
 ) -> (JournalLedger<MemoryDisk>, JournalPass<MemoryDisk>)
-    requires { length book.book.holdings ≤ 1000000 }
     ensures rest { IsAtRest result.0 result.1 }
-    ensures declared { book.book.declaration ≡ result.0.origin.start.declaration }
+    ensures declared { book.now.book.declaration ≡ result.0.origin.start.declaration }
 {
     let journal = journal_of(rt, alloc, &book.declaration().season, call);
-    let (ledger, mut passes) = JournalLedger::start(alloc, journal, book, 1).expect(rt, "memory");
+    let copy = copied(rt, alloc, book);
+    let (ledger, mut passes) = JournalLedger::start(alloc, journal, copy, 1).expect(rt, "memory");
     let pass = passes.pop().expect(rt, "a pass");
     (ledger, pass)
 }
@@ -235,16 +246,24 @@ fn served_journaled<R: Abort + Wait>(
     alloc: Global,
     ledger: &JournalLedger<MemoryDisk>,
     pass: &mut JournalPass<MemoryDisk>,
-    season: &Season,
-    airport: Station,
+    declaration: &Declaration,
     link: &mut MemoryLink,
 ) -> String
     requires rest { IsAtRest ledger.now pass.old }
-    requires season { season.now ≡ ledger.now.origin.start.declaration.season }
-    requires airport { airport ≡ ledger.now.origin.start.declaration.airport }
+    requires declared { declaration.now ≡ ledger.now.origin.start.declaration }
     requires link { IsUnused link.old }
 {
-    let end = serve_journaled(rt, alloc, &RealGate, ledger, pass, season, airport, link, 0);
+    let end = serve_journaled(
+        rt,
+        alloc,
+        &RealGate,
+        ledger,
+        pass,
+        &declaration.season,
+        declaration.airport,
+        link,
+        0,
+    );
     said(rt, alloc, end, link.sent())
 }
 
@@ -262,16 +281,18 @@ fn said(
 }
 
 fn put_end(rt: &impl Abort, out: &mut String, end: Result<SessionEnd, SessionFault>) {
-    match end {
-        Ok(SessionEnd::Ended) => out.push_str("Ended ").expect(rt, "memory"),
-        Ok(SessionEnd::Cut) => out.push_str("Cut ").expect(rt, "memory"),
-        Err(SessionFault::Link) => out.push_str("Link ").expect(rt, "memory"),
-        Err(SessionFault::TooLong) => out.push_str("TooLong ").expect(rt, "memory"),
-        Err(SessionFault::Full { length }) => write!(out, "Full {length} ").expect(rt, "memory"),
-        Err(SessionFault::Broken { faults }) => {
-            write!(out, "Broken {faults} ").expect(rt, "memory");
-        }
+    let (word, number) = match end {
+        Ok(SessionEnd::Ended) => ("Ended ", None),
+        Ok(SessionEnd::Cut) => ("Cut ", None),
+        Err(SessionFault::Link) => ("Link ", None),
+        Err(SessionFault::TooLong) => ("TooLong ", None),
+        Err(SessionFault::Full { length }) => ("Full ", Some(length)),
+        Err(SessionFault::Broken { faults }) => ("Broken ", Some(faults)),
         Err(SessionFault::Memory) => panic!(rt; "memory ran out"),
+    };
+    out.push_str(word).expect(rt, "memory");
+    if let Some(number) = number {
+        write!(out, "{number} ").expect(rt, "memory");
     }
 }
 

@@ -8,9 +8,9 @@ use std::alloc::Global;
 use std::process::Abort;
 
 /// Walks the rows: what is found of each is what it wants. A row with strokes begins a new season,
-/// and has a star before it where it is not the first: the lines of the capacity file, the requests,
-/// and the stages of the certificate; wanted are the holdings. `book` wants the holdings as they are
-/// by now. Every other row is an ask, and wants the lines of the answer.
+/// and has a star before it where it is not the first: the lines of the capacity file, the
+/// requests, and the stages of the certificate; wanted are the holdings. `book` wants the holdings
+/// as they are by now. Every other row is an ask, and wants the lines of the answer.
 pub(crate) fn walk(rt: &impl Abort, alloc: Global, rows: &str) {
     for season in rows.split('*') {
         walk_season(rt, alloc, season);
