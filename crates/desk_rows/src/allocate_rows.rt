@@ -1,7 +1,6 @@
 //! The rows of `allocate`: seasons worked by hand, and what becomes of them.
 
 use crate::play::play_script;
-use std::test::Fail;
 
 /// Hours of one arrival each. A historic arrival at 0610 has its time; two have no room. A new one
 /// at 0630 has 0700, 30 minutes later on each of 210 dates; within 25 minutes it has none; where a
@@ -334,36 +333,36 @@ words trial 1 4 --nodes 5
 says 2 WORDS;";
 
 #[test]
-fn a_window_of_one_hour(rt: HostRuntime) -> Result<(), Fail> {
-    play_script(&rt, rt.alloc(), ONE_WINDOW)
+fn a_window_of_one_hour(rt: HostRuntime) {
+    play_script(&rt, rt.alloc(), ONE_WINDOW);
 }
 
 #[test]
-fn series_of_all_groups(rt: HostRuntime) -> Result<(), Fail> {
-    play_script(&rt, rt.alloc(), SERIES)
+fn series_of_all_groups(rt: HostRuntime) {
+    play_script(&rt, rt.alloc(), SERIES);
 }
 
 #[test]
-fn a_quota_at_night(rt: HostRuntime) -> Result<(), Fail> {
-    play_script(&rt, rt.alloc(), NIGHTS)
+fn a_quota_at_night(rt: HostRuntime) {
+    play_script(&rt, rt.alloc(), NIGHTS);
 }
 
 #[test]
-fn a_stage_that_stays_open(rt: HostRuntime) -> Result<(), Fail> {
-    play_script(&rt, rt.alloc(), OPEN_STAGES)
+fn a_stage_that_stays_open(rt: HostRuntime) {
+    play_script(&rt, rt.alloc(), OPEN_STAGES);
 }
 
 #[test]
-fn refusals_and_faults_of_devices(rt: HostRuntime) -> Result<(), Fail> {
-    play_script(&rt, rt.alloc(), REFUSALS)
+fn refusals_and_faults_of_devices(rt: HostRuntime) {
+    play_script(&rt, rt.alloc(), REFUSALS);
 }
 
 #[test]
-fn words_and_names(rt: HostRuntime) -> Result<(), Fail> {
-    play_script(&rt, rt.alloc(), WORDS)
+fn words_and_names(rt: HostRuntime) {
+    play_script(&rt, rt.alloc(), WORDS);
 }
 
 #[test]
-fn generated_seasons(rt: HostRuntime) -> Result<(), Fail> {
-    play_script(&rt, rt.alloc(), GENERATED)
+fn generated_seasons(rt: HostRuntime) {
+    play_script(&rt, rt.alloc(), GENERATED);
 }

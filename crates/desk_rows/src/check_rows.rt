@@ -1,7 +1,6 @@
 //! The rows of `check`.
 
 use crate::play::play_script;
-use std::test::Fail;
 
 /// Windows of one hour for one arrival. A historic arrival at 0610, and a new one at 0630 on one
 /// date, which is offered 0700.
@@ -157,21 +156,21 @@ says 5 CABINET CAP LARGE;
 sink 0:6|6 CABINE";
 
 #[test]
-fn checks_of_one_window(rt: HostRuntime) -> Result<(), Fail> {
-    play_script(&rt, rt.alloc(), CHECKS)
+fn checks_of_one_window(rt: HostRuntime) {
+    play_script(&rt, rt.alloc(), CHECKS);
 }
 
 #[test]
-fn an_open_stage(rt: HostRuntime) -> Result<(), Fail> {
-    play_script(&rt, rt.alloc(), OPEN_CHECKS)
+fn an_open_stage(rt: HostRuntime) {
+    play_script(&rt, rt.alloc(), OPEN_CHECKS);
 }
 
 #[test]
-fn no_windows(rt: HostRuntime) -> Result<(), Fail> {
-    play_script(&rt, rt.alloc(), FREE_CHECKS)
+fn no_windows(rt: HostRuntime) {
+    play_script(&rt, rt.alloc(), FREE_CHECKS);
 }
 
 #[test]
-fn what_is_over_a_limit(rt: HostRuntime) -> Result<(), Fail> {
-    play_script(&rt, rt.alloc(), LIMITS)
+fn what_is_over_a_limit(rt: HostRuntime) {
+    play_script(&rt, rt.alloc(), LIMITS);
 }

@@ -5,7 +5,7 @@
 
 use crate::play::play_script;
 use std::alloc::Global;
-use std::test::Fail;
+use std::process::Abort;
 
 /// A season, a certificate that is valid for it, and files that come behind these, none of which is
 /// in its form.
@@ -88,32 +88,31 @@ says 3 FORM EXTRA 1;
 ";
 
 /// The script of a command, and of what it refuses.
-fn script_of(alloc: Global, words: &str, rows: &str) -> Result<String, Fail> {
-    Ok(format!(in alloc; "{WORLD}words {words}\n{SEASON}{rows}")?)
+fn script_of(rt: &impl Abort, alloc: Global, words: &str, rows: &str) -> String {
+    format!(in alloc; "{WORLD}words {words}\n{SEASON}{rows}").expect(rt, "memory")
 }
 
 #[test]
-fn damaged_seasons_are_refused(rt: HostRuntime) -> Result<(), Fail> {
+fn damaged_seasons_are_refused(rt: HostRuntime) {
     let alloc = rt.alloc();
-    let script = script_of(alloc, "allocate CAP SCR CERT REPLIES", "")?;
-    play_script(&rt, alloc, &script)?;
-    let script = format!(in alloc; "{WORLD}{INSPECTED}")?;
-    play_script(&rt, alloc, &script)
+    let script = script_of(&rt, alloc, "allocate CAP SCR CERT REPLIES", "");
+    play_script(&rt, alloc, &script);
+    let script = format!(in alloc; "{WORLD}{INSPECTED}").expect(&rt, "memory");
+    play_script(&rt, alloc, &script);
 }
 
 #[test]
-fn damaged_certificates_are_refused(rt: HostRuntime) -> Result<(), Fail> {
+fn damaged_certificates_are_refused(rt: HostRuntime) {
     let alloc = rt.alloc();
     for words in COMMANDS.lines() {
-        let script = script_of(alloc, words, CERTIFICATE)?;
-        play_script(&rt, alloc, &script)?;
+        let script = script_of(&rt, alloc, words, CERTIFICATE);
+        play_script(&rt, alloc, &script);
     }
-    Ok(())
 }
 
 #[test]
-fn files_behind_a_certificate_are_refused(rt: HostRuntime) -> Result<(), Fail> {
+fn files_behind_a_certificate_are_refused(rt: HostRuntime) {
     let alloc = rt.alloc();
-    let script = format!(in alloc; "{WORLD}{BEHIND}")?;
-    play_script(&rt, alloc, &script)
+    let script = format!(in alloc; "{WORLD}{BEHIND}").expect(&rt, "memory");
+    play_script(&rt, alloc, &script);
 }

@@ -29,9 +29,10 @@ use crate::texts::{edited, fits, folded, spelled_out};
 use desk_disk::MemoryDisk;
 use desk_links::MemoryDoor;
 use desk_outside::{Failure, MemoryCabinet};
-use std::alloc::{AllocError, Global};
+use memory_desk::{Fails, NO_FAILS};
+use std::alloc::Global;
+use std::process::Abort;
 use std::sync::Wait;
-use std::test::Fail;
 use std::thread::Threads;
 use worker_gate::RealGate;
 
@@ -57,175 +58,181 @@ struct Play {
 }
 
 /// Plays a script, and fails with the first of its lines that is not as it says.
-pub(crate) fn play_script<R: Threads + Wait + Sync>(
-    rt: &R,
-    alloc: Global,
-    script: &str,
-) -> Result<(), Fail> {
-    let mut play = Play {
+pub(crate) fn play_script<R: Abort + Threads + Wait + Sync>(rt: &R, alloc: Global, script: &str) {
+    let mut play = new_play(rt, alloc);
+    play_lines(rt, alloc, &mut play, script);
+}
+
+/// A play of which no line has set anything.
+fn new_play(rt: &impl Abort, alloc: Global) -> Play {
+    Play {
         files: Vec::new(alloc),
         words: String::new(alloc),
         said: String::new(alloc),
-        cabinet: new_cabinet(alloc, 0, None)?,
+        cabinet: new_cabinet(rt, alloc, 0, None),
         clients: Vec::new(alloc),
         piece: 0,
         doors: Vec::new(alloc),
         is_journaled: false,
         disk: None,
-    };
-    for line in script.split('\n') {
-        if !play_line(rt, alloc, &mut play, line)? {
-            return Err(Fail::new(format!(in alloc; "{line} has {}", play.said)?));
-        }
     }
-    Ok(())
 }
 
-fn play_line<R: Threads + Wait + Sync>(
+fn play_lines<R: Abort + Threads + Wait + Sync>(
+    rt: &R,
+    alloc: Global,
+    play: &mut Play,
+    script: &str,
+) {
+    for line in script.split('\n') {
+        assert!(rt;
+            play_line(rt, alloc, play, line),
+            "{line} has {}",
+            play.said
+        );
+    }
+}
+
+/// Whether a line is as it says.
+fn play_line<R: Abort + Threads + Wait + Sync>(
     rt: &R,
     alloc: Global,
     play: &mut Play,
     line: &str,
-) -> Result<bool, Fail> {
+) -> bool {
     let (word, rest) = line.split_once(' ').unwrap_or((line, ""));
     match word {
-        "" => Ok(true),
-        "file" => put_file(alloc, play, rest),
-        "words" => set_words(alloc, play, rest),
-        "take" => take_file(alloc, play, rest),
-        "holds" => compare_file(alloc, play, rest),
-        "fronts" => play_fronts(rt, alloc, play, rest),
-        "door" | "shut" | "piece" | "journal" => set_clients(alloc, play, word, rest),
-        "sent" => compare_sent(alloc, play, rest),
-        "kept" => compare_kept(rt, alloc, play, rest),
-        _ => play_run(rt, alloc, play, word, rest),
+        "says" => run_desk(rt, alloc, play, &plain(rest)),
+        "again" => run_again(rt, alloc, play),
+        "line" | "cabinet" | "sink" | "accept" | "link" => {
+            run_desk(rt, alloc, play, &changed_run(rt, word, rest))
+        }
+        "holds" => is_held(rt, alloc, play, rest),
+        "fronts" => is_each_front_refused(rt, alloc, play, rest),
+        "sent" => is_sent(rt, alloc, play, rest),
+        "kept" => is_kept(rt, alloc, play, rest),
+        _ => {
+            set(rt, alloc, play, word, rest);
+            true
+        }
     }
 }
 
-fn put_file(alloc: Global, play: &mut Play, rest: &str) -> Result<bool, Fail> {
+/// Sets what each run below has.
+fn set(rt: &impl Abort, alloc: Global, play: &mut Play, word: &str, rest: &str) {
+    match word {
+        "" => {}
+        "file" => put_file(rt, alloc, play, rest),
+        "words" => play.words = String::from_str(alloc, rest).expect(rt, "memory"),
+        "take" => take_file(rt, alloc, play, rest),
+        "door" => put_clients(rt, alloc, play, rest),
+        "shut" => play.clients = Vec::new(alloc),
+        "piece" => play.piece = rest.parse().expect(rt, "a number of bytes"),
+        "journal" => play.is_journaled = true,
+        _ => panic!(rt; "{word} is no word of a script"),
+    }
+}
+
+fn put_file(rt: &impl Abort, alloc: Global, play: &mut Play, rest: &str) {
     let (name, text) = rest.split_once(' ').unwrap_or((rest, ""));
-    let text = String::from_str(alloc, text)?;
-    keep_file(alloc, play, name, text)?;
-    Ok(true)
+    let text = String::from_str(alloc, text).expect(rt, "memory");
+    keep_file(rt, alloc, &mut play.files, name, text);
 }
 
 /// Keeps a file in place of the one of its name.
-fn keep_file(alloc: Global, play: &mut Play, name: &str, text: String) -> Result<(), AllocError> {
-    for file in &mut play.files {
+fn keep_file(rt: &impl Abort, alloc: Global, files: &mut Vec<File>, name: &str, text: String) {
+    match file_of(files.as_mut_slice(), name) {
+        Some(file) => file.text = text,
+        None => add_file(rt, alloc, files, name, text),
+    }
+}
+
+fn file_of<'a>(files: &'a mut [File], name: &str) -> Option<&'a mut File> {
+    for file in files {
         if file.name.as_str() == name {
-            file.text = text;
-            return Ok(());
+            return Some(file);
         }
     }
-    let name = String::from_str(alloc, name)?;
-    play.files.push(File { name, text })?;
-    Ok(())
+    None
 }
 
-fn set_words(alloc: Global, play: &mut Play, words: &str) -> Result<bool, Fail> {
-    play.words = String::from_str(alloc, words)?;
-    Ok(true)
+fn add_file(rt: &impl Abort, alloc: Global, files: &mut Vec<File>, name: &str, text: String) {
+    let name = String::from_str(alloc, name).expect(rt, "memory");
+    files.push(File { name, text }).expect(rt, "memory");
 }
 
-fn take_file(alloc: Global, play: &mut Play, name: &str) -> Result<bool, Fail> {
-    let text = file_text(alloc, &play.cabinet, name)?;
-    keep_file(alloc, play, name, text)?;
-    Ok(true)
+fn take_file(rt: &impl Abort, alloc: Global, play: &mut Play, name: &str) {
+    let text = file_text(rt, alloc, &play.cabinet, name);
+    keep_file(rt, alloc, &mut play.files, name, text);
 }
 
 /// The text of a file that a run left.
-fn file_text(alloc: Global, cabinet: &MemoryCabinet, name: &str) -> Result<String, AllocError> {
+fn file_text(rt: &impl Abort, alloc: Global, cabinet: &MemoryCabinet, name: &str) -> String {
     match cabinet.file(name) {
-        Some(bytes) => folded(alloc, bytes),
-        None => String::from_str(alloc, "(none)"),
+        Some(bytes) => folded(rt, alloc, bytes),
+        None => String::from_str(alloc, "(none)").expect(rt, "memory"),
     }
 }
 
-fn compare_file(alloc: Global, play: &mut Play, rest: &str) -> Result<bool, Fail> {
+/// One door more of each run below, with these clients.
+fn put_clients(rt: &impl Abort, alloc: Global, play: &mut Play, clients: &str) {
+    let clients = String::from_str(alloc, clients).expect(rt, "memory");
+    play.clients.push(clients).expect(rt, "memory");
+}
+
+/// Whether the last run left this text of a file.
+fn is_held(rt: &impl Abort, alloc: Global, play: &mut Play, rest: &str) -> bool {
     let (name, wanted) = rest.split_once(' ').unwrap_or((rest, ""));
-    play.said = file_text(alloc, &play.cabinet, name)?;
-    Ok(fits(play.said.as_str(), wanted))
-}
-
-/// Sets what the doors of each run below have, and whether it has a disk.
-fn set_clients(alloc: Global, play: &mut Play, word: &str, rest: &str) -> Result<bool, Fail> {
-    match word {
-        "door" => play.clients.push(String::from_str(alloc, rest)?)?,
-        "shut" => play.clients = Vec::new(alloc),
-        "journal" => play.is_journaled = true,
-        _ => play.piece = rest.parse()?,
-    }
-    Ok(true)
+    play.said = file_text(rt, alloc, &play.cabinet, name);
+    fits(play.said.as_str(), wanted)
 }
 
 /// Whether a link of the last run was sent this text.
-fn compare_sent(alloc: Global, play: &mut Play, rest: &str) -> Result<bool, Fail> {
-    let (door, rest) = rest.split_once(' ').ok_or("a link")?;
+fn is_sent(rt: &impl Abort, alloc: Global, play: &mut Play, rest: &str) -> bool {
+    let (door, rest) = rest.split_once(' ').expect(rt, "a link");
     let (link, wanted) = rest.split_once(' ').unwrap_or((rest, ""));
-    let door: usize = door.parse()?;
-    let link: usize = link.parse()?;
-    let door = play.doors.get(door).ok_or("no such door")?;
-    let link = door.kept().get(link).ok_or("no such link")?;
-    play.said = folded(alloc, link.sent())?;
-    Ok(fits(play.said.as_str(), wanted))
+    let door: usize = door.parse().expect(rt, "the number of a door");
+    let link: usize = link.parse().expect(rt, "the number of a link");
+    let door = play.doors.get(door).expect(rt, "no such door");
+    let link = door.kept().get(link).expect(rt, "no such link");
+    play.said = folded(rt, alloc, link.sent());
+    fits(play.said.as_str(), wanted)
 }
 
 /// Whether a desk without clients finds so many pairs in the journal that the last run left.
-fn compare_kept<R: Threads + Wait + Sync>(
+fn is_kept<R: Abort + Threads + Wait + Sync>(
     rt: &R,
     alloc: Global,
     play: &mut Play,
     count: &str,
-) -> Result<bool, Fail> {
-    let bytes = bytes_of(alloc, &play.disk)?;
-    play.disk = disk_of(alloc, &bytes, Vec::new(alloc))?;
-    play.doors = Vec::new(alloc);
-    let words = "resume CAP SCR CERT JOURNAL RECORD";
-    run_words(rt, alloc, play, words, None)?;
-    let due = format!(in alloc; "0 KEPT {count};ENTRIES 0;LINKS 0;")?;
-    Ok(play.said.as_str() == due.as_str())
-}
-
-/// Runs the desk on these words over what the play has, where a put may fail.
-fn run_words<R: Threads + Wait + Sync>(
-    rt: &R,
-    alloc: Global,
-    play: &mut Play,
-    words: &str,
-    sink: Option<Failure>,
-) -> Result<(), Fail> {
+) -> bool {
+    reopen(rt, alloc, play);
     play.said = call_with_disk(
         rt,
         alloc,
-        words,
+        "resume CAP SCR CERT JOURNAL RECORD",
         &mut play.cabinet,
-        sink,
+        None,
         &mut play.doors,
         &RealGate,
         &mut play.disk,
-    )?;
-    Ok(())
+    );
+    has_found(play.said.as_str(), count)
 }
 
-/// An empty disk, where runs have one.
-fn made_disk(alloc: Global, is_journaled: bool) -> Result<Option<MemoryDisk>, Fail> {
-    if is_journaled {
-        disk_of(alloc, b"", Vec::new(alloc))
-    } else {
-        Ok(None)
-    }
+/// A disk with what the last run left of it, and no doors.
+fn reopen(rt: &impl Abort, alloc: Global, play: &mut Play) {
+    let bytes = bytes_of(rt, alloc, &play.disk);
+    play.disk = disk_of(rt, alloc, &bytes, None);
+    play.doors = Vec::new(alloc);
 }
 
-/// The doors of a run.
-fn made_doors(alloc: Global, play: &Play, run: &Run<'_>) -> Result<Vec<MemoryDoor>, Fail> {
-    let mut doors = Vec::new(alloc);
-    for clients in &play.clients {
-        let is_first = doors.is_empty();
-        let call = if is_first { run.link } else { None };
-        let accept = if is_first { run.accept } else { None };
-        doors.push(door_of(alloc, clients.as_str(), play.piece, call, accept)?)?;
-    }
-    Ok(doors)
+/// Whether a desk without clients said that it found so many pairs.
+fn has_found(said: &str, count: &str) -> bool {
+    let Some(found) = said.strip_prefix("0 KEPT ") else {
+        return false;
+    };
+    found.strip_suffix(";ENTRIES 0;LINKS 0;") == Some(count)
 }
 
 /// A run: the lines that stand in place of others, the calls that fail, and what it is to say.
@@ -233,114 +240,147 @@ fn made_doors(alloc: Global, play: &Play, run: &Run<'_>) -> Result<Vec<MemoryDoo
 struct Run<'a> {
     old: &'a str,
     new: &'a str,
-    cabinet: Option<Failure>,
-    sink: Option<Failure>,
-    accept: Option<Failure>,
-    link: Option<Failure>,
+    fails: Fails,
     said: &'a str,
 }
 
-/// A run on the files as they are, of which no call fails.
-fn plain(said: &str) -> Run<'_> {
+/// A run on the files as they are, of which these calls fail.
+fn failing_run(fails: Fails, said: &str) -> Run<'_> {
     Run {
         old: "",
         new: "",
-        cabinet: None,
-        sink: None,
-        accept: None,
-        link: None,
+        fails,
         said,
     }
 }
 
-fn play_run<R: Threads + Wait + Sync>(
-    rt: &R,
-    alloc: Global,
-    play: &mut Play,
-    word: &str,
-    rest: &str,
-) -> Result<bool, Fail> {
-    match word {
-        "says" => run_desk(rt, alloc, play, &plain(rest)),
-        "again" => {
-            let said = play.said.clone()?;
-            run_desk(rt, alloc, play, &plain(said.as_str()))
-        }
-        _ => run_desk(rt, alloc, play, &changed_run(word, rest)?),
-    }
+/// A run on the files as they are, of which no call fails.
+fn plain(said: &str) -> Run<'_> {
+    failing_run(NO_FAILS, said)
 }
 
 /// A run with other lines, or of which a call fails.
-fn changed_run<'a>(word: &str, rest: &'a str) -> Result<Run<'a>, Fail> {
-    let (what, said) = rest.split_once('|').ok_or("a bar")?;
-    match word {
-        "line" => edited_run(what, said),
-        "cabinet" => {
-            let mut run = plain(said);
-            run.cabinet = Some(read_failure(what)?);
-            Ok(run)
-        }
-        "sink" => {
-            let mut run = plain(said);
-            run.sink = Some(read_failure(what)?);
-            Ok(run)
-        }
-        "accept" => {
-            let mut run = plain(said);
-            run.accept = Some(read_failure(what)?);
-            Ok(run)
-        }
-        "link" => {
-            let mut run = plain(said);
-            run.link = Some(read_failure(what)?);
-            Ok(run)
-        }
-        _ => Err("a line begins with no word of a script".into()),
+fn changed_run<'a>(rt: &impl Abort, word: &str, rest: &'a str) -> Run<'a> {
+    let (what, said) = rest.split_once('|').expect(rt, "a bar");
+    if word == "line" {
+        edited_run(rt, what, said)
+    } else {
+        failing_run(fails_of(word, read_failure(rt, what)), said)
     }
 }
 
-fn edited_run<'a>(old: &'a str, rest: &'a str) -> Result<Run<'a>, Fail> {
-    let (new, said) = rest.split_once('|').ok_or("a second bar")?;
-    let mut run = plain(said);
-    run.old = old;
-    run.new = new;
-    Ok(run)
+/// This call of the cabinet, the sink, the door, or else of its link fails.
+fn fails_of(word: &str, failure: Failure) -> Fails {
+    let mut fails = NO_FAILS;
+    match word {
+        "cabinet" => fails.cabinet = Some(failure),
+        "sink" => fails.sink = Some(failure),
+        "accept" => fails.accept = Some(failure),
+        _ => fails.link = Some(failure),
+    }
+    fails
+}
+
+fn edited_run<'a>(rt: &impl Abort, old: &'a str, rest: &'a str) -> Run<'a> {
+    let (new, said) = rest.split_once('|').expect(rt, "a second bar");
+    Run {
+        old,
+        new,
+        fails: NO_FAILS,
+        said,
+    }
 }
 
 /// A call that fails, and how many bytes it takes.
-fn read_failure(text: &str) -> Result<Failure, Fail> {
-    match text.split_once(':') {
-        Some((call, bytes)) => Ok(Failure::after(call.parse()?, bytes.parse()?)),
-        None => Ok(Failure::at(text.parse()?)),
-    }
+fn read_failure(rt: &impl Abort, text: &str) -> Failure {
+    let Some((call, bytes)) = text.split_once(':') else {
+        return Failure::at(read_call(rt, text));
+    };
+    let bytes: usize = bytes.parse().expect(rt, "a number of bytes");
+    Failure::after(read_call(rt, call), bytes)
+}
+
+fn read_call(rt: &impl Abort, text: &str) -> u64 {
+    text.parse().expect(rt, "the number of a call")
+}
+
+/// Runs the desk, and says whether it says what the last run said.
+fn run_again<R: Abort + Threads + Wait + Sync>(rt: &R, alloc: Global, play: &mut Play) -> bool {
+    let said = play.said.clone().expect(rt, "memory");
+    run_desk(rt, alloc, play, &plain(said.as_str()))
 }
 
 /// Runs the desk, and says whether it says what it is to say.
-fn run_desk<R: Threads + Wait + Sync>(
+fn run_desk<R: Abort + Threads + Wait + Sync>(
     rt: &R,
     alloc: Global,
     play: &mut Play,
     run: &Run<'_>,
-) -> Result<bool, Fail> {
-    play.cabinet = filled_cabinet(alloc, &play.files, run)?;
-    play.doors = made_doors(alloc, play, run)?;
-    play.disk = made_disk(alloc, play.is_journaled)?;
-    let words = play.words.clone()?;
-    run_words(rt, alloc, play, words.as_str(), run.sink)?;
-    Ok(fits(play.said.as_str(), run.said) && has_valid_certificate(rt, alloc, play)?)
+) -> bool {
+    fill(rt, alloc, play, run);
+    play.said = call_with_disk(
+        rt,
+        alloc,
+        play.words.as_str(),
+        &mut play.cabinet,
+        run.fails.sink,
+        &mut play.doors,
+        &RealGate,
+        &mut play.disk,
+    );
+    fits(play.said.as_str(), run.said) && has_valid_certificate(rt, alloc, play)
+}
+
+/// Gives a run its cabinet, its doors and its disk.
+fn fill(rt: &impl Abort, alloc: Global, play: &mut Play, run: &Run<'_>) {
+    play.cabinet = filled_cabinet(rt, alloc, &play.files, run);
+    play.doors = filled_doors(rt, alloc, &play.clients, play.piece, &run.fails);
+    play.disk = if play.is_journaled {
+        disk_of(rt, alloc, b"", None)
+    } else {
+        None
+    };
+}
+
+/// The doors of a run.
+fn filled_doors(
+    rt: &impl Abort,
+    alloc: Global,
+    clients: &[String],
+    piece: usize,
+    fails: &Fails,
+) -> Vec<MemoryDoor> {
+    let mut doors = Vec::new(alloc);
+    for texts in clients {
+        let is_first = doors.is_empty();
+        let call = if is_first { fails.link } else { None };
+        let accept = if is_first { fails.accept } else { None };
+        let door = door_of(rt, alloc, texts.as_str(), piece, call, accept);
+        doors.push(door).expect(rt, "memory");
+    }
+    doors
 }
 
 /// A cabinet with the files of a run.
-fn filled_cabinet(alloc: Global, files: &[File], run: &Run<'_>) -> Result<MemoryCabinet, Fail> {
-    let mut cabinet = new_cabinet(alloc, room_for(files, run), run.cabinet)?;
+fn filled_cabinet(rt: &impl Abort, alloc: Global, files: &[File], run: &Run<'_>) -> MemoryCabinet {
+    let mut cabinet = new_cabinet(rt, alloc, room_for(files, run), run.fails.cabinet);
+    load_files(rt, alloc, &mut cabinet, files, run);
+    cabinet
+}
+
+fn load_files(
+    rt: &impl Abort,
+    alloc: Global,
+    cabinet: &mut MemoryCabinet,
+    files: &[File],
+    run: &Run<'_>,
+) {
     for file in files {
-        let text = edited(alloc, file.text.as_str(), run.old, run.new)?;
-        let bytes = spelled_out(alloc, text.as_str())?;
-        if !cabinet.load(file.name.as_str(), &bytes) {
-            return Err("a file has no room".into());
-        }
+        let text = edited(rt, alloc, file.text.as_str(), run.old, run.new);
+        let bytes = spelled_out(rt, alloc, text.as_str());
+        let name = file.name.as_str();
+        assert!(rt; cabinet.load(name, &bytes), "{name} has no room");
     }
-    Ok(cabinet)
 }
 
 /// Room for each file of a run: more where a text repeats a part.
@@ -358,66 +398,67 @@ fn room_for(files: &[File], run: &Run<'_>) -> usize {
 }
 
 /// Whether the certificate is valid that the last run wrote, where it wrote one.
-fn has_valid_certificate<R: Threads + Wait + Sync>(
+fn has_valid_certificate<R: Abort + Threads + Wait + Sync>(
     rt: &R,
     alloc: Global,
     play: &mut Play,
-) -> Result<bool, Fail> {
+) -> bool {
     if !play.words.as_str().starts_with("allocate CAP SCR CERT ")
         || !play.said.as_str().contains("STAGE 4")
     {
-        return Ok(true);
+        return true;
     }
-    let verdict = call_alone(rt, alloc, "check CAP SCR CERT", &mut play.cabinet)?;
-    Ok(verdict.as_str() == "0 YES;")
+    let verdict = call_alone(rt, alloc, "check CAP SCR CERT", &mut play.cabinet);
+    verdict.as_str() == "0 YES;"
 }
 
 /// Whether the form of a file fails at its first line that is not whole, for each front of it.
-fn play_fronts<R: Threads + Wait + Sync>(
+fn is_each_front_refused<R: Abort + Threads + Wait + Sync>(
     rt: &R,
     alloc: Global,
     play: &mut Play,
     name: &str,
-) -> Result<bool, Fail> {
-    let whole = filled_cabinet(alloc, &play.files, &plain(""))?;
-    let bytes = whole.file(name).ok_or("no such file")?;
+) -> bool {
+    let whole = filled_cabinet(rt, alloc, &play.files, &plain(""));
+    let bytes = whole.file(name).expect(rt, "no such file");
+    are_fronts_refused(rt, alloc, play, name, bytes)
+}
+
+fn are_fronts_refused<R: Abort + Threads + Wait + Sync>(
+    rt: &R,
+    alloc: Global,
+    play: &mut Play,
+    name: &str,
+    bytes: &[u8],
+) -> bool {
     for end in 0..bytes.len() {
-        if !play_front(rt, alloc, play, name, &bytes[..end])? {
-            return Ok(false);
+        if !is_front_refused(rt, alloc, play, name, &bytes[..end]) {
+            return false;
         }
     }
-    Ok(true)
+    true
 }
 
 /// Whether the form of a file fails at its first line that is not whole, where it has these bytes.
-fn play_front<R: Threads + Wait + Sync>(
+/// What else was said is kept.
+fn is_front_refused<R: Abort + Threads + Wait + Sync>(
     rt: &R,
     alloc: Global,
     play: &mut Play,
     name: &str,
     front: &[u8],
-) -> Result<bool, Fail> {
-    let mut cabinet = filled_cabinet(alloc, &play.files, &plain(""))?;
-    let _ = cabinet.load(name, front);
-    let said = call_alone(rt, alloc, play.words.as_str(), &mut cabinet)?;
-    is_form_fault(alloc, play, name, front, said)
+) -> bool {
+    play.cabinet = filled_cabinet(rt, alloc, &play.files, &plain(""));
+    let _ = play.cabinet.load(name, front);
+    play.said = call_alone(rt, alloc, play.words.as_str(), &mut play.cabinet);
+    is_form_fault(rt, alloc, play.said.as_str(), name, front)
 }
 
-/// Whether this was said, that the first line is not whole; what else was said is kept.
-fn is_form_fault(
-    alloc: Global,
-    play: &mut Play,
-    name: &str,
-    front: &[u8],
-    said: String,
-) -> Result<bool, Fail> {
+/// Whether this was said, that the first line is not whole.
+fn is_form_fault(rt: &impl Abort, alloc: Global, said: &str, name: &str, front: &[u8]) -> bool {
     let line = whole_lines(front).saturating_add(1);
-    let due = format!(in alloc; "3 FORM {name} {line};")?;
-    if said.as_str() == due.as_str() {
-        return Ok(true);
-    }
-    play.said = said;
-    Ok(false)
+    let due = format!(in alloc; "3 FORM {name} {line};").expect(rt, "memory");
+    said == due.as_str()
 }
 
 /// How many whole lines the bytes have.

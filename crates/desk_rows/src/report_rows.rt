@@ -1,7 +1,6 @@
 //! The rows of `report` and `inspect`: reasons and causes worked by hand.
 
 use crate::play::play_script;
-use std::test::Fail;
 
 /// A request that is moved since a window is full, with its report; refusals in their order, which
 /// leave the files as they were; and devices that fail at each call.
@@ -147,11 +146,11 @@ file SCR SCR;S26;20NOV;ABC;FBA001 30MAR24OCT 1234567 180320 JFK0610 J;
 says 3 FORM SCR 2;OTHER SEASON;";
 
 #[test]
-fn reasons_of_a_season(rt: HostRuntime) -> Result<(), Fail> {
-    play_script(&rt, rt.alloc(), REASONS)
+fn reasons_of_a_season(rt: HostRuntime) {
+    play_script(&rt, rt.alloc(), REASONS);
 }
 
 #[test]
-fn causes_of_refusals(rt: HostRuntime) -> Result<(), Fail> {
-    play_script(&rt, rt.alloc(), CAUSES)
+fn causes_of_refusals(rt: HostRuntime) {
+    play_script(&rt, rt.alloc(), CAUSES);
 }

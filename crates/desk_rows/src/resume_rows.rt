@@ -2,16 +2,17 @@
 //! disks, links and doors of which each call fails, and images that a stop may leave at each
 //! moment.
 
-use crate::desk_calls::{bytes_of, call_with_disk, disk_of, doors_of, first_link, new_cabinet};
+use crate::desk_calls::{bytes_of, call_with_disk, disk_of, doors_of, first_sent, new_cabinet};
 use crate::play::play_script;
 use crate::serve_rows::{SIX_ASKS, SIX_ENTRIES, TWO_MESSAGES, served_cabinet};
 use crate::texts::{fits, folded, spelled_out};
 use desk_disk::MemoryDisk;
 use desk_links::MemoryDoor;
 use desk_outside::{Failure, MemoryCabinet};
-use std::alloc::{AllocError, Global};
+use memory_desk::{Fails, NO_FAILS};
+use std::alloc::Global;
+use std::process::Abort;
 use std::sync::Wait;
-use std::test::Fail;
 use std::thread::Threads;
 use worker_gate::RealGate;
 
@@ -30,419 +31,421 @@ struct Ran {
     bytes: Vec<u8>,
 }
 
-/// Runs the desk on a file of these bytes, of which calls are to fail, or the output, with a door
-/// for each text of clients.
-fn run<R: Threads + Wait + Sync>(
+/// Runs the desk on a file of these bytes, with a door for each text of clients, where these calls
+/// of the disk, the output and the first door are to fail.
+fn run<R: Abort + Threads + Wait + Sync>(
     rt: &R,
     alloc: Global,
     cabinet: &mut MemoryCabinet,
-    sink: Option<Failure>,
     file: &[u8],
-    failing: Vec<Failure>,
     clients: &[&str],
-    accept: Option<Failure>,
-) -> Result<Ran, Fail> {
-    let mut disk = disk_of(alloc, file, failing)?;
-    let mut doors = doors_of(alloc, clients, accept)?;
-    run_over(rt, alloc, cabinet, sink, &mut doors, &mut disk)
+    fails: &Fails,
+) -> Ran {
+    let mut disk = disk_of(rt, alloc, file, fails.disk);
+    let mut doors = doors_of(rt, alloc, clients, fails.accept);
+    run_over(rt, alloc, cabinet, fails.sink, &mut doors, &mut disk)
 }
 
 /// Runs the desk over these doors and this disk.
-fn run_over<R: Threads + Wait + Sync>(
+fn run_over<R: Abort + Threads + Wait + Sync>(
     rt: &R,
     alloc: Global,
     cabinet: &mut MemoryCabinet,
     sink: Option<Failure>,
     doors: &mut Vec<MemoryDoor>,
     disk: &mut Option<MemoryDisk>,
-) -> Result<Ran, Fail> {
-    let said = call_with_disk(rt, alloc, WORDS, cabinet, sink, doors, &RealGate, disk)?;
-    let sent = first_sent(alloc, doors.as_slice())?;
-    let bytes = bytes_of(alloc, disk)?;
-    Ok(Ran { said, sent, bytes })
-}
-
-/// What the first link was sent, nothing where there is none.
-fn first_sent(alloc: Global, doors: &[MemoryDoor]) -> Result<String, Fail> {
-    match first_link(doors, 0) {
-        Some(link) => Ok(folded(alloc, link.sent())?),
-        None => Ok(String::new(alloc)),
+) -> Ran {
+    Ran {
+        said: call_with_disk(rt, alloc, WORDS, cabinet, sink, doors, &RealGate, disk),
+        sent: first_sent(rt, alloc, doors.as_slice()),
+        bytes: bytes_of(rt, alloc, disk),
     }
 }
 
-/// The same where no call fails.
-fn calm<R: Threads + Wait + Sync>(
-    rt: &R,
-    alloc: Global,
-    cabinet: &mut MemoryCabinet,
-    file: &[u8],
-    clients: &[&str],
-) -> Result<Ran, Fail> {
-    run(
-        rt,
-        alloc,
-        cabinet,
-        None,
-        file,
-        Vec::new(alloc),
-        clients,
-        None,
-    )
-}
-
-/// The same with one client.
-fn resume<R: Threads + Wait + Sync>(
+/// The same with one client, where no call fails.
+fn resume<R: Abort + Threads + Wait + Sync>(
     rt: &R,
     alloc: Global,
     cabinet: &mut MemoryCabinet,
     file: &[u8],
     client: &str,
-) -> Result<Ran, Fail> {
-    calm(rt, alloc, cabinet, file, &[client])
+) -> Ran {
+    run(rt, alloc, cabinet, file, &[client], &NO_FAILS)
 }
 
 /// How many pairs a desk finds that opens this file and answers a query.
-fn kept<R: Threads + Wait + Sync>(
+fn kept<R: Abort + Threads + Wait + Sync>(
     rt: &R,
     alloc: Global,
     cabinet: &mut MemoryCabinet,
     file: &[u8],
-) -> Result<usize, Fail> {
-    let ran = resume(rt, alloc, cabinet, file, QUERY)?;
-    for count in 0..4 {
-        let due = format!(in alloc; "0 KEPT {count};ENTRIES 1;LINKS 1;")?;
-        if ran.said.as_str() == due.as_str() {
-            return Ok(count);
-        }
-    }
-    Err(Fail::new(ran.said.clone()?))
+) -> usize {
+    let ran = resume(rt, alloc, cabinet, file, QUERY);
+    pairs_in(rt, ran.said.as_str())
 }
 
-/// Whether a run said this, and its file has so many bytes.
-fn is_run(ran: &Ran, said: &str, size: usize) -> bool {
-    ran.said.as_str() == said && ran.bytes.len() == size
+/// How many pairs a desk that answered a query said that it found, of at most three.
+fn pairs_in(rt: &impl Abort, said: &str) -> usize {
+    match said {
+        "0 KEPT 0;ENTRIES 1;LINKS 1;" => 0,
+        "0 KEPT 1;ENTRIES 1;LINKS 1;" => 1,
+        "0 KEPT 2;ENTRIES 1;LINKS 1;" => 2,
+        "0 KEPT 3;ENTRIES 1;LINKS 1;" => 3,
+        _ => panic!(rt; "{said}"),
+    }
+}
+
+/// A desk finds so many pairs that opens this file.
+fn check_kept<R: Abort + Threads + Wait + Sync>(
+    rt: &R,
+    alloc: Global,
+    cabinet: &mut MemoryCabinet,
+    file: &[u8],
+    pairs: usize,
+) {
+    assert_eq!(rt; kept(rt, alloc, cabinet, file), pairs);
+}
+
+/// Wants a text that fits this.
+fn check_text(rt: &impl Abort, found: &str, due: &str) {
+    assert!(rt; fits(found, due), "{found}");
+}
+
+/// A run said this, and its file has so many bytes.
+fn check_run(rt: &impl Abort, ran: &Ran, said: &str, size: usize) {
+    check_text(rt, ran.said.as_str(), said);
+    assert_eq!(rt; ran.bytes.len(), size);
 }
 
 /// Two asks are answered and stand in the journal; a desk that opens it again has both, records its
 /// own entries alone, and goes on behind them. Without clients it ends at once.
 #[test]
-fn a_journal_is_begun_and_opened_again(rt: HostRuntime) -> Result<(), Fail> {
+fn a_journal_is_begun_and_opened_again(rt: HostRuntime) {
     let alloc = rt.alloc();
-    let mut cabinet = served_cabinet(&rt, alloc)?;
-    let first = resume(&rt, alloc, &mut cabinet, b"", ASKS)?;
-    assert!(rt; is_run(&first, "0 KEPT 0;ENTRIES 2;LINKS 1;", 529));
+    let mut cabinet = served_cabinet(&rt, alloc);
+    let two = resume(&rt, alloc, &mut cabinet, b"", ASKS);
+    check_run(&rt, &two, "0 KEPT 0;ENTRIES 2;LINKS 1;", 529);
     let due = "SCR;S25;20NOV;ABC;KBA002 *;UBA003 *;OBA003 *JFK0700 J;;";
-    assert!(rt; fits(first.sent.as_str(), due));
-    assert!(rt; goes_on(&rt, alloc, &mut cabinet, &first.bytes)?);
-    Ok(())
+    check_text(&rt, two.sent.as_str(), due);
+    check_opened(&rt, alloc, &mut cabinet, &two.bytes);
 }
 
-/// Whether a desk that opens a journal of two pairs has both, and one that opens it then all three.
-fn goes_on<R: Threads + Wait + Sync>(
+/// A desk that opens a journal of two pairs has both, and one that opens it then all three.
+fn check_opened<R: Abort + Threads + Wait + Sync>(
     rt: &R,
     alloc: Global,
     cabinet: &mut MemoryCabinet,
     two: &[u8],
-) -> Result<bool, Fail> {
-    let again = resume(rt, alloc, cabinet, two, QUERY)?;
+) {
+    let three = resume(rt, alloc, cabinet, two, QUERY);
+    check_run(rt, &three, "0 KEPT 2;ENTRIES 1;LINKS 1;", 785);
     let due = "SCR;S25;20NOV;ABC;OBA003 30MAR25OCT 1234567 180320 JFK0700 J;;";
-    Ok(
-        is_run(&again, "0 KEPT 2;ENTRIES 1;LINKS 1;", 785)
-            && again.sent.as_str() == due
-            && has_own_record(alloc, cabinet)?
-            && is_still(rt, alloc, cabinet, &again.bytes)?,
-    )
+    check_text(rt, three.sent.as_str(), due);
+    check_own_record(rt, alloc, cabinet);
+    check_still(rt, alloc, cabinet, &three.bytes);
 }
 
-/// Whether the record is that of the query alone.
-fn has_own_record(alloc: Global, cabinet: &MemoryCabinet) -> Result<bool, Fail> {
-    let record = folded(alloc, cabinet.file("RECORD").ok_or("no record")?)?;
-    Ok(fits(record.as_str(), "ENTRY 1 CALLER 0;QBA003;OBA003 *"))
+/// The record is that of the query alone.
+fn check_own_record(rt: &impl Abort, alloc: Global, cabinet: &MemoryCabinet) {
+    let record = folded(rt, alloc, cabinet.file("RECORD").expect(rt, "no record"));
+    check_text(rt, record.as_str(), "ENTRY 1 CALLER 0;QBA003;OBA003 *");
 }
 
-/// Whether a desk without clients has these three pairs, and leaves the file as it is.
-fn is_still<R: Threads + Wait + Sync>(
+/// A desk without clients has these three pairs, and leaves the file as it is.
+fn check_still<R: Abort + Threads + Wait + Sync>(
     rt: &R,
     alloc: Global,
     cabinet: &mut MemoryCabinet,
     three: &[u8],
-) -> Result<bool, Fail> {
-    let none: [&str; 0] = [];
-    let still = calm(rt, alloc, cabinet, three, &none)?;
-    Ok(still.said.as_str() == "0 KEPT 3;ENTRIES 0;LINKS 0;" && still.bytes.as_slice() == three)
+) {
+    let still = run(rt, alloc, cabinet, three, &[], &NO_FAILS);
+    check_text(rt, still.said.as_str(), "0 KEPT 3;ENTRIES 0;LINKS 0;");
+    assert!(rt; still.bytes.as_slice() == three);
 }
 
 /// Two workers write one journal.
 #[test]
-fn two_workers_keep_one_journal(rt: HostRuntime) -> Result<(), Fail> {
+fn two_workers_keep_one_journal(rt: HostRuntime) {
     let alloc = rt.alloc();
-    let mut cabinet = served_cabinet(&rt, alloc)?;
-    let ran = calm(&rt, alloc, &mut cabinet, b"", &[ASKS, QUERY])?;
-    assert!(rt; is_run(&ran, "0 KEPT 0;ENTRIES 3;LINKS 2;", 785));
-    assert_eq!(rt; kept(&rt, alloc, &mut cabinet, &ran.bytes)?, 3);
-    Ok(())
+    let mut cabinet = served_cabinet(&rt, alloc);
+    let ran = run(&rt, alloc, &mut cabinet, b"", &[ASKS, QUERY], &NO_FAILS);
+    check_run(&rt, &ran, "0 KEPT 0;ENTRIES 3;LINKS 2;", 785);
+    check_kept(&rt, alloc, &mut cabinet, &ran.bytes, 3);
 }
 
 /// The header, and an open slot of caller 0 with this text and a closed gate behind it.
-fn one_slot(alloc: Global, text: &str) -> Result<Vec<u8>, Fail> {
-    let text = spelled_out(alloc, text)?;
-    let Ok(size) = u8::try_from(text.len()) else {
-        return Err("too long".into());
-    };
-    let mut file = spelled_out(alloc, "SLOT JOURNAL 01;")?;
-    for byte in [1, 0, size] {
-        file.push(byte)?;
-    }
-    for byte in &text {
-        file.push(*byte)?;
-    }
-    let filled = file.len();
-    for _ in filled..273 {
-        file.push(0)?;
-    }
-    Ok(file)
+fn one_slot(rt: &impl Abort, alloc: Global, text: &str) -> Vec<u8> {
+    let text = spelled_out(rt, alloc, text);
+    let size = u8::try_from(text.len()).expect(rt, "too long");
+    let mut file = spelled_out(rt, alloc, "SLOT JOURNAL 01;");
+    put(rt, &mut file, &[1, 0, size]);
+    put(rt, &mut file, &text);
+    file.resize(273, 0).expect(rt, "memory");
+    file
+}
+
+fn put(rt: &impl Abort, file: &mut Vec<u8>, bytes: &[u8]) {
+    file.extend_from_slice(bytes).expect(rt, "memory");
 }
 
 /// The bytes from one place up to another, which the file has.
-fn part(bytes: &[u8], from: usize, to: usize) -> Result<&[u8], Fail> {
-    if from <= to && to <= bytes.len() {
-        Ok(&bytes[from..to])
-    } else {
-        Err("too short".into())
-    }
+fn part<'a>(rt: &impl Abort, bytes: &'a [u8], from: usize, to: usize) -> &'a [u8] {
+    assert!(rt; from <= to && to <= bytes.len(), "too short");
+    &bytes[from..to]
 }
 
 /// The file with another byte at a place.
-fn changed(alloc: Global, file: &[u8], place: usize, value: u8) -> Result<Vec<u8>, AllocError> {
-    let mut out = Vec::new(alloc);
-    for (at, byte) in file.iter().enumerate() {
-        out.push(if at == place { value } else { *byte })?;
-    }
-    Ok(out)
+fn changed(rt: &impl Abort, alloc: Global, file: &[u8], place: usize, value: u8) -> Vec<u8> {
+    let mut out = Vec::from_slice(alloc, file).expect(rt, "memory");
+    assert!(rt; place < out.len(), "too short");
+    out[place] = value;
+    out
 }
 
 /// Whether a desk says this of a file, which stays as it is, and sends nothing.
-fn is_refused<R: Threads + Wait + Sync>(
+fn is_refused<R: Abort + Threads + Wait + Sync>(
     rt: &R,
     alloc: Global,
     cabinet: &mut MemoryCabinet,
     file: &[u8],
     due: &str,
-) -> Result<bool, Fail> {
-    let ran = resume(rt, alloc, cabinet, file, ASKS)?;
-    Ok(ran.said.as_str() == due && ran.bytes.as_slice() == file && ran.sent.is_empty())
+) -> bool {
+    let ran = resume(rt, alloc, cabinet, file, ASKS);
+    ran.said.as_str() == due && ran.bytes.as_slice() == file && ran.sent.is_empty()
 }
 
 const LINE: &str = "NBA002 30MAR25OCT 1234567 180320 JFK0620 J;";
 
 /// A file that is no journal, and none.
 #[test]
-fn files_are_refused(rt: HostRuntime) -> Result<(), Fail> {
+fn files_are_refused(rt: HostRuntime) {
     let alloc = rt.alloc();
-    let mut cabinet = served_cabinet(&rt, alloc)?;
-    let zeros = vec![in alloc; 0; 300]?;
-    assert!(rt; is_refused(&rt, alloc, &mut cabinet, &zeros, "13 JOURNAL OTHER;")?);
+    let mut cabinet = served_cabinet(&rt, alloc);
+    assert!(rt; is_refused(&rt, alloc, &mut cabinet, &[0; 300], "13 JOURNAL OTHER;"));
     assert!(rt; cabinet.file("RECORD").is_none());
-    assert!(rt; is_without_disk(&rt, alloc, &mut cabinet)?);
-    Ok(())
+    assert!(rt; is_without_disk(&rt, alloc, &mut cabinet));
 }
 
-fn is_without_disk<R: Threads + Wait + Sync>(
+fn is_without_disk<R: Abort + Threads + Wait + Sync>(
     rt: &R,
     alloc: Global,
     cabinet: &mut MemoryCabinet,
-) -> Result<bool, Fail> {
-    let mut doors = doors_of(alloc, &[ASKS], None)?;
+) -> bool {
+    let mut doors = doors_of(rt, alloc, &[ASKS], None);
     let mut none = None;
     let said = call_with_disk(
         rt, alloc, WORDS, cabinet, None, &mut doors, &RealGate, &mut none,
-    )?;
-    Ok(said.as_str() == "13 JOURNAL NONE;")
+    );
+    said.as_str() == "13 JOURNAL NONE;"
 }
 
 /// A slot of this season, and its front; one of another season, and one without a text.
 #[test]
-fn slots_are_refused(rt: HostRuntime) -> Result<(), Fail> {
+fn slots_are_refused(rt: HostRuntime) {
     let alloc = rt.alloc();
-    let mut cabinet = served_cabinet(&rt, alloc)?;
-    let here = one_slot(alloc, LINE)?;
-    assert_eq!(rt; kept(&rt, alloc, &mut cabinet, &here)?, 1);
-    let cut = part(&here, 0, 272)?;
-    assert!(rt; is_refused(&rt, alloc, &mut cabinet, cut, "13 JOURNAL SLOT 0;")?);
+    let mut cabinet = served_cabinet(&rt, alloc);
+    check_slot(&rt, alloc, &mut cabinet);
     for text in ["NBA002 26OCT28MAR 1234567 180320 JFK0620 J;", ""] {
-        assert!(rt; is_slot_refused(&rt, alloc, &mut cabinet, text)?, "{text}");
+        assert!(rt; is_slot_refused(&rt, alloc, &mut cabinet, text), "{text}");
     }
-    Ok(())
 }
 
-fn is_slot_refused<R: Threads + Wait + Sync>(
+/// A slot of this season is kept, and its front is not.
+fn check_slot<R: Abort + Threads + Wait + Sync>(
+    rt: &R,
+    alloc: Global,
+    cabinet: &mut MemoryCabinet,
+) {
+    let here = one_slot(rt, alloc, LINE);
+    check_kept(rt, alloc, cabinet, &here, 1);
+    let cut = part(rt, &here, 0, 272);
+    assert!(rt; is_refused(rt, alloc, cabinet, cut, "13 JOURNAL SLOT 0;"));
+}
+
+fn is_slot_refused<R: Abort + Threads + Wait + Sync>(
     rt: &R,
     alloc: Global,
     cabinet: &mut MemoryCabinet,
     text: &str,
-) -> Result<bool, Fail> {
-    let file = one_slot(alloc, text)?;
+) -> bool {
+    let file = one_slot(rt, alloc, text);
     is_refused(rt, alloc, cabinet, &file, "13 JOURNAL SLOT 0;")
 }
 
 /// One byte of an open slot is another: its length, and each behind its text.
 #[test]
-fn damaged_slots_are_refused(rt: HostRuntime) -> Result<(), Fail> {
+fn damaged_slots_are_refused(rt: HostRuntime) {
     let alloc = rt.alloc();
-    let mut cabinet = served_cabinet(&rt, alloc)?;
-    let whole = one_slot(alloc, LINE)?;
+    let mut cabinet = served_cabinet(&rt, alloc);
+    let whole = one_slot(&rt, alloc, LINE);
+    check_damages(&rt, alloc, &mut cabinet, &whole);
+}
+
+fn check_damages<R: Abort + Threads + Wait + Sync>(
+    rt: &R,
+    alloc: Global,
+    cabinet: &mut MemoryCabinet,
+    whole: &[u8],
+) {
     for place in 18..272 {
         if place > 18 && place < 19 + LINE.len() {
             continue;
         }
-        assert!(rt;
-            is_damaged(&rt, alloc, &mut cabinet, &whole, place)?,
-            "{place}"
-        );
+        assert!(rt; is_damaged(rt, alloc, cabinet, whole, place), "{place}");
     }
-    Ok(())
 }
 
 /// Whether a slot is refused that has another byte at a place.
-fn is_damaged<R: Threads + Wait + Sync>(
+fn is_damaged<R: Abort + Threads + Wait + Sync>(
     rt: &R,
     alloc: Global,
     cabinet: &mut MemoryCabinet,
     whole: &[u8],
     place: usize,
-) -> Result<bool, Fail> {
-    let file = changed(alloc, whole, place, 99)?;
-    let ran = resume(rt, alloc, cabinet, &file, QUERY)?;
-    Ok(ran.said.as_str() == "13 JOURNAL SLOT 0;")
+) -> bool {
+    let file = changed(rt, alloc, whole, place, 99);
+    let ran = resume(rt, alloc, cabinet, &file, QUERY);
+    ran.said.as_str() == "13 JOURNAL SLOT 0;"
 }
 
 /// Each call of the disk fails once: five of the opening, and four for each ask. What was entered
 /// stands in the journal, and from the opening of a gate on one more may.
 #[test]
-fn each_call_of_the_disk_fails(rt: HostRuntime) -> Result<(), Fail> {
+fn each_call_of_the_disk_fails(rt: HostRuntime) {
     let alloc = rt.alloc();
-    let mut cabinet = served_cabinet(&rt, alloc)?;
+    let mut cabinet = served_cabinet(&rt, alloc);
     for call in 0..13 {
-        assert!(rt;
-            may_fail(&rt, alloc, &mut cabinet, b"", ASKS, call)?,
-            "call {call}"
-        );
+        check_call(&rt, alloc, &mut cabinet, b"", ASKS, call);
     }
-    Ok(())
 }
 
 /// The same of a journal of two pairs: three of the five calls read it.
 #[test]
-fn each_call_of_a_later_opening_fails(rt: HostRuntime) -> Result<(), Fail> {
+fn each_call_of_a_later_opening_fails(rt: HostRuntime) {
     let alloc = rt.alloc();
-    let mut cabinet = served_cabinet(&rt, alloc)?;
-    let two = resume(&rt, alloc, &mut cabinet, b"", ASKS)?;
+    let mut cabinet = served_cabinet(&rt, alloc);
+    let two = resume(&rt, alloc, &mut cabinet, b"", ASKS);
     for call in 0..9 {
-        let kept = may_fail(&rt, alloc, &mut cabinet, &two.bytes, QUERY, call)?;
-        assert!(rt; kept, "call {call}");
+        check_call(&rt, alloc, &mut cabinet, &two.bytes, QUERY, call);
     }
-    Ok(())
 }
 
-/// Whether a call of the disk may fail, after any of these numbers of bytes.
-fn may_fail<R: Threads + Wait + Sync>(
+/// A call of the disk may fail, after any of these numbers of bytes.
+fn check_call<R: Abort + Threads + Wait + Sync>(
     rt: &R,
     alloc: Global,
     cabinet: &mut MemoryCabinet,
     file: &[u8],
     client: &str,
     call: u64,
-) -> Result<bool, Fail> {
+) {
     for part in [0, 1, 200, 999] {
-        let failing = [Failure::after(call, part)].to_vec(alloc)?;
-        if !may_fail_after(rt, alloc, cabinet, file, client, call, failing)? {
-            return Ok(false);
-        }
+        let failing = Failure::after(call, part);
+        let is_good = may_fail(rt, alloc, cabinet, file, client, failing);
+        assert!(rt; is_good, "call {call} after {part} bytes");
     }
-    Ok(true)
 }
 
-fn may_fail_after<R: Threads + Wait + Sync>(
+/// Whether a call of the disk may fail.
+fn may_fail<R: Abort + Threads + Wait + Sync>(
     rt: &R,
     alloc: Global,
     cabinet: &mut MemoryCabinet,
     file: &[u8],
     client: &str,
-    call: u64,
-    failing: Vec<Failure>,
-) -> Result<bool, Fail> {
-    let ran = run(rt, alloc, cabinet, None, file, failing, &[client], None)?;
-    let found = kept(rt, alloc, cabinet, &ran.bytes)?;
-    Ok(ran.sent.is_empty() && is_failed(alloc, file, &ran, call, found as u64)?)
+    failing: Failure,
+) -> bool {
+    let ran = run(rt, alloc, cabinet, file, &[client], &disk_fails(failing));
+    let found = kept(rt, alloc, cabinet, &ran.bytes);
+    ran.sent.is_empty() && is_failed(rt, alloc, file, &ran, failing.call, found as u64)
+}
+
+/// This call of the disk fails.
+fn disk_fails(failing: Failure) -> Fails {
+    let mut fails = NO_FAILS;
+    fails.disk = Some(failing);
+    fails
 }
 
 /// Whether a run on a file said that this call failed, and so many pairs were found behind it.
-fn is_failed(alloc: Global, file: &[u8], ran: &Ran, call: u64, found: u64) -> Result<bool, Fail> {
+fn is_failed(
+    rt: &impl Abort,
+    alloc: Global,
+    file: &[u8],
+    ran: &Ran,
+    call: u64,
+    found: u64,
+) -> bool {
     let pairs = file.len() as u64 / 256;
     let Some(behind) = call.checked_sub(5) else {
-        return Ok(
-            ran.said.as_str() == "14 JOURNAL FAULT;"
-                && found == pairs
-                && (file.is_empty() || ran.bytes.as_slice() == file),
-        );
+        return ran.said.as_str() == "14 JOURNAL FAULT;"
+            && found == pairs
+            && (file.is_empty() || ran.bytes.as_slice() == file);
     };
     let entered = behind / 4;
-    let due = format!(in alloc; "14 KEPT {pairs};ENTRIES {entered};LINKS 1;")?;
     let more = found.wrapping_sub(pairs).wrapping_sub(entered);
-    Ok(ran.said.as_str() == due.as_str() && (more == 0 || more == 1 && behind % 4 >= 2))
+    has_entered(rt, alloc, ran.said.as_str(), pairs, entered)
+        && (more == 0 || more == 1 && behind % 4 >= 2)
+}
+
+/// Whether it was said that the disk failed behind so many pairs and entries.
+fn has_entered(rt: &impl Abort, alloc: Global, said: &str, pairs: u64, entered: u64) -> bool {
+    let due = format!(in alloc; "14 KEPT {pairs};ENTRIES {entered};LINKS 1;").expect(rt, "memory");
+    said == due.as_str()
 }
 
 /// The status of a disk that failed comes before that of a door, and a file that is not in its form
 /// before any call of the disk.
 #[test]
-fn statuses_have_an_order(rt: HostRuntime) -> Result<(), Fail> {
+fn statuses_have_an_order(rt: HostRuntime) {
     let alloc = rt.alloc();
-    let mut cabinet = served_cabinet(&rt, alloc)?;
-    let none = Vec::new(alloc);
-    let said = says(&rt, alloc, &mut cabinet, none, Some(Failure::at(0)))?;
-    assert_eq!(rt; said.as_str(), "10 KEPT 0;ENTRIES 2;LINKS 1;");
-    let failing = [Failure::at(6)].to_vec(alloc)?;
-    let said = says(&rt, alloc, &mut cabinet, failing, Some(Failure::at(0)))?;
-    assert_eq!(rt; said.as_str(), "14 KEPT 0;ENTRIES 0;LINKS 1;");
+    let mut cabinet = served_cabinet(&rt, alloc);
+    let mut fails = NO_FAILS;
+    fails.accept = Some(Failure::at(0));
+    check_said(
+        &rt,
+        alloc,
+        &mut cabinet,
+        &fails,
+        "10 KEPT 0;ENTRIES 2;LINKS 1;",
+    );
+    fails.disk = Some(Failure::at(6));
+    check_said(
+        &rt,
+        alloc,
+        &mut cabinet,
+        &fails,
+        "14 KEPT 0;ENTRIES 0;LINKS 1;",
+    );
     let _ = cabinet.load("CERT", b"CERT 4\n");
-    let failing = [Failure::at(0)].to_vec(alloc)?;
-    let said = says(&rt, alloc, &mut cabinet, failing, None)?;
-    assert_eq!(rt; said.as_str(), "3 FORM CERT 1;");
-    Ok(())
+    let fails = disk_fails(Failure::at(0));
+    check_said(&rt, alloc, &mut cabinet, &fails, "3 FORM CERT 1;");
 }
 
-/// What a desk says over two doors, an accept of the first of which may fail.
-fn says<R: Threads + Wait + Sync>(
+/// A desk says this over two doors, where these calls fail.
+fn check_said<R: Abort + Threads + Wait + Sync>(
     rt: &R,
     alloc: Global,
     cabinet: &mut MemoryCabinet,
-    failing: Vec<Failure>,
-    accept: Option<Failure>,
-) -> Result<String, Fail> {
-    let ran = run(
-        rt,
-        alloc,
-        cabinet,
-        None,
-        b"",
-        failing,
-        &[QUERY, ASKS],
-        accept,
-    )?;
-    Ok(ran.said.clone()?)
+    fails: &Fails,
+    due: &str,
+) {
+    let ran = run(rt, alloc, cabinet, b"", &[QUERY, ASKS], fails);
+    check_text(rt, ran.said.as_str(), due);
 }
 
 /// A front of a file, and so many bytes of a filling behind it.
-fn image(alloc: Global, front: &[u8], count: usize, filling: &[u8]) -> Result<Vec<u8>, AllocError> {
-    let mut bytes = Vec::from_slice(alloc, front)?;
+fn image(rt: &impl Abort, alloc: Global, front: &[u8], count: usize, filling: &[u8]) -> Vec<u8> {
+    let mut bytes = Vec::from_slice(alloc, front).expect(rt, "memory");
     for place in 0..count {
-        bytes.push(filling.get(place).copied().unwrap_or(255))?;
+        let byte = filling.get(place).copied().unwrap_or(255);
+        bytes.push(byte).expect(rt, "memory");
     }
-    Ok(bytes)
+    bytes
 }
 
 /// Whether a desk finds so many pairs in a file of a front and so many bytes of a filling.
-fn finds<R: Threads + Wait + Sync>(
+fn finds<R: Abort + Threads + Wait + Sync>(
     rt: &R,
     alloc: Global,
     cabinet: &mut MemoryCabinet,
@@ -450,174 +453,189 @@ fn finds<R: Threads + Wait + Sync>(
     count: usize,
     filling: &[u8],
     pairs: usize,
-) -> Result<bool, Fail> {
-    let file = image(alloc, front, count, filling)?;
-    Ok(kept(rt, alloc, cabinet, &file)? == pairs)
+) -> bool {
+    let file = image(rt, alloc, front, count, filling);
+    kept(rt, alloc, cabinet, &file) == pairs
 }
 
 /// A stop while a short file is made anew: any length, and any bytes.
 #[test]
-fn images_of_a_short_file_are_opened(rt: HostRuntime) -> Result<(), Fail> {
+fn images_of_a_short_file_are_opened(rt: HostRuntime) {
     let alloc = rt.alloc();
-    let mut cabinet = served_cabinet(&rt, alloc)?;
-    let two = resume(&rt, alloc, &mut cabinet, b"", ASKS)?;
+    let mut cabinet = served_cabinet(&rt, alloc);
+    let two = resume(&rt, alloc, &mut cabinet, b"", ASKS);
     for count in 0..18 {
-        let bytes = &two.bytes;
-        let is_empty = finds(&rt, alloc, &mut cabinet, b"", count, bytes, 0)?
-            && finds(&rt, alloc, &mut cabinet, b"", count, &[0; 18], 0)?;
-        assert!(rt; is_empty, "{count} bytes");
+        check_short(&rt, alloc, &mut cabinet, &two.bytes, count);
     }
-    Ok(())
+}
+
+/// Nothing is found in so many of these bytes, nor in as many zeros.
+fn check_short<R: Abort + Threads + Wait + Sync>(
+    rt: &R,
+    alloc: Global,
+    cabinet: &mut MemoryCabinet,
+    bytes: &[u8],
+    count: usize,
+) {
+    assert!(rt;
+        finds(rt, alloc, cabinet, b"", count, bytes, 0),
+        "{count} bytes"
+    );
+    assert!(rt;
+        finds(rt, alloc, cabinet, b"", count, &[0; 18], 0),
+        "{count} zeros"
+    );
 }
 
 /// A stop while a pair is put, before its first sync: any length and any bytes behind what stood
 /// before. Then while its gate is opened: any value of the gate.
 #[test]
-fn images_of_a_stop_are_opened(rt: HostRuntime) -> Result<(), Fail> {
+fn images_of_a_stop_are_opened(rt: HostRuntime) {
     let alloc = rt.alloc();
-    let mut cabinet = served_cabinet(&rt, alloc)?;
-    let two = resume(&rt, alloc, &mut cabinet, b"", ASKS)?;
+    let mut cabinet = served_cabinet(&rt, alloc);
+    let two = resume(&rt, alloc, &mut cabinet, b"", ASKS);
     for pairs in 0..2 {
-        let gate = 16 + 256 * pairs;
-        let front = part(&two.bytes, 0, gate)?;
-        let slot = part(&two.bytes, gate + 1, gate + 256)?;
-        let is_found = are_slots_found(&rt, alloc, &mut cabinet, front, slot, &two.bytes, pairs)?
-            && are_gates_found(&rt, alloc, &mut cabinet, front, slot, pairs)?;
-        assert!(rt; is_found, "{pairs} pairs");
+        check_stops(&rt, alloc, &mut cabinet, &two.bytes, pairs);
     }
-    Ok(())
 }
 
-/// Whether so many pairs are found behind a stop before the first sync, where the slot's bytes, or
-/// others, have come in part.
-fn are_slots_found<R: Threads + Wait + Sync>(
+/// The images of a stop behind so many of two pairs.
+fn check_stops<R: Abort + Threads + Wait + Sync>(
     rt: &R,
     alloc: Global,
     cabinet: &mut MemoryCabinet,
-    front: &[u8],
-    slot: &[u8],
     two: &[u8],
     pairs: usize,
-) -> Result<bool, Fail> {
-    let closed = image(alloc, front, 1, &[0])?;
-    let zeros = vec![in alloc; 0; 256]?;
-    for filling in [slot, zeros.as_slice(), two, b"".as_slice()] {
-        if !is_each_found(rt, alloc, cabinet, &closed, filling, pairs)? {
-            return Ok(false);
-        }
+) {
+    assert!(rt; pairs < 2);
+    let gate = 16 + 256 * pairs;
+    let front = part(rt, two, 0, gate);
+    let slot = part(rt, two, gate + 1, gate + 256);
+    let closed = image(rt, alloc, front, 1, &[0]);
+    for filling in [slot, &[0; 256], two, b""] {
+        check_slots(rt, alloc, cabinet, &closed, filling, pairs);
     }
-    Ok(true)
+    check_gates(rt, alloc, cabinet, front, slot, pairs);
 }
 
-fn is_each_found<R: Threads + Wait + Sync>(
+/// So many pairs are found behind a stop before the first sync, where the slot's bytes, or others,
+/// have come in part.
+fn check_slots<R: Abort + Threads + Wait + Sync>(
     rt: &R,
     alloc: Global,
     cabinet: &mut MemoryCabinet,
     closed: &[u8],
     filling: &[u8],
     pairs: usize,
-) -> Result<bool, Fail> {
+) {
     for count in [0, 1, 2, 63, 254, 255, 256] {
-        if !finds(rt, alloc, cabinet, closed, count, filling, pairs)? {
-            return Ok(false);
-        }
+        let is_found = finds(rt, alloc, cabinet, closed, count, filling, pairs);
+        assert!(rt; is_found, "{pairs} pairs and {count} bytes");
     }
-    Ok(true)
 }
 
-/// Whether so many pairs are found behind a stop while the gate is opened, or with gate 1 one more.
-fn are_gates_found<R: Threads + Wait + Sync>(
+/// So many pairs are found behind a stop while the gate is opened, or with gate 1 one more.
+fn check_gates<R: Abort + Threads + Wait + Sync>(
     rt: &R,
     alloc: Global,
     cabinet: &mut MemoryCabinet,
     front: &[u8],
     slot: &[u8],
     pairs: usize,
-) -> Result<bool, Fail> {
+) {
     for value in [0, 1, 2, 128, 255] {
-        let due = if value == 1 {
-            pairs.wrapping_add(1)
-        } else {
-            pairs
-        };
-        let file = image(alloc, front, 1, &[value])?;
-        if !finds(rt, alloc, cabinet, &file, 256, slot, due)? {
-            return Ok(false);
-        }
+        let more = usize::from(value == 1);
+        let file = image(rt, alloc, front, 1, &[value]);
+        let is_found = finds(
+            rt,
+            alloc,
+            cabinet,
+            &file,
+            256,
+            slot,
+            pairs.wrapping_add(more),
+        );
+        assert!(rt; is_found, "{pairs} pairs and gate {value}");
     }
-    Ok(true)
 }
 
 /// A cabinet with the files of another one that the desk reads, of which a call is to fail.
 fn copied(
+    rt: &impl Abort,
     alloc: Global,
     files: &MemoryCabinet,
     call: Option<Failure>,
-) -> Result<MemoryCabinet, Fail> {
-    let mut cabinet = new_cabinet(alloc, 300_000, call)?;
+) -> MemoryCabinet {
+    let mut cabinet = new_cabinet(rt, alloc, 300_000, call);
     for name in ["CAP", "SCR", "CERT"] {
-        let _ = cabinet.load(name, files.file(name).ok_or("no such file")?);
+        let _ = cabinet.load(name, files.file(name).expect(rt, "no such file"));
     }
-    Ok(cabinet)
+    cabinet
 }
 
-/// Whether the desk says this on these files, of which a call is to fail, or the output, and the
-/// journal has both pairs then.
-fn stands_behind<R: Threads + Wait + Sync>(
+/// A run on a copy of these files, of which a call is to fail, or the output.
+fn run_on_copy<R: Abort + Threads + Wait + Sync>(
     rt: &R,
     alloc: Global,
-    files: &mut MemoryCabinet,
-    call: Option<Failure>,
-    sink: Option<Failure>,
-    due: &str,
-) -> Result<bool, Fail> {
-    let mut cabinet = copied(alloc, files, call)?;
-    let none = Vec::new(alloc);
-    let ran = run(rt, alloc, &mut cabinet, sink, b"", none, &[ASKS], None)?;
-    Ok(ran.said.as_str() == due && kept(rt, alloc, files, &ran.bytes)? == 2)
+    files: &MemoryCabinet,
+    fails: &Fails,
+) -> Ran {
+    let mut cabinet = copied(rt, alloc, files, fails.cabinet);
+    run(rt, alloc, &mut cabinet, b"", &[ASKS], fails)
 }
 
 /// The record cannot be written, or what is said not be put: the journal has all entries.
 #[test]
-fn the_journal_stands_where_the_record_fails(rt: HostRuntime) -> Result<(), Fail> {
+fn the_journal_stands_where_the_record_fails(rt: HostRuntime) {
     let alloc = rt.alloc();
-    let mut files = served_cabinet(&rt, alloc)?;
+    let mut files = served_cabinet(&rt, alloc);
     let due = "5 CABINET RECORD WRITE;";
-    for fails in [Failure::at(3), Failure::after(3, 8)] {
-        assert!(rt; stands_behind(&rt, alloc, &mut files, Some(fails), None, due)?);
-    }
-    let fails = Some(Failure::at(0));
-    assert!(rt; stands_behind(&rt, alloc, &mut files, None, fails, "6 ")?);
-    Ok(())
+    let mut fails = NO_FAILS;
+    fails.cabinet = Some(Failure::at(3));
+    check_behind(&rt, alloc, &mut files, &fails, due);
+    fails.cabinet = Some(Failure::after(3, 8));
+    check_behind(&rt, alloc, &mut files, &fails, due);
+    let mut fails = NO_FAILS;
+    fails.sink = Some(Failure::at(0));
+    check_behind(&rt, alloc, &mut files, &fails, "6 ");
+}
+
+/// The desk says this on these files, where a call fails, and the journal has both pairs then.
+fn check_behind<R: Abort + Threads + Wait + Sync>(
+    rt: &R,
+    alloc: Global,
+    files: &mut MemoryCabinet,
+    fails: &Fails,
+    due: &str,
+) {
+    let ran = run_on_copy(rt, alloc, files, fails);
+    check_text(rt, ran.said.as_str(), due);
+    check_kept(rt, alloc, files, &ran.bytes, 2);
 }
 
 /// Each read fails: nothing of the journal is asked, and no client is met.
 #[test]
-fn each_read_fails(rt: HostRuntime) -> Result<(), Fail> {
+fn each_read_fails(rt: HostRuntime) {
     let alloc = rt.alloc();
-    let files = served_cabinet(&rt, alloc)?;
-    for (call, due) in ["CAP", "SCR", "CERT"].iter().enumerate() {
-        assert!(rt;
-            is_unread(&rt, alloc, &files, call as u64, *due)?,
-            "call {call}"
-        );
-    }
-    Ok(())
+    let files = served_cabinet(&rt, alloc);
+    check_unread(&rt, alloc, &files, 0, "5 CABINET CAP READ;");
+    check_unread(&rt, alloc, &files, 1, "5 CABINET SCR READ;");
+    check_unread(&rt, alloc, &files, 2, "5 CABINET CERT READ;");
 }
 
-/// Whether the desk says that this read failed, and leaves an empty file and a silent link.
-fn is_unread<R: Threads + Wait + Sync>(
+/// The desk says that this read failed, and leaves an empty file and a silent link.
+fn check_unread<R: Abort + Threads + Wait + Sync>(
     rt: &R,
     alloc: Global,
     files: &MemoryCabinet,
     call: u64,
-    name: &str,
-) -> Result<bool, Fail> {
-    let mut cabinet = copied(alloc, files, Some(Failure::at(call)))?;
-    let none = Vec::new(alloc);
-    let ran = run(rt, alloc, &mut cabinet, None, b"", none, &[ASKS], None)?;
-    let due = format!(in alloc; "5 CABINET {name} READ;")?;
-    Ok(ran.said.as_str() == due.as_str() && ran.bytes.is_empty() && ran.sent.is_empty())
+    due: &str,
+) {
+    let mut fails = NO_FAILS;
+    fails.cabinet = Some(Failure::at(call));
+    let ran = run_on_copy(rt, alloc, files, &fails);
+    check_run(rt, &ran, due, 0);
+    check_text(rt, ran.sent.as_str(), "");
 }
 
 /// One hour of two arrivals, one of them historic, and an empty journal.
@@ -689,30 +707,40 @@ holds RECORD ENTRY 1 CALLER *;*ENTRY 4 CALLER *;QBA001;HBA001 *
 kept 4";
 
 #[test]
-fn links_and_doors_fail(rt: HostRuntime) -> Result<(), Fail> {
+fn links_and_doors_fail(rt: HostRuntime) {
     let alloc = rt.alloc();
-    let script = format!(in alloc; "{JOURNALED}{FAILS}")?;
-    play_script(&rt, alloc, &script)
+    let script = format!(in alloc; "{JOURNALED}{FAILS}").expect(&rt, "memory");
+    play_script(&rt, alloc, &script);
 }
 
 /// One link in pieces of one byte, of which each take and the put fail in turn: what was sent is
 /// whole or nothing, and the asks stand in the record and in the journal where their message had
 /// come.
 #[test]
-fn each_call_of_a_link_fails(rt: HostRuntime) -> Result<(), Fail> {
+fn each_call_of_a_link_fails(rt: HostRuntime) {
     let alloc = rt.alloc();
-    let takes = spelled_out(alloc, SIX_ASKS)?.len();
-    let mut script = format!(in alloc; "{JOURNALED}piece 1\ndoor {SIX_ASKS}\n")?;
-    for call in 0..takes + 3 {
-        let rows = rows_of_call(alloc, takes, call)?;
-        script.push_str(&rows)?;
-    }
-    play_script(&rt, alloc, &script)
+    let script = script_of_calls(&rt, alloc);
+    play_script(&rt, alloc, &script);
 }
 
-/// What is said, sent, recorded and kept where this call of a link fails, of which so many are
-/// takes of its message.
-fn rows_of_call(alloc: Global, takes: usize, call: usize) -> Result<String, Fail> {
+fn script_of_calls(rt: &impl Abort, alloc: Global) -> String {
+    let mut script = piecewise(rt, alloc, SIX_ASKS);
+    for call in 0..SIX_ASKS.len() + 3 {
+        let rows = rows_of_call(rt, alloc, call);
+        script.push_str(&rows).expect(rt, "memory");
+    }
+    script
+}
+
+/// A journal, and a link of these messages in pieces of one byte.
+fn piecewise(rt: &impl Abort, alloc: Global, messages: &str) -> String {
+    format!(in alloc; "{JOURNALED}piece 1\ndoor {messages}\n").expect(rt, "memory")
+}
+
+/// What is said, sent, recorded and kept where this call of a link fails, which is a take of its
+/// message, or comes behind these.
+fn rows_of_call(rt: &impl Abort, alloc: Global, call: usize) -> String {
+    let takes = SIX_ASKS.len();
     let (entered, record) = if call < takes {
         (0, "")
     } else {
@@ -723,27 +751,32 @@ fn rows_of_call(alloc: Global, takes: usize, call: usize) -> Result<String, Fail
     } else {
         "SCR;S25;20NOV;ABC;KBA002 *;WBA009 30MAR25OCT 1234567 180320 JFK0700 J;;"
     };
-    Ok(format!(in alloc;
+    format!(in alloc;
         "link {call}|0 KEPT 0;ENTRIES {entered};LINKS 1;\nsent 0 0 {sent}\n\
         holds RECORD {record}\nkept {entered}\n"
-    )?)
+    )
+    .expect(rt, "memory")
 }
 
 /// Two messages in pieces of one byte: where a take of the second one fails, the first has its
 /// reply, its entry and its pair.
 #[test]
-fn a_reply_is_sent_before_more_is_taken(rt: HostRuntime) -> Result<(), Fail> {
+fn a_reply_is_sent_before_more_is_taken(rt: HostRuntime) {
     let alloc = rt.alloc();
-    let all = spelled_out(alloc, TWO_MESSAGES)?.len();
-    let (first, _) = TWO_MESSAGES.split_once(";;").ok_or("two messages")?;
+    let script = script_of_replies(&rt, alloc);
+    play_script(&rt, alloc, &script);
+}
+
+fn script_of_replies(rt: &impl Abort, alloc: Global) -> String {
+    let (first, _) = TWO_MESSAGES.split_once(";;").expect(rt, "two messages");
     let takes = first.len() + 2;
-    let mut script = format!(in alloc; "{JOURNALED}piece 1\ndoor {TWO_MESSAGES}\n")?;
+    let mut script = piecewise(rt, alloc, TWO_MESSAGES);
     // behind the takes of the first message comes one put
-    for call in takes.saturating_add(1)..all + 1 {
-        let rows = format!(in alloc; "link {call}|{FIRST_ROWS}")?;
-        script.push_str(&rows)?;
+    for call in takes.saturating_add(1)..TWO_MESSAGES.len() + 1 {
+        let rows = format!(in alloc; "link {call}|{FIRST_ROWS}").expect(rt, "memory");
+        script.push_str(&rows).expect(rt, "memory");
     }
-    play_script(&rt, alloc, &script)
+    script
 }
 
 /// The first of these messages was answered, and the second did not come.

@@ -1,15 +1,17 @@
 //! The rows of `serve`: sessions worked by hand over links in memory, devices that fail at each
 //! call, and two workers that run at once.
 
-use crate::desk_calls::{call_alone, call_desk, door_of, doors_of, first_link, new_cabinet};
+use crate::desk_calls::{
+    call_alone, call_desk, door_of, doors_of, first_link, first_sent, new_cabinet,
+};
 use crate::play::play_script;
 use crate::texts::{folded, spelled_out};
 use desk_links::MemoryDoor;
 use desk_outside::{Failure, MemoryCabinet};
 use std::alloc::Global;
+use std::process::Abort;
 use std::sync::Wait;
 use std::sync::atomic::{AtomicU64, Ordering};
-use std::test::Fail;
 use std::thread::Threads;
 use worker_gate::{Gate, RealGate};
 
@@ -193,13 +195,13 @@ says 0 ENTRIES 2;LINKS 2;
 holds RECORD ENTRY 1 CALLER *;N*;KBA00*;ENTRY 2 CALLER *;N*;UBA00*;OBA00*";
 
 #[test]
-fn asks_over_links(rt: HostRuntime) -> Result<(), Fail> {
-    play_script(&rt, rt.alloc(), SERVED)
+fn asks_over_links(rt: HostRuntime) {
+    play_script(&rt, rt.alloc(), SERVED);
 }
 
 #[test]
-fn ends_of_sessions(rt: HostRuntime) -> Result<(), Fail> {
-    play_script(&rt, rt.alloc(), ENDS)
+fn ends_of_sessions(rt: HostRuntime) {
+    play_script(&rt, rt.alloc(), ENDS);
 }
 
 const CAP: &str = "AIRPORT ABC;SEASON S25;STEP 5;FLEX 60;GROUND 40;REFUSE NONE;\
@@ -227,15 +229,22 @@ const WORDS: &str = "serve CAP SCR CERT RECORD";
 const TWO_ASKS: &str = "SCR;S25;20NOV;ABC;NBA002 30MAR25OCT 1234567 180320 JFK0620 J;QBA002;;";
 
 /// A cabinet with a season and its certificate.
-pub(crate) fn served_cabinet<R: Threads + Wait + Sync>(
+pub(crate) fn served_cabinet<R: Abort + Threads + Wait + Sync>(
     rt: &R,
     alloc: Global,
-) -> Result<MemoryCabinet, Fail> {
-    let mut cabinet = new_cabinet(alloc, 4_000_000, None)?;
-    let _ = cabinet.load("CAP", &spelled_out(alloc, CAP)?);
-    let _ = cabinet.load("SCR", &spelled_out(alloc, SCR)?);
-    call_alone(rt, alloc, "allocate CAP SCR CERT REPLIES", &mut cabinet)?;
-    Ok(cabinet)
+) -> MemoryCabinet {
+    let mut cabinet = new_cabinet(rt, alloc, 4_000_000, None);
+    load(rt, alloc, &mut cabinet, "CAP", CAP);
+    load(rt, alloc, &mut cabinet, "SCR", SCR);
+    let said = call_alone(rt, alloc, "allocate CAP SCR CERT REPLIES", &mut cabinet);
+    assert!(rt; said.as_str().starts_with("0 STAGE 1 OPTIMAL 0;"), "{said}");
+    cabinet
+}
+
+/// Loads a file of this text.
+fn load(rt: &impl Abort, alloc: Global, cabinet: &mut MemoryCabinet, name: &str, text: &str) {
+    let bytes = spelled_out(rt, alloc, text);
+    assert!(rt; cabinet.load(name, &bytes), "{name} has no room");
 }
 
 /// Worker 1 waits at its first line until worker 0 has come to its first, and worker 0 at each of
@@ -277,68 +286,90 @@ impl Gate for Meeting {
 
 // Served one after the other, in either order, a worker would wait in vain.
 #[test]
-fn two_workers_serve_at_once(rt: HostRuntime) -> Result<(), Fail> {
+fn two_workers_serve_at_once(rt: HostRuntime) {
     let alloc = rt.alloc();
-    let mut cabinet = served_cabinet(&rt, alloc)?;
-    let mut doors = doors_of(alloc, &[TWO_ASKS, TWO_ASKS], None)?;
+    let mut cabinet = served_cabinet(&rt, alloc);
     let gate = Meeting {
         came: AtomicU64::new(0),
         lines: AtomicU64::new(0),
         met: AtomicU64::new(0),
     };
-    let words = "serve CAP SCR CERT RECORD --workers 2";
-    let said = call_desk(&rt, alloc, words, &mut cabinet, None, &mut doors, &gate)?;
-    assert_eq!(rt; said.as_str(), "0 ENTRIES 4;LINKS 2;");
+    check_meeting(&rt, alloc, &mut cabinet, &gate);
     assert_eq!(rt; gate.met.load(Ordering::SeqCst), 4);
-    Ok(())
+}
+
+/// Two workers answer four asks between these gates.
+fn check_meeting<R: Abort + Threads + Wait + Sync>(
+    rt: &R,
+    alloc: Global,
+    cabinet: &mut MemoryCabinet,
+    gate: &Meeting,
+) {
+    let mut doors = doors_of(rt, alloc, &[TWO_ASKS, TWO_ASKS], None);
+    let words = "serve CAP SCR CERT RECORD --workers 2";
+    let said = call_desk(rt, alloc, words, cabinet, None, &mut doors, gate);
+    assert_eq!(rt; said.as_str(), "0 ENTRIES 4;LINKS 2;");
 }
 
 // 101 messages of 991 queries for a flight that holds nothing: the history is full behind the 900th
 // ask of the last one, which has no reply. A door that fails beside it comes before that.
 #[test]
-fn a_history_is_full(rt: HostRuntime) -> Result<(), Fail> {
+fn a_history_is_full(rt: HostRuntime) {
     let alloc = rt.alloc();
-    let text = too_many_queries(alloc)?;
-    let said = served(&rt, alloc, &[text.as_str()], None)?;
-    assert_eq!(rt; said.as_str(), "11 ENTRIES 100000;LINKS 1;695600");
-    let both = [TWO_ASKS, text.as_str()];
-    let said = served(&rt, alloc, &both, Some(Failure::at(0)))?;
-    assert_eq!(rt; said.as_str(), "10 ENTRIES 100000;LINKS 1;695600");
-    Ok(())
+    let text = too_many_queries(&rt, alloc);
+    let text = text.as_str();
+    check_served(
+        &rt,
+        alloc,
+        &[text],
+        None,
+        "11 ENTRIES 100000;LINKS 1;695600",
+    );
+    let fails = Some(Failure::at(0));
+    check_served(
+        &rt,
+        alloc,
+        &[TWO_ASKS, text],
+        fails,
+        "10 ENTRIES 100000;LINKS 1;695600",
+    );
 }
 
-/// What the desk says over a door for each text of clients, of which an accept of the first may
-/// fail, and how many bytes the first link of the last door was sent.
-fn served<R: Threads + Wait + Sync>(
+/// The desk says this over a door for each text of clients, of which an accept of the first may
+/// fail, and with it how many bytes the first link of the last door was sent.
+fn check_served<R: Abort + Threads + Wait + Sync>(
     rt: &R,
     alloc: Global,
     clients: &[&str],
     accept: Option<Failure>,
-) -> Result<String, Fail> {
-    let mut cabinet = served_cabinet(rt, alloc)?;
-    served_over(rt, alloc, &mut cabinet, clients, accept)
+    due: &str,
+) {
+    let mut cabinet = served_cabinet(rt, alloc);
+    let said = served_over(rt, alloc, &mut cabinet, clients, accept);
+    assert_eq!(rt; said.as_str(), due);
 }
 
-fn served_over<R: Threads + Wait + Sync>(
+fn served_over<R: Abort + Threads + Wait + Sync>(
     rt: &R,
     alloc: Global,
     cabinet: &mut MemoryCabinet,
     clients: &[&str],
     accept: Option<Failure>,
-) -> Result<String, Fail> {
-    let mut doors = doors_of(alloc, clients, accept)?;
-    let said = call_desk(rt, alloc, WORDS, cabinet, None, &mut doors, &RealGate)?;
+) -> String {
+    let mut doors = doors_of(rt, alloc, clients, accept);
+    let said = call_desk(rt, alloc, WORDS, cabinet, None, &mut doors, &RealGate);
     let last = doors.len().saturating_sub(1);
-    let sent = sent_length(doors.as_slice(), last).ok_or("no link")?;
-    Ok(format!(in alloc; "{said}{sent}")?)
+    let sent = sent_length(doors.as_slice(), last).expect(rt, "no link");
+    format!(in alloc; "{said}{sent}").expect(rt, "memory")
 }
 
-fn too_many_queries(alloc: Global) -> Result<String, Fail> {
+fn too_many_queries(rt: &impl Abort, alloc: Global) -> String {
     let mut text = String::new(alloc);
     for _message in 0..101 {
-        text.push_str("SCR;S25;20NOV;ABC;{991 QBA009;};")?;
+        let queries = "SCR;S25;20NOV;ABC;{991 QBA009;};";
+        text.push_str(queries).expect(rt, "memory");
     }
-    Ok(text)
+    text
 }
 
 /// How many bytes the first link of a door was sent.
@@ -346,53 +377,55 @@ fn sent_length(doors: &[MemoryDoor], door: usize) -> Option<usize> {
     Some(first_link(doors, door)?.sent().len())
 }
 
+/// A door with one link, which hands its input out in pieces of one byte, and of which this call is
+/// to fail.
+fn failing_link(rt: &impl Abort, alloc: Global, input: &str, call: usize) -> Vec<MemoryDoor> {
+    let mut doors = Vec::new(alloc);
+    let door = door_of(rt, alloc, input, 1, Some(Failure::at(call as u64)), None);
+    doors.push(door).expect(rt, "memory");
+    doors
+}
+
 // One link in pieces of one byte, of which each take and the put fail in turn: the desk goes on,
 // what was sent is whole or nothing, and the asks are entered where their message had come.
 #[test]
-fn each_call_of_a_link_fails(rt: HostRuntime) -> Result<(), Fail> {
+fn each_call_of_a_link_fails(rt: HostRuntime) {
     let alloc = rt.alloc();
-    let mut cabinet = served_cabinet(&rt, alloc)?;
-    let takes = spelled_out(alloc, SIX_ASKS)?.len();
-    for call in 0..takes + 3 {
-        assert!(rt;
-            goes_on(&rt, alloc, &mut cabinet, takes, call)?,
-            "call {call}"
-        );
+    let mut cabinet = served_cabinet(&rt, alloc);
+    for call in 0..SIX_ASKS.len() + 3 {
+        check_call(&rt, alloc, &mut cabinet, call);
     }
-    Ok(())
 }
 
-/// Whether the desk goes on where this call of its link fails, of which so many are takes.
-fn goes_on<R: Threads + Wait + Sync>(
+/// The desk goes on where this call of its link fails.
+fn check_call<R: Abort + Threads + Wait + Sync>(
     rt: &R,
     alloc: Global,
     cabinet: &mut MemoryCabinet,
-    takes: usize,
     call: usize,
-) -> Result<bool, Fail> {
-    let mut doors = Vec::new(alloc);
-    doors.push(door_of(alloc, SIX_ASKS, 1, Some(Failure::at(call as u64)), None)?)?;
-    let said = call_desk(rt, alloc, WORDS, cabinet, None, &mut doors, &RealGate)?;
-    let sent = sent_length(doors.as_slice(), 0);
-    Ok(
-        (sent == Some(0)) == (call <= takes)
-            && has_entered(alloc, cabinet, said.as_str(), call >= takes)?,
-    )
+) {
+    let mut doors = failing_link(rt, alloc, SIX_ASKS, call);
+    let said = call_desk(rt, alloc, WORDS, cabinet, None, &mut doors, &RealGate);
+    check_entered(rt, alloc, cabinet, said.as_str(), call);
+    let is_silent = sent_length(doors.as_slice(), 0) == Some(0);
+    assert!(rt; is_silent == (call <= SIX_ASKS.len()), "call {call}");
 }
 
-/// Whether the desk said and recorded that all asks were entered, or that none was.
-fn has_entered(
-    alloc: Global,
-    cabinet: &MemoryCabinet,
-    said: &str,
-    entered: bool,
-) -> Result<bool, Fail> {
-    let record = folded(alloc, cabinet.file("RECORD").unwrap_or(b"none"))?;
-    Ok(if entered {
-        said == "0 ENTRIES 6;LINKS 1;" && record.as_str() == SIX_ENTRIES
+/// The desk said and recorded that all asks were entered, or, where a take failed, that none was.
+fn check_entered(rt: &impl Abort, alloc: Global, cabinet: &MemoryCabinet, said: &str, call: usize) {
+    let record = folded(rt, alloc, cabinet.file("RECORD").unwrap_or(b"none"));
+    if call < SIX_ASKS.len() {
+        check_at(rt, call, said, "0 ENTRIES 0;LINKS 1;");
+        check_at(rt, call, record.as_str(), "");
     } else {
-        said == "0 ENTRIES 0;LINKS 1;" && record.as_str() == ""
-    })
+        check_at(rt, call, said, "0 ENTRIES 6;LINKS 1;");
+        check_at(rt, call, record.as_str(), SIX_ENTRIES);
+    }
+}
+
+/// Wants this text where a call fails.
+fn check_at(rt: &impl Abort, call: usize, found: &str, due: &str) {
+    assert!(rt; found == due, "call {call}: {found}");
 }
 
 // Two messages in pieces of one byte. Where a take of the second one fails, the first has its
@@ -404,37 +437,27 @@ pub(crate) const TWO_MESSAGES: &str =
 const FIRST_REPLY: &str = "SCR;S25;20NOV;ABC;KBA002 30MAR25OCT 1234567 180320 JFK0620 J;;";
 
 #[test]
-fn a_reply_is_sent_before_more_is_taken(rt: HostRuntime) -> Result<(), Fail> {
+fn a_reply_is_sent_before_more_is_taken(rt: HostRuntime) {
     let alloc = rt.alloc();
-    let mut cabinet = served_cabinet(&rt, alloc)?;
-    let first = spelled_out(
-        alloc,
-        "SCR;S25;20NOV;ABC;NBA002 30MAR25OCT 1234567 180320 JFK0620 J;;",
-    )?;
-    let all = spelled_out(alloc, TWO_MESSAGES)?;
+    let mut cabinet = served_cabinet(&rt, alloc);
+    let (first, _) = TWO_MESSAGES.split_once(";;").expect(&rt, "two messages");
+    let takes = first.len() + 2;
     // behind the takes of the first message comes one put
-    for call in first.len() + 1..all.len() + 1 {
-        assert!(rt;
-            has_first_reply(&rt, alloc, &mut cabinet, call)?,
-            "call {call}"
-        );
+    for call in takes.saturating_add(1)..TWO_MESSAGES.len() + 1 {
+        check_first_reply(&rt, alloc, &mut cabinet, call);
     }
-    Ok(())
 }
 
-/// Whether the first message has its reply, and the second one no entry, where this call fails.
-fn has_first_reply<R: Threads + Wait + Sync>(
+/// The first message has its reply, and the second one no entry, where this call fails.
+fn check_first_reply<R: Abort + Threads + Wait + Sync>(
     rt: &R,
     alloc: Global,
     cabinet: &mut MemoryCabinet,
     call: usize,
-) -> Result<bool, Fail> {
-    let mut doors = Vec::new(alloc);
-    doors.push(door_of(alloc, TWO_MESSAGES, 1, Some(Failure::at(call as u64)), None)?)?;
-    let said = call_desk(rt, alloc, WORDS, cabinet, None, &mut doors, &RealGate)?;
-    let sent = match first_link(doors.as_slice(), 0) {
-        Some(link) => folded(alloc, link.sent())?,
-        None => String::new(alloc),
-    };
-    Ok(said.as_str() == "0 ENTRIES 1;LINKS 1;" && sent.as_str() == FIRST_REPLY)
+) {
+    let mut doors = failing_link(rt, alloc, TWO_MESSAGES, call);
+    let said = call_desk(rt, alloc, WORDS, cabinet, None, &mut doors, &RealGate);
+    check_at(rt, call, said.as_str(), "0 ENTRIES 1;LINKS 1;");
+    let sent = first_sent(rt, alloc, doors.as_slice());
+    check_at(rt, call, sent.as_str(), FIRST_REPLY);
 }

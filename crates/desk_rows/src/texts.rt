@@ -1,61 +1,57 @@
 //! Texts of scripts, in which `;` stands for a line end.
 
-use std::alloc::{AllocError, Global};
-use std::test::Fail;
+use std::alloc::Global;
+use std::process::Abort;
 
 /// The bytes for which a text stands: `^` is the byte 255, `~` a CR, and each `{3 AB}` is `AB`
 /// three times.
-pub(crate) fn spelled_out(alloc: Global, text: &str) -> Result<Vec<u8>, Fail> {
+pub(crate) fn spelled_out(rt: &impl Abort, alloc: Global, text: &str) -> Vec<u8> {
     let mut out = Vec::new(alloc);
     for (place, part) in text.split('{').enumerate() {
         if place == 0 {
-            put_text(&mut out, part)?;
+            put_text(rt, &mut out, part);
         } else {
-            put_group(&mut out, part)?;
+            put_group(rt, &mut out, part);
         }
     }
-    Ok(out)
+    out
 }
 
 /// What stands behind an opening brace: a part that is put so many times, and a text.
-fn put_group(out: &mut Vec<u8>, text: &str) -> Result<(), Fail> {
-    let (group, back) = text.split_once('}').ok_or("a closing brace")?;
-    let (times, part) = group.split_once(' ').ok_or("a number of times")?;
-    put_times(out, times.parse()?, part)?;
-    put_text(out, back)?;
-    Ok(())
-}
-
-fn put_times(out: &mut Vec<u8>, times: u32, part: &str) -> Result<(), AllocError> {
+fn put_group(rt: &impl Abort, out: &mut Vec<u8>, text: &str) {
+    let (group, back) = text.split_once('}').expect(rt, "a closing brace");
+    let (times, part) = group.split_once(' ').expect(rt, "a blank in braces");
+    let times: u32 = times.parse().expect(rt, "a number of times");
     for _ in 0..times {
-        put_text(out, part)?;
+        put_text(rt, out, part);
     }
-    Ok(())
+    put_text(rt, out, back);
 }
 
-fn put_text(out: &mut Vec<u8>, text: &str) -> Result<(), AllocError> {
+fn put_text(rt: &impl Abort, out: &mut Vec<u8>, text: &str) {
     for byte in text.as_bytes() {
-        out.push(match *byte {
-            b';' => b'\n',
-            b'^' => 255,
-            b'~' => b'\r',
-            other => other,
-        })?;
+        out.push(spelled_byte(*byte)).expect(rt, "memory");
     }
-    Ok(())
+}
+
+/// The byte for which a byte of a text stands.
+fn spelled_byte(byte: u8) -> u8 {
+    match byte {
+        b';' => b'\n',
+        b'^' => 255,
+        b'~' => b'\r',
+        other => other,
+    }
 }
 
 /// The text of bytes that are ASCII.
-pub(crate) fn folded(alloc: Global, bytes: &[u8]) -> Result<String, AllocError> {
+pub(crate) fn folded(rt: &impl Abort, alloc: Global, bytes: &[u8]) -> String {
     let mut out = String::new(alloc);
     for byte in bytes {
-        out.push(if *byte == b'\n' {
-            ';'
-        } else {
-            char::from(*byte)
-        })?;
+        let byte = if *byte == b'\n' { b';' } else { *byte };
+        out.push(char::from(byte)).expect(rt, "memory");
     }
-    Ok(out)
+    out
 }
 
 /// The numbers of the lines from a first to a last one, if that is what the text names.
@@ -65,31 +61,29 @@ fn span(text: &str) -> Option<(usize, usize)> {
 }
 
 /// The lines of a text, with others in the place of one, or of some.
-pub(crate) fn edited(
-    alloc: Global,
-    text: &str,
-    old: &str,
-    new: &str,
-) -> Result<String, AllocError> {
+pub(crate) fn edited(rt: &impl Abort, alloc: Global, text: &str, old: &str, new: &str) -> String {
     let (first, last) = span(old).unwrap_or((0, 0));
     let mut out = String::new(alloc);
     for (before, line) in text.split_inclusive(';').enumerate() {
-        let bare = line.strip_suffix(';').unwrap_or(line);
-        if bare == old || before + 1 == first {
-            put_lines(&mut out, new)?;
-        } else if before + 1 < first || last < before + 1 {
-            out.push_str(line)?;
+        let number = before + 1;
+        if number == first || is_line(line, old) {
+            put_lines(rt, &mut out, new);
+        } else if number < first || last < number {
+            out.push_str(line).expect(rt, "memory");
         }
     }
-    Ok(out)
+    out
 }
 
-fn put_lines(out: &mut String, lines: &str) -> Result<(), AllocError> {
+fn is_line(line: &str, old: &str) -> bool {
+    line.strip_suffix(';').unwrap_or(line) == old
+}
+
+fn put_lines(rt: &impl Abort, out: &mut String, lines: &str) {
     if lines != "(none)" {
-        out.push_str(lines)?;
-        out.push(';')?;
+        out.push_str(lines).expect(rt, "memory");
+        out.push(';').expect(rt, "memory");
     }
-    Ok(())
 }
 
 /// Whether a text is what is wanted, where `*` stands for any text.

@@ -1,7 +1,6 @@
 //! The rows of `usage`: reports worked by hand, and the lines of the next season.
 
 use crate::play::play_script;
-use std::test::Fail;
 
 /// One historic arrival of 30 weeks: Sunday is operated on 24 dates of 30, the other days on 23.
 /// Then refusals in their order, which leave the files as they were, devices that fail at each
@@ -122,16 +121,16 @@ says 15 NEXT NONE;
 holds NEXT what stood there;";
 
 #[test]
-fn reports_of_one_line(rt: HostRuntime) -> Result<(), Fail> {
-    play_script(&rt, rt.alloc(), REPORTS)
+fn reports_of_one_line(rt: HostRuntime) {
+    play_script(&rt, rt.alloc(), REPORTS);
 }
 
 #[test]
-fn short_series_and_offers(rt: HostRuntime) -> Result<(), Fail> {
-    play_script(&rt, rt.alloc(), SHORT)
+fn short_series_and_offers(rt: HostRuntime) {
+    play_script(&rt, rt.alloc(), SHORT);
 }
 
 #[test]
-fn seasons_without_a_next_one(rt: HostRuntime) -> Result<(), Fail> {
-    play_script(&rt, rt.alloc(), LAST)
+fn seasons_without_a_next_one(rt: HostRuntime) {
+    play_script(&rt, rt.alloc(), LAST);
 }

@@ -2,7 +2,9 @@
 
 use crate::play::play_script;
 use std::alloc::Global;
-use std::test::Fail;
+use std::process::Abort;
+use std::sync::Wait;
+use std::thread::Threads;
 
 /// An hour of one arrival, which is given back on one date. One line waits for it, and then two; of
 /// a line that is asked for twice one waits. Then refusals in their order, which leave the files as
@@ -311,67 +313,63 @@ words reclear CAP SCR CERT ASKS EXTRA REPLIES
 
 /// A line of a script that puts asks, which differ in the flight, from 1000 on and below a last
 /// one.
-fn asks_below(alloc: Global, last: u32) -> Result<String, Fail> {
-    let mut text = String::from_str(alloc, "file ASKS SCR;S25;21NOV;ABC;")?;
+fn asks_below(rt: &impl Abort, alloc: Global, last: u32) -> String {
+    let mut text = String::from_str(alloc, "file ASKS SCR;S25;21NOV;ABC;").expect(rt, "memory");
     for flight in 1000..last {
-        let ask = format!(in alloc; "NBA{flight} 01JUN01JUN 7 180320 JFK0620 J;")?;
-        text.push_str(&ask)?;
+        let ask = format!(in alloc; "NBA{flight} 01JUN01JUN 7 180320 JFK0620 J;");
+        text.push_str(&ask.expect(rt, "memory"))
+            .expect(rt, "memory");
     }
-    Ok(text)
+    text
 }
 
-/// The script of so many asks that all wait, and of what is said of them.
-fn script_of(alloc: Global, last: u32, said: &str) -> Result<String, Fail> {
-    let asks = asks_below(alloc, last)?;
-    Ok(format!(in alloc; "{MANY}{asks}\n{said}")?)
-}
-
-#[test]
-fn as_many_lines_as_units(rt: HostRuntime) -> Result<(), Fail> {
-    let alloc = rt.alloc();
-    let script = script_of(alloc, 5096, "says 0 WAITING 4096;STAGE 5 OPTIMAL 40960;")?;
-    play_script(&rt, alloc, &script)
+/// Plays the script of so many asks that all wait, and of what is said of them.
+fn play_asks<R: Abort + Threads + Wait + Sync>(rt: &R, alloc: Global, last: u32, said: &str) {
+    let asks = asks_below(rt, alloc, last);
+    let script = format!(in alloc; "{MANY}{asks}\n{said}").expect(rt, "memory");
+    play_script(rt, alloc, &script);
 }
 
 #[test]
-fn one_line_too_many(rt: HostRuntime) -> Result<(), Fail> {
-    let alloc = rt.alloc();
-    let script = script_of(
-        alloc,
-        5097,
-        "says 4 LIMIT WAITING 4097;\nholds EXTRA what stood there;\n\
+fn as_many_lines_as_units(rt: HostRuntime) {
+    let said = "says 0 WAITING 4096;STAGE 5 OPTIMAL 40960;";
+    play_asks(&rt, rt.alloc(), 5096, said);
+}
+
+#[test]
+fn one_line_too_many(rt: HostRuntime) {
+    let said = "says 4 LIMIT WAITING 4097;\nholds EXTRA what stood there;\n\
         holds REPLIES what stood there;\nwords recheck CAP SCR CERT ASKS OTHER\n\
-        says 4 LIMIT WAITING 4097;",
-    )?;
-    play_script(&rt, alloc, &script)
+        says 4 LIMIT WAITING 4097;";
+    play_asks(&rt, rt.alloc(), 5097, said);
 }
 
 #[test]
-fn each_line_of_a_stage(rt: HostRuntime) -> Result<(), Fail> {
-    play_script(&rt, rt.alloc(), DAMAGED)
+fn each_line_of_a_stage(rt: HostRuntime) {
+    play_script(&rt, rt.alloc(), DAMAGED);
 }
 
 #[test]
-fn clashes_and_prices(rt: HostRuntime) -> Result<(), Fail> {
-    play_script(&rt, rt.alloc(), CLASHES)
+fn clashes_and_prices(rt: HostRuntime) {
+    play_script(&rt, rt.alloc(), CLASHES);
 }
 
 #[test]
-fn a_night_quota_of_offers(rt: HostRuntime) -> Result<(), Fail> {
-    play_script(&rt, rt.alloc(), NIGHTS)
+fn a_night_quota_of_offers(rt: HostRuntime) {
+    play_script(&rt, rt.alloc(), NIGHTS);
 }
 
 #[test]
-fn a_stage_that_stays_open(rt: HostRuntime) -> Result<(), Fail> {
-    play_script(&rt, rt.alloc(), DATES)
+fn a_stage_that_stays_open(rt: HostRuntime) {
+    play_script(&rt, rt.alloc(), DATES);
 }
 
 #[test]
-fn offers_later_entries_and_budgets(rt: HostRuntime) -> Result<(), Fail> {
-    play_script(&rt, rt.alloc(), OTHERS)
+fn offers_later_entries_and_budgets(rt: HostRuntime) {
+    play_script(&rt, rt.alloc(), OTHERS);
 }
 
 #[test]
-fn lines_that_wait(rt: HostRuntime) -> Result<(), Fail> {
-    play_script(&rt, rt.alloc(), WAITS)
+fn lines_that_wait(rt: HostRuntime) {
+    play_script(&rt, rt.alloc(), WAITS);
 }
