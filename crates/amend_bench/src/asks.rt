@@ -1,21 +1,39 @@
 //! How many drawn asks a book answers in a second.
 
-ghost use Rattle.std.specs.Prelude.{◌≡◌, IsTrue, IfSome};
+ghost use Rattle.std.specs.Prelude.{◌≡◌, ◌<◌, IsTrue, IfSome};
 ghost use Rattle.std.specs.Option.{is_some};
 ghost use Rattle.holding_book.specs.Asks.{CanAsk};
 ghost use Rattle.series_model.specs.Submissions.{ItemPairs};
 
 use crate::draws::{Draws, new_line};
-use crate::report::{NO_CALLS, Size, Tally, call_since, print_tally};
+use crate::report::{NO_CALLS, Size, Tally, call_since, now, print_tally, print_title};
 use holding_book::{Answer, Book};
 use scr_reader::{Code, Flight, Item, Line, Stop};
 use season_days::{Day, Declaration, Period};
+use slot_text::Memory;
 use std::alloc::Global;
 use std::io::Print;
-use std::time::{Clock, Instant};
+use std::time::Clock;
 
-// The answers that are counted.
-const NAMES: [&str; 8] = ["K", "K at other times", "O", "H", "U", "X", "W", "lists"];
+// The answers that are counted, as they are printed.
+const NAMES: [&str; 8] = [
+    "  K",
+    "  K at other times",
+    "  O",
+    "  H",
+    "  U",
+    "  X",
+    "  W",
+    "  lists",
+];
+
+// The copies of the book, all asks, and the asks by their answers.
+#[derive(Clone, Copy)]
+struct Counts {
+    copies: Tally,
+    asks: Tally,
+    answers: [Tally; 8],
+}
 
 // The flight that is asked about where a line has none.
 const NO_FLIGHT: Flight = Flight {
@@ -26,7 +44,7 @@ const NO_FLIGHT: Flight = Flight {
 
 /// What an airline knows that asks: the state of its draws, the number of its last new flight, and
 /// the last line that it was offered.
-#[derive(Clone, Copy, Debug, PartialEq, Eq)]
+#[derive(Clone, Copy)]
 pub struct Airline {
     draws: Draws,
     number: u32,
@@ -43,43 +61,36 @@ pub const NEW_AIRLINE: Airline = Airline {
 /// Asks the book in rounds, each of which begins with a copy of it, so that it stays about as full.
 /// Prints how they were answered, and at full size how many that is in a second.
 pub fn run<R: Print + Clock>(rt: &R, alloc: Global, size: Size, book: &Book) -> anyhow::Result<()> {
-    let mut tallies = vec![in alloc; NO_CALLS; NAMES.len()]?;
-    let (copies, all) = ask_rounds(rt, alloc, size, book, &mut tallies)?;
-    println!(rt; "asks of a book of {} holdings", book.count())?;
-    print_tally(rt, size, "copies", copies)?;
-    print_tally(rt, size, "asks", all)?;
-    print_answers(rt, size, &tallies)
+    let counts = ask_rounds(rt, alloc, size, book)?;
+    print_title(rt, "asks of a book", book)?;
+    print_tally(rt, size, "copies", counts.copies)?;
+    print_tally(rt, size, "asks", counts.asks)?;
+    print_answers(rt, size, &counts.answers)
 }
 
-fn print_answers<R: Print>(rt: &R, size: Size, tallies: &[Tally]) -> anyhow::Result<()> {
-    for (name, tally) in NAMES.iter().zip(tallies.iter()) {
-        print!(rt; "  ")?;
-        print_tally(rt, size, name, *tally)?;
+fn print_answers<R: Print>(rt: &R, size: Size, tallies: &[Tally; 8]) -> anyhow::Result<()> {
+    for place in 0..NAMES.len() {
+        print_tally(rt, size, NAMES[place], tallies[place])?;
     }
     Ok(())
 }
 
 // The copies and the asks of all rounds.
-fn ask_rounds<R: Clock>(
-    rt: &R,
-    alloc: Global,
-    size: Size,
-    book: &Book,
-    tallies: &mut [Tally],
-) -> anyhow::Result<(Tally, Tally)> {
+fn ask_rounds<R: Clock>(rt: &R, alloc: Global, size: Size, book: &Book) -> Result<Counts, Memory> {
     let (rounds, asks) = match size {
         Size::Short => (2, 50),
         Size::Full => (10, 500),
     };
     let mut airline = NEW_AIRLINE;
-    let mut all = NO_CALLS;
-    let mut copies = NO_CALLS;
+    let mut counts = Counts {
+        copies: NO_CALLS,
+        asks: NO_CALLS,
+        answers: [NO_CALLS; 8],
+    };
     for _ in 0..rounds {
-        let (copied, round) = ask_round(rt, alloc, book, &mut airline, tallies, asks)?;
-        copies.add(copied);
-        all.add(round);
+        ask_round(rt, alloc, book, &mut airline, &mut counts, asks)?;
     }
-    Ok((copies, all))
+    Ok(counts)
 }
 
 // Copies the book, and asks the copy.
@@ -88,14 +99,13 @@ fn ask_round<R: Clock>(
     alloc: Global,
     book: &Book,
     airline: &mut Airline,
-    tallies: &mut [Tally],
+    counts: &mut Counts,
     asks: u32,
-) -> anyhow::Result<(Tally, Tally)> {
-    let start = Instant::now(rt)?;
+) -> Result<(), Memory> {
+    let start = now(rt);
     let mut copy = book.copy(alloc)?;
-    let copied = call_since(rt, start)?;
-    let round = ask_many(rt, alloc, &mut copy, airline, tallies, asks)?;
-    Ok((copied, round))
+    counts.copies.add(call_since(rt, start));
+    ask_many(rt, alloc, &mut copy, airline, counts, asks)
 }
 
 fn ask_many<R: Clock>(
@@ -103,15 +113,13 @@ fn ask_many<R: Clock>(
     alloc: Global,
     book: &mut Book,
     airline: &mut Airline,
-    tallies: &mut [Tally],
+    counts: &mut Counts,
     asks: u32,
-) -> anyhow::Result<Tally> {
-    let mut all = NO_CALLS;
+) -> Result<(), Memory> {
     for _ in 0..asks {
-        let call = ask_one(rt, alloc, book, airline, tallies)?;
-        all.add(call);
+        ask_one(rt, alloc, book, airline, counts)?;
     }
-    Ok(all)
+    Ok(())
 }
 
 // Asks once. What has no spelling is not asked.
@@ -120,22 +128,28 @@ fn ask_one<R: Clock>(
     alloc: Global,
     book: &mut Book,
     airline: &mut Airline,
-    tallies: &mut [Tally],
-) -> anyhow::Result<Tally> {
+    counts: &mut Counts,
+) -> Result<(), Memory> {
     let ask = airline.draw_ask(book);
     if book.count() > 100_000 || !can_ask(book.declaration(), &ask) {
-        return Ok(NO_CALLS);
+        return Ok(());
     }
-    let start = Instant::now(rt)?;
+    let start = now(rt);
     let answer = book.apply(alloc, &ask)?;
-    let call = call_since(rt, start)?;
-    if let Some(tally) = tallies.get_mut(answered_place(&answer)) {
-        tally.add(call);
+    let call = call_since(rt, start);
+    counts.asks.add(call);
+    let place = answered_place(&answer);
+    counts.answers[place].add(call);
+    airline.offer = offered(&answer).or(airline.offer);
+    Ok(())
+}
+
+/// The line that an answer offers.
+pub fn offered(answer: &Answer) -> Option<Line> {
+    match answer {
+        Answer::Offer(line) => Some(*line),
+        _ => None,
     }
-    if let Answer::Offer(line) = answer {
-        airline.offer = Some(line);
-    }
-    Ok(call)
 }
 
 /// Whether an ask can be asked of a book: whether it has a spelling.
@@ -233,7 +247,9 @@ pub fn flight_of(line: &Line) -> Flight {
 }
 
 // Where an answer is counted.
-fn answered_place(answer: &Answer) -> usize {
+fn answered_place(answer: &Answer) -> usize
+    ensures { result < 8 }
+{
     match answer {
         Answer::K => 0,
         Answer::KChanged => 1,

@@ -4,10 +4,12 @@ ghost use Rattle.std.specs.Prelude.{◌≡◌, ◌<◌, ◌^◌, All, IfOk, leng
 ghost use Rattle.turn_lock.specs.Seats.{IsAtRest};
 ghost use Rattle.series_model.specs.Submissions.{ItemPairs};
 
-use crate::asks::{can_ask, flight_of};
+use crate::asks::{can_ask, flight_of, offered};
 use crate::draws::{Draws, new_line};
-use crate::report::{NO_CALLS, Size, Tally, calls_since, print_tally};
-use holding_book::{Answer, Book};
+use crate::report::{
+    NO_CALLS, Size, Tally, calls_since, now, print_part, print_tally, print_title,
+};
+use holding_book::Book;
 use scr_reader::{Code, Item, Line};
 use season_days::Declaration;
 use slot_ledger::{Ledger, Pass};
@@ -17,7 +19,7 @@ use std::io::Print;
 use std::sync::Wait;
 use std::thread;
 use std::thread::Threads;
-use std::time::{Clock, Instant};
+use std::time::Clock;
 
 // The numbers of callers that are tried, each on a thread of its own.
 const CALLERS: [u32; 4] = [1, 2, 4, 8];
@@ -35,11 +37,22 @@ pub fn run<R: Threads + Wait + Sync + Print + Clock>(
         Size::Short => (64, 80),
         Size::Full => (512, 2_000),
     };
+    print_title(rt, "a ledger", book)?;
     let lines = full_lines(alloc, book, count)?;
-    println!(rt; "a ledger of {} holdings", book.count())?;
+    print_callers(rt, alloc, size, book, &lines, entries)
+}
+
+fn print_callers<R: Threads + Wait + Sync + Print + Clock>(
+    rt: &R,
+    alloc: Global,
+    size: Size,
+    book: &Book,
+    lines: &[Line],
+    entries: u32,
+) -> anyhow::Result<()> {
     for callers in CALLERS {
-        let tally = entries_by(rt, alloc, book, &lines, callers, entries)?;
-        print!(rt; "callers {callers}, ")?;
+        let tally = entries_by(rt, alloc, book, lines, callers, entries)?;
+        print_part(rt, "callers", u64::from(callers))?;
         print_tally(rt, size, "entries", tally)?;
     }
     Ok(())
@@ -75,33 +88,53 @@ fn entries_by<R: Threads + Wait + Sync + Clock>(
     lines: &[Line],
     callers: u32,
     entries: u32,
-) -> anyhow::Result<Tally>
+) -> Result<Tally, Memory>
     requires { 0 < callers }
 {
-    let copy = book.copy(alloc)?;
-    if copy.count() > 100_000 {
+    if book.count() > 100_000 {
         return Ok(NO_CALLS);
     }
-    let (ledger, mut passes) = Ledger::start(alloc, copy, callers, 100_000)?;
+    let copy = book.copy(alloc)?;
+    let (ledger, passes) = Ledger::start(alloc, copy, callers, 100_000)?;
     if passes.len() != callers as usize {
         return Ok(NO_CALLS);
     }
-    let start = Instant::now(rt)?;
+    let declaration = book.declaration();
+    let each = entries / callers;
+    Ok(amended(rt, alloc, ledger, passes, declaration, lines, each))
+}
+
+// The entries of a ledger that all its callers amend, and how long that took.
+fn amended<R: Threads + Wait + Sync + Clock>(
+    rt: &R,
+    alloc: Global,
+    ledger: Ledger,
+    passes: Vec<Pass>,
+    declaration: &Declaration,
+    lines: &[Line],
+    each: u32,
+) -> Tally
+    requires all { length passes.items ≡ ledger.callers }
+    requires rest { All (IsAtRest ledger) passes.items }
+    requires declared { declaration.now ≡ ledger.origin.start.declaration }
+{
+    let mut passes = passes;
+    let start = now(rt);
     amend_on_threads(
         rt,
         alloc,
         &ledger,
         passes.as_mut_slice(),
-        book.declaration(),
+        declaration,
         lines,
-        entries / callers,
+        each,
     );
-    let tally = calls_since(rt, start, 0)?;
+    let tally = calls_since(rt, start, 0);
     let (_, history) = ledger.close(passes);
-    Ok(Tally {
+    Tally {
         calls: history.len() as u64,
         ..tally
-    })
+    }
 }
 
 fn amend_on_threads<R: Threads + Wait + Sync>(
@@ -167,8 +200,8 @@ fn amend_one<R: Wait>(
         return None;
     }
     match ledger.amend(rt, alloc, pass, &ask) {
-        Ok(Answer::Offer(line)) => Some(line),
-        _ => None,
+        Ok(answer) => offered(&answer),
+        Err(_full) => None,
     }
 }
 

@@ -10,7 +10,7 @@ use slot_text::Station;
 const MODULUS: u32 = 65_537;
 
 /// A generator of numbers, by its state.
-#[derive(Clone, Copy, Debug, PartialEq, Eq)]
+#[derive(Clone, Copy)]
 pub struct Draws {
     pub state: u32,
 }

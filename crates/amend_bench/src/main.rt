@@ -17,6 +17,7 @@ use report::Size;
 use std::alloc::Global;
 use std::env;
 use std::io::Print;
+use std::rt::Files;
 use std::sync::Wait;
 use std::thread::Threads;
 use std::time::Clock;
@@ -27,17 +28,36 @@ fn main(rt: HostRuntime) -> anyhow::Result<()> {
     for word in env::args(&rt)?.skip(1) {
         names.push(word)?;
     }
-    let word = names.first().map_or("", |word| word.as_str());
+    start(&rt, alloc, &names)
+}
+
+// Makes the book that the words of the command line name, and runs the benchmark that the first of
+// them names.
+fn start<R: Threads + Wait + Sync + Print + Clock + Files>(
+    rt: &R,
+    alloc: Global,
+    names: &[String],
+) -> anyhow::Result<()> {
+    let word = if names.is_empty() {
+        ""
+    } else {
+        names[0].as_str()
+    };
     let size = if word == "short" {
         Size::Short
     } else {
         Size::Full
     };
-    let Some(book) = book_of(&rt, alloc, size, &names)? else {
-        println!(rt; "no book")?;
-        return Ok(());
-    };
-    run(&rt, alloc, size, word, &book)
+    let book = book_of(rt, alloc, size, word, names)?;
+    match &book {
+        Some(book) => run(rt, alloc, size, word, book),
+        None => print_line(rt, "no book"),
+    }
+}
+
+fn print_line<R: Print>(rt: &R, line: &str) -> anyhow::Result<()> {
+    println!(rt; "{line}")?;
+    Ok(())
 }
 
 // Runs the benchmark that a word names, or all. Where it names none, prints the words that do.
@@ -61,11 +81,9 @@ fn run<R: Threads + Wait + Sync + Print + Clock>(
             usage::run(rt, alloc, size, book)?;
             journal::run(rt, alloc, size, book)
         }
-        _ => {
-            println!(rt;
-                "amend_bench WORD [CAP SCR]: asks, ledger, sessions, usage, journal, short"
-            )?;
-            Ok(())
-        }
+        _ => print_line(
+            rt,
+            "amend_bench WORD [CAP SCR]: asks, ledger, sessions, usage, journal, short",
+        ),
     }
 }

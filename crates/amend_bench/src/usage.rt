@@ -1,11 +1,12 @@
 //! How long it takes to watch what was operated of a book.
 
-use crate::report::{Size, calls_since, print_tally};
+use crate::books::put_word;
+use crate::report::{Size, Tally, calls_since, now, print_part, print_tally, print_title};
 use holding_book::Book;
-use slot_text::{Memory, put_padded};
+use slot_text::Memory;
 use std::alloc::Global;
 use std::io::Print;
-use std::time::{Clock, Instant};
+use std::time::Clock;
 use usage_watch::{Usage, read_operated, watch};
 
 // The most bytes of reports.
@@ -18,7 +19,7 @@ pub fn run<R: Print + Clock>(rt: &R, alloc: Global, size: Size, book: &Book) -> 
         Size::Short => 30,
         Size::Full => 100_000,
     };
-    println!(rt; "usage of a book of {} holdings", book.count())?;
+    print_title(rt, "usage of a book", book)?;
     let text = reports_text(alloc, book.count(), reports)?;
     time_reports(rt, alloc, size, book, &text, reports)
 }
@@ -31,18 +32,25 @@ fn time_reports<R: Print + Clock>(
     text: &[u8],
     reports: u32,
 ) -> anyhow::Result<()> {
-    let start = Instant::now(rt)?;
-    let Some(usage) = watched(alloc, book, text)? else {
-        println!(rt; "no usage")?;
-        return Ok(());
-    };
-    let tally = calls_since(rt, start, u64::from(reports))?;
-    let lines = usage.next.items().len();
-    print!(rt;
-        "series {}, kept {}, lines {lines}, ",
-        usage.series, usage.kept
-    )?;
+    let start = now(rt);
+    let usage = watched(alloc, book, text)?;
+    let tally = calls_since(rt, start, u64::from(reports));
+    match &usage {
+        Some(usage) => print_usage(rt, size, usage, tally),
+        None => print_none(rt),
+    }
+}
+
+fn print_usage<R: Print>(rt: &R, size: Size, usage: &Usage, tally: Tally) -> anyhow::Result<()> {
+    print_part(rt, "series", usage.series)?;
+    print_part(rt, "kept", usage.kept)?;
+    print_part(rt, "lines", usage.next.items().len() as u64)?;
     print_tally(rt, size, "reports", tally)
+}
+
+fn print_none<R: Print>(rt: &R) -> anyhow::Result<()> {
+    println!(rt; "no usage")?;
+    Ok(())
 }
 
 // What the book keeps by the reports, unless there is too much of one of them, or no season
@@ -63,14 +71,25 @@ fn watched(alloc: Global, book: &Book, text: &[u8]) -> anyhow::Result<Option<Usa
 // So many reports of the flights of a made book, arrivals and departures in turn, again and again.
 fn reports_text(alloc: Global, flights: u32, reports: u32) -> Result<Vec<u8>, Memory> {
     let mut text = Vec::new(alloc);
+    put_reports(alloc, &mut text, flights, reports)?;
+    Ok(text)
+}
+
+fn put_reports(
+    alloc: Global,
+    text: &mut Vec<u8>,
+    flights: u32,
+    reports: u32,
+) -> Result<(), Memory> {
     for report in 0..reports {
-        let kind: &[u8] = if report % 2 == 0 { b"ARR" } else { b"DEP" };
+        let front: &[u8] = if report % 2 == 0 {
+            b"OPER ARR BA"
+        } else {
+            b"OPER DEP BA"
+        };
         let flight = (report / 2).checked_rem(flights).unwrap_or(0);
-        text.extend_from_slice(b"OPER ")?;
-        text.extend_from_slice(kind)?;
-        text.extend_from_slice(b" BA")?;
-        put_padded(alloc, &mut text, u64::from(flight % 10_000), 4)?;
+        put_word(alloc, text, front, u64::from(flight % 10_000))?;
         text.extend_from_slice(b" 04APR20OCT 1234567\n")?;
     }
-    Ok(text)
+    Ok(())
 }
