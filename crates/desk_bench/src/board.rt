@@ -3,13 +3,13 @@ ghost use Rattle.std.specs.Prelude.{◌≡◌, ◌≤◌, ◌^◌, IfOk};
 ghost use Rattle.std.specs.Thread.{IsSync};
 ghost use Rattle.incumbent_word.specs.Seats.{IsSeatOf};
 
-use crate::report::{Size, print_row, rate};
+use crate::report::{Size, now, print_row, rate};
 use incumbent_word::{Board, BoardEnd, BoardSeat};
 use slot_text::Memory;
 use std::alloc::Global;
 use std::io::Print;
 use std::thread::{Threads, join};
-use std::time::{Clock, Instant};
+use std::time::Clock;
 
 // The numbers of threads that are tried, each with a seat of its own.
 const THREADS: [u32; 4] = [1, 2, 4, 8];
@@ -29,9 +29,9 @@ pub fn run<R: Threads + Sync + Print + Clock>(
     alloc: Global,
     size: Size,
 ) -> anyhow::Result<()> {
-    let rounds = rounds_of(size);
     for threads in THREADS {
-        let start = Instant::now(rt)?;
+        let rounds = rounds_of(size);
+        let start = now(rt);
         let end = draw(rt, alloc, threads, rounds)?;
         rate(rt, size, "operations", u64::from(rounds) * 4, start)?;
         let numbers = [

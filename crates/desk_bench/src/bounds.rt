@@ -4,9 +4,9 @@ ghost use Rattle.std.specs.Prelude.{All};
 ghost use Rattle.choice_problem.specs.Bounds.{AreRanges, IsVector};
 ghost use Rattle.price_table.specs.Tables.{IsTableFor};
 
-use crate::report::{Size, print_row, step};
+use crate::report::{Size, now, print_row, step};
 use crate::stages::{first_alternatives, new_requests};
-use choice_problem::{Price, Problem, Ranges, Vector, cost_of, fits, leaf_closes};
+use choice_problem::{Choice, Price, Problem, Ranges, Vector, cost_of, fits, leaf_closes};
 use dual_bound::{floor_of, root_vector};
 use price_table::{PriceTable, bound, price_table};
 use slot_text::Memory;
@@ -18,21 +18,37 @@ use std::time::Instant;
 /// root vector.
 pub fn run(rt: &HostRuntime, alloc: Global, size: Size) -> anyhow::Result<()> {
     let problem = new_requests(alloc, size)?;
-    choose(rt, alloc, size, &problem)?;
-    price(rt, alloc, size, &problem)
+    choose_and_price(rt, alloc, size, &problem)
 }
 
-fn price(rt: &HostRuntime, alloc: Global, size: Size, problem: &Problem) -> anyhow::Result<()> {
+fn choose_and_price(
+    rt: &HostRuntime,
+    alloc: Global,
+    size: Size,
+    problem: &Problem,
+) -> anyhow::Result<()> {
+    choose(rt, alloc, size, problem)?;
     let ranges = Ranges::whole(alloc, problem)?;
+    price(rt, alloc, size, problem, &ranges)
+}
+
+fn price(
+    rt: &HostRuntime,
+    alloc: Global,
+    size: Size,
+    problem: &Problem,
+    ranges: &Ranges,
+) -> anyhow::Result<()>
+    requires { AreRanges problem.now ranges.now }
+{
     let spread = spread_prices(alloc, problem, 16)?;
     if !spread.is_for(problem) {
         return print_row(rt, "bounds: no vector", &[]);
     }
-    judge_spread(rt, alloc, size, problem, &ranges, &spread)?;
-    judge_root(rt, alloc, size, problem, &ranges)
+    judge_both(rt, alloc, size, problem, ranges, &spread)
 }
 
-fn judge_spread(
+fn judge_both(
     rt: &HostRuntime,
     alloc: Global,
     size: Size,
@@ -43,11 +59,12 @@ fn judge_spread(
     requires ranges { AreRanges problem.now ranges.now }
     requires vector { IsVector problem.now spread.now }
 {
-    let start = Instant::now(rt)?;
+    let start = now(rt);
     let closes = leaf_closes(problem, ranges, spread, 1, Some(1));
     step(rt, size, "leaf_closes", start)?;
     print_row(rt, "bounds: a leaf", &[("closes", u64::from(closes))])?;
-    judge(rt, alloc, size, problem, ranges, spread)
+    judge(rt, alloc, size, problem, ranges, spread)?;
+    judge_root(rt, alloc, size, problem, ranges)
 }
 
 fn judge_root(
@@ -59,22 +76,47 @@ fn judge_root(
 ) -> anyhow::Result<()>
     requires { AreRanges problem.now ranges.now }
 {
-    let start = Instant::now(rt)?;
+    let start = now(rt);
     let root = root_vector(alloc, problem)?;
+    judge_after(rt, alloc, size, problem, ranges, &root, start)
+}
+
+fn judge_after(
+    rt: &HostRuntime,
+    alloc: Global,
+    size: Size,
+    problem: &Problem,
+    ranges: &Ranges,
+    root: &Vector,
+    start: Option<Instant>,
+) -> anyhow::Result<()>
+    requires ranges { AreRanges problem.now ranges.now }
+    requires vector { IsVector problem.now root.now }
+{
     step(rt, size, "root_vector", start)?;
-    judge(rt, alloc, size, problem, ranges, &root)
+    judge(rt, alloc, size, problem, ranges, root)
 }
 
 // Whether the choice of first alternatives fits.
 fn choose(rt: &HostRuntime, alloc: Global, size: Size, problem: &Problem) -> anyhow::Result<()> {
     let choice = first_alternatives(alloc, problem)?;
+    judge_choice(rt, alloc, size, problem, &choice)
+}
+
+fn judge_choice(
+    rt: &HostRuntime,
+    alloc: Global,
+    size: Size,
+    problem: &Problem,
+    choice: &Choice,
+) -> anyhow::Result<()> {
     if !choice.is_for(problem) {
         return print_row(rt, "bounds: no choice", &[]);
     }
-    let start = Instant::now(rt)?;
-    let yes = fits(alloc, problem, &choice)?;
+    let start = now(rt);
+    let yes = fits(alloc, problem, choice)?;
     step(rt, size, "fits", start)?;
-    let cost = cost_of(problem, &choice);
+    let cost = cost_of(problem, choice);
     let numbers = [("cost", cost), ("fits", u64::from(yes))];
     print_row(rt, "bounds: first alternatives", &numbers)
 }
@@ -105,10 +147,10 @@ fn judge(
     requires ranges { AreRanges problem.now ranges.now }
     requires vector { IsVector problem.now vector.now }
 {
-    let start = Instant::now(rt)?;
+    let start = now(rt);
     let tables = [price_table(alloc, problem, vector)?];
-    step(rt, size, "price_table", start)?;
-    judge_tables(rt, size, problem, ranges, vector, &tables)
+    let prices = vector.items().len() as u64;
+    judge_tables(rt, size, problem, ranges, prices, &tables, start)
 }
 
 fn judge_tables(
@@ -116,37 +158,21 @@ fn judge_tables(
     size: Size,
     problem: &Problem,
     ranges: &Ranges,
-    vector: &Vector,
+    prices: u64,
     tables: &[PriceTable; 1],
+    start: Option<Instant>,
 ) -> anyhow::Result<()>
     requires ranges { AreRanges problem.now ranges.now }
     requires tables { All (IsTableFor problem.now) tables.now }
 {
-    let scaled = timed_bound(rt, size, problem, ranges, &tables[0])?;
-    let start = Instant::now(rt)?;
+    step(rt, size, "price_table", start)?;
+    let start = now(rt);
+    let scaled = bound(problem, ranges, &tables[0], 1024);
+    step(rt, size, "bound", start)?;
+    let start = now(rt);
     let floor = floor_of(problem, ranges, tables).cost;
     step(rt, size, "floor_of", start)?;
     let least = u64::try_from(scaled).unwrap_or(0);
-    let numbers = [
-        ("prices", vector.items().len() as u64),
-        ("bound", least),
-        ("floor", floor),
-    ];
+    let numbers = [("prices", prices), ("bound", least), ("floor", floor)];
     print_row(rt, "bounds", &numbers)
-}
-
-fn timed_bound(
-    rt: &HostRuntime,
-    size: Size,
-    problem: &Problem,
-    ranges: &Ranges,
-    table: &PriceTable,
-) -> anyhow::Result<i128>
-    requires ranges { AreRanges problem.now ranges.now }
-    requires table { IsTableFor problem.now table.now }
-{
-    let start = Instant::now(rt)?;
-    let scaled = bound(problem, ranges, table, 1024);
-    step(rt, size, "bound", start)?;
-    Ok(scaled)
 }

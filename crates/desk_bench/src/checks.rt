@@ -3,7 +3,7 @@
 ghost use Rattle.std.specs.Prelude.{IfOk};
 ghost use Rattle.cert_format.specs.Printable.{IsPrintable};
 
-use crate::report::{Size, print_row, step};
+use crate::report::{Size, now, print_row, step};
 use crate::turnarounds::submission;
 use cert_checker::{Verdict, check};
 use cert_format::{CertFault, Certificate, LONGEST_CERT, print_cert, read_cert};
@@ -13,7 +13,7 @@ use std::alloc::Global;
 use std::time::Instant;
 
 // What the leaves of the last stage's tree are.
-#[derive(Clone, Copy, Debug, PartialEq, Eq)]
+#[derive(Clone, Copy)]
 enum Leaves {
     // Each turnaround gets its requested times; half of the leaves name a vector with a price.
     Served,
@@ -22,7 +22,7 @@ enum Leaves {
 }
 
 // A season and its certificate.
-#[derive(Clone, Copy, Debug, PartialEq, Eq)]
+#[derive(Clone, Copy)]
 struct Case {
     leaves: Leaves,
     units: u32,
@@ -45,15 +45,18 @@ pub fn run(rt: &HostRuntime, alloc: Global, size: Size) -> anyhow::Result<()> {
     one_case(rt, alloc, size, case_of(Leaves::Served, many, 1))?;
     one_case(rt, alloc, size, case_of(Leaves::Served, few, count))?;
     one_case(rt, alloc, size, case_of(Leaves::Over, few, count))?;
-    if size == Size::Full {
-        let long = Case {
-            vectors: 63,
-            prices: 370_000,
-            ..case_of(Leaves::Served, few, 500_000)
-        };
-        one_case(rt, alloc, size, long)?;
+    match size {
+        Size::Short => Ok(()),
+        Size::Full => one_case(rt, alloc, size, long_case(few)),
     }
-    Ok(())
+}
+
+fn long_case(units: u32) -> Case {
+    Case {
+        vectors: 63,
+        prices: 370_000,
+        ..case_of(Leaves::Served, units, 500_000)
+    }
 }
 
 fn case_of(leaves: Leaves, units: u32, count: u64) -> Case {
@@ -67,10 +70,9 @@ fn case_of(leaves: Leaves, units: u32, count: u64) -> Case {
 }
 
 fn one_case(rt: &HostRuntime, alloc: Global, size: Size, case: Case) -> anyhow::Result<()> {
-    let (lines, line) = lines_of(case.leaves);
-    let made = submission(alloc, case.units, *b"NNNN", lines, line)?.ok_or(Memory)?;
-    let text = text_of(alloc, case)?;
-    one_text(rt, alloc, size, case, &made, &text)
+    let mut text = Vec::new(alloc);
+    put_cert(alloc, &mut text, case)?;
+    one_text(rt, alloc, size, case, &text)
 }
 
 // Reads a text, checks what it is, and prints that again.
@@ -79,33 +81,47 @@ fn one_text(
     alloc: Global,
     size: Size,
     case: Case,
+    text: &[u8],
+) -> anyhow::Result<()> {
+    let (lines, line) = lines_of(case.leaves);
+    let made = submission(alloc, case.units, *b"NNNN", lines, line)?;
+    read_text(rt, alloc, size, case, &made, text)
+}
+
+fn read_text(
+    rt: &HostRuntime,
+    alloc: Global,
+    size: Size,
+    case: Case,
     made: &Submission,
     text: &[u8],
 ) -> anyhow::Result<()> {
-    let start = Instant::now(rt)?;
-    let Ok(cert) = read(alloc, text) else {
-        return print_row(rt, "checks: not read", &[]);
-    };
-    step(rt, size, "reading", start)?;
-    let verdict = judge(rt, alloc, size, made, &cert)?;
-    print_verdict(rt, case, text.len(), verdict)?;
-    print_again(rt, alloc, size, text, &cert)
+    let start = now(rt);
+    match read(alloc, text) {
+        Ok(cert) => { judge(rt, alloc, size, case, made, text, &cert, start) }
+        Err(_fault) => print_row(rt, "checks: not read", &[]),
+    }
 }
 
-// The verdict on a certificate.
+// Checks a certificate that was read, and prints it again.
 fn judge(
     rt: &HostRuntime,
     alloc: Global,
     size: Size,
+    case: Case,
     made: &Submission,
+    text: &[u8],
     cert: &Certificate,
-) -> anyhow::Result<Verdict>
+    start: Option<Instant>,
+) -> anyhow::Result<()>
     requires { IsPrintable cert.now }
 {
-    let start = Instant::now(rt)?;
+    step(rt, size, "reading", start)?;
+    let start = now(rt);
     let verdict = check(alloc, made, cert)?;
     step(rt, size, "checking", start)?;
-    Ok(verdict)
+    print_verdict(rt, case, text.len(), verdict)?;
+    print_again(rt, alloc, size, text, cert)
 }
 
 // Prints how large a case is, and which line of its certificate fails, or 0.
@@ -148,10 +164,20 @@ fn print_again(
 ) -> anyhow::Result<()>
     requires { IsPrintable cert.now }
 {
-    let start = Instant::now(rt)?;
+    let start = now(rt);
     let printed = print_cert(alloc, cert)?;
+    print_same(rt, size, text, &printed, start)
+}
+
+fn print_same(
+    rt: &HostRuntime,
+    size: Size,
+    text: &[u8],
+    printed: &[u8],
+    start: Option<Instant>,
+) -> anyhow::Result<()> {
     step(rt, size, "printing", start)?;
-    let same = printed.as_slice() == text;
+    let same = printed == text;
     print_row(rt, "checks: printed", &[("the same", u64::from(same))])
 }
 
@@ -164,24 +190,22 @@ fn lines_of(leaves: Leaves) -> (u32, &'static [u8]) {
     }
 }
 
-// The certificate of a case: nobody stands in the first three stages.
-fn text_of(alloc: Global, case: Case) -> Result<Vec<u8>, Memory> {
-    let mut out = Vec::new(alloc);
+// Appends the certificate of a case: nobody stands in the first three stages.
+fn put_cert(alloc: Global, out: &mut Vec<u8>, case: Case) -> Result<(), Memory> {
     out.extend_from_slice(b"CERT 1\n")?;
     for stage in 1..4 {
-        put_line(alloc, &mut out, b"STAGE", &[stage])?;
-        out.pop();
+        put_numbers(alloc, out, b"STAGE", &[stage])?;
         out.extend_from_slice(b" OPTIMAL\nCHOICES 0\nCOST 0\nVECTORS 0\nTREE 1\nL 0 1 0\n")?;
     }
     match case.leaves {
-        Leaves::Served => put_served(alloc, &mut out, case)?,
+        Leaves::Served => put_served(alloc, out, case)?,
         Leaves::Over => {
             out.extend_from_slice(b"STAGE 4 INFEASIBLE\nCHOICES NONE\nVECTORS 0\n")?;
         }
     }
-    put_tree(alloc, &mut out, case)?;
+    put_tree(alloc, out, case)?;
     out.extend_from_slice(b"END\n")?;
-    Ok(out)
+    Ok(())
 }
 
 // Each turnaround has 25 times for each of its movements; the requested ones are alternative 312.
@@ -213,43 +237,64 @@ fn put_tree(alloc: Global, out: &mut Vec<u8>, case: Case) -> Result<(), Memory> 
     let nodes = case.count.saturating_mul(2).saturating_sub(1);
     put_line(alloc, out, b"TREE", &[nodes])?;
     let mut pending = vec![in alloc; (case.count, 0_u64)]?;
+    put_nodes(alloc, out, case.leaves, &mut pending, nodes)
+}
+
+// Appends so many nodes: how many leaves those have that come next, and at which depth, is pending.
+fn put_nodes(
+    alloc: Global,
+    out: &mut Vec<u8>,
+    kind: Leaves,
+    pending: &mut Vec<(u64, u64)>,
+    nodes: u64,
+) -> Result<(), Memory> {
     for _ in 0..nodes {
         let Some((leaves, depth)) = pending.pop() else {
-            break;
+            return Ok(());
         };
         if leaves > 1 {
             put_split(alloc, out, depth)?;
             pending.push((leaves - leaves / 2, depth.saturating_add(1)))?;
             pending.push((leaves / 2, depth.saturating_add(1)))?;
         } else {
-            put_leaf(out, case.leaves, depth)?;
+            put_leaf(out, kind, depth)?;
         }
     }
     Ok(())
 }
 
 fn put_split(alloc: Global, out: &mut Vec<u8>, unit: u64) -> Result<(), Memory> {
-    put_line(alloc, out, b"S", &[unit, 312])?;
-    out.pop();
+    put_numbers(alloc, out, b"S", &[unit, 312])?;
     out.extend_from_slice(b" -\n")?;
     Ok(())
 }
 
 fn put_leaf(out: &mut Vec<u8>, leaves: Leaves, depth: u64) -> Result<(), Memory> {
-    match leaves {
-        Leaves::Served if depth % 2 == 0 => out.extend_from_slice(b"L 0 1 0\n")?,
-        Leaves::Served => out.extend_from_slice(b"L 1 1024 0\n")?,
-        Leaves::Over => out.extend_from_slice(b"O 0\n")?,
-    }
+    let line: &[u8] = match leaves {
+        Leaves::Served if depth % 2 == 0 => b"L 0 1 0\n",
+        Leaves::Served => b"L 1 1024 0\n",
+        Leaves::Over => b"O 0\n",
+    };
+    out.extend_from_slice(line)?;
     Ok(())
 }
 
 fn put_line(alloc: Global, out: &mut Vec<u8>, tag: &[u8], numbers: &[u64]) -> Result<(), Memory> {
+    put_numbers(alloc, out, tag, numbers)?;
+    out.push(b'\n')?;
+    Ok(())
+}
+
+fn put_numbers(
+    alloc: Global,
+    out: &mut Vec<u8>,
+    tag: &[u8],
+    numbers: &[u64],
+) -> Result<(), Memory> {
     out.extend_from_slice(tag)?;
     for number in numbers {
         out.push(b' ')?;
         put_number(alloc, out, *number)?;
     }
-    out.push(b'\n')?;
     Ok(())
 }

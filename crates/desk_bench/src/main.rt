@@ -36,27 +36,54 @@ fn main(rt: HostRuntime) -> anyhow::Result<()> {
     for word in env::args(&rt)?.skip(1) {
         names.push(word)?;
     }
-    let word = names.first().map_or("", |word| word.as_str());
-    if word == "short" {
-        run_all(&rt)?;
-        for word in THREAD_WORDS {
-            run_threads(&rt, alloc, word, &names, Size::Short)?;
-        }
-        return Ok(());
-    }
+    let word = if names.is_empty() {
+        ""
+    } else {
+        names[0].as_str()
+    };
+    run_alone(&rt, word)?;
+    run_together(&rt, alloc, word, &names)?;
+    if word == "short" { Ok(()) } else { memory(&rt) }
+}
+
+// Runs the benchmark without threads that a word names, or all of them at a small size.
+fn run_alone(rt: &HostRuntime, word: &str) -> anyhow::Result<()> {
     match word {
-        "board" | "turn" | "searches" | "seasons" | "mixed" => {
-            run_threads(&rt, alloc, word, &names, Size::Full)?;
-        }
-        _ => run_one(&rt, word, Size::Full)?,
+        "short" => run_all(rt),
+        "board" | "turn" | "searches" | "seasons" | "mixed" => Ok(()),
+        _ => run_one(rt, word, Size::Full),
     }
-    memory(&rt)
+}
+
+// Runs the benchmark with threads that a word names, or all of them at a small size.
+fn run_together<R: Threads + Wait + Sync + Print + Clock + Files>(
+    rt: &R,
+    alloc: Global,
+    word: &str,
+    words: &[String],
+) -> anyhow::Result<()> {
+    match word {
+        "short" => run_all_threads(rt, alloc, words),
+        _ => run_threads(rt, alloc, word, words, Size::Full),
+    }
 }
 
 // Runs each benchmark without threads at a small size.
 fn run_all(rt: &HostRuntime) -> anyhow::Result<()> {
     for word in WORDS {
         run_one(rt, word, Size::Short)?;
+    }
+    Ok(())
+}
+
+// Runs each benchmark with threads at a small size.
+fn run_all_threads<R: Threads + Wait + Sync + Print + Clock + Files>(
+    rt: &R,
+    alloc: Global,
+    words: &[String],
+) -> anyhow::Result<()> {
+    for word in THREAD_WORDS {
+        run_threads(rt, alloc, word, words, Size::Short)?;
     }
     Ok(())
 }

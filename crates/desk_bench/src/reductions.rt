@@ -1,7 +1,8 @@
 //! The resources of a problem that can matter.
 
-use crate::report::{Size, print_row, step};
+use crate::report::{Size, now, print_row, step};
 use crate::stages::new_requests;
+use choice_problem::Problem;
 use reduced_problem::Reduced;
 use std::alloc::Global;
 use std::time::Instant;
@@ -10,14 +11,28 @@ use std::time::Instant;
 /// parts there are, and how many uses of classes all parts have.
 pub fn run(rt: &HostRuntime, alloc: Global, size: Size) -> anyhow::Result<()> {
     let problem = new_requests(alloc, size)?;
-    let start = Instant::now(rt)?;
-    let kept = Reduced::of(alloc, &problem)?;
+    reduce(rt, alloc, size, &problem)
+}
+
+fn reduce(rt: &HostRuntime, alloc: Global, size: Size, problem: &Problem) -> anyhow::Result<()> {
+    let start = now(rt);
+    let kept = Reduced::of(alloc, problem)?;
+    print_kept(rt, size, problem.resources(), &kept, start)
+}
+
+fn print_kept(
+    rt: &HostRuntime,
+    size: Size,
+    resources: u32,
+    kept: &Reduced,
+    start: Option<Instant>,
+) -> anyhow::Result<()> {
     step(rt, size, "reduction", start)?;
     let numbers = [
-        ("resources", u64::from(problem.resources())),
+        ("resources", u64::from(resources)),
         ("classes", kept.classes().len() as u64),
         ("parts", u64::from(kept.parts())),
-        ("uses", count_uses(&kept)),
+        ("uses", count_uses(kept)),
     ];
     print_row(rt, "reductions", &numbers)
 }

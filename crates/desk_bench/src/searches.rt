@@ -3,21 +3,17 @@
 
 ghost use Rattle.std.specs.Prelude.{◌≤◌};
 
-use crate::report::{Size, millis_since, print_row, rate, step};
-use crate::seasons::count_visited;
-use crate::stages::last_problem;
-use crate::texts::submission_of;
+use crate::report::{Size, millis_since, now, print_row, rate, step};
+use crate::seasons::{count_visited, made_season};
+use crate::stages::{last_of, last_problem};
 use choice_problem::{Alt, Chooser, Node, Part, Problem, Strip};
 use dual_bound::root_vector;
 use search_workers::{Outcome, search};
-use season_maker::make_season;
-use series_model::states_of;
 use slot_text::Memory;
 use std::alloc::Global;
 use std::io::Print;
 use std::thread::Threads;
 use std::time::{Clock, Instant};
-use wasg_stages::problem_after;
 use worker_gate::RealGate;
 
 /// Searches a ring of 100 units with a budget of 120,000 visits by one and by four workers; and
@@ -44,7 +40,7 @@ fn search_ring<R: Threads + Sync + Print + Clock>(
         Size::Short => (12, 50),
         Size::Full => (100, 120_000),
     };
-    let ring = ring(alloc, places)?.ok_or(Memory)?;
+    let ring = ring(alloc, places)?;
     compare_workers(rt, alloc, size, &ring, budget)
 }
 
@@ -58,11 +54,13 @@ fn compare_workers<R: Threads + Sync + Print + Clock>(
 ) -> anyhow::Result<()> {
     let alone = search_by(rt, alloc, size, problem, budget, 1)?;
     let together = search_by(rt, alloc, size, problem, budget, 4)?;
-    if size == Size::Full {
-        let share = together.saturating_mul(100) / alone.max(1);
-        print_row(rt, "searches: four workers", &[("per cent of one", share)])?;
+    match size {
+        Size::Short => Ok(()),
+        Size::Full => {
+            let share = together.saturating_mul(100) / alone.max(1);
+            print_row(rt, "searches: four workers", &[("per cent of one", share)])
+        }
     }
-    Ok(())
 }
 
 fn search_daily<R: Threads + Sync + Print + Clock>(
@@ -74,8 +72,7 @@ fn search_daily<R: Threads + Sync + Print + Clock>(
         Size::Short => (8, b"CAP TOT 60 0000 2355 1234567 1\n".as_slice()),
         Size::Full => (138, b"CAP TOT 60 0000 2355 1234567 17\n".as_slice()),
     };
-    let daily = last_problem(alloc, units, *b"NNNN", 5, window)?;
-    search_season(rt, alloc, size, &daily)
+    search_due(rt, alloc, size, units, window)
 }
 
 // The same of a season whose turnarounds are all due in one stage.
@@ -88,8 +85,19 @@ fn search_large<R: Threads + Sync + Print + Clock>(
         Size::Short => (24, b"CAP TOT 60 0000 2355 1234567 3\n".as_slice()),
         Size::Full => (1_000, b"CAP TOT 60 0000 2355 1234567 123\n".as_slice()),
     };
-    let large = last_problem(alloc, units, *b"NNNN", 5, window)?;
-    search_season(rt, alloc, size, &large)
+    search_due(rt, alloc, size, units, window)
+}
+
+// Searches the season of so many daily turnarounds under five of these capacity lines.
+fn search_due<R: Threads + Sync + Print + Clock>(
+    rt: &R,
+    alloc: Global,
+    size: Size,
+    units: u32,
+    window: &[u8],
+) -> anyhow::Result<()> {
+    let problem = last_problem(alloc, units, *b"NNNN", 5, window)?;
+    search_season(rt, alloc, size, &problem)
 }
 
 fn search_generated<R: Threads + Sync + Print + Clock>(
@@ -108,10 +116,10 @@ fn search_generated<R: Threads + Sync + Print + Clock>(
 // The problem of stage 4 of a generated season, where no unit got anything before: it has three
 // quarters of the units.
 fn generated_problem(alloc: Global, units: u32) -> Result<Problem, Memory> {
-    let (capacity, requests) = make_season(alloc, 7, units.min(4_096))?;
-    let made = submission_of(alloc, &capacity, &requests)?.ok_or(Memory)?;
-    let states = states_of(alloc, &made)?;
-    problem_after(alloc, &made, 4, &states)
+    match made_season(alloc, 7, units)? {
+        Some(made) => last_of(alloc, &made),
+        None => Err(Memory),
+    }
 }
 
 // Makes the root vector of a problem, and searches it by one worker.
@@ -121,16 +129,35 @@ fn search_season<R: Threads + Sync + Print + Clock>(
     size: Size,
     problem: &Problem,
 ) -> anyhow::Result<()> {
-    let start = Instant::now(rt)?;
-    let vector = root_vector(alloc, problem)?;
-    step(rt, size, "root_vector", start)?;
-    print_row(rt, "searches", &[("prices", vector.items().len() as u64)])?;
+    time_root(rt, alloc, size, problem)?;
     let budget = match size {
         Size::Short => 20,
         Size::Full => 20_000,
     };
     search_by(rt, alloc, size, problem, budget, 1)?;
     Ok(())
+}
+
+// Makes the root vector of a problem.
+fn time_root<R: Print + Clock>(
+    rt: &R,
+    alloc: Global,
+    size: Size,
+    problem: &Problem,
+) -> anyhow::Result<()> {
+    let start = now(rt);
+    let vector = root_vector(alloc, problem)?;
+    print_root(rt, size, vector.items().len() as u64, start)
+}
+
+fn print_root<R: Print + Clock>(
+    rt: &R,
+    size: Size,
+    prices: u64,
+    start: Option<Instant>,
+) -> anyhow::Result<()> {
+    step(rt, size, "root_vector", start)?;
+    print_row(rt, "searches", &[("prices", prices)])
 }
 
 // Searches a problem, and answers how many milliseconds that took.
@@ -165,9 +192,9 @@ fn searched<R: Threads + Sync + Print + Clock>(
 ) -> anyhow::Result<(u64, u64)>
     requires { (1 ≤ workers) × (workers ≤ 16) }
 {
-    let start = Instant::now(rt)?;
+    let start = now(rt);
     let visited = visits_of(rt, alloc, problem, budget, workers)?;
-    let millis = millis_since(rt, start)?;
+    let millis = millis_since(rt, start);
     step(rt, size, "search", start)?;
     rate(rt, size, "visits", visited, start)?;
     Ok((millis, visited))
@@ -198,24 +225,32 @@ fn nodes_of(outcome: &Outcome) -> &[Node] {
 
 // So many units in a ring, each of which excludes the next one and the one after it, or pays a
 // price of its own.
-fn ring(alloc: Global, count: u32) -> Result<Option<Problem>, Memory> {
+fn ring(alloc: Global, count: u32) -> Result<Problem, Memory> {
     let mut units = Vec::new(alloc);
     for place in 0..count {
-        let Some(unit) = ring_unit(alloc, place, count)? else {
-            return Ok(None);
-        };
-        units.push(unit)?;
+        units.push(ring_unit(alloc, place, count)?)?;
     }
+    within_one(alloc, units, count)
+}
+
+// The problem of units under so many limits of one.
+fn within_one(alloc: Global, units: Vec<Chooser>, count: u32) -> Result<Problem, Memory> {
     let limits = vec![in alloc; 1; count as usize]?;
     if Problem::allows(&units, &limits) {
-        Ok(Some(Problem::new(units, limits)))
+        Ok(Problem::new(units, limits))
     } else {
-        Ok(None)
+        Err(Memory)
     }
 }
 
 // The unit of a place.
-fn ring_unit(alloc: Global, place: u32, count: u32) -> Result<Option<Chooser>, Memory> {
+fn ring_unit(alloc: Global, place: u32, count: u32) -> Result<Chooser, Memory> {
+    let parts = vec![in alloc; ring_part(alloc, place, count)?]?;
+    priced(alloc, parts, u64::from(place % 7))
+}
+
+// The part of a place: the place, the next one and the one after it.
+fn ring_part(alloc: Global, place: u32, count: u32) -> Result<Part, Memory> {
     let mut strips = Vec::new(alloc);
     for next in 0..3 {
         strips.push(Strip {
@@ -225,8 +260,12 @@ fn ring_unit(alloc: Global, place: u32, count: u32) -> Result<Option<Chooser>, M
             times: 1,
         })?;
     }
-    let parts = vec![in alloc; Part::new(strips)]?;
-    let price = u64::from(place % 7).wrapping_mul(u64::from(place % 7)) % 7;
+    Ok(Part::new(strips))
+}
+
+// A unit that takes its part, or pays a price.
+fn priced(alloc: Global, parts: Vec<Part>, number: u64) -> Result<Chooser, Memory> {
+    let price = number.wrapping_mul(number) % 7;
     let alts = vec![in alloc;
         Alt {
             cost: 0,
@@ -240,8 +279,8 @@ fn ring_unit(alloc: Global, place: u32, count: u32) -> Result<Option<Chooser>, M
         },
     ]?;
     if Chooser::allows(&parts, &alts) {
-        Ok(Some(Chooser::new(parts, alts)))
+        Ok(Chooser::new(parts, alts))
     } else {
-        Ok(None)
+        Err(Memory)
     }
 }

@@ -3,7 +3,7 @@
 ghost use Rattle.cert_format.specs.Printable.{IsPrintable};
 ghost use Rattle.wasg_stages.specs.Valid.{IsValid};
 
-use crate::report::{Size, print_row, step};
+use crate::report::{Size, now, print_row, step};
 use crate::texts::{MOST_BYTES, submission_of};
 use cert_checker::{Verdict, check};
 use cert_format::{Certificate, StageCert};
@@ -31,11 +31,24 @@ pub fn mixed<R: Threads + Sync + Print + Clock + Files>(
 ) -> anyhow::Result<()> {
     for place in 1..words.len() {
         if place % 2 == 1 && place + 1 < words.len() {
-            let season = season_of_files(rt, alloc, &words[place], &words[place + 1])?;
-            try_season(rt, alloc, size, &words[place], &season)?;
+            run_files(rt, alloc, size, &words[place], &words[place + 1])?;
         }
     }
     Ok(())
+}
+
+// Runs the season of two files.
+fn run_files<R: Threads + Sync + Print + Clock + Files>(
+    rt: &R,
+    alloc: Global,
+    size: Size,
+    capacity: &str,
+    requests: &str,
+) -> anyhow::Result<()> {
+    match season_of_files(rt, alloc, capacity, requests) {
+        Some(season) => run_and_check(rt, alloc, size, capacity, &season),
+        None => print_row(rt, "no season", &[]),
+    }
 }
 
 // The season of two files, unless one of them cannot be read or has a fault.
@@ -44,14 +57,10 @@ fn season_of_files<R: Files>(
     alloc: Global,
     capacity: &str,
     requests: &str,
-) -> Result<Option<Submission>, Memory> {
+) -> Option<Submission> {
     let mut cabinet = RealCabinet::new(rt);
-    let Ok(capacity) = cabinet.read(alloc, capacity, MOST_BYTES) else {
-        return Ok(None);
-    };
-    let Ok(requests) = cabinet.read(alloc, requests, MOST_BYTES) else {
-        return Ok(None);
-    };
+    let capacity = cabinet.read(alloc, capacity, MOST_BYTES).ok()?;
+    let requests = cabinet.read(alloc, requests, MOST_BYTES).ok()?;
     submission_of(alloc, &capacity, &requests)
 }
 
@@ -72,9 +81,16 @@ pub fn generated<R: Threads + Sync + Print + Clock>(
         Size::Short => (7, 12),
         Size::Full => (number_at(words, 1, USUAL.0), number_at(words, 2, USUAL.1)),
     };
+    match made_season(alloc, number, units)? {
+        Some(season) => run_and_check(rt, alloc, size, "generated", &season),
+        None => print_row(rt, "no season", &[]),
+    }
+}
+
+/// The generated season of this number, with so many units, or the most that a season has.
+pub fn made_season(alloc: Global, number: u32, units: u32) -> Result<Option<Submission>, Memory> {
     let (capacity, requests) = make_season(alloc, number, units.min(MOST_UNITS))?;
-    let season = submission_of(alloc, &capacity, &requests)?;
-    try_season(rt, alloc, size, "generated", &season)
+    Ok(submission_of(alloc, &capacity, &requests))
 }
 
 // The number that a word is, or the usual one.
@@ -83,20 +99,6 @@ fn number_at(words: &[String], place: usize, usual: u32) -> u32 {
         words[place].parse::<u32>().unwrap_or(usual)
     } else {
         usual
-    }
-}
-
-// Runs a season, if there is one, and checks its certificate.
-fn try_season<R: Threads + Sync + Print + Clock>(
-    rt: &R,
-    alloc: Global,
-    size: Size,
-    name: &str,
-    season: &Option<Submission>,
-) -> anyhow::Result<()> {
-    match season {
-        Some(season) => run_and_check(rt, alloc, size, name, season),
-        None => print_row(rt, "no season", &[]),
     }
 }
 
@@ -114,10 +116,9 @@ fn run_and_check<R: Threads + Sync + Print + Clock>(
         Size::Full => (100_000, 4),
     };
     println!(rt; "{name}: {} units", season.units().len())?;
-    let start = Instant::now(rt)?;
+    let start = now(rt);
     let cert = run_season(rt, alloc, season, budget, workers, &RealGate)?;
-    step(rt, size, "run", start)?;
-    judge(rt, alloc, size, name, season, &cert)
+    judge(rt, alloc, size, name, season, &cert, start)
 }
 
 // Prints the stages of a season, and the verdict on its certificate; of a valid one the bytes of
@@ -129,11 +130,13 @@ fn judge<R: Print + Clock>(
     name: &str,
     season: &Submission,
     cert: &Certificate,
+    start: Option<Instant>,
 ) -> anyhow::Result<()>
     requires { IsPrintable cert.now }
 {
+    step(rt, size, "run", start)?;
     print_stages(rt, cert.stages.items())?;
-    let start = Instant::now(rt)?;
+    let start = now(rt);
     let verdict = check(alloc, season, cert)?;
     step(rt, size, "check", start)?;
     println!(rt; "{name}: valid {}", verdict == Verdict::Yes)?;
@@ -154,10 +157,20 @@ fn time_report<R: Print + Clock>(
 ) -> anyhow::Result<()>
     requires { IsValid season.now cert.now }
 {
-    let start = Instant::now(rt)?;
+    let start = now(rt);
     let text = report_text(alloc, season, cert)?;
+    print_report(rt, size, name, text.len(), start)
+}
+
+fn print_report<R: Print + Clock>(
+    rt: &R,
+    size: Size,
+    name: &str,
+    bytes: usize,
+    start: Option<Instant>,
+) -> anyhow::Result<()> {
     step(rt, size, "report", start)?;
-    println!(rt; "{name}: report of {} bytes", text.len())?;
+    println!(rt; "{name}: report of {bytes} bytes")?;
     Ok(())
 }
 

@@ -3,7 +3,7 @@
 ghost use Rattle.std.specs.Prelude.{IfOk};
 ghost use Rattle.series_model.specs.Stages.{AreStates};
 
-use crate::report::{Size, print_row, step};
+use crate::report::{Size, now, print_row, step};
 use crate::turnarounds::{busy_line, submission};
 use choice_problem::{Choice, Problem};
 use series_model::{Submission, UnitState, after_stage, states_of};
@@ -29,9 +29,14 @@ pub fn last_problem(
     lines: u32,
     line: &[u8],
 ) -> Result<Problem, Memory> {
-    let made = submission(alloc, units, codes, lines, line)?.ok_or(Memory)?;
-    let states = states_of(alloc, &made)?;
-    problem_after(alloc, &made, 4, &states)
+    let made = submission(alloc, units, codes, lines, line)?;
+    last_of(alloc, &made)
+}
+
+/// The problem of stage 4 of a submission, where no unit got anything before.
+pub fn last_of(alloc: Global, made: &Submission) -> Result<Problem, Memory> {
+    let states = states_of(alloc, made)?;
+    problem_after(alloc, made, 4, &states)
 }
 
 /// The problem of a season of new requests: 625 alternatives a unit, which name 50 parts.
@@ -51,10 +56,9 @@ pub fn run(rt: &HostRuntime, alloc: Global, size: Size) -> anyhow::Result<()> {
 
 fn season(rt: &HostRuntime, alloc: Global, size: Size, codes: [u8; 4]) -> anyhow::Result<()> {
     let (units, lines) = scale_of(size);
-    let start = Instant::now(rt)?;
-    let made = submission(alloc, units, codes, lines, busy_line(size))?.ok_or(Memory)?;
-    step(rt, size, "reading", start)?;
-    time_stages(rt, alloc, size, &made)
+    let start = now(rt);
+    let made = submission(alloc, units, codes, lines, busy_line(size))?;
+    time_stages(rt, alloc, size, &made, start)
 }
 
 fn time_stages(
@@ -62,8 +66,10 @@ fn time_stages(
     alloc: Global,
     size: Size,
     made: &Submission,
+    start: Option<Instant>,
 ) -> anyhow::Result<()> {
-    let start = Instant::now(rt)?;
+    step(rt, size, "reading", start)?;
+    let start = now(rt);
     four_stages(rt, alloc, made)?;
     step(rt, size, "four stages", start)
 }
@@ -88,14 +94,32 @@ fn one_stage(
     requires { AreStates made.now states.items }
     ensures { IfOk result (λ after. AreStates made.now after.items) }
 {
-    let problem = problem_after(alloc, made, stage, &states)?;
-    print_counts(rt, stage, &problem)?;
-    let choice = Some(first_alternatives(alloc, &problem)?);
+    let choice = chosen(rt, alloc, made, stage, &states)?;
     Ok(after_stage(alloc, made, stage, states, &choice)?)
 }
 
-// Prints how many units, alternatives and parts a problem has.
-fn print_counts(rt: &HostRuntime, stage: u32, problem: &Problem) -> anyhow::Result<()> {
+// The choice of first alternatives of the problem of a stage.
+fn chosen(
+    rt: &HostRuntime,
+    alloc: Global,
+    made: &Submission,
+    stage: u32,
+    states: &[UnitState],
+) -> anyhow::Result<Option<Choice>>
+    requires { AreStates made.now states.now }
+{
+    let problem = problem_after(alloc, made, stage, states)?;
+    print_counts(rt, alloc, stage, &problem)
+}
+
+// Prints how many units, alternatives and parts a problem has, and makes the choice of their first
+// alternatives.
+fn print_counts(
+    rt: &HostRuntime,
+    alloc: Global,
+    stage: u32,
+    problem: &Problem,
+) -> anyhow::Result<Option<Choice>> {
     let mut alts = 0_u64;
     let mut parts = 0_u64;
     for unit in 0..problem.units() {
@@ -109,7 +133,8 @@ fn print_counts(rt: &HostRuntime, stage: u32, problem: &Problem) -> anyhow::Resu
         ("parts", parts),
         ("resources", u64::from(problem.resources())),
     ];
-    print_row(rt, "stages", &numbers)
+    print_row(rt, "stages", &numbers)?;
+    Ok(Some(first_alternatives(alloc, problem)?))
 }
 
 /// The first alternative of each unit.

@@ -2,7 +2,7 @@
 ghost use Rattle.std.specs.Prelude.{◌≡◌, ◌<◌, All};
 ghost use Rattle.turn_lock.specs.Seats.{IsAtRest};
 
-use crate::report::{Size, print_row, rate};
+use crate::report::{Size, now, print_row, rate};
 use slot_text::Memory;
 use std::alloc::Global;
 use std::io::Print;
@@ -51,14 +51,36 @@ pub fn run<R: Threads + Wait + Sync + Print + Clock>(
         Size::Full => 1_000_000,
     };
     for threads in THREADS {
-        let start = Instant::now(rt)?;
-        let visits = visits_by(rt, alloc, threads, entries)?;
-        let made = visits.length();
-        rate(rt, size, "entries", made, start)?;
-        let numbers = [("threads", u64::from(threads)), ("entries", made)];
-        print_row(rt, "turn", &numbers)?;
+        add_by(rt, alloc, size, threads, entries)?;
     }
     Ok(())
+}
+
+// Adds entries by so many threads.
+fn add_by<R: Threads + Wait + Sync + Print + Clock>(
+    rt: &R,
+    alloc: Global,
+    size: Size,
+    threads: u32,
+    entries: u32,
+) -> anyhow::Result<()>
+    requires { 0 < threads }
+{
+    let start = now(rt);
+    let visits = visits_by(rt, alloc, threads, entries)?;
+    print_visits(rt, size, threads, visits.length(), start)
+}
+
+fn print_visits<R: Print + Clock>(
+    rt: &R,
+    size: Size,
+    threads: u32,
+    made: u64,
+    start: Option<Instant>,
+) -> anyhow::Result<()> {
+    rate(rt, size, "entries", made, start)?;
+    let numbers = [("threads", u64::from(threads)), ("entries", made)];
+    print_row(rt, "turn", &numbers)
 }
 
 // The threads add the entries, each its part.

@@ -16,53 +16,74 @@ pub fn busy_line(size: Size) -> &'static [u8] {
 }
 
 /// The submission of so many units, which have these action codes in turn, under so many of these
-/// capacity lines, unless a text has a fault.
+/// capacity lines. The texts have no fault but want of memory.
 pub fn submission(
     alloc: Global,
     units: u32,
     codes: [u8; 4],
     lines: u32,
     line: &[u8],
-) -> Result<Option<Submission>, Memory> {
+) -> Result<Submission, Memory> {
     let capacity = capacity_text(alloc, lines, line)?;
-    let requests = request_text(alloc, units, codes)?;
-    submission_of(alloc, &capacity, &requests)
+    requested(alloc, &capacity, units, codes)
+}
+
+fn requested(
+    alloc: Global,
+    capacity: &[u8],
+    units: u32,
+    codes: [u8; 4],
+) -> Result<Submission, Memory> {
+    let mut requests = Vec::new(alloc);
+    put_requests(alloc, &mut requests, units, codes)?;
+    submission_of(alloc, capacity, &requests).ok_or(Memory)
 }
 
 // A capacity file with a step of five minutes and an hour to either side of a requested time.
 fn capacity_text(alloc: Global, lines: u32, line: &[u8]) -> Result<Vec<u8>, Memory> {
     let mut text = Vec::new(alloc);
+    put_capacity(&mut text, lines, line)?;
+    Ok(text)
+}
+
+fn put_capacity(text: &mut Vec<u8>, lines: u32, line: &[u8]) -> Result<(), Memory> {
     text.extend_from_slice(b"AIRPORT ABC\nSEASON S25\nSTEP 5\nFLEX 60\nGROUND 0\nREFUSE NONE\n")?;
     for _ in 0..lines {
         text.extend_from_slice(line)?;
     }
-    Ok(text)
+    Ok(())
 }
 
 // A message of daily turnarounds of two hours, spread over the day, with these action codes in
 // turn.
-fn request_text(alloc: Global, units: u32, codes: [u8; 4]) -> Result<Vec<u8>, Memory> {
-    let mut text = Vec::new(alloc);
+fn put_requests(
+    alloc: Global,
+    text: &mut Vec<u8>,
+    units: u32,
+    codes: [u8; 4],
+) -> Result<(), Memory> {
     text.extend_from_slice(b"SCR\nS25\n20NOV\nABC\n")?;
     for number in 0..units {
         text.push(codes[(number % 4) as usize])?;
-        put_request(alloc, &mut text, u64::from(number))?;
+        put_request(alloc, text, u64::from(number))?;
     }
-    Ok(text)
+    Ok(())
 }
 
 // Appends what follows the action code of a turnaround.
 fn put_request(alloc: Global, text: &mut Vec<u8>, number: u64) -> Result<(), Memory> {
     let minute = 5 * (number % 12);
     let arrival = 100 * (4 + number % 15) + minute;
-    text.extend_from_slice(b"BA")?;
-    put_padded(alloc, text, number % 10_000, 4)?;
-    text.extend_from_slice(b" BA")?;
-    put_padded(alloc, text, number % 10_000, 4)?;
-    text.extend_from_slice(b" 30MAR25OCT 1234567 180320 JFK")?;
-    put_padded(alloc, text, arrival, 4)?;
-    text.push(b' ')?;
-    put_padded(alloc, text, arrival + 200, 4)?;
+    put_word(alloc, text, b"BA", number % 10_000)?;
+    put_word(alloc, text, b" BA", number % 10_000)?;
+    put_word(alloc, text, b" 30MAR25OCT 1234567 180320 JFK", arrival)?;
+    put_word(alloc, text, b" ", arrival + 200)?;
     text.extend_from_slice(b"JFK JJ\n")?;
     Ok(())
+}
+
+// Appends a text and behind it a number of four digits.
+fn put_word(alloc: Global, text: &mut Vec<u8>, front: &[u8], value: u64) -> Result<(), Memory> {
+    text.extend_from_slice(front)?;
+    put_padded(alloc, text, value, 4)
 }
