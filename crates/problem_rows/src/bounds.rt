@@ -1,36 +1,37 @@
 //! Vectors, their bounds, and floors.
 
-ghost use Rattle.std.specs.Prelude.{◌≤◌, All, length};
+ghost use Rattle.std.specs.Prelude.{◌≡◌, ◌<◌, ◌≤◌, All, length};
 ghost use Rattle.choice_problem.specs.declared.vectors.TheConstants.{MOST_VECTORS};
-ghost use Rattle.choice_problem.specs.Bounds.{AreRanges};
+ghost use Rattle.choice_problem.specs.declared.closing.TheConstants.{SCALE_BOUND};
+ghost use Rattle.choice_problem.specs.Bounds.{AreRanges, IsVector};
 ghost use Rattle.price_table.specs.Tables.{IsTableFor};
 
 use crate::problems::{problem, ranges, table_of, vector};
-use crate::texts::{Case, piece, seen, walk};
+use crate::texts::{Case, add, piece, seen, walk};
 use choice_problem::{PRICED_SCALE, Price, Problem, Ranges, SCALE_BOUND, Vector, leaf_closes};
 use dual_bound::{KeptFloors, StatedFloor, floor_of, node_vector, root_vector};
 use price_table::{PriceTable, Totals, bound, closes};
 use std::alloc::Global;
-use std::test::Fail;
+use std::process::Abort;
 
 // Adds the prices of a vector: `N of PRICE` where the first resources have one price, else each
 // resource and price.
-fn add_prices(alloc: Global, out: &mut String, vector: &Vector) -> Result<(), Fail> {
+fn add_prices(rt: &impl Abort, out: &mut String, vector: &Vector) {
     let items = vector.items();
     match items.first() {
         Some(first) if is_even(vector) => {
-            out.push_str(&format!(in alloc; "{} of {}", items.len(), first.price)?)?;
-            Ok(())
+            add(rt, out, "", items.len() as i128);
+            add(rt, out, " of ", i128::from(first.price));
         }
-        _ => add_each(alloc, out, items),
+        _ => add_each(rt, out, items),
     }
 }
 
-fn add_each(alloc: Global, out: &mut String, items: &[Price]) -> Result<(), Fail> {
+fn add_each(rt: &impl Abort, out: &mut String, items: &[Price]) {
     for entry in items {
-        out.push_str(&format!(in alloc; " {} {}", entry.resource, entry.price)?)?;
+        add(rt, out, " ", i128::from(entry.resource));
+        add(rt, out, " ", i128::from(entry.price));
     }
-    Ok(())
 }
 
 // Whether the first resources have the same price.
@@ -46,107 +47,117 @@ fn is_even(vector: &Vector) -> bool {
 
 // The floor that is kept of ranges, after going there from all alternatives.
 fn kept_floor(
+    rt: &impl Abort,
     alloc: Global,
     problem: &Problem,
     ranges: &Ranges,
     tables: &[PriceTable],
-) -> Result<StatedFloor, Fail>
+) -> StatedFloor
     requires ranges { AreRanges problem.now ranges.now }
     requires tables { All (IsTableFor problem.now) tables.now }
     requires few { length tables.now ≤ MOST_VECTORS }
 {
-    let whole = Ranges::whole(alloc, problem)?;
-    let mut kept = KeptFloors::of(alloc, problem, tables, &whole)?;
+    let whole = Ranges::whole(alloc, problem).expect(rt, "memory");
+    let mut kept = KeptFloors::of(alloc, problem, tables, &whole).expect(rt, "memory");
     kept.go(ranges);
-    Ok(kept.floor())
+    kept.floor()
 }
 
 // Adds the bound at a vector, and the floor with the number of the vector that gives it.
 fn add_bound(
+    rt: &impl Abort,
     alloc: Global,
     out: &mut String,
     problem: &Problem,
     ranges: &Ranges,
     vector: &Vector,
-) -> Result<(), Fail>
+)
     requires { AreRanges problem.now ranges.now }
 {
-    let tables = [table_of(alloc, problem, vector)?];
-    add_floor(alloc, out, problem, ranges, &tables)
+    let table = table_of(rt, alloc, problem, vector);
+    let tables = vec![in alloc; table].expect(rt, "memory");
+    add_floor(rt, alloc, out, problem, ranges, &tables);
 }
 
 fn add_floor(
+    rt: &impl Abort,
     alloc: Global,
     out: &mut String,
     problem: &Problem,
     ranges: &Ranges,
-    tables: &[PriceTable; 1],
-) -> Result<(), Fail>
+    tables: &[PriceTable],
+)
     requires ranges { AreRanges problem.now ranges.now }
     requires tables { All (IsTableFor problem.now) tables.now }
+    requires one { length tables.now ≡ 1 }
 {
     let floor = floor_of(problem, ranges, tables);
-    if kept_floor(alloc, problem, ranges, tables)? != floor {
-        return Err("kept floors".into());
-    }
-    let scaled = scaled_bound(alloc, problem, ranges, &tables[0])?;
-    out.push_str(&format!(in alloc; " | {scaled} {} by {}", floor.cost, floor.vector)?)?;
-    Ok(())
+    let kept = kept_floor(rt, alloc, problem, ranges, tables);
+    assert!(rt; kept == floor, "the floor that is kept");
+    let scaled = scaled_bound(rt, alloc, problem, ranges, &tables[0]);
+    add(rt, out, " | ", scaled);
+    add(rt, out, " ", i128::from(floor.cost));
+    add(rt, out, " by ", i128::from(floor.vector));
 }
 
 // The bound at a table, where the totals that are kept give the same.
 fn scaled_bound(
+    rt: &impl Abort,
     alloc: Global,
     problem: &Problem,
     ranges: &Ranges,
     table: &PriceTable,
-) -> Result<i128, Fail>
+) -> i128
     requires ranges { AreRanges problem.now ranges.now }
     requires table { IsTableFor problem.now table.now }
 {
     let scaled = bound(problem, ranges, table, PRICED_SCALE);
-    let totals = Totals::of(alloc, problem, ranges, table, PRICED_SCALE)?;
-    if totals.bound() != scaled {
-        return Err("totals".into());
-    }
-    Ok(scaled)
+    let totals = Totals::of(alloc, problem, ranges, table, PRICED_SCALE).expect(rt, "memory");
+    let kept = totals.bound();
+    assert!(rt; kept == scaled, "the totals that are kept");
+    scaled
 }
 
 // The vector that a row asks for: the one of its ranges, or of the problem, or its own.
-fn asked(alloc: Global, problem: &Problem, ranges: &Ranges, text: &str) -> Result<Vector, Fail>
+fn asked(rt: &impl Abort, alloc: Global, problem: &Problem, ranges: &Ranges, text: &str) -> Vector
     requires { AreRanges problem.now ranges.now }
 {
     match text {
-        "node" => Ok(node_vector(alloc, problem, ranges)?),
-        "root" => Ok(root_vector(alloc, problem)?),
-        _ => vector(alloc, text),
+        "node" => node_vector(alloc, problem, ranges).expect(rt, "memory"),
+        "root" => root_vector(alloc, problem).expect(rt, "memory"),
+        _ => vector(rt, alloc, text),
     }
 }
 
 // The prices of a row's vector, its bound and its floor.
-#[derive(Drop)]
 struct JudgedCase;
 
 impl Case for JudgedCase {
-    fn find(&mut self, alloc: Global, row: &str) -> Result<String, Fail> {
-        let problem = problem(alloc, piece(row, 0))?;
-        judged(alloc, &problem, row)
+    fn find(rt: &impl Abort, alloc: Global, row: &str) -> String {
+        let problem = problem(rt, alloc, piece(row, 0));
+        judged(rt, alloc, &problem, row)
     }
 }
 
-fn judged(alloc: Global, problem: &Problem, row: &str) -> Result<String, Fail> {
-    let ranges = ranges(alloc, problem, piece(row, 1))?;
-    let vector = asked(alloc, problem, &ranges, piece(row, 2))?;
-    shown(alloc, problem, &ranges, &vector)
+fn judged(rt: &impl Abort, alloc: Global, problem: &Problem, row: &str) -> String {
+    let ranges = ranges(rt, alloc, problem, piece(row, 1));
+    let vector = asked(rt, alloc, problem, &ranges, piece(row, 2));
+    shown(rt, alloc, problem, &ranges, &vector)
 }
 
-fn shown(alloc: Global, problem: &Problem, ranges: &Ranges, vector: &Vector) -> Result<String, Fail>
+fn shown(
+    rt: &impl Abort,
+    alloc: Global,
+    problem: &Problem,
+    ranges: &Ranges,
+    vector: &Vector,
+) -> String
     requires { AreRanges problem.now ranges.now }
 {
     let mut out = String::new(alloc);
-    add_prices(alloc, &mut out, vector)?;
-    add_bound(alloc, &mut out, problem, ranges, vector)?;
-    Ok(out)
+    add_prices(rt, &mut out, vector);
+    add_bound(rt, alloc, &mut out, problem, ranges, vector);
+    out
 }
 
 // A window at half past six; three units that exclude each other, at the root and on both sides of
@@ -168,8 +179,8 @@ P 0 1 4 2; A 0 0 -; A 30 - -; U; P 0 2 2 3; P 2 2 0 2; A 0 0 -; A 10 1 -; A 40 -
 P 0 20000 0 400; A 5 0 -; U; M 20000 0 | | root = 20000 of 104448000 | 835584000005120 816000000005 by 1";
 
 #[test]
-fn vectors_of_small_problems(rt: HostRuntime) -> Result<(), Fail> {
-    walk(rt.alloc(), &mut JudgedCase, VECTORS)
+fn vectors_of_small_problems(rt: HostRuntime) {
+    walk::<JudgedCase>(&rt, rt.alloc(), VECTORS);
 }
 
 // Floors at one price for all resources: a bound of 15,000 is rounded up to 15, and one of 3 to 1;
@@ -185,54 +196,70 @@ three | 0 1 | 3 of 20480 = 3 of 20480 | 0 0 by 0
 three | 0 1 | 3 of 30000 = 3 of 30000 | -28560 0 by 0";
 
 #[test]
-fn floors_are_rounded_up(rt: HostRuntime) -> Result<(), Fail> {
-    walk(rt.alloc(), &mut JudgedCase, FLOORS)
+fn floors_are_rounded_up(rt: HostRuntime) {
+    walk::<JudgedCase>(&rt, rt.alloc(), FLOORS);
 }
 
 // Whether the bound of a table, the totals that are kept and the leaf that prices each alternative
 // anew close for the same costs below 80.
-fn agree(alloc: Global, row: &str, prices: &str) -> Result<bool, Fail> {
-    let problem = problem(alloc, piece(row, 0))?;
+fn agree(rt: &impl Abort, alloc: Global, row: &str, prices: &str) -> bool {
+    let problem = problem(rt, alloc, piece(row, 0));
     let scale = seen(piece(row, 2)).unwrap_or(SCALE_BOUND);
-    agree_in(alloc, &problem, piece(row, 1), scale, prices)
+    agree_in(rt, alloc, &problem, piece(row, 1), scale, prices)
 }
 
 fn agree_in(
+    rt: &impl Abort,
     alloc: Global,
     problem: &Problem,
     spans: &str,
     scale: u64,
     prices: &str,
-) -> Result<bool, Fail> {
-    let ranges = ranges(alloc, problem, spans)?;
-    let vector = vector(alloc, prices)?;
-    let table = table_of(alloc, problem, &vector)?;
-    agree_at(alloc, problem, &ranges, &vector, &table, scale)
+) -> bool {
+    let ranges = ranges(rt, alloc, problem, spans);
+    let vector = vector(rt, alloc, prices);
+    let table = table_of(rt, alloc, problem, &vector);
+    agree_at(rt, alloc, problem, &ranges, &vector, &table, scale)
 }
 
 fn agree_at(
+    rt: &impl Abort,
     alloc: Global,
     problem: &Problem,
     ranges: &Ranges,
     vector: &Vector,
     table: &PriceTable,
     scale: u64,
-) -> Result<bool, Fail>
+) -> bool
     requires ranges { AreRanges problem.now ranges.now }
     requires table { IsTableFor problem.now table.now }
 {
-    if !vector.is_for(problem) || scale >= SCALE_BOUND {
-        return Err("leaf".into());
-    }
-    let totals = Totals::of(alloc, problem, ranges, table, scale)?;
+    assert!(rt; vector.is_for(problem) && scale < SCALE_BOUND, "leaf");
+    let totals = Totals::of(alloc, problem, ranges, table, scale).expect(rt, "memory");
+    close_alike(problem, ranges, vector, table, &totals, scale)
+}
+
+fn close_alike(
+    problem: &Problem,
+    ranges: &Ranges,
+    vector: &Vector,
+    table: &PriceTable,
+    totals: &Totals,
+    scale: u64,
+) -> bool
+    requires ranges { AreRanges problem.now ranges.now }
+    requires table { IsTableFor problem.now table.now }
+    requires vector { IsVector problem.now vector.now }
+    requires scale { scale < SCALE_BOUND }
+{
     for cost in 0..80 {
         let plain = leaf_closes(problem, ranges, vector, scale, Some(cost));
         let fast = closes(problem, ranges, table, scale, Some(cost));
         if plain != fast || plain != totals.closes(Some(cost)) {
-            return Ok(false);
+            return false;
         }
     }
-    Ok(true)
+    true
 }
 
 const AGREEING: &str = "three | 0 1 | 0
@@ -255,12 +282,14 @@ four | 0 1 | 1024";
 const AGREEING_PRICES: &str = "|0 5|0 10240 1 700|0 29 1 3|1 1099511627775";
 
 #[test]
-fn bounds_close_as_leaves_do(rt: HostRuntime) -> Result<(), Fail> {
-    let alloc = rt.alloc();
+fn bounds_close_as_leaves_do(rt: HostRuntime) {
     for row in AGREEING.lines() {
-        for prices in AGREEING_PRICES.split('|') {
-            assert!(rt; agree(alloc, row, prices)?, "{row} {prices}");
-        }
+        all_agree(&rt, rt.alloc(), row);
     }
-    Ok(())
+}
+
+fn all_agree(rt: &impl Abort, alloc: Global, row: &str) {
+    for prices in AGREEING_PRICES.split('|') {
+        assert!(rt; agree(rt, alloc, row, prices), "{row} {prices}");
+    }
 }

@@ -1,15 +1,16 @@
 //! Problems, choices and trees.
 
-ghost use Rattle.std.specs.Prelude.{◌≤◌, length};
+ghost use Rattle.std.specs.Prelude.{◌<◌, ◌≤◌, length};
+ghost use Rattle.choice_problem.specs.Problems.{unit_count};
 
 use crate::problems::{problem, read_problem, strips};
-use crate::texts::{Case, number, numbers, piece, small_at, walk, yes_no};
+use crate::texts::{Case, add, number, numbers, piece, small_at, walk, yes_no};
 use choice_problem::{
     Choice, Node, Problem, Ranges, Strip, Tree, cost_of, count_nodes, first_passed, fits,
     greatest_named, open_pieces,
 };
 use std::alloc::Global;
-use std::test::Fail;
+use std::process::Abort;
 
 // A strip, and its uses of seven resources.
 const STRIPS: &str = "2 3 0 4 = 0 0 4 4 4 0 0
@@ -19,42 +20,39 @@ const STRIPS: &str = "2 3 0 4 = 0 0 4 4 4 0 0
 1 3 1 0 = 0 0 0 0 0 0 0";
 
 // The uses of a strip, where the alternative of a unit has the same.
-#[derive(Drop)]
 struct UseCase;
 
 impl Case for UseCase {
-    fn find(&mut self, alloc: Global, text: &str) -> Result<String, Fail> {
-        let clauses = format!(in alloc; "P {text}; A 0 0 -; A 5 - -; U; L 9 9 9 9 9 9 9")?;
-        let problem = problem(alloc, &clauses)?;
-        let strips = strips(alloc, &numbers(alloc, text)?)?;
-        uses(alloc, &problem, &strips)
+    fn find(rt: &impl Abort, alloc: Global, text: &str) -> String {
+        let problem = of_strips(rt, alloc, text);
+        let strips = strips(rt, alloc, &numbers(rt, alloc, text));
+        uses(rt, alloc, &problem, &strips)
     }
+}
+
+// The problem of a unit whose first alternative uses the strips of a text.
+fn of_strips(rt: &impl Abort, alloc: Global, text: &str) -> Problem {
+    let clauses = format!(in alloc; "P {text}; A 0 0 -; A 5 - -; U; L 9 9 9 9 9 9 9");
+    problem(rt, alloc, &clauses.expect(rt, "memory"))
 }
 
 // The uses of strips, of seven resources each.
-fn uses(alloc: Global, problem: &Problem, strips: &[Strip]) -> Result<String, Fail> {
+fn uses(rt: &impl Abort, alloc: Global, problem: &Problem, strips: &[Strip]) -> String {
     let mut out = String::new(alloc);
     for resource in 0..7 {
-        for strip in strips {
-            add_use(alloc, &mut out, problem, strip, resource)?;
-        }
+        add_uses(rt, &mut out, problem, strips, resource);
     }
-    Ok(out)
+    out
 }
 
-fn add_use(
-    alloc: Global,
-    out: &mut String,
-    problem: &Problem,
-    strip: &Strip,
-    resource: u32,
-) -> Result<(), Fail> {
-    let uses = strip.uses(resource);
-    if uses_at(problem, resource) != Some(uses) {
-        return Err("uses".into());
+// Adds the uses of strips of a resource, each as often as the problem says.
+fn add_uses(rt: &impl Abort, out: &mut String, problem: &Problem, strips: &[Strip], resource: u32) {
+    for strip in strips {
+        let uses = strip.uses(resource);
+        let found = uses_at(problem, resource);
+        assert!(rt; found == Some(uses), "the uses of the problem");
+        add(rt, out, " ", i128::from(uses));
     }
-    out.push_str(&format!(in alloc; " {uses}")?)?;
-    Ok(())
 }
 
 // How often the first alternative of the first unit uses a resource.
@@ -67,8 +65,8 @@ fn uses_at(problem: &Problem, resource: u32) -> Option<u32> {
 }
 
 #[test]
-fn strips_count_each_use(rt: HostRuntime) -> Result<(), Fail> {
-    walk(rt.alloc(), &mut UseCase, STRIPS)
+fn strips_count_each_use(rt: HostRuntime) {
+    walk::<UseCase>(&rt, rt.alloc(), STRIPS);
 }
 
 // Clauses, and whether they make a problem.
@@ -86,97 +84,120 @@ L 1000000 = no
 P 0 2 2 3; A 0 0 -; A 0 - -; U; L 1 1 1 1 1 1 = yes
 P 0 2 2 3; A 0 0 -; A 0 - -; U; L 1 1 1 1 1 = no";
 
-#[derive(Drop)]
 struct ConditionCase;
 
 impl Case for ConditionCase {
-    fn find(&mut self, alloc: Global, text: &str) -> Result<String, Fail> {
-        yes_no(alloc, read_problem(alloc, text)?.is_some())
+    fn find(rt: &impl Abort, alloc: Global, text: &str) -> String {
+        yes_no(rt, alloc, read_problem(rt, alloc, text).is_some())
     }
 }
 
 #[test]
-fn conditions_can_be_tested(rt: HostRuntime) -> Result<(), Fail> {
-    walk(rt.alloc(), &mut ConditionCase, CONDITIONS)
+fn conditions_can_be_tested(rt: HostRuntime) {
+    walk::<ConditionCase>(&rt, rt.alloc(), CONDITIONS);
 }
 
 // What the accessors give of a unit: the numbers of units, alternatives, parts and resources; the
 // cost of its second alternative, the limit of resource 2, and how often the first alternative uses
 // that; its alternatives and the strips of its part.
-fn accessors(alloc: Global, problem: &Problem, unit: u32) -> Result<String, Fail> {
-    if unit >= problem.units() || problem.alts(unit) < 2 || problem.resources() < 3 {
-        return Err("unit".into());
-    }
-    if problem.parts(unit) == 0 {
-        return Err("parts".into());
-    }
-    let text = format!(in alloc;
-        "{} {} {} {}, {} {} {}, {} {} {} {}",
-        problem.units(),
-        problem.alts(unit),
-        problem.parts(unit),
-        problem.resources(),
-        problem.alt_cost(unit, 1),
-        problem.limit(2),
-        problem.uses(unit, 0, 2),
+fn accessors(rt: &impl Abort, alloc: Global, problem: &Problem, unit: u32) -> String {
+    assert!(rt; unit < problem.units(), "a unit");
+    let mut out = String::new(alloc);
+    add_numbers(rt, &mut out, problem, unit);
+    add_uses_of(rt, &mut out, problem, unit);
+    add_lengths(rt, &mut out, problem, unit);
+    out
+}
+
+fn add_numbers(rt: &impl Abort, out: &mut String, problem: &Problem, unit: u32)
+    requires { unit < unit_count problem.now }
+{
+    let (units, alts) = (problem.units(), problem.alts(unit));
+    let (parts, resources) = (problem.parts(unit), problem.resources());
+    add(rt, out, "", i128::from(units));
+    add(rt, out, " ", i128::from(alts));
+    add(rt, out, " ", i128::from(parts));
+    add(rt, out, " ", i128::from(resources));
+}
+
+fn add_uses_of(rt: &impl Abort, out: &mut String, problem: &Problem, unit: u32)
+    requires { unit < unit_count problem.now }
+{
+    assert!(rt;
+        problem.alts(unit) >= 2 && problem.resources() >= 3,
+        "two alternatives and three resources"
+    );
+    let (cost, limit) = (problem.alt_cost(unit, 1), problem.limit(2));
+    let uses = problem.uses(unit, 0, 2);
+    add(rt, out, ", ", i128::from(cost));
+    add(rt, out, " ", i128::from(limit));
+    add(rt, out, " ", i128::from(uses));
+}
+
+fn add_lengths(rt: &impl Abort, out: &mut String, problem: &Problem, unit: u32)
+    requires { unit < unit_count problem.now }
+{
+    assert!(rt; problem.parts(unit) > 0, "a part");
+    let (alts, parts) = (
         problem.unit_alts(unit).len(),
         problem.unit_parts(unit).len(),
-        problem.part(unit, 0).strips().len(),
-        problem.limits().len()
-    )?;
-    Ok(text)
+    );
+    let strips = problem.part(unit, 0).strips().len();
+    let limits = problem.limits().len();
+    add(rt, out, ", ", alts as i128);
+    add(rt, out, " ", parts as i128);
+    add(rt, out, " ", strips as i128);
+    add(rt, out, " ", limits as i128);
 }
 
 const ACCESSORS: &str = "0 = 3 2 1 3, 20 1 0, 2 1 2 3
 1 = 3 2 1 3, 20 1 1, 2 1 2 3
 2 = 3 2 1 3, 20 1 1, 2 1 2 3";
 
-#[derive(Drop)]
 struct AccessorCase;
 
 impl Case for AccessorCase {
-    fn find(&mut self, alloc: Global, unit: &str) -> Result<String, Fail> {
-        let three = problem(alloc, "three")?;
-        accessors(alloc, &three, number(alloc, unit)?)
+    fn find(rt: &impl Abort, alloc: Global, unit: &str) -> String {
+        let three = problem(rt, alloc, "three");
+        accessors(rt, alloc, &three, number(rt, alloc, unit))
     }
 }
 
 #[test]
-fn accessors_give_what_was_put_in(rt: HostRuntime) -> Result<(), Fail> {
-    walk(rt.alloc(), &mut AccessorCase, ACCESSORS)
+fn accessors_give_what_was_put_in(rt: HostRuntime) {
+    walk::<AccessorCase>(&rt, rt.alloc(), ACCESSORS);
 }
 
 /// The choice of the alternatives of a text.
-pub(crate) fn choice(alloc: Global, text: &str) -> Result<Choice, Fail> {
-    let numbers = numbers(alloc, text)?;
+pub(crate) fn choice(rt: &impl Abort, alloc: Global, text: &str) -> Choice {
+    let numbers = numbers(rt, alloc, text);
     let mut alts = Vec::new(alloc);
     for place in 0..numbers.len() {
-        alts.push(small_at(&numbers, place))?;
+        alts.push(small_at(&numbers, place)).expect(rt, "memory");
     }
-    Ok(Choice::new(alts))
+    Choice::new(alts)
 }
 
 // The cost of a choice, the lowest resource above its limit, and whether it fits; or that it is
 // none for the problem.
-#[derive(Drop)]
 struct JudgedCase;
 
 impl Case for JudgedCase {
-    fn find(&mut self, alloc: Global, row: &str) -> Result<String, Fail> {
-        let problem = problem(alloc, piece(row, 0))?;
-        let choice = choice(alloc, piece(row, 1))?;
-        judged(alloc, &problem, &choice)
+    fn find(rt: &impl Abort, alloc: Global, row: &str) -> String {
+        let problem = problem(rt, alloc, piece(row, 0));
+        let choice = choice(rt, alloc, piece(row, 1));
+        judged(rt, alloc, &problem, &choice)
     }
 }
 
-fn judged(alloc: Global, problem: &Problem, choice: &Choice) -> Result<String, Fail> {
+fn judged(rt: &impl Abort, alloc: Global, problem: &Problem, choice: &Choice) -> String {
     if !choice.is_for(problem) {
-        return Ok(format!(in alloc; "none")?);
+        return String::from_str(alloc, "none").expect(rt, "memory");
     }
     let cost = cost_of(problem, choice);
-    let passed = first_passed(alloc, problem, choice)?;
-    let fits = fits(alloc, problem, choice)?;
-    Ok(format!(in alloc; "{cost} {passed:?} {fits}")?)
+    let passed = first_passed(alloc, problem, choice).expect(rt, "memory");
+    let fits = fits(alloc, problem, choice).expect(rt, "memory");
+    format!(in alloc; "{cost} {passed:?} {fits}").expect(rt, "memory")
 }
 
 const CHOICES: &str = "three | 1 1 1 = 60 None true
@@ -192,8 +213,8 @@ three | 0 0 0 0 = none
 L | = 0 None true";
 
 #[test]
-fn choices_of_small_problems(rt: HostRuntime) -> Result<(), Fail> {
-    walk(rt.alloc(), &mut JudgedCase, CHOICES)
+fn choices_of_small_problems(rt: HostRuntime) {
+    walk::<JudgedCase>(&rt, rt.alloc(), CHOICES);
 }
 
 // The node of a word: `U` is undone, `O` an over leaf of resource 0, `L` a leaf of vector 0, and a
@@ -219,55 +240,58 @@ fn leaf(vector: u32) -> Node {
     }
 }
 
-fn nodes(alloc: Global, text: &str) -> Result<Vec<Node>, Fail> {
+fn nodes(rt: &impl Abort, alloc: Global, text: &str) -> Vec<Node> {
     let mut nodes = Vec::new(alloc);
     for word in text.split_whitespace() {
-        nodes.push(node(word))?;
+        nodes.push(node(word)).expect(rt, "memory");
     }
-    Ok(nodes)
+    nodes
 }
 
 // Adds the ranges of the units.
-fn add_ranges(alloc: Global, out: &mut String, ranges: &Ranges) -> Result<(), Fail> {
-    if ranges.len() != 3 {
-        return Err("ranges".into());
-    }
+fn add_ranges(rt: &impl Abort, out: &mut String, ranges: &Ranges) {
+    assert!(rt; ranges.len() == 3, "three ranges");
     for unit in 0..3 {
         let (low, high) = (ranges.low(unit), ranges.high(unit));
-        out.push_str(&format!(in alloc; " {low}-{high}")?)?;
+        add(rt, out, " ", i128::from(low));
+        add(rt, out, "-", i128::from(high));
     }
-    out.push_str(",")?;
-    Ok(())
+    out.push_str(",").expect(rt, "memory");
 }
 
 // The ranges of the undone nodes of a tree on three units of two alternatives, at most so many, if
 // the nodes are one tree.
-#[derive(Drop)]
 struct UndoneCase;
 
 impl Case for UndoneCase {
-    fn find(&mut self, alloc: Global, row: &str) -> Result<String, Fail> {
-        let problem = problem(alloc, "three")?;
-        let nodes = nodes(alloc, piece(row, 0))?;
-        let most = number(alloc, piece(row, 1))? as usize;
-        undone(alloc, &problem, &nodes, most)
+    fn find(rt: &impl Abort, alloc: Global, row: &str) -> String {
+        let problem = problem(rt, alloc, "three");
+        let nodes = nodes(rt, alloc, piece(row, 0));
+        let most = number(rt, alloc, piece(row, 1)) as usize;
+        undone(rt, alloc, &problem, &nodes, most)
     }
 }
 
-fn undone(alloc: Global, problem: &Problem, nodes: &[Node], most: usize) -> Result<String, Fail> {
-    let whole = Ranges::whole(alloc, problem)?;
-    match open_pieces(alloc, whole, nodes, most)? {
-        Some(pieces) => ranges_text(alloc, &pieces),
-        None => Ok(String::from_str(alloc, "none")?),
+fn undone(
+    rt: &impl Abort,
+    alloc: Global,
+    problem: &Problem,
+    nodes: &[Node],
+    most: usize,
+) -> String {
+    let whole = Ranges::whole(alloc, problem).expect(rt, "memory");
+    match open_pieces(alloc, whole, nodes, most).expect(rt, "memory") {
+        Some(pieces) => ranges_text(rt, alloc, &pieces),
+        None => String::from_str(alloc, "none").expect(rt, "memory"),
     }
 }
 
-fn ranges_text(alloc: Global, pieces: &[Ranges]) -> Result<String, Fail> {
+fn ranges_text(rt: &impl Abort, alloc: Global, pieces: &[Ranges]) -> String {
     let mut out = String::new(alloc);
     for ranges in pieces {
-        add_ranges(alloc, &mut out, ranges)?;
+        add_ranges(rt, &mut out, ranges);
     }
-    Ok(out)
+    out
 }
 
 // A tree: the low part of unit 1, then the high parts of units 1 and 0. A whole one. A split of one
@@ -280,21 +304,25 @@ const TREES: &str = "1 U 0 O U | 9 = 0-1 0-0 0-1, 1-1 1-1 0-1,
 O O | 9 = none";
 
 #[test]
-fn undone_ranges_of_trees(rt: HostRuntime) -> Result<(), Fail> {
-    walk(rt.alloc(), &mut UndoneCase, TREES)
+fn undone_ranges_of_trees(rt: HostRuntime) {
+    walk::<UndoneCase>(&rt, rt.alloc(), TREES);
 }
 
 #[test]
-fn nodes_are_counted(rt: HostRuntime) -> Result<(), Fail> {
+fn nodes_are_counted(rt: HostRuntime) {
     let alloc = rt.alloc();
-    let list = nodes(alloc, "1 O U L U")?;
-    if list.len() > 5 {
-        return Err("nodes".into());
-    }
+    let list = nodes(&rt, alloc, "1 O U L U");
+    assert!(rt; list.len() <= 5);
     let tree = Tree::new(list);
-    let again = nodes(alloc, "1 O U L U")?;
-    assert!(rt; tree.items() == again.as_slice() && are_counted(&tree));
-    Ok(())
+    let again = nodes(&rt, alloc, "1 O U L U");
+    check_tree(&rt, &tree, &again);
+}
+
+fn check_tree(rt: &impl Abort, tree: &Tree, want: &[Node])
+    requires { length tree.now ≤ 5 }
+{
+    assert!(rt; tree.items() == want);
+    assert!(rt; are_counted(tree));
 }
 
 // Whether three nodes of a tree count, and the greatest vector that its leaves and some others

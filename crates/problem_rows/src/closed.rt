@@ -1,52 +1,112 @@
 //! Problems closed by free splits.
 
-ghost use Rattle.std.specs.Prelude.{IfOk, IfSome};
+ghost use Rattle.std.specs.Prelude.{IfSome};
 ghost use Rattle.choice_problem.specs.Choices.{IsFeasible};
 
 use crate::choices::choice;
 use crate::draws::{Draws, choices_of, drawn, numbered};
 use crate::problems::problem;
-use crate::texts::{halves, number, piece};
+use crate::texts::{add, check, halves, number, piece};
 use choice_problem::{Choice, Problem, cost_of, fits};
 use closing_search::{Ending, closing_search};
 use std::alloc::Global;
-use std::test::Fail;
+use std::process::Abort;
 use std::thread::Threads;
 use tested_trees::Closed;
 
 // The choice that a text says, if it says one and that is feasible.
-fn start(alloc: Global, problem: &Problem, text: &str) -> Result<Option<Choice>, Fail>
-    ensures { IfOk result (λ start. IfSome start (IsFeasible problem.now)) }
+fn start(rt: &impl Abort, alloc: Global, problem: &Problem, text: &str) -> Option<Choice>
+    ensures { IfSome result (IsFeasible problem.now) }
 {
-    let start = choice(alloc, text)?;
-    if start.is_for(problem) && fits(alloc, problem, &start)? {
-        Ok(Some(start))
+    let start = choice(rt, alloc, text);
+    if start.is_for(problem) && fits(alloc, problem, &start).expect(rt, "memory") {
+        Some(start)
     } else {
-        Ok(None)
+        None
+    }
+}
+
+/// How a search ended.
+#[derive(Clone, Copy)]
+pub(crate) struct Outcome {
+    /// The cost that closes the problem, or that it has no choice; none where it stays open.
+    pub(crate) cost: Option<Option<u64>>,
+    /// How many nodes and vectors prove it.
+    pub(crate) nodes: usize,
+    pub(crate) vectors: usize,
+    pub(crate) has_fixing: bool,
+}
+
+/// How the search of a problem by one worker ends, from this choice and within this budget.
+pub(crate) fn search<R: Abort + Threads + Sync>(
+    rt: &R,
+    alloc: Global,
+    problem: &Problem,
+    start: Option<Choice>,
+    budget: u32,
+) -> Outcome
+    requires { IfSome start (IsFeasible problem.now) }
+{
+    let ending = closing_search(rt, alloc, problem, start, budget, 1).expect(rt, "memory");
+    outcome_of(&ending)
+}
+
+fn outcome_of(ending: &Ending) -> Outcome {
+    match ending {
+        Ending::Open { .. } => Outcome {
+            cost: None,
+            nodes: 0,
+            vectors: 0,
+            has_fixing: false,
+        },
+        Ending::Closed(
+            Closed::Optimal {
+                cost,
+                tree,
+                vectors,
+                fixing,
+                ..
+            },
+        ) => Outcome {
+            cost: Some(Some(*cost)),
+            nodes: tree.items().len(),
+            vectors: vectors.items().len(),
+            has_fixing: fixing.is_some(),
+        },
+        Ending::Closed(Closed::Infeasible { tree, .. }) => Outcome {
+            cost: Some(None),
+            nodes: tree.items().len(),
+            vectors: 0,
+            has_fixing: false,
+        },
     }
 }
 
 // What closes a row's problem within its budget, from its start: the cost of a best choice, or that
 // there is none, and how many nodes prove it.
-fn searched<R: Threads + Sync>(rt: &R, alloc: Global, row: &str) -> Result<String, Fail> {
-    let problem = problem(alloc, piece(row, 0))?;
-    let budget = number(alloc, piece(row, 1))?;
-    let start = start(alloc, &problem, piece(row, 2))?;
-    let ending = closing_search(rt, alloc, &problem, start, budget, 1)?;
-    shown(alloc, &ending)
+fn searched<R: Abort + Threads + Sync>(rt: &R, alloc: Global, row: &str) -> String {
+    let problem = problem(rt, alloc, piece(row, 0));
+    let start = start(rt, alloc, &problem, piece(row, 2));
+    let budget = number(rt, alloc, piece(row, 1));
+    let outcome = search(rt, alloc, &problem, start, budget);
+    shown(rt, alloc, outcome)
 }
 
-fn shown(alloc: Global, ending: &Ending) -> Result<String, Fail> {
-    let text = match ending {
-        Ending::Open { .. } => format!(in alloc; "open")?,
-        Ending::Closed(Closed::Optimal { cost, tree, .. }) => {
-            format!(in alloc; "{cost} by {}", tree.items().len())?
-        }
-        Ending::Closed(Closed::Infeasible { tree, .. }) => {
-            format!(in alloc; "none by {}", tree.items().len())?
-        }
-    };
-    Ok(text)
+fn shown(rt: &impl Abort, alloc: Global, outcome: Outcome) -> String {
+    let mut out = String::new(alloc);
+    match outcome.cost {
+        None => out.push_str("open").expect(rt, "memory"),
+        Some(cost) => add_closed(rt, &mut out, cost, outcome.nodes),
+    }
+    out
+}
+
+fn add_closed(rt: &impl Abort, out: &mut String, cost: Option<u64>, nodes: usize) {
+    match cost {
+        None => out.push_str("none").expect(rt, "memory"),
+        Some(cost) => add(rt, out, "", i128::from(cost)),
+    }
+    add(rt, out, " by ", nodes as i128);
 }
 
 // In turn: two units at one place, of which one pays, also from the choice that both pay; no unit;
@@ -92,76 +152,73 @@ three; L 2 1 1 | 9 = 20 by 1
 P 0 2 1 1; A 0 0 -; U; P 1 2 1 1; A 0 0 -; U; P 0 1 2 2; A 0 0 -; U; L 1 1 1 | 9 = none by 1";
 
 #[test]
-fn problems_are_closed(rt: HostRuntime) -> Result<(), Fail> {
+fn problems_are_closed(rt: HostRuntime) {
     for row in CLOSED.lines() {
-        let (given, want) = halves(row);
-        let found = searched(&rt, rt.alloc(), given)?;
-        assert!(rt; found.trim() == want, "{row} has {found}");
+        let (given, _) = halves(row);
+        let found = searched(&rt, rt.alloc(), given);
+        check(&rt, row, &found);
     }
-    Ok(())
 }
 
-// The cost of the choice of a number, if it is feasible.
-fn cost_at(alloc: Global, problem: &Problem, number: u32) -> Result<Option<u64>, Fail> {
-    let choice = numbered(alloc, problem, number)?;
-    cost_if_feasible(alloc, problem, &choice)
+/// The cost of the choice of a number, if it is feasible.
+pub(crate) fn cost_at(
+    rt: &impl Abort,
+    alloc: Global,
+    problem: &Problem,
+    number: u32,
+) -> Option<u64> {
+    let choice = numbered(rt, alloc, problem, number);
+    cost_if_feasible(rt, alloc, problem, &choice)
 }
 
 /// The cost of a choice, if it is feasible.
 pub(crate) fn cost_if_feasible(
+    rt: &impl Abort,
     alloc: Global,
     problem: &Problem,
     choice: &Choice,
-) -> Result<Option<u64>, Fail> {
-    if choice.is_for(problem) && fits(alloc, problem, choice)? {
-        Ok(Some(cost_of(problem, choice)))
+) -> Option<u64> {
+    if choice.is_for(problem) && fits(alloc, problem, choice).expect(rt, "memory") {
+        Some(cost_of(problem, choice))
     } else {
-        Ok(None)
+        None
     }
 }
 
 /// The least cost of a feasible choice, of all that there are.
-pub(crate) fn least_cost(alloc: Global, problem: &Problem) -> Result<Option<u64>, Fail> {
+pub(crate) fn least_cost(rt: &impl Abort, alloc: Global, problem: &Problem) -> Option<u64> {
     let mut least: Option<u64> = None;
     for number in 0..choices_of(problem) {
-        if let Some(cost) = cost_at(alloc, problem, number)? {
-            least = Some(least.map_or(cost, |other| other.min(cost)));
-        }
+        least = lesser(least, cost_at(rt, alloc, problem, number));
     }
-    Ok(least)
+    least
 }
 
-/// The cost that closes a problem, or that it has no choice; none where it stays open.
-pub(crate) fn closed_cost(ending: &Ending) -> Option<Option<u64>> {
-    match ending {
-        Ending::Open { .. } => None,
-        Ending::Closed(Closed::Optimal { cost, .. }) => Some(Some(*cost)),
-        Ending::Closed(Closed::Infeasible { .. }) => Some(None),
+/// The lesser of two costs that may be there.
+pub(crate) fn lesser(one: Option<u64>, other: Option<u64>) -> Option<u64> {
+    match (one, other) {
+        (Some(one), Some(other)) => Some(one.min(other)),
+        (None, other) => other,
+        (one, None) => one,
     }
 }
 
 #[test]
-fn drawn_problems_are_closed(rt: HostRuntime) -> Result<(), Fail> {
+fn drawn_problems_are_closed(rt: HostRuntime) {
     let alloc = rt.alloc();
     let mut draws = Draws { last: 5 };
     for number in 0..2_000 {
-        assert!(rt; drawn_is_closed(&rt, alloc, &mut draws)?, "{number}");
+        assert!(rt; drawn_is_closed(&rt, alloc, &mut draws), "{number}");
     }
-    Ok(())
 }
 
 // Whether the next problem that is drawn is closed at its least cost.
-fn drawn_is_closed<R: Threads + Sync>(
-    rt: &R,
-    alloc: Global,
-    draws: &mut Draws,
-) -> Result<bool, Fail> {
-    let problem = drawn(alloc, draws)?;
+fn drawn_is_closed<R: Abort + Threads + Sync>(rt: &R, alloc: Global, draws: &mut Draws) -> bool {
+    let problem = drawn(rt, alloc, draws);
     is_closed(rt, alloc, &problem)
 }
 
-fn is_closed<R: Threads + Sync>(rt: &R, alloc: Global, problem: &Problem) -> Result<bool, Fail> {
-    let want = least_cost(alloc, problem)?;
-    let found = closing_search(rt, alloc, problem, None, 1_000, 1)?;
-    Ok(closed_cost(&found) == Some(want))
+fn is_closed<R: Abort + Threads + Sync>(rt: &R, alloc: Global, problem: &Problem) -> bool {
+    let want = least_cost(rt, alloc, problem);
+    search(rt, alloc, problem, None, 1_000).cost == Some(want)
 }

@@ -1,8 +1,9 @@
 //! Problems that are drawn, and all their choices.
 
+use crate::problems::{problem_of, unit_of};
 use choice_problem::{Alt, Choice, Chooser, Part, Problem, Strip};
 use std::alloc::Global;
-use std::test::Fail;
+use std::process::Abort;
 
 /// Numbers that follow from a first one.
 #[derive(Drop)]
@@ -27,48 +28,42 @@ impl Draws {
 }
 
 /// A problem of four units with up to four alternatives each over six resources.
-pub(crate) fn drawn(alloc: Global, draws: &mut Draws) -> Result<Problem, Fail> {
-    let units = drawn_units(alloc, draws)?;
-    let limits = drawn_limits(alloc, draws)?;
-    if !Problem::allows(&units, &limits) {
-        return Err("problem".into());
-    }
-    Ok(Problem::new(units, limits))
+pub(crate) fn drawn(rt: &impl Abort, alloc: Global, draws: &mut Draws) -> Problem {
+    let units = drawn_units(rt, alloc, draws);
+    problem_of(rt, units, drawn_limits(rt, alloc, draws))
 }
 
-fn drawn_units(alloc: Global, draws: &mut Draws) -> Result<Vec<Chooser>, Fail> {
+fn drawn_units(rt: &impl Abort, alloc: Global, draws: &mut Draws) -> Vec<Chooser> {
     let mut units = Vec::new(alloc);
     for _ in 0..4 {
-        units.push(drawn_unit(alloc, draws)?)?;
+        units
+            .push(drawn_unit(rt, alloc, draws))
+            .expect(rt, "memory");
     }
-    Ok(units)
+    units
 }
 
-fn drawn_unit(alloc: Global, draws: &mut Draws) -> Result<Chooser, Fail> {
-    let parts = drawn_parts(alloc, draws)?;
-    let alts = drawn_alts(alloc, draws)?;
-    if !Chooser::allows(&parts, &alts) {
-        return Err("unit".into());
-    }
-    Ok(Chooser::new(parts, alts))
+fn drawn_unit(rt: &impl Abort, alloc: Global, draws: &mut Draws) -> Chooser {
+    let parts = drawn_parts(rt, alloc, draws);
+    unit_of(rt, parts, drawn_alts(rt, alloc, draws))
 }
 
-fn drawn_limits(alloc: Global, draws: &mut Draws) -> Result<Vec<i64>, Fail> {
+fn drawn_limits(rt: &impl Abort, alloc: Global, draws: &mut Draws) -> Vec<i64> {
     let mut limits = Vec::new(alloc);
     for _ in 0..6 {
-        limits.push(draws.below(9) as i64)?;
+        limits.push(draws.below(9) as i64).expect(rt, "memory");
     }
-    Ok(limits)
+    limits
 }
 
 // Three parts of two strips each.
-fn drawn_parts(alloc: Global, draws: &mut Draws) -> Result<Vec<Part>, Fail> {
+fn drawn_parts(rt: &impl Abort, alloc: Global, draws: &mut Draws) -> Vec<Part> {
     let mut parts = Vec::new(alloc);
     for _ in 0..3 {
-        let strips = vec![in alloc; drawn_strip(draws), drawn_strip(draws)]?;
-        parts.push(Part::new(strips))?;
+        let strips = vec![in alloc; drawn_strip(draws), drawn_strip(draws)].expect(rt, "memory");
+        parts.push(Part::new(strips)).expect(rt, "memory");
     }
-    Ok(parts)
+    parts
 }
 
 fn drawn_strip(draws: &mut Draws) -> Strip {
@@ -81,16 +76,17 @@ fn drawn_strip(draws: &mut Draws) -> Strip {
 }
 
 // Up to four alternatives of two parts.
-fn drawn_alts(alloc: Global, draws: &mut Draws) -> Result<Vec<Alt>, Fail> {
+fn drawn_alts(rt: &impl Abort, alloc: Global, draws: &mut Draws) -> Vec<Alt> {
     let mut alts = Vec::new(alloc);
     for _ in 0..draws.below(4) + 1 {
         alts.push(Alt {
             cost: draws.below(10),
             one: drawn_part(draws),
             two: drawn_part(draws),
-        })?;
+        })
+        .expect(rt, "memory");
     }
-    Ok(alts)
+    alts
 }
 
 // A part, or none.
@@ -111,12 +107,12 @@ pub(crate) fn choices_of(problem: &Problem) -> u32 {
 }
 
 /// The choice of a number: a digit to the base 4 for each unit of a problem.
-pub(crate) fn numbered(alloc: Global, problem: &Problem, number: u32) -> Result<Choice, Fail> {
+pub(crate) fn numbered(rt: &impl Abort, alloc: Global, problem: &Problem, number: u32) -> Choice {
     let mut items = Vec::new(alloc);
     let mut rest = number;
     for _ in 0..problem.units() {
-        items.push(rest % 4)?;
+        items.push(rest % 4).expect(rt, "memory");
         rest /= 4;
     }
-    Ok(Choice::new(items))
+    Choice::new(items)
 }

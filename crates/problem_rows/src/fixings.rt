@@ -1,60 +1,77 @@
 //! What is left of problems below a cost, beside all their choices.
 
+ghost use Rattle.std.specs.Prelude.{All};
+ghost use Rattle.choice_problem.specs.Bounds.{IsVector};
+ghost use Rattle.choice_problem.specs.Choices.{IsChoice};
 ghost use Rattle.price_table.specs.Tables.{IsTableFor};
 
-use crate::closed::least_cost;
+use crate::closed::{cost_if_feasible, least_cost};
 use crate::draws::{Draws, choices_of, drawn, numbered};
 use crate::problems::{problem, table_of, vector};
-use crate::texts::{Case, numbers, piece, seen, small_at, walk};
+use crate::texts::{Case, add, numbers, piece, seen, small_at, walk};
 use choice_problem::{
-    Choice, Price, Problem, Ranges, SCALE_BOUND, Vector, VectorList, cost_of, fits, leaf_closes,
+    Alt, Choice, Price, Problem, Ranges, SCALE_BOUND, Vector, VectorList, leaf_closes,
 };
 use cost_fixing::{Fixing, Left, fixing_problem, left_of};
 use price_table::PriceTable;
 use std::alloc::Global;
-use std::test::Fail;
+use std::process::Abort;
 
 // A fixing of a stage of some cost, with one vector in the list: the costs of the alternatives that
 // are left of each unit, or that it does not hold.
-#[derive(Drop)]
 struct FixingCase;
 
 impl Case for FixingCase {
-    fn find(&mut self, alloc: Global, row: &str) -> Result<String, Fail> {
-        let problem = problem(alloc, piece(row, 0))?;
-        let vector = vector(alloc, piece(row, 1))?;
-        if !vector.is_for(&problem) {
-            return Err("vector".into());
-        }
-        let vectors = VectorList::new(vec![in alloc; vector]?);
-        let fixing = fixing(alloc, piece(row, 2))?;
-        let left = fixing_problem(alloc, &problem, &vectors, seen(piece(row, 3)), &fixing)?;
-        shown(alloc, left)
+    fn find(rt: &impl Abort, alloc: Global, row: &str) -> String {
+        let problem = problem(rt, alloc, piece(row, 0));
+        let vector = vector(rt, alloc, piece(row, 1));
+        assert!(rt; vector.is_for(&problem), "a vector of another problem");
+        let vectors = VectorList::new(vec![in alloc; vector].expect(rt, "memory"));
+        left_by(rt, alloc, &problem, &vectors, row)
+    }
+}
+
+// What a row's fixing leaves.
+fn left_by(
+    rt: &impl Abort,
+    alloc: Global,
+    problem: &Problem,
+    vectors: &VectorList,
+    row: &str,
+) -> String
+    requires { All (IsVector problem.now) vectors.now }
+{
+    let fixing = fixing(&numbers(rt, alloc, piece(row, 2)));
+    let cost = seen(piece(row, 3));
+    let left = fixing_problem(alloc, problem, vectors, cost, &fixing);
+    match left.expect(rt, "memory") {
+        Some(left) => shown(rt, alloc, &left),
+        None => String::from_str(alloc, "no").expect(rt, "memory"),
     }
 }
 
 // The fixing of a vector's number, a scale and a cost.
-fn fixing(alloc: Global, text: &str) -> Result<Fixing, Fail> {
-    let numbers = numbers(alloc, text)?;
-    Ok(Fixing {
-        vector: small_at(&numbers, 0),
-        scale: u64::from(small_at(&numbers, 1)),
-        cost: u64::from(small_at(&numbers, 2)),
-    })
+fn fixing(numbers: &[i128]) -> Fixing {
+    Fixing {
+        vector: small_at(numbers, 0),
+        scale: u64::from(small_at(numbers, 1)),
+        cost: u64::from(small_at(numbers, 2)),
+    }
 }
 
-fn shown(alloc: Global, left: Option<Problem>) -> Result<String, Fail> {
-    let Some(left) = left else {
-        return Ok(String::from_str(alloc, "no")?);
-    };
-    let mut out = String::from_str(alloc, "yes")?;
+fn shown(rt: &impl Abort, alloc: Global, left: &Problem) -> String {
+    let mut out = String::from_str(alloc, "yes").expect(rt, "memory");
     for unit in 0..left.units() {
-        out.push_str(" /")?;
-        for alt in left.unit_alts(unit) {
-            out.push_str(&format!(in alloc; " {}", alt.cost)?)?;
-        }
+        out.push_str(" /").expect(rt, "memory");
+        add_costs(rt, &mut out, left.unit_alts(unit));
     }
-    Ok(out)
+    out
+}
+
+fn add_costs(rt: &impl Abort, out: &mut String, alts: &[Alt]) {
+    for alt in alts {
+        add(rt, out, " ", i128::from(alt.cost));
+    }
 }
 
 // Two units of which one pays 3: at the price 2 the bound is 2, and 3 where either pays; so those
@@ -84,100 +101,130 @@ pair | 0 2 | 1 1 4 | 5 = no
 pair | 0 2 | 1 1 4 | - = no";
 
 #[test]
-fn fixings_of_small_problems(rt: HostRuntime) -> Result<(), Fail> {
-    walk(rt.alloc(), &mut FixingCase, FIXINGS)
+fn fixings_of_small_problems(rt: HostRuntime) {
+    walk::<FixingCase>(&rt, rt.alloc(), FIXINGS);
 }
 
 // The scale of the drawn vectors.
 const SCALE: u64 = 4;
 
 // A vector of a price for each resource, below 8: 0 is left out.
-fn drawn_vector(alloc: Global, draws: &mut Draws) -> Result<Vector, Fail> {
+fn drawn_vector(rt: &impl Abort, alloc: Global, draws: &mut Draws) -> Vector {
     let mut items = Vec::new(alloc);
     for resource in 0..6 {
         let price = draws.below(8) as i64;
         if price > 0 {
-            items.push(Price { resource, price })?;
+            items.push(Price { resource, price }).expect(rt, "memory");
         }
     }
-    Ok(Vector::new(items))
+    Vector::new(items)
 }
 
 // How many alternatives of a unit the plain leaf does not close for the cost.
 fn open_alts(
+    rt: &impl Abort,
     alloc: Global,
     problem: &Problem,
     vector: &Vector,
     unit: u32,
     cost: u64,
-) -> Result<u32, Fail> {
-    if unit >= problem.units() || !vector.is_for(problem) {
-        return Err("unit".into());
-    }
+) -> u32 {
+    assert!(rt;
+        unit < problem.units() && vector.is_for(problem),
+        "a unit and a vector of the problem"
+    );
     let mut count: u32 = 0;
     for alt in 0..problem.alts(unit) {
-        let mut ranges = Ranges::whole(alloc, problem)?;
+        let mut ranges = Ranges::whole(alloc, problem).expect(rt, "memory");
         ranges.set(unit, alt, alt);
         if !leaf_closes(problem, &ranges, vector, SCALE, Some(cost)) {
             count = count.saturating_add(1);
         }
     }
-    Ok(count)
+    count
 }
 
 // Whether each unit has as many alternatives left as the plain leaf does not close.
 fn counts_agree(
+    rt: &impl Abort,
     alloc: Global,
     problem: &Problem,
     left: &Problem,
     vector: &Vector,
     cost: u64,
-) -> Result<bool, Fail> {
+) -> bool {
     for unit in 0..left.units() {
-        if open_alts(alloc, problem, vector, unit, cost)? != left.alts(unit) {
-            return Ok(false);
+        if open_alts(rt, alloc, problem, vector, unit, cost) != left.alts(unit) {
+            return false;
         }
     }
-    Ok(left.units() == problem.units())
+    left.units() == problem.units()
 }
 
-// The cost of a choice, if it is feasible.
-fn feasible_cost(alloc: Global, problem: &Problem, choice: &Choice) -> Result<Option<u64>, Fail> {
-    if choice.is_for(problem) && fits(alloc, problem, choice)? {
-        Ok(Some(cost_of(problem, choice)))
-    } else {
-        Ok(None)
+// Whether a cost is not below another one, or not there.
+fn is_not_below(known: Option<u64>, cost: u64) -> bool {
+    match known {
+        Some(known) => known >= cost,
+        None => true,
     }
 }
 
 // Whether a choice is one of what is left at the same cost and back again, where it costs less than
 // the cost.
 fn is_kept(
+    rt: &impl Abort,
     alloc: Global,
     problem: &Problem,
     left: &Left,
     choice: &Choice,
     cost: u64,
-) -> Result<bool, Fail> {
-    let known = feasible_cost(alloc, problem, choice)?;
+) -> bool {
+    let known = cost_if_feasible(rt, alloc, problem, choice);
     if choice.items().len() != left.problem().units() as usize {
-        return Ok(false);
+        return false;
     }
-    let Some(place) = left.left_choice(alloc, choice)? else {
-        return Ok(known.is_none_or(|known| known >= cost));
-    };
-    let whole = left.whole_choice(alloc, &place)?;
-    Ok(whole.items() == choice.items() && feasible_cost(alloc, left.problem(), &place)? == known)
+    match left.left_choice(alloc, choice).expect(rt, "memory") {
+        Some(place) => is_back(rt, alloc, left, choice, &place, known),
+        None => is_not_below(known, cost),
+    }
 }
 
-fn are_kept(alloc: Global, problem: &Problem, left: &Left, cost: u64) -> Result<bool, Fail> {
+// Whether a choice of what is left is this one of the whole problem, at the same cost.
+fn is_back(
+    rt: &impl Abort,
+    alloc: Global,
+    left: &Left,
+    choice: &Choice,
+    place: &Choice,
+    known: Option<u64>,
+) -> bool
+    requires { IsChoice left.now.problem place.now }
+{
+    let whole = left.whole_choice(alloc, place).expect(rt, "memory");
+    let is_same = whole.items() == choice.items();
+    is_same && cost_if_feasible(rt, alloc, left.problem(), place) == known
+}
+
+fn are_kept(rt: &impl Abort, alloc: Global, problem: &Problem, left: &Left, cost: u64) -> bool {
     for number in 0..choices_of(problem) {
-        let choice = numbered(alloc, problem, number)?;
-        if choice.is_for(problem) && !is_kept(alloc, problem, left, &choice, cost)? {
-            return Ok(false);
+        let choice = numbered(rt, alloc, problem, number);
+        if !is_none_or_kept(rt, alloc, problem, left, &choice, cost) {
+            return false;
         }
     }
-    Ok(true)
+    true
+}
+
+// Whether a choice is none of the problem, or kept.
+fn is_none_or_kept(
+    rt: &impl Abort,
+    alloc: Global,
+    problem: &Problem,
+    left: &Left,
+    choice: &Choice,
+    cost: u64,
+) -> bool {
+    !choice.is_for(problem) || is_kept(rt, alloc, problem, left, choice, cost)
 }
 
 // Whether the least cost of what is left is that of the whole problem, where that is below the
@@ -185,28 +232,44 @@ fn are_kept(alloc: Global, problem: &Problem, left: &Left, cost: u64) -> Result<
 fn least_agrees(least: Option<u64>, left: Option<u64>, cost: u64) -> bool {
     match least {
         Some(known) if known < cost => left == least,
-        _ => left.is_none_or(|known| known >= cost),
+        _ => is_not_below(left, cost),
     }
 }
 
 // Whether what is left below a cost is as it should be, and how many units have fewer alternatives.
 fn is_left(
+    rt: &impl Abort,
     alloc: Global,
     problem: &Problem,
     vector: &Vector,
     table: &PriceTable,
     cost: u64,
-) -> Result<(bool, u32), Fail>
+) -> (bool, u32)
     requires { IsTableFor problem.now table.now }
 {
-    let least = least_cost(alloc, problem)?;
-    let Some(left) = left_of(alloc, problem, table, SCALE, cost)? else {
-        return Ok((least.is_none_or(|known| known >= cost), 0));
-    };
-    let agrees = least_agrees(least, least_cost(alloc, left.problem())?, cost)
-        && counts_agree(alloc, problem, left.problem(), vector, cost)?
-        && are_kept(alloc, problem, &left, cost)?;
-    Ok((agrees, smaller_units(problem, left.problem())))
+    let least = least_cost(rt, alloc, problem);
+    match left_of(alloc, problem, table, SCALE, cost).expect(rt, "memory") {
+        Some(left) => (
+            left_agrees(rt, alloc, problem, vector, &left, least, cost),
+            smaller_units(problem, left.problem()),
+        ),
+        None => (is_not_below(least, cost), 0),
+    }
+}
+
+// Whether what is left below a cost agrees with the problem, whose least cost is this one.
+fn left_agrees(
+    rt: &impl Abort,
+    alloc: Global,
+    problem: &Problem,
+    vector: &Vector,
+    left: &Left,
+    least: Option<u64>,
+    cost: u64,
+) -> bool {
+    least_agrees(least, least_cost(rt, alloc, left.problem()), cost)
+        && counts_agree(rt, alloc, problem, left.problem(), vector, cost)
+        && are_kept(rt, alloc, problem, left, cost)
 }
 
 // How many units have fewer alternatives in one problem than in another.
@@ -224,19 +287,22 @@ fn smaller_units(problem: &Problem, left: &Problem) -> u32 {
 const SMALLER: u32 = 250;
 
 #[test]
-fn what_is_left_of_drawn_problems(rt: HostRuntime) -> Result<(), Fail> {
+fn what_is_left_of_drawn_problems(rt: HostRuntime) {
     let alloc = rt.alloc();
     let mut draws = Draws { last: 7 };
     let mut smaller: u32 = 0;
     for number in 0..500 {
-        let problem = drawn(alloc, &mut draws)?;
-        let vector = drawn_vector(alloc, &mut draws)?;
-        let table = table_of(alloc, &problem, &vector)?;
-        let cost = draws.below(16);
-        let (agrees, units) = is_left(alloc, &problem, &vector, &table, cost)?;
+        let (agrees, units) = drawn_is_left(&rt, alloc, &mut draws);
         assert!(rt; agrees, "{number}");
         smaller = smaller.saturating_add(units);
     }
     assert!(rt; smaller >= SMALLER, "{smaller}");
-    Ok(())
+}
+
+// The same of the next problem, vector and cost that are drawn.
+fn drawn_is_left(rt: &impl Abort, alloc: Global, draws: &mut Draws) -> (bool, u32) {
+    let problem = drawn(rt, alloc, draws);
+    let vector = drawn_vector(rt, alloc, draws);
+    let table = table_of(rt, alloc, &problem, &vector);
+    is_left(rt, alloc, &problem, &vector, &table, draws.below(16))
 }

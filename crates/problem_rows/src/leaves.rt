@@ -9,7 +9,7 @@ use choice_problem::{
     Problem, Ranges, SCALE_BOUND, Vector, VectorList, fits, leaf_closes, over_closes,
 };
 use std::alloc::Global;
-use std::test::Fail;
+use std::process::Abort;
 
 // Prices of resources, and whether they are a vector of three resources.
 const VECTORS: &str = "= yes
@@ -22,25 +22,29 @@ const VECTORS: &str = "= yes
 2 1 3 1 = no";
 
 // Whether the text is a vector of the problem.
-#[derive(Drop)]
 struct VectorCase;
 
 impl Case for VectorCase {
-    fn find(&mut self, alloc: Global, text: &str) -> Result<String, Fail> {
-        let three = problem(alloc, "three")?;
-        let list = VectorList::new(vec![in alloc; vector(alloc, text)?]?);
+    fn find(rt: &impl Abort, alloc: Global, text: &str) -> String {
+        let three = problem(rt, alloc, "three");
+        let list = VectorList::new(vec![in alloc; vector(rt, alloc, text)].expect(rt, "memory"));
         let are_for = are_for(&three, &list);
-        yes_no(alloc, are_for)
+        yes_no(rt, alloc, are_for)
     }
 }
 
 fn are_for(problem: &Problem, list: &VectorList) -> bool {
-    list.items().iter().all(|vector| vector.is_for(problem))
+    for vector in list.items() {
+        if !vector.is_for(problem) {
+            return false;
+        }
+    }
+    true
 }
 
 #[test]
-fn vectors_of_three_resources(rt: HostRuntime) -> Result<(), Fail> {
-    walk(rt.alloc(), &mut VectorCase, VECTORS)
+fn vectors_of_three_resources(rt: HostRuntime) {
+    walk::<VectorCase>(&rt, rt.alloc(), VECTORS);
 }
 
 // Whether a leaf closes, of a vector for the problem and a scale in its limit.
@@ -72,19 +76,32 @@ fn over(problem: &Problem, ranges: &Ranges, resource: u32) -> Option<bool>
 
 // Whether a leaf of a row closes: the problem, the ranges, the prices, the scale, and what was
 // seen. With the scale `over`, whether resource 0 is over.
-fn closed(alloc: Global, row: &str) -> Result<Option<bool>, Fail> {
-    let problem = problem(alloc, piece(row, 0))?;
-    closed_in(alloc, &problem, row)
+fn closed(rt: &impl Abort, alloc: Global, row: &str) -> Option<bool> {
+    let problem = problem(rt, alloc, piece(row, 0));
+    closed_in(rt, alloc, &problem, row)
 }
 
-fn closed_in(alloc: Global, problem: &Problem, row: &str) -> Result<Option<bool>, Fail> {
-    let ranges = ranges(alloc, problem, piece(row, 1))?;
+fn closed_in(rt: &impl Abort, alloc: Global, problem: &Problem, row: &str) -> Option<bool> {
+    let ranges = ranges(rt, alloc, problem, piece(row, 1));
     if piece(row, 3) == "over" {
-        return Ok(over(problem, &ranges, 0));
+        over(problem, &ranges, 0)
+    } else {
+        closed_on(rt, alloc, problem, &ranges, row)
     }
-    let vector = vector(alloc, piece(row, 2))?;
+}
+
+fn closed_on(
+    rt: &impl Abort,
+    alloc: Global,
+    problem: &Problem,
+    ranges: &Ranges,
+    row: &str,
+) -> Option<bool>
+    requires { AreRanges problem.now ranges.now }
+{
+    let vector = vector(rt, alloc, piece(row, 2));
     let scale = seen(piece(row, 3)).unwrap_or(0);
-    Ok(closes(problem, &ranges, &vector, scale, seen(piece(row, 4))))
+    closes(problem, ranges, &vector, scale, seen(piece(row, 4)))
 }
 
 // No prices: the bound is the least costs, 0. Ten for each use: 20 a unit, less 30 for the limits.
@@ -109,65 +126,64 @@ three | 0 0 1 1 1 1 | | over = no
 L | | | 1 | 0 = yes
 L | | | 1 | 1 = no";
 
-#[derive(Drop)]
 struct LeafCase;
 
 impl Case for LeafCase {
-    fn find(&mut self, alloc: Global, row: &str) -> Result<String, Fail> {
-        yes_no(
-            alloc,
-            closed(alloc, row)?.ok_or("a vector, a scale or a resource")?,
-        )
+    fn find(rt: &impl Abort, alloc: Global, row: &str) -> String {
+        let closed = closed(rt, alloc, row).expect(rt, "a vector, a scale or a resource");
+        yes_no(rt, alloc, closed)
     }
 }
 
 #[test]
-fn leaves_of_small_problems(rt: HostRuntime) -> Result<(), Fail> {
-    walk(rt.alloc(), &mut LeafCase, LEAVES)
+fn leaves_of_small_problems(rt: HostRuntime) {
+    walk::<LeafCase>(&rt, rt.alloc(), LEAVES);
 }
 
 // Of a unit that uses a strip, with resource 1 at a limit: whether its use fits, whether resource 1
 // is over, and the first cost for which a price of 3 on it does not close.
-#[derive(Drop)]
 struct EdgeCase;
 
 impl Case for EdgeCase {
-    fn find(&mut self, alloc: Global, row: &str) -> Result<String, Fail> {
-        let (strip, limit) = (piece(row, 0), piece(row, 1));
-        let clauses = format!(in alloc; "P {strip}; A 0 0 -; A 7 - -; U; L 9 {limit} 9")?;
-        let problem = problem(alloc, &clauses)?;
-        edge(alloc, &problem)
+    fn find(rt: &impl Abort, alloc: Global, row: &str) -> String {
+        let problem = of_strip(rt, alloc, piece(row, 0), piece(row, 1));
+        edge(rt, alloc, &problem)
     }
 }
 
-fn edge(alloc: Global, problem: &Problem) -> Result<String, Fail> {
-    let fits = first_fits(alloc, problem)?;
-    let ranges = ranges(alloc, problem, "0 0")?;
-    let first = first_open(alloc, problem, &ranges)?;
-    Ok(format!(in alloc; "{fits} {:?} {first}", over(problem, &ranges, 1))?)
+// The problem of a unit that uses a strip, with resource 1 at a limit.
+fn of_strip(rt: &impl Abort, alloc: Global, strip: &str, limit: &str) -> Problem {
+    let clauses = format!(in alloc; "P {strip}; A 0 0 -; A 7 - -; U; L 9 {limit} 9");
+    problem(rt, alloc, &clauses.expect(rt, "memory"))
+}
+
+fn edge(rt: &impl Abort, alloc: Global, problem: &Problem) -> String {
+    let fits = first_fits(rt, alloc, problem);
+    let ranges = ranges(rt, alloc, problem, "0 0");
+    let first = first_open(rt, alloc, problem, &ranges);
+    let over = over(problem, &ranges, 1);
+    format!(in alloc; "{fits} {over:?} {first}").expect(rt, "memory")
 }
 
 // Whether the choice of the first alternative fits.
-fn first_fits(alloc: Global, problem: &Problem) -> Result<bool, Fail> {
-    let choice = choice(alloc, "0")?;
-    if !choice.is_for(problem) {
-        return Err("choice".into());
-    }
-    Ok(fits(alloc, problem, &choice)?)
+fn first_fits(rt: &impl Abort, alloc: Global, problem: &Problem) -> bool {
+    let choice = choice(rt, alloc, "0");
+    assert!(rt; choice.is_for(problem), "choice");
+    fits(alloc, problem, &choice).expect(rt, "memory")
 }
 
 // The first cost for which a price of 3 on resource 1 does not close.
-fn first_open(alloc: Global, problem: &Problem, ranges: &Ranges) -> Result<u64, Fail>
+fn first_open(rt: &impl Abort, alloc: Global, problem: &Problem, ranges: &Ranges) -> u64
     requires { AreRanges problem.now ranges.now }
 {
-    let vector = vector(alloc, "1 3")?;
+    let vector = vector(rt, alloc, "1 3");
     let mut first = 0;
     for seen in 0..9 {
         if closes(problem, ranges, &vector, 1, Some(seen)) == Some(true) {
             first = seen + 1;
         }
     }
-    Ok(first)
+    first
 }
 
 // A limit of 0; a window that holds one movement twice; four runs in one place.
@@ -180,42 +196,41 @@ const EDGES: &str = "1 1 0 1 | 0 = false Some(true) 4
 1 1 0 4 | 9 = true Some(false) 0";
 
 #[test]
-fn leaves_of_one_unit(rt: HostRuntime) -> Result<(), Fail> {
-    walk(rt.alloc(), &mut EdgeCase, EDGES)
+fn leaves_of_one_unit(rt: HostRuntime) {
+    walk::<EdgeCase>(&rt, rt.alloc(), EDGES);
 }
 
-// The range of the first unit.
-fn first_span(ranges: &Ranges) -> Option<(u32, u32)> {
-    if ranges.len() > 0 {
-        Some((ranges.low(0), ranges.high(0)))
-    } else {
-        None
-    }
+// The range of the first unit has to be this one.
+fn check_first(rt: &impl Abort, ranges: &Ranges, low: u32, high: u32) {
+    assert!(rt; ranges.len() > 0);
+    assert!(rt;
+        ranges.low(0) == low && ranges.high(0) == high,
+        "from {low}"
+    );
 }
 
-// Whether the first unit has two alternatives in whole ranges, and the right ones in their two
-// parts, and in a copy that is set.
-fn are_cut(alloc: Global, whole: &Ranges) -> Result<bool, Fail> {
-    if whole.len() == 0 || whole.low(0) != 0 || whole.high(0) != 1 {
-        return Ok(false);
-    }
-    let (low, high) = whole.split(alloc, 0, 1)?;
-    let mut set = high.copy(alloc)?;
-    if set.len() > 0 {
-        set.set(0, 0, 0);
-    }
-    Ok(
-        first_span(&low) == Some((0, 0))
-            && first_span(&high) == Some((1, 1))
-            && first_span(&set) == Some((0, 0)),
-    )
+// The first unit has two alternatives in whole ranges, and the right ones in their two parts, and
+// in a copy that is set.
+fn check_cuts(rt: &impl Abort, alloc: Global, whole: &Ranges) {
+    assert!(rt; whole.len() > 0);
+    assert!(rt; whole.low(0) == 0 && whole.high(0) == 1);
+    let (low, high) = whole.split(alloc, 0, 1).expect(rt, "memory");
+    check_first(rt, &low, 0, 0);
+    check_first(rt, &high, 1, 1);
+    check_set(rt, alloc, &high);
+}
+
+fn check_set(rt: &impl Abort, alloc: Global, ranges: &Ranges) {
+    let mut set = ranges.copy(alloc).expect(rt, "memory");
+    assert!(rt; set.len() > 0);
+    set.set(0, 0, 0);
+    check_first(rt, &set, 0, 0);
 }
 
 #[test]
-fn ranges_are_cut(rt: HostRuntime) -> Result<(), Fail> {
+fn ranges_are_cut(rt: HostRuntime) {
     let alloc = rt.alloc();
-    let three = problem(alloc, "three")?;
-    let whole = Ranges::whole(alloc, &three)?;
-    assert!(rt; are_cut(alloc, &whole)?);
-    Ok(())
+    let three = problem(&rt, alloc, "three");
+    let whole = Ranges::whole(alloc, &three).expect(&rt, "memory");
+    check_cuts(&rt, alloc, &whole);
 }

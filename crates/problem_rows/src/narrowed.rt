@@ -1,79 +1,66 @@
 //! Reductions of what is left of problems, from those of the whole ones.
 
-use crate::draws::{Draws, choices_of, drawn};
-use crate::reduced::agrees_at;
+use crate::draws::{Draws, drawn};
+use crate::problems::{parts_of, problem_of, unit_of};
+use crate::reduced::agrees;
 use choice_problem::{Alt, Chooser, Part, Problem};
-use reduced_problem::Reduced;
+use reduced_problem::{Narrowed, Reduced};
 use std::alloc::Global;
-use std::test::Fail;
-
-fn copied(alloc: Global, parts: &[Part]) -> Result<Vec<Part>, Fail> {
-    let mut copies = Vec::new(alloc);
-    for part in parts {
-        copies.push(Part::new(Vec::from_slice(alloc, part.strips())?))?;
-    }
-    Ok(copies)
-}
+use std::process::Abort;
 
 // A unit with these parts and all of these alternatives but the last one, or with the only one.
-fn shorter_unit(alloc: Global, parts: &[Part], alts: &[Alt]) -> Result<Chooser, Fail> {
+fn shorter_unit(rt: &impl Abort, alloc: Global, parts: &[Part], alts: &[Alt]) -> Chooser {
     let count = alts.len().saturating_sub(1).max(1);
     let mut kept = Vec::new(alloc);
     for alt in alts.iter().take(count) {
-        kept.push(*alt)?;
+        kept.push(*alt).expect(rt, "memory");
     }
-    let parts = copied(alloc, parts)?;
-    if !Chooser::allows(&parts, &kept) {
-        return Err("unit".into());
-    }
-    Ok(Chooser::new(parts, kept))
+    unit_of(rt, parts_of(rt, alloc, parts), kept)
 }
 
 // A problem without the last alternative of each unit that has several.
-fn shorter(alloc: Global, problem: &Problem) -> Result<Problem, Fail> {
+fn shorter(rt: &impl Abort, alloc: Global, problem: &Problem) -> Problem {
     let mut units = Vec::new(alloc);
     for unit in 0..problem.units() {
         let (parts, alts) = (problem.unit_parts(unit), problem.unit_alts(unit));
-        units.push(shorter_unit(alloc, parts, alts)?)?;
+        units
+            .push(shorter_unit(rt, alloc, parts, alts))
+            .expect(rt, "memory");
     }
-    let limits = Vec::from_slice(alloc, problem.limits())?;
-    if !Problem::allows(&units, &limits) {
-        return Err("problem".into());
-    }
-    Ok(Problem::new(units, limits))
+    let limits = Vec::from_slice(alloc, problem.limits()).expect(rt, "memory");
+    problem_of(rt, units, limits)
 }
 
 // Flags of every other number below this one.
-fn every_other(alloc: Global, count: usize) -> Result<Vec<bool>, Fail> {
+fn every_other(rt: &impl Abort, alloc: Global, count: usize) -> Vec<bool> {
     let mut flags = Vec::new(alloc);
     for number in 0..count {
-        flags.push(number % 2 == 0)?;
+        flags.push(number % 2 == 0).expect(rt, "memory");
     }
-    Ok(flags)
+    flags
+}
+
+// The reduction of what is left of a problem, from that of the whole one.
+fn narrowed(rt: &impl Abort, alloc: Global, problem: &Problem, left: &Problem) -> Narrowed {
+    let whole = Reduced::of(alloc, problem).expect(rt, "memory");
+    let wanted = every_other(rt, alloc, whole.classes().len());
+    whole.narrowed(alloc, left, &wanted).expect(rt, "memory")
 }
 
 // Whether each choice of what is left of the next problem that is drawn fits exactly where it is
 // within the limits of all classes that are left.
-fn drawn_agrees(alloc: Global, draws: &mut Draws) -> Result<bool, Fail> {
-    let problem = drawn(alloc, draws)?;
-    let whole = Reduced::of(alloc, &problem)?;
-    let left = shorter(alloc, &problem)?;
-    let wanted = every_other(alloc, whole.classes().len())?;
-    let narrowed = whole.narrowed(alloc, &left, &wanted)?;
-    for number in 0..choices_of(&left) {
-        if !agrees_at(alloc, &left, &narrowed.reduced, number)? {
-            return Ok(false);
-        }
-    }
-    Ok(true)
+fn drawn_agrees(rt: &impl Abort, alloc: Global, draws: &mut Draws) -> bool {
+    let problem = drawn(rt, alloc, draws);
+    let left = shorter(rt, alloc, &problem);
+    let narrowed = narrowed(rt, alloc, &problem, &left);
+    agrees(rt, alloc, &left, &narrowed.reduced)
 }
 
 #[test]
-fn what_fits_the_classes_left_fits(rt: HostRuntime) -> Result<(), Fail> {
+fn what_fits_the_classes_left_fits(rt: HostRuntime) {
     let alloc = rt.alloc();
     let mut draws = Draws { last: 3 };
     for number in 0..500 {
-        assert!(rt; drawn_agrees(alloc, &mut draws)?, "{number}");
+        assert!(rt; drawn_agrees(&rt, alloc, &mut draws), "{number}");
     }
-    Ok(())
 }

@@ -1,6 +1,6 @@
 //! The problems of the rows, and the texts that give others.
 
-ghost use Rattle.std.specs.Prelude.{◌<◌, ◌≤◌, IfOk, IfSome};
+ghost use Rattle.std.specs.Prelude.{◌<◌, ◌≤◌, IfSome};
 ghost use Rattle.choice_problem.specs.Problems.{unit_count, alt_count};
 ghost use Rattle.choice_problem.specs.Bounds.{AreRanges};
 ghost use Rattle.price_table.specs.Tables.{IsTableFor};
@@ -9,7 +9,7 @@ use crate::texts::{NONE, at, long_at, numbers, small_at};
 use choice_problem::{Alt, Chooser, Part, Price, Problem, Ranges, Strip, Vector};
 use price_table::{PriceTable, price_table};
 use std::alloc::Global;
-use std::test::Fail;
+use std::process::Abort;
 
 // Clauses are divided by `;`. `P` is a part: of each strip the first resource, the width, the gap
 // and the times. `A` is an alternative: its cost and the numbers of two parts. `U` ends a unit,
@@ -77,54 +77,64 @@ struct Draft {
 
 impl Draft {
     // Reads clauses.
-    fn read(&mut self, alloc: Global, text: &str) -> Result<(), Fail> {
+    fn read(&mut self, rt: &impl Abort, alloc: Global, text: &str) {
         for clause in text.split(';') {
-            self.take(alloc, clause.trim())?;
+            self.take(rt, alloc, clause.trim());
         }
-        Ok(())
     }
 
     // Reads a clause.
-    fn take(&mut self, alloc: Global, clause: &str) -> Result<(), Fail> {
+    fn take(&mut self, rt: &impl Abort, alloc: Global, clause: &str) {
         let (kind, rest) = clause.split_once(' ').unwrap_or((clause, ""));
-        let numbers = numbers(alloc, rest)?;
+        let numbers = numbers(rt, alloc, rest);
+        self.put(rt, alloc, kind, &numbers);
+    }
+
+    // Puts in what a clause of a kind says.
+    fn put(&mut self, rt: &impl Abort, alloc: Global, kind: &str, numbers: &[i128]) {
         match kind {
-            "P" => self.parts.push(Part::new(strips(alloc, &numbers)?))?,
-            "A" => self.alts.push(alt(&numbers))?,
-            "L" => self.limits = limits(alloc, &numbers)?,
-            "M" => self.limits = even_limits(alloc, &numbers)?,
-            "U" => self.end_unit(alloc)?,
+            "P" => self.put_part(rt, strips(rt, alloc, numbers)),
+            "A" => self.alts.push(alt(numbers)).expect(rt, "memory"),
+            "L" => self.limits = limits(rt, alloc, numbers),
+            "M" => self.limits = even_limits(rt, alloc, numbers),
+            "U" => self.end_unit(rt, alloc),
             "" => {}
-            _ => return Err("clause".into()),
+            _ => panic!(rt; "a clause of no kind"),
         }
-        Ok(())
+    }
+
+    fn put_part(&mut self, rt: &impl Abort, strips: Vec<Strip>) {
+        self.parts.push(Part::new(strips)).expect(rt, "memory");
     }
 
     // Ends a unit, if it is allowed.
-    fn end_unit(&mut self, alloc: Global) -> Result<(), Fail> {
+    fn end_unit(&mut self, rt: &impl Abort, alloc: Global) {
         let parts = std::mem::replace(&mut self.parts, Vec::new(alloc));
         let alts = std::mem::replace(&mut self.alts, Vec::new(alloc));
         if Chooser::allows(&parts, &alts) {
-            self.units.push(Chooser::new(parts, alts))?;
+            self.units
+                .push(Chooser::new(parts, alts))
+                .expect(rt, "memory");
         } else {
             self.allowed = false;
         }
-        Ok(())
     }
 }
 
 /// The strips of these numbers, four each.
-pub(crate) fn strips(alloc: Global, numbers: &[i128]) -> Result<Vec<Strip>, Fail> {
+pub(crate) fn strips(rt: &impl Abort, alloc: Global, numbers: &[i128]) -> Vec<Strip> {
     let mut strips = Vec::new(alloc);
     for place in 0..numbers.len() / 4 {
-        strips.push(Strip {
-            first: small_at(numbers, 4 * place),
-            width: small_at(numbers, 4 * place + 1),
-            gap: small_at(numbers, 4 * place + 2),
-            times: small_at(numbers, 4 * place + 3),
-        })?;
+        strips
+            .push(Strip {
+                first: small_at(numbers, 4 * place),
+                width: small_at(numbers, 4 * place + 1),
+                gap: small_at(numbers, 4 * place + 2),
+                times: small_at(numbers, 4 * place + 3),
+            })
+            .expect(rt, "memory");
     }
-    Ok(strips)
+    strips
 }
 
 // The part that a number names, if it is one.
@@ -145,23 +155,22 @@ fn alt(numbers: &[i128]) -> Alt {
 }
 
 /// Limits of these numbers.
-pub(crate) fn limits(alloc: Global, numbers: &[i128]) -> Result<Vec<i64>, Fail> {
+pub(crate) fn limits(rt: &impl Abort, alloc: Global, numbers: &[i128]) -> Vec<i64> {
     let mut limits = Vec::new(alloc);
     for place in 0..numbers.len() {
-        limits.push(long_at(numbers, place))?;
+        limits.push(long_at(numbers, place)).expect(rt, "memory");
     }
-    Ok(limits)
+    limits
 }
 
 // So many limits, all the same.
-fn even_limits(alloc: Global, numbers: &[i128]) -> Result<Vec<i64>, Fail> {
-    let limits = vec![in alloc; long_at(numbers, 1); small_at(numbers, 0) as usize]?;
-    Ok(limits)
+fn even_limits(rt: &impl Abort, alloc: Global, numbers: &[i128]) -> Vec<i64> {
+    vec![in alloc; long_at(numbers, 1); small_at(numbers, 0) as usize].expect(rt, "memory")
 }
 
 /// The problem of a text: a name, or clauses, or a name and further clauses. None where it is not
 /// allowed.
-pub(crate) fn read_problem(alloc: Global, text: &str) -> Result<Option<Problem>, Fail> {
+pub(crate) fn read_problem(rt: &impl Abort, alloc: Global, text: &str) -> Option<Problem> {
     let (name, rest) = text.split_once(';').unwrap_or((text, ""));
     let mut draft = Draft {
         units: Vec::new(alloc),
@@ -170,15 +179,15 @@ pub(crate) fn read_problem(alloc: Global, text: &str) -> Result<Option<Problem>,
         alts: Vec::new(alloc),
         allowed: true,
     };
-    draft.read(alloc, named(name))?;
-    draft.read(alloc, rest)?;
+    draft.read(rt, alloc, named(name));
+    draft.read(rt, alloc, rest);
     let Draft {
         units,
         limits,
         allowed,
         ..
     } = draft;
-    Ok(if allowed { made(units, limits) } else { None })
+    if allowed { made(units, limits) } else { None }
 }
 
 // The problem of these units and limits, where it is allowed.
@@ -190,72 +199,92 @@ fn made(units: Vec<Chooser>, limits: Vec<i64>) -> Option<Problem> {
     }
 }
 
+/// The problem of these units and limits, which has to be allowed.
+pub(crate) fn problem_of(rt: &impl Abort, units: Vec<Chooser>, limits: Vec<i64>) -> Problem {
+    assert!(rt; Problem::allows(&units, &limits), "problem");
+    Problem::new(units, limits)
+}
+
+/// The unit of these parts and alternatives, which has to be allowed.
+pub(crate) fn unit_of(rt: &impl Abort, parts: Vec<Part>, alts: Vec<Alt>) -> Chooser {
+    assert!(rt; Chooser::allows(&parts, &alts), "unit");
+    Chooser::new(parts, alts)
+}
+
+/// Adds an alternative of a part, or of none.
+pub(crate) fn add_alt(rt: &impl Abort, alts: &mut Vec<Alt>, cost: u64, one: Option<u32>) {
+    let two = None;
+    alts.push(Alt { cost, one, two }).expect(rt, "memory");
+}
+
+/// Copies of parts.
+pub(crate) fn parts_of(rt: &impl Abort, alloc: Global, parts: &[Part]) -> Vec<Part> {
+    let mut copies = Vec::new(alloc);
+    for part in parts {
+        let strips = Vec::from_slice(alloc, part.strips()).expect(rt, "memory");
+        copies.push(Part::new(strips)).expect(rt, "memory");
+    }
+    copies
+}
+
 /// The problem of a text: `window` and a number of dates, or as `read_problem` has it.
-pub(crate) fn problem(alloc: Global, text: &str) -> Result<Problem, Fail> {
-    let read = match text.split_once(' ') {
-        Some(("window", dates)) => window(alloc, dates.parse::<u32>().unwrap_or(1))?,
-        _ => read_problem(alloc, text)?,
-    };
-    match read {
-        Some(problem) => Ok(problem),
-        None => Err("problem".into()),
+pub(crate) fn problem(rt: &impl Abort, alloc: Global, text: &str) -> Problem {
+    match text.split_once(' ') {
+        Some(("window", dates)) => window(rt, alloc, dates.parse::<u32>().unwrap_or(1)),
+        _ => read_problem(rt, alloc, text).expect(rt, "a problem that is allowed"),
     }
 }
 
 // A unit on so many dates, whose times lie 5 minutes apart, the requested one in the middle; from
 // half an hour before to 25 minutes after it they use a window that is full on each date: resource
 // r is the window on date r.
-fn window(alloc: Global, dates: u32) -> Result<Option<Problem>, Fail> {
-    let alts = window_alts(alloc, dates)?;
-    let parts = window_parts(alloc, dates)?;
-    if !Chooser::allows(&parts, &alts) {
-        return Ok(None);
-    }
-    full(alloc, vec![in alloc; Chooser::new(parts, alts)]?, dates)
+fn window(rt: &impl Abort, alloc: Global, dates: u32) -> Problem {
+    let alts = window_alts(rt, alloc, dates);
+    let unit = unit_of(rt, window_parts(rt, alloc, dates), alts);
+    full(rt, alloc, unit, dates)
 }
 
-// The problem of these units where each resource is full.
-fn full(alloc: Global, units: Vec<Chooser>, dates: u32) -> Result<Option<Problem>, Fail> {
-    let limits = vec![in alloc; 0; dates as usize]?;
-    Ok(made(units, limits))
+// The problem of a unit where each resource is full.
+fn full(rt: &impl Abort, alloc: Global, unit: Chooser, dates: u32) -> Problem {
+    let units = vec![in alloc; unit].expect(rt, "memory");
+    let limits = vec![in alloc; 0; dates as usize].expect(rt, "memory");
+    problem_of(rt, units, limits)
 }
 
-fn window_alts(alloc: Global, dates: u32) -> Result<Vec<Alt>, Fail> {
+fn window_alts(rt: &impl Abort, alloc: Global, dates: u32) -> Vec<Alt> {
     let mut alts = Vec::new(alloc);
     for place in 0..25_u64 {
         let minutes = 5 * place.abs_diff(12);
         let held = 6 <= place && place < 18;
-        alts.push(Alt {
-            cost: minutes * u64::from(dates),
-            one: if held { Some(0) } else { None },
-            two: None,
-        })?;
+        let one = if held { Some(0) } else { None };
+        add_alt(rt, &mut alts, minutes * u64::from(dates), one);
     }
-    Ok(alts)
+    alts
 }
 
 // A part that uses the window of each date once.
-fn window_parts(alloc: Global, dates: u32) -> Result<Vec<Part>, Fail> {
+fn window_parts(rt: &impl Abort, alloc: Global, dates: u32) -> Vec<Part> {
     let strip = Strip {
         first: 0,
         width: 1,
         gap: 1,
         times: dates,
     };
-    Ok(vec![in alloc; Part::new(vec![in alloc; strip]?)]?)
+    let strips = vec![in alloc; strip].expect(rt, "memory");
+    vec![in alloc; Part::new(strips)].expect(rt, "memory")
 }
 
 /// The whole ranges, narrowed to these: the least and the greatest alternative of each of the first
 /// units.
-pub(crate) fn ranges(alloc: Global, problem: &Problem, text: &str) -> Result<Ranges, Fail>
-    ensures { IfOk result (AreRanges problem.now) }
+pub(crate) fn ranges(rt: &impl Abort, alloc: Global, problem: &Problem, text: &str) -> Ranges
+    ensures { AreRanges problem.now result }
 {
-    let spans = numbers(alloc, text)?;
-    let mut ranges = Ranges::whole(alloc, problem)?;
+    let spans = numbers(rt, alloc, text);
+    let mut ranges = Ranges::whole(alloc, problem).expect(rt, "memory");
     for unit in 0..problem.units() {
         narrow(problem, &mut ranges, unit, &spans);
     }
-    Ok(ranges)
+    ranges
 }
 
 /// The range of a unit that the numbers say, if it is one.
@@ -285,44 +314,55 @@ fn narrow(problem: &Problem, ranges: &mut Ranges, unit: u32, spans: &[i128])
 
 /// The vector of a text: resources and prices, or `N of PRICE`, the same price for each of the
 /// first resources.
-pub(crate) fn vector(alloc: Global, text: &str) -> Result<Vector, Fail> {
+pub(crate) fn vector(rt: &impl Abort, alloc: Global, text: &str) -> Vector {
+    match text.split_once(" of ") {
+        Some((count, price)) => even_prices(
+            rt,
+            alloc,
+            count.parse::<u32>().unwrap_or(0),
+            price.parse::<i64>().unwrap_or(0),
+        ),
+        None => prices(rt, alloc, &numbers(rt, alloc, text)),
+    }
+}
+
+// The same price for each of the first resources.
+fn even_prices(rt: &impl Abort, alloc: Global, count: u32, price: i64) -> Vector {
     let mut items = Vec::new(alloc);
-    if let Some((count, price)) = text.split_once(" of ") {
-        let price = price.parse::<i64>().unwrap_or(0);
-        for resource in 0..count.parse::<u32>().unwrap_or(0) {
-            items.push(Price { resource, price })?;
-        }
-        return Ok(Vector::new(items));
+    for resource in 0..count {
+        items.push(Price { resource, price }).expect(rt, "memory");
     }
-    let numbers = numbers(alloc, text)?;
+    Vector::new(items)
+}
+
+// A resource and its price in turn.
+fn prices(rt: &impl Abort, alloc: Global, numbers: &[i128]) -> Vector {
+    let mut items = Vec::new(alloc);
     for place in 0..numbers.len() / 2 {
-        items.push(Price {
-            resource: small_at(&numbers, 2 * place),
-            price: long_at(&numbers, 2 * place + 1),
-        })?;
+        let resource = small_at(numbers, 2 * place);
+        let price = long_at(numbers, 2 * place + 1);
+        items.push(Price { resource, price }).expect(rt, "memory");
     }
-    Ok(Vector::new(items))
+    Vector::new(items)
 }
 
 /// The table of the vector of a text.
-pub(crate) fn table(alloc: Global, problem: &Problem, text: &str) -> Result<PriceTable, Fail>
-    ensures { IfOk result (IsTableFor problem.now) }
+pub(crate) fn table(rt: &impl Abort, alloc: Global, problem: &Problem, text: &str) -> PriceTable
+    ensures { IsTableFor problem.now result }
 {
-    let vector = vector(alloc, text)?;
-    table_of(alloc, problem, &vector)
+    let vector = vector(rt, alloc, text);
+    table_of(rt, alloc, problem, &vector)
 }
 
 /// The table of a vector, where it is one for the problem.
 pub(crate) fn table_of(
+    rt: &impl Abort,
     alloc: Global,
     problem: &Problem,
     vector: &Vector,
-) -> Result<PriceTable, Fail>
-    ensures { IfOk result (IsTableFor problem.now) }
+) -> PriceTable
+    ensures { IsTableFor problem.now result }
 {
-    if vector.is_for(problem) {
-        Ok(price_table(alloc, problem, vector)?)
-    } else {
-        Err("vector".into())
-    }
+    assert!(rt; vector.is_for(problem), "a vector of another problem");
+    price_table(alloc, problem, vector).expect(rt, "memory")
 }

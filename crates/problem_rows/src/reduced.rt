@@ -2,62 +2,61 @@
 
 use crate::draws::{Draws, choices_of, drawn, numbered};
 use crate::problems::problem;
-use crate::texts::{Case, walk};
-use choice_problem::{Alt, Problem, fits};
+use crate::texts::{Case, add, walk};
+use choice_problem::{Alt, Choice, Problem, fits};
 use reduced_problem::Reduced;
 use std::alloc::Global;
-use std::test::Fail;
+use std::process::Abort;
 
 // The classes with their users, and what each part uses.
-#[derive(Drop)]
 struct KeptCase;
 
 impl Case for KeptCase {
-    fn find(&mut self, alloc: Global, text: &str) -> Result<String, Fail> {
-        let problem = problem(alloc, text)?;
-        let kept = Reduced::of(alloc, &problem)?;
-        shown(alloc, &kept)
+    fn find(rt: &impl Abort, alloc: Global, text: &str) -> String {
+        let problem = problem(rt, alloc, text);
+        let kept = Reduced::of(alloc, &problem).expect(rt, "memory");
+        shown(rt, alloc, &kept)
     }
 }
 
-fn shown(alloc: Global, kept: &Reduced) -> Result<String, Fail> {
+fn shown(rt: &impl Abort, alloc: Global, kept: &Reduced) -> String {
     let mut out = String::new(alloc);
-    add_classes(alloc, &mut out, kept)?;
-    out.push_str("/")?;
+    add_classes(rt, &mut out, kept);
+    out.push_str("/").expect(rt, "memory");
     for part in 0..kept.parts() {
-        add_uses(alloc, &mut out, kept, part)?;
+        add_uses(rt, &mut out, kept, part);
     }
-    Ok(out)
+    out
 }
 
 // The classes with their limits and their users.
-fn add_classes(alloc: Global, out: &mut String, kept: &Reduced) -> Result<(), Fail> {
+fn add_classes(rt: &impl Abort, out: &mut String, kept: &Reduced) {
     for (number, class) in kept.classes().iter().enumerate() {
-        out.push_str(&format!(in alloc; "{} to {}:", class.resource, class.limit)?)?;
-        add_users(alloc, out, kept, number)?;
-        out.push_str(" ")?;
+        add(rt, out, "", i128::from(class.resource));
+        add(rt, out, " to ", i128::from(class.limit));
+        out.push_str(":").expect(rt, "memory");
+        add_users(rt, out, kept, number);
+        out.push_str(" ").expect(rt, "memory");
     }
-    Ok(())
 }
 
 // The users of a class: from part to part, and how often.
-fn add_users(alloc: Global, out: &mut String, kept: &Reduced, class: usize) -> Result<(), Fail> {
-    if class > 1_000 {
-        return Err("classes".into());
-    }
+fn add_users(rt: &impl Abort, out: &mut String, kept: &Reduced, class: usize) {
+    assert!(rt; class <= 1_000, "class {class}");
     for run in kept.users(class as u32) {
-        out.push_str(&format!(in alloc; " {}-{}*{}", run.first, run.end, run.uses)?)?;
+        add(rt, out, " ", i128::from(run.first));
+        add(rt, out, "-", i128::from(run.end));
+        add(rt, out, "*", i128::from(run.uses));
     }
-    Ok(())
 }
 
 // What a part uses: classes, and how often.
-fn add_uses(alloc: Global, out: &mut String, kept: &Reduced, part: u32) -> Result<(), Fail> {
+fn add_uses(rt: &impl Abort, out: &mut String, kept: &Reduced, part: u32) {
     for class_use in kept.part_uses(part) {
-        out.push_str(&format!(in alloc; " {}*{}", class_use.class, class_use.uses)?)?;
+        add(rt, out, " ", i128::from(class_use.class));
+        add(rt, out, "*", i128::from(class_use.uses));
     }
-    out.push_str(",")?;
-    Ok(())
+    out.push_str(",").expect(rt, "memory");
 }
 
 // In turn: three resources with two users each. A limit that holds both users, and one that does
@@ -80,8 +79,8 @@ P 0 1 1 1 0 1 1 1; A 0 0 -; U; L 1 = 0 to 1: 0-1*2 / 0*2,
 P 0 2 3 3; A 0 0 -; U; P 4 1 1 1; A 0 0 -; U; L 1 1 1 1 1 1 1 1 = 4 to 1: 0-1*1 1-2*1 / 0*1, 0*1,";
 
 #[test]
-fn what_cannot_be_passed_is_left_out(rt: HostRuntime) -> Result<(), Fail> {
-    walk(rt.alloc(), &mut KeptCase, KEPT)
+fn what_cannot_be_passed_is_left_out(rt: HostRuntime) {
+    walk::<KeptCase>(&rt, rt.alloc(), KEPT);
 }
 
 // How often a unit's alternative uses a class.
@@ -135,43 +134,54 @@ fn fits_classes(problem: &Problem, kept: &Reduced, choice: &[u32]) -> bool {
     true
 }
 
-// Whether each choice of a drawn problem fits exactly where it is within the limits of all classes.
-fn agrees(alloc: Global, problem: &Problem) -> Result<bool, Fail> {
-    let kept = Reduced::of(alloc, problem)?;
+/// Whether each choice of a problem fits exactly where it is within the limits of all classes.
+pub(crate) fn agrees(rt: &impl Abort, alloc: Global, problem: &Problem, kept: &Reduced) -> bool {
     for number in 0..choices_of(problem) {
-        if !agrees_at(alloc, problem, &kept, number)? {
-            return Ok(false);
+        if !agrees_at(rt, alloc, problem, kept, number) {
+            return false;
         }
     }
-    Ok(true)
+    true
 }
 
 // The same of the choice of a number, if it is one.
-pub(crate) fn agrees_at(
+fn agrees_at(
+    rt: &impl Abort,
     alloc: Global,
     problem: &Problem,
     kept: &Reduced,
     number: u32,
-) -> Result<bool, Fail> {
-    let choice = numbered(alloc, problem, number)?;
+) -> bool {
+    let choice = numbered(rt, alloc, problem, number);
+    choice_agrees(rt, alloc, problem, kept, &choice)
+}
+
+fn choice_agrees(
+    rt: &impl Abort,
+    alloc: Global,
+    problem: &Problem,
+    kept: &Reduced,
+    choice: &Choice,
+) -> bool {
     if !choice.is_for(problem) {
-        return Ok(true);
+        return true;
     }
-    Ok(fits(alloc, problem, &choice)? == fits_classes(problem, kept, choice.items()))
+    let fits = fits(alloc, problem, choice).expect(rt, "memory");
+    fits == fits_classes(problem, kept, choice.items())
 }
 
 // Whether the next problem that is drawn agrees.
-fn drawn_agrees(alloc: Global, draws: &mut Draws) -> Result<bool, Fail> {
-    let problem = drawn(alloc, draws)?;
-    agrees(alloc, &problem)
+fn drawn_agrees(rt: &impl Abort, alloc: Global, draws: &mut Draws) -> bool {
+    let problem = drawn(rt, alloc, draws);
+    let kept = Reduced::of(alloc, &problem).expect(rt, "memory");
+    agrees(rt, alloc, &problem, &kept)
 }
 
 #[test]
-fn what_fits_the_classes_fits(rt: HostRuntime) -> Result<(), Fail> {
+fn what_fits_the_classes_fits(rt: HostRuntime) {
     let alloc = rt.alloc();
     let mut draws = Draws { last: 1 };
     for number in 0..1_000 {
-        assert!(rt; drawn_agrees(alloc, &mut draws)?, "{number}");
+        assert!(rt; drawn_agrees(&rt, alloc, &mut draws), "{number}");
     }
-    Ok(())
 }

@@ -5,37 +5,39 @@ ghost use Rattle.choice_problem.specs.declared.closing.TheConstants.{SCALE_BOUND
 ghost use Rattle.choice_problem.specs.Bounds.{AreRanges};
 
 use crate::problems::{problem, ranges, table_of};
-use crate::texts::{Case, numbers, piece, walk};
+use crate::texts::{Case, add, numbers, piece, walk};
 use choice_problem::{PRICED_SCALE, Problem, Ranges, Vector};
 use price_table::bound;
 use reduced_problem::Reduced;
 use relaxed_problem::{End, Program, Relaxation};
 use std::alloc::Global;
 use std::num::saturating_f64_to_i64;
-use std::test::Fail;
+use std::process::Abort;
 
 // The bound of ranges at a vector.
 fn bound_at(
+    rt: &impl Abort,
     alloc: Global,
     problem: &Problem,
     ranges: &Ranges,
     vector: &Vector,
     scale: u64,
-) -> Result<i128, Fail>
+) -> i128
     requires ranges { AreRanges problem.now ranges.now }
     requires scale { scale < SCALE_BOUND }
 {
-    let table = table_of(alloc, problem, vector)?;
-    Ok(bound(problem, ranges, &table, scale))
+    let table = table_of(rt, alloc, problem, vector);
+    bound(problem, ranges, &table, scale)
 }
 
 // Lets a unit take the alternatives of a range alone.
-fn keep(program: &Program<'_>, relaxation: &mut Relaxation, unit: u32, range: (u32, u32)) {
-    let first = program.first_column(unit);
-    for (number, column) in (0..).zip(program.unit_columns(unit)) {
-        if column.number < range.0 || range.1 < column.number {
-            relaxation.shut(first.saturating_add(number));
+fn keep(program: &Program<'_>, relaxation: &mut Relaxation, unit: u32, low: u32, high: u32) {
+    let mut place = program.first_column(unit);
+    for column in program.unit_columns(unit) {
+        if column.number < low || high < column.number {
+            relaxation.shut(place);
         }
+        place = place.saturating_add(1);
     }
 }
 
@@ -44,136 +46,137 @@ fn keep_all(problem: &Problem, program: &Program<'_>, relaxation: &mut Relaxatio
     requires { AreRanges problem.now ranges.now }
 {
     for unit in 0..problem.units() {
-        keep(
-            program,
-            relaxation,
-            unit,
-            (ranges.low(unit), ranges.high(unit)),
-        );
+        let (low, high) = (ranges.low(unit), ranges.high(unit));
+        keep(program, relaxation, unit, low, high);
     }
 }
 
-// How a relaxation of ranges ends: solved, with the value in thousandths and the bound of its
+// Adds how a relaxation of ranges ends: solved, with the value in thousandths and the bound of its
 // vector; or without a solution, and whether a ray shows it.
-fn ending(
+fn add_ending(
+    rt: &impl Abort,
     alloc: Global,
+    out: &mut String,
     problem: &Problem,
     program: &Program<'_>,
     relaxation: &mut Relaxation,
     ranges: &Ranges,
-) -> Result<String, Fail>
+)
     requires { AreRanges problem.now ranges.now }
 {
     keep_all(problem, program, relaxation, ranges);
-    let ended = relaxation.solve(alloc, program, 1_000, 1_000_000_000_000.0)?;
-    match ended.end {
-        End::Solved => solved(alloc, problem, program, relaxation, ranges),
-        End::Infeasible => unsolved(alloc, problem, program, relaxation, ranges),
-        _ => Err("pivots".into()),
+    let ended = relaxation.solve(alloc, program, 1_000, 1_000_000_000_000.0);
+    match ended.expect(rt, "memory").end {
+        End::Solved => add_solved(rt, alloc, out, problem, program, relaxation, ranges),
+        End::Infeasible => add_unsolved(rt, alloc, out, problem, program, relaxation, ranges),
+        _ => panic!(rt; "more pivots than 1,000"),
     }
 }
 
-fn solved(
+fn add_solved(
+    rt: &impl Abort,
     alloc: Global,
+    out: &mut String,
     problem: &Problem,
     program: &Program<'_>,
     relaxation: &Relaxation,
     ranges: &Ranges,
-) -> Result<String, Fail>
+)
     requires { AreRanges problem.now ranges.now }
 {
     let thousandths = saturating_f64_to_i64(relaxation.true_value(program) * 1_000.0 + 0.5);
-    let vector = relaxation.vector(alloc, problem, program)?;
-    let scaled = bound_at(alloc, problem, ranges, &vector, PRICED_SCALE)?;
-    Ok(format!(in alloc; "{thousandths} {scaled}")?)
+    let vector = relaxation
+        .vector(alloc, problem, program)
+        .expect(rt, "memory");
+    let scaled = bound_at(rt, alloc, problem, ranges, &vector, PRICED_SCALE);
+    add(rt, out, "", i128::from(thousandths));
+    add(rt, out, " ", scaled);
 }
 
-fn unsolved(
+fn add_unsolved(
+    rt: &impl Abort,
     alloc: Global,
+    out: &mut String,
     problem: &Problem,
     program: &Program<'_>,
     relaxation: &Relaxation,
     ranges: &Ranges,
-) -> Result<String, Fail>
+)
     requires { AreRanges problem.now ranges.now }
 {
-    let vector = relaxation.ray(alloc, problem, program, 1_024)?;
-    let shows = bound_at(alloc, problem, ranges, &vector, 0)? > 0;
-    Ok(format!(in alloc; "none {shows}")?)
+    let vector = relaxation
+        .ray(alloc, problem, program, 1_024)
+        .expect(rt, "memory");
+    let shows = bound_at(rt, alloc, problem, ranges, &vector, 0) > 0;
+    let text = if shows { "none true" } else { "none false" };
+    out.push_str(text).expect(rt, "memory");
 }
 
 // The excluded alternatives: a flag for each, unit after unit.
-fn flags(alloc: Global, text: &str) -> Result<Vec<bool>, Fail> {
+fn flags(rt: &impl Abort, alloc: Global, numbers: &[i128]) -> Vec<bool> {
     let mut flags = Vec::new(alloc);
-    for number in numbers(alloc, text)? {
-        flags.push(number == 1)?;
+    for number in numbers {
+        flags.push(*number == 1).expect(rt, "memory");
     }
-    Ok(flags)
+    flags
 }
 
 // How a row's relaxation ends on all alternatives, and how a copy ends on the ranges of the row, if
 // it has some.
-#[derive(Drop)]
 struct RelaxedCase;
 
 impl Case for RelaxedCase {
-    fn find(&mut self, alloc: Global, row: &str) -> Result<String, Fail> {
-        let problem = problem(alloc, piece(row, 0))?;
-        let excluded = flags(alloc, piece(row, 1))?;
-        relaxed(alloc, &problem, &excluded, piece(row, 2))
+    fn find(rt: &impl Abort, alloc: Global, row: &str) -> String {
+        let problem = problem(rt, alloc, piece(row, 0));
+        let excluded = flags(rt, alloc, &numbers(rt, alloc, piece(row, 1)));
+        relaxed(rt, alloc, &problem, &excluded, piece(row, 2))
     }
 }
 
 // How a relaxation without these alternatives ends.
 fn relaxed(
+    rt: &impl Abort,
     alloc: Global,
     problem: &Problem,
     excluded: &[bool],
     narrow: &str,
-) -> Result<String, Fail> {
-    let reduced = Reduced::of(alloc, problem)?;
-    let program = Program::new(alloc, problem, &reduced, excluded)?;
-    endings(alloc, problem, &program, narrow)
+) -> String {
+    let reduced = Reduced::of(alloc, problem).expect(rt, "memory");
+    let program = Program::new(alloc, problem, &reduced, excluded).expect(rt, "memory");
+    let mut out = String::new(alloc);
+    add_endings(rt, alloc, &mut out, problem, &program, narrow);
+    out
 }
 
-// How a relaxation ends on all alternatives, and a copy of it on these ranges.
-fn endings(
+// Adds how a relaxation ends on all alternatives, and a copy of it on these ranges.
+fn add_endings(
+    rt: &impl Abort,
     alloc: Global,
+    out: &mut String,
     problem: &Problem,
     program: &Program<'_>,
     narrow: &str,
-) -> Result<String, Fail> {
-    let mut first = Relaxation::start(alloc, program)?;
-    let ended = ending_on(alloc, problem, program, &mut first, "")?;
-    if narrow.is_empty() {
-        return Ok(ended);
+) {
+    let mut first = Relaxation::start(alloc, program).expect(rt, "memory");
+    add_ending_on(rt, alloc, out, problem, program, &mut first, "");
+    if !narrow.is_empty() {
+        out.push_str(", ").expect(rt, "memory");
+        let mut next = first.copy(alloc).expect(rt, "memory");
+        add_ending_on(rt, alloc, out, problem, program, &mut next, narrow);
     }
-    narrowed(alloc, problem, program, &first, narrow, &ended)
 }
 
-// How a relaxation ended, and how a copy of it ends on these ranges.
-fn narrowed(
+fn add_ending_on(
+    rt: &impl Abort,
     alloc: Global,
-    problem: &Problem,
-    program: &Program<'_>,
-    first: &Relaxation,
-    narrow: &str,
-    ended: &str,
-) -> Result<String, Fail> {
-    let mut next = first.copy(alloc)?;
-    let narrowed = ending_on(alloc, problem, program, &mut next, narrow)?;
-    Ok(format!(in alloc; "{ended}, {narrowed}")?)
-}
-
-fn ending_on(
-    alloc: Global,
+    out: &mut String,
     problem: &Problem,
     program: &Program<'_>,
     relaxation: &mut Relaxation,
     spans: &str,
-) -> Result<String, Fail> {
-    let ranges = ranges(alloc, problem, spans)?;
-    ending(alloc, problem, program, relaxation, &ranges)
+) {
+    let ranges = ranges(rt, alloc, problem, spans);
+    add_ending(rt, alloc, out, problem, program, relaxation, &ranges);
 }
 
 // In turn: one of two units makes room, the cheaper one; whichever of them is kept from it, the
@@ -199,6 +202,6 @@ P 0 2 1 1; A 0 0 -; U; P 1 2 1 1; A 0 0 -; U; P 0 1 2 2; A 0 0 -; U; L 1 1 1 | |
 L | | = 0 0";
 
 #[test]
-fn relaxations_of_small_problems(rt: HostRuntime) -> Result<(), Fail> {
-    walk(rt.alloc(), &mut RelaxedCase, RELAXED)
+fn relaxations_of_small_problems(rt: HostRuntime) {
+    walk::<RelaxedCase>(&rt, rt.alloc(), RELAXED);
 }

@@ -1,7 +1,7 @@
 //! The texts of rows: pieces between strokes, numbers between blanks.
 
 use std::alloc::Global;
-use std::test::Fail;
+use std::process::Abort;
 
 /// What a row gives, before its last `=`, and what it wants.
 pub(crate) fn halves(row: &str) -> (&str, &str) {
@@ -24,42 +24,53 @@ pub(crate) fn piece(row: &str, number: usize) -> &str {
 /// What the rows of a table are about.
 pub(crate) trait Case {
     /// What is found for what a row gives.
-    fn find(&mut self, alloc: Global, given: &str) -> Result<String, Fail>;
+    fn find(rt: &impl Abort, alloc: Global, given: &str) -> String;
 }
 
-/// Walks the rows, and fails with the first whose finding is not what it wants.
-pub(crate) fn walk<C: Case>(alloc: Global, case: &mut C, rows: &str) -> Result<(), Fail> {
+/// Walks the rows, and ends at the first whose finding is not what it wants.
+pub(crate) fn walk<C: Case>(rt: &impl Abort, alloc: Global, rows: &str) {
     for row in rows.lines() {
-        let (given, want) = halves(row);
-        let found = case.find(alloc, given)?;
-        if found.trim() != want {
-            return Err(Fail::new(format!(in alloc; "{row} has {found}")?));
-        }
+        let (given, _) = halves(row);
+        let found = C::find(rt, alloc, given);
+        check(rt, row, &found);
     }
-    Ok(())
+}
+
+/// What is found for a row has to be what it wants.
+pub(crate) fn check(rt: &impl Abort, row: &str, found: &str) {
+    let (_, want) = halves(row);
+    assert!(rt; found.trim() == want, "{row} has {found}");
+}
+
+/// Adds a word, and a number behind it.
+pub(crate) fn add(rt: &impl Abort, out: &mut String, word: &str, number: i128) {
+    out.push_str(word).expect(rt, "memory");
+    write!(out, "{number}").expect(rt, "memory");
 }
 
 /// The word for a truth.
-pub(crate) fn yes_no(alloc: Global, truth: bool) -> Result<String, Fail> {
-    Ok(String::from_str(alloc, if truth { "yes" } else { "no" })?)
+pub(crate) fn yes_no(rt: &impl Abort, alloc: Global, truth: bool) -> String {
+    String::from_str(alloc, if truth { "yes" } else { "no" }).expect(rt, "memory")
 }
 
 /// What stands for a number that is left out.
 pub(crate) const NONE: i128 = -1 << 100;
 
 /// The numbers of a text. A word that is no number is `NONE`.
-pub(crate) fn numbers(alloc: Global, text: &str) -> Result<Vec<i128>, Fail> {
+pub(crate) fn numbers(rt: &impl Abort, alloc: Global, text: &str) -> Vec<i128> {
     let mut numbers = Vec::new(alloc);
     for word in text.split_whitespace() {
-        numbers.push(word.parse::<i128>().unwrap_or(NONE))?;
+        numbers
+            .push(word.parse::<i128>().unwrap_or(NONE))
+            .expect(rt, "memory");
     }
-    Ok(numbers)
+    numbers
 }
 
 /// The number with which a text begins, cut to 32 bits, or 0.
-pub(crate) fn number(alloc: Global, text: &str) -> Result<u32, Fail> {
-    let numbers = numbers(alloc, text)?;
-    Ok(small_at(&numbers, 0))
+pub(crate) fn number(rt: &impl Abort, alloc: Global, text: &str) -> u32 {
+    let numbers = numbers(rt, alloc, text);
+    small_at(&numbers, 0)
 }
 
 /// The number at a place, or 0.

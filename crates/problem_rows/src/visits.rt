@@ -9,72 +9,82 @@ use branch_tree::{Visit, Walk, greedy, visit};
 use choice_problem::{Problem, Ranges, cost_of};
 use price_table::PriceTable;
 use std::alloc::Global;
-use std::test::Fail;
+use std::process::Abort;
 
-fn shown(alloc: Global, visit: &Visit) -> Result<String, Fail> {
+fn shown(rt: &impl Abort, alloc: Global, visit: &Visit) -> String {
     let text = match visit {
-        Visit::Close(node) => format!(in alloc; "{node:?}")?,
-        Visit::Found(choice, node) => format!(in alloc; "{:?} {node:?}", choice.items())?,
-        Visit::Split { unit, cut } => format!(in alloc; "{unit} at {cut}")?,
+        Visit::Close(node) => format!(in alloc; "{node:?}"),
+        Visit::Found(choice, node) => format!(in alloc; "{:?} {node:?}", choice.items()),
+        Visit::Split { unit, cut } => format!(in alloc; "{unit} at {cut}"),
     };
-    Ok(text)
+    text.expect(rt, "memory")
+}
+
+// A walk at the whole ranges.
+fn from_whole<'a>(rt: &impl Abort, alloc: Global, problem: &'a Problem) -> Walk<'a>
+    ensures { result.problem ≡ problem.now }
+{
+    let whole = Ranges::whole(alloc, problem).expect(rt, "memory");
+    Walk::of(alloc, problem, whole).expect(rt, "memory")
 }
 
 // Sets the ranges of a walk.
-fn go(alloc: Global, problem: &Problem, walk: &mut Walk<'_>, text: &str) -> Result<(), Fail>
+fn go(rt: &impl Abort, alloc: Global, problem: &Problem, walk: &mut Walk<'_>, text: &str)
     requires { walk.old.problem ≡ problem.now }
     ensures { walk.new.problem ≡ problem.now }
 {
-    let spans = numbers(alloc, text)?;
+    let spans = numbers(rt, alloc, text);
     for unit in 0..problem.units() {
         if let Some((low, high)) = span(problem, unit, &spans) {
-            walk.narrow(alloc, problem, unit, low, high)?;
+            walk.narrow(alloc, problem, unit, low, high)
+                .expect(rt, "memory");
         }
     }
-    Ok(())
 }
 
-// The answers of `visit` and of a walk at its ranges, which are these: one answer, where they are
-// alike.
-fn answers(
+// The answer of a walk at its ranges, which has to be that of `visit` at these.
+fn answer(
+    rt: &impl Abort,
     alloc: Global,
     problem: &Problem,
     walk: &Walk<'_>,
     root: &PriceTable,
-    seen: Option<u64>,
-) -> Result<String, Fail>
+    row: &str,
+) -> String
     requires walk { walk.now.problem ≡ problem.now }
     requires root { IsTableFor problem.now root.now }
 {
-    let anew = visit(alloc, problem, walk.ranges(), root, seen)?;
-    let kept = walk.visit(alloc, problem, root, seen)?;
-    both_shown(alloc, &anew, &kept)
+    let seen = seen(piece(row, 4));
+    let anew = visit(alloc, problem, walk.ranges(), root, seen).expect(rt, "memory");
+    let kept = walk.visit(alloc, problem, root, seen).expect(rt, "memory");
+    both_shown(rt, alloc, row, &anew, &kept)
 }
 
-fn both_shown(alloc: Global, anew: &Visit, kept: &Visit) -> Result<String, Fail> {
-    let anew = shown(alloc, anew)?;
-    let kept = shown(alloc, kept)?;
-    if anew.as_str() == kept.as_str() {
-        return Ok(kept);
-    }
-    Ok(format!(in alloc; "unlike: {anew} / {kept}")?)
+fn both_shown(rt: &impl Abort, alloc: Global, row: &str, anew: &Visit, kept: &Visit) -> String {
+    let anew = shown(rt, alloc, anew);
+    let kept = shown(rt, alloc, kept);
+    assert!(rt;
+        anew.as_str() == kept.as_str(),
+        "{row}: unlike: {anew} / {kept}"
+    );
+    kept
 }
 
-// The answer of a visit of a row: the problem, the ranges that a walk comes from, and those that it
-// goes to, the root prices, and what was seen.
-fn visited(alloc: Global, row: &str) -> Result<String, Fail> {
-    let problem = problem(alloc, piece(row, 0))?;
-    let root = table(alloc, &problem, piece(row, 3))?;
-    walked(alloc, &problem, &root, row)
+// The answer of the visits of a row, which have to be alike: the problem, the ranges that a walk
+// comes from, and those that it goes to, the root prices, and what was seen.
+fn visited(rt: &impl Abort, alloc: Global, row: &str) -> String {
+    let problem = problem(rt, alloc, piece(row, 0));
+    let root = table(rt, alloc, &problem, piece(row, 3));
+    walked(rt, alloc, &problem, &root, row)
 }
 
-fn walked(alloc: Global, problem: &Problem, root: &PriceTable, row: &str) -> Result<String, Fail>
+fn walked(rt: &impl Abort, alloc: Global, problem: &Problem, root: &PriceTable, row: &str) -> String
     requires { IsTableFor problem.now root.now }
 {
-    let mut walk = Walk::of(alloc, problem, Ranges::whole(alloc, problem)?)?;
-    go(alloc, problem, &mut walk, piece(row, 1))?;
-    go(alloc, problem, &mut walk, piece(row, 2))?;
-    answers(alloc, problem, &walk, root, seen(piece(row, 4)))
+    let mut walk = from_whole(rt, alloc, problem);
+    go(rt, alloc, problem, &mut walk, piece(row, 1));
+    go(rt, alloc, problem, &mut walk, piece(row, 2));
+    answer(rt, alloc, problem, &walk, root, row)
 }
 
 // One unit beside a full window, on all dates of a season, 30 minutes a date, and on one date: the
@@ -115,18 +125,17 @@ doubled | 0 0 1 3 | 3 3 0 2 | 1 of 4096 | 9 = Leaf { vector: 0, scale: 1, seen: 
 doubled | 0 0 1 3 | 3 3 0 2 | 1 of 4096 | 12 = Leaf { vector: 1, scale: 1024, seen: Some(12) }
 doubled | 0 0 1 3 | 3 3 0 2 | 1 of 4096 | 13 = 1 at 1";
 
-#[derive(Drop)]
 struct VisitCase;
 
 impl Case for VisitCase {
-    fn find(&mut self, alloc: Global, row: &str) -> Result<String, Fail> {
-        visited(alloc, row)
+    fn find(rt: &impl Abort, alloc: Global, row: &str) -> String {
+        visited(rt, alloc, row)
     }
 }
 
 #[test]
-fn visits_answer_alike(rt: HostRuntime) -> Result<(), Fail> {
-    walk(rt.alloc(), &mut VisitCase, VISITS)
+fn visits_answer_alike(rt: HostRuntime) {
+    walk::<VisitCase>(&rt, rt.alloc(), VISITS);
 }
 
 // Ranges of a window on three dates and of turnarounds, and what was seen: at each the visits have
@@ -136,79 +145,87 @@ const ALIKE: &str =
 turnarounds | 1 4 2 2 | $ # | 6 of 700 | 3 | 0 0,0 1,1 1,0 2,1 2,2 2,0 3,1 3,2 3,3 3,0 4,1 4,2 4,3 4,4 4,0 5,1 5,2 5,3 5,4 5,5 5,0 6,1 6,2 6,3 6,4 6,5 6,6 6 | 0 6,0 3,4 5";
 
 // The row with its last two pieces in place of its signs.
-fn filled(alloc: Global, row: &str, range: &str, other: &str) -> Result<String, Fail> {
+fn filled(rt: &impl Abort, alloc: Global, row: &str, range: &str, other: &str) -> String {
     let mut out = String::new(alloc);
     for letter in row.chars() {
         match letter {
-            '#' => out.push_str(range)?,
-            '$' => out.push_str(other)?,
-            _ => out.push(letter)?,
+            '#' => out.push_str(range).expect(rt, "memory"),
+            '$' => out.push_str(other).expect(rt, "memory"),
+            _ => out.push(letter).expect(rt, "memory"),
         }
     }
-    Ok(out)
+    out
 }
 
-// The first row with these ranges at which the visits answer otherwise than one another.
-fn unlike_at(alloc: Global, row: &str, range: &str) -> Result<Option<String>, Fail> {
+// The visits have to answer alike at the row with these ranges, and with each of its others.
+fn alike_at(rt: &impl Abort, alloc: Global, row: &str, range: &str) {
     for other in piece(row, 6).split(',') {
-        let filled = filled(alloc, row, range, other)?;
-        if visited(alloc, &filled)?.starts_with("unlike") {
-            return Ok(Some(filled));
-        }
+        let filled = filled(rt, alloc, row, range, other);
+        visited(rt, alloc, &filled);
     }
-    Ok(None)
 }
 
-// The first row at which the visits answer otherwise than one another.
-fn unlike(alloc: Global, row: &str) -> Result<Option<String>, Fail> {
+// The visits have to answer alike at the row with each of its ranges.
+fn alike(rt: &impl Abort, alloc: Global, row: &str) {
     for range in piece(row, 5).split(',') {
-        if let Some(filled) = unlike_at(alloc, row, range)? {
-            return Ok(Some(filled));
-        }
+        alike_at(rt, alloc, row, range);
     }
-    Ok(None)
 }
 
 #[test]
-fn visits_answer_alike_at_many_ranges(rt: HostRuntime) -> Result<(), Fail> {
-    let alloc = rt.alloc();
+fn visits_answer_alike_at_many_ranges(rt: HostRuntime) {
     for row in ALIKE.lines() {
-        let found = unlike(alloc, row);
-        assert!(rt; found.is_ok(), "{row}");
-        assert_eq!(rt; found?.as_deref(), None, "{row}");
+        alike(&rt, rt.alloc(), row);
     }
-    Ok(())
 }
 
 // The answer of a walk at the whole ranges of the three units, with an empty root vector and two
 // further ones.
-#[derive(Drop)]
 struct FurtherCase;
 
 impl Case for FurtherCase {
-    fn find(&mut self, alloc: Global, row: &str) -> Result<String, Fail> {
-        let problem = problem(alloc, "three")?;
-        let tables = vec![in alloc;
-            table(alloc, &problem, piece(row, 0))?,
-            table(alloc, &problem, piece(row, 1))?,
-        ]?;
-        further(alloc, &problem, &tables, seen(piece(row, 2)))
+    fn find(rt: &impl Abort, alloc: Global, row: &str) -> String {
+        let problem = problem(rt, alloc, "three");
+        let first = table(rt, alloc, &problem, piece(row, 0));
+        let second = table(rt, alloc, &problem, piece(row, 1));
+        let tables = vec![in alloc; first, second].expect(rt, "memory");
+        further(rt, alloc, &problem, &tables, seen(piece(row, 2)))
     }
 }
 
 fn further(
+    rt: &impl Abort,
     alloc: Global,
     problem: &Problem,
     tables: &[PriceTable],
     seen: Option<u64>,
-) -> Result<String, Fail>
+) -> String
     requires tables { All (IsTableFor problem.now) tables.now }
     requires few { length tables.now ≤ 2 }
 {
-    let root = table(alloc, problem, "")?;
-    let walk = Walk::of(alloc, problem, Ranges::whole(alloc, problem)?)?;
-    let visit = walk.visit_with(alloc, problem, &root, tables, seen)?;
-    shown(alloc, &visit)
+    let root = table(rt, alloc, problem, "");
+    let walk = from_whole(rt, alloc, problem);
+    further_at(rt, alloc, problem, &walk, &root, tables, seen)
+}
+
+fn further_at(
+    rt: &impl Abort,
+    alloc: Global,
+    problem: &Problem,
+    walk: &Walk<'_>,
+    root: &PriceTable,
+    tables: &[PriceTable],
+    seen: Option<u64>,
+) -> String
+    requires walk { walk.now.problem ≡ problem.now }
+    requires root { IsTableFor problem.now root.now }
+    requires tables { All (IsTableFor problem.now) tables.now }
+    requires few { length tables.now ≤ 2 }
+{
+    let visit = walk
+        .visit_with(alloc, problem, root, tables, seen)
+        .expect(rt, "memory");
+    shown(rt, alloc, &visit)
 }
 
 // The first further vector that closes.
@@ -218,26 +235,29 @@ const FURTHER: &str = "3 of 10240 | 3 of 1 | 30 = Leaf { vector: 2, scale: 1024,
 3 of 1 | 3 of 10240 | 31 = 0 at 1";
 
 #[test]
-fn the_first_further_vector_that_closes(rt: HostRuntime) -> Result<(), Fail> {
-    walk(rt.alloc(), &mut FurtherCase, FURTHER)
+fn the_first_further_vector_that_closes(rt: HostRuntime) {
+    walk::<FurtherCase>(&rt, rt.alloc(), FURTHER);
 }
 
 // The alternatives of the greedy choice of a problem, and its cost.
-#[derive(Drop)]
 struct StartCase;
 
 impl Case for StartCase {
-    fn find(&mut self, alloc: Global, text: &str) -> Result<String, Fail> {
-        let problem = problem(alloc, text)?;
-        let text = match greedy(alloc, &problem)? {
-            Some(choice) => {
-                let cost = cost_of(&problem, &choice);
-                format!(in alloc; "{:?} {cost}", choice.items())?
-            }
-            None => format!(in alloc; "none")?,
-        };
-        Ok(text)
+    fn find(rt: &impl Abort, alloc: Global, text: &str) -> String {
+        let problem = problem(rt, alloc, text);
+        started(rt, alloc, &problem)
     }
+}
+
+fn started(rt: &impl Abort, alloc: Global, problem: &Problem) -> String {
+    let text = match greedy(alloc, problem).expect(rt, "memory") {
+        Some(choice) => {
+            let cost = cost_of(problem, &choice);
+            format!(in alloc; "{:?} {cost}", choice.items())
+        }
+        None => format!(in alloc; "none"),
+    };
+    text.expect(rt, "memory")
 }
 
 // Half an hour later costs less than 35 minutes earlier. The second and the third unit find no room
@@ -251,6 +271,6 @@ P 0 1 0 1; A 0 0 -; U; P 0 1 0 1; A 0 0 -; U; L 1 = none
 P 0 1 0 1; P 1 1 0 1; A 0 0 1; A 5 0 -; U; P 0 1 0 1; A 0 0 -; A 1 - -; U; L 1 0 = [1, 1] 6";
 
 #[test]
-fn greedy_takes_the_cheapest_that_fits(rt: HostRuntime) -> Result<(), Fail> {
-    walk(rt.alloc(), &mut StartCase, GREEDY)
+fn greedy_takes_the_cheapest_that_fits(rt: HostRuntime) {
+    walk::<StartCase>(&rt, rt.alloc(), GREEDY);
 }

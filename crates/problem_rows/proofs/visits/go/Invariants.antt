@@ -2,4 +2,4 @@ use Rattle.std.proofs.Common.{◌≡◌}
 use Rattle.problem_rows.proofs.visits.go.Given as goal
 
 abbrev pub invariant-loop-unit : goal.invariant-loop-unit
-invariant-loop-unit l = l.walk.problem ≡ l.problem
+invariant-loop-unit g l = l.walk.problem ≡ l.problem
