@@ -1,16 +1,16 @@
 //! The text of the certificate of one series and one new request that share a window, and what
 //! damages it.
 
-ghost use Rattle.std.specs.Prelude.{◌≤◌, length, IfOk};
+ghost use Rattle.std.specs.Prelude.{◌≤◌, length};
 ghost use Rattle.cert_format.specs.Printable.{IsPrintable};
 ghost use Rattle.cert_format.specs.declared.cert.TheConstants.{LONGEST_CERT};
 
-use crate::lines::{Row, read_row, with_row};
+use crate::lines::{Row, halves, put_lines, read_row, with_row};
 use cert_format::{
     CertFault, Certificate, LONGEST_CERT, print_cert, print_extra, read_cert, read_extra,
 };
 use std::alloc::Global;
-use std::test::Fail;
+use std::process::Abort;
 
 // One stage 1 series at 06:10; one new request at 06:30, which 07:00 serves at a displacement of 30
 // minutes.
@@ -377,7 +377,7 @@ const BYTE_ROWS: &str = "\
 30|29 10 /";
 
 #[test]
-fn one_changed_line_is_bad_or_is_read(rt: HostRuntime) -> Result<(), Fail> {
+fn one_changed_line_is_bad_or_is_read(rt: HostRuntime) {
     for (text, rows, is_extra) in [
         (TEXT, TEXT_ROWS, false),
         (OPEN, OPEN_ROWS, false),
@@ -386,16 +386,16 @@ fn one_changed_line_is_bad_or_is_read(rt: HostRuntime) -> Result<(), Fail> {
         (FIXED_EXTRA, FIXED_EXTRA_ROWS, true),
     ] {
         for line in rows.split('\n') {
-            assert!(rt; is_as_wanted(rt.alloc(), text, line, is_extra)?, "{line}");
+            check_line(&rt, rt.alloc(), text, line, is_extra);
         }
     }
-    Ok(())
 }
 
-fn is_as_wanted(alloc: Global, text: &str, line: &str, is_extra: bool) -> Result<bool, Fail> {
-    let row = read_row(line)?;
-    let changed = with_row(alloc, text, &row)?;
-    Ok(bad_line(alloc, changed.as_bytes(), is_extra)? == number(row.wanted))
+fn check_line(rt: &impl Abort, alloc: Global, text: &str, line: &str, is_extra: bool) {
+    let row = read_row(rt, line);
+    let changed = with_row(rt, alloc, text, &row);
+    let found = bad_line(rt, alloc, changed.as_bytes(), is_extra);
+    assert_eq!(rt; found, number(row.wanted), "{line}");
 }
 
 // The number of a line; 0 for `-`.
@@ -404,42 +404,21 @@ fn number(text: &str) -> u32 {
 }
 
 // The bad line of a text; 0 where it is read, and is then printed as it was.
-fn bad_line(alloc: Global, text: &[u8], is_extra: bool) -> Result<u32, Fail> {
-    if text.len() > LONGEST_CERT {
-        return Err("too long".into());
-    }
+fn bad_line(rt: &impl Abort, alloc: Global, text: &[u8], is_extra: bool) -> u32 {
+    assert!(rt; text.len() <= LONGEST_CERT, "too long");
     let printed = if is_extra {
         printed_extra(alloc, text)
     } else {
         printed_cert(alloc, text)
     };
     match printed {
-        Ok(printed) if printed.as_slice() == text => Ok(0),
-        Ok(_) => Err("another text".into()),
-        Err(CertFault::BadLine { line }) => Ok(line),
-        Err(CertFault::Memory) => Err("memory".into()),
+        Ok(printed) => {
+            assert!(rt; printed.as_slice() == text, "another text");
+            0
+        }
+        Err(CertFault::BadLine { line }) => line,
+        Err(CertFault::Memory) => panic!(rt; "memory"),
     }
-}
-
-/// The certificate of a text.
-pub fn certificate_of(alloc: Global, text: &str) -> Result<Certificate, Fail>
-    ensures { IfOk result (λ cert. IsPrintable cert) }
-{
-    if text.len() > LONGEST_CERT {
-        return Err("too long".into());
-    }
-    Ok(read_cert(alloc, text.as_bytes())?)
-}
-
-/// Appends the lines of a stage that stands behind so many, with its number.
-pub fn push_stage(
-    alloc: Global,
-    text: &mut String,
-    before: usize,
-    block: &str,
-) -> Result<(), Fail> {
-    text.push_str(&format!(in alloc; "STAGE {} {block}", before.wrapping_add(1))?)?;
-    Ok(())
 }
 
 fn printed_cert(alloc: Global, text: &[u8]) -> Result<Vec<u8>, CertFault>
@@ -459,63 +438,59 @@ fn printed_extra(alloc: Global, text: &[u8]) -> Result<Vec<u8>, CertFault>
 }
 
 #[test]
-fn every_byte_replaced_is_bad_or_read(rt: HostRuntime) -> Result<(), Fail> {
+fn every_byte_replaced_is_bad_or_read(rt: HostRuntime) {
     let text = TEXT.as_bytes();
     let (mut line, mut column) = (1_u32, 0_u32);
     for (at, old) in text.iter().enumerate() {
-        let rows = rows_at(rt.alloc(), line, column)?;
-        let other = other_byte(rt.alloc(), at, *old, line, &rows)?;
-        assert_eq!(rt; other, None, "{line} {column}");
+        check_byte(&rt, rt.alloc(), at, *old, line, column);
         column = column.wrapping_add(1);
         if *old == b'\n' {
             line = line.wrapping_add(1);
             column = 0;
         }
     }
-    Ok(())
 }
 
-// The first byte at this place with which another line is bad than the rows say.
-fn other_byte(
-    alloc: Global,
-    place: usize,
-    old: u8,
-    line: u32,
-    rows: &[Row<'_>],
-) -> Result<Option<u8>, Fail> {
+// Each other byte at this place, which is that of a line and a column.
+fn check_byte(rt: &impl Abort, alloc: Global, place: usize, old: u8, line: u32, column: u32) {
+    let rows = rows_at(rt, alloc, line, column);
     for byte in 0..=255_u8 {
-        if byte != old && bad_at(alloc, place, byte)? != wanted_line(rows, line, byte) {
-            return Ok(Some(byte));
+        if byte != old {
+            let found = bad_at(rt, alloc, place, byte);
+            assert_eq!(rt;
+                found,
+                wanted_line(&rows, line, byte),
+                "{line} {column} {byte}"
+            );
         }
     }
-    Ok(None)
 }
 
 // The bad line of the example with this byte at this place.
-fn bad_at(alloc: Global, place: usize, byte: u8) -> Result<u32, Fail> {
-    let changed = replaced(alloc, place, byte)?;
-    bad_line(alloc, &changed, false)
+fn bad_at(rt: &impl Abort, alloc: Global, place: usize, byte: u8) -> u32 {
+    let changed = replaced(rt, alloc, place, byte);
+    bad_line(rt, alloc, &changed, false)
 }
 
 // The rows for a line and a column.
-fn rows_at(alloc: Global, line: u32, column: u32) -> Result<Vec<Row<'static>>, Fail> {
+fn rows_at(rt: &impl Abort, alloc: Global, line: u32, column: u32) -> Vec<Row<'static>> {
     let mut rows = Vec::new(alloc);
     for text in BYTE_ROWS.split('\n') {
-        let row = read_row(text)?;
+        let row = read_row(rt, text);
         if row.from == line && row.to == column {
-            rows.push(row)?;
+            rows.push(row).expect(rt, "memory");
         }
     }
-    Ok(rows)
+    rows
 }
 
 // The example with this byte at this place.
-fn replaced(alloc: Global, place: usize, byte: u8) -> Result<Vec<u8>, Fail> {
-    let mut text = Vec::from_slice(alloc, TEXT.as_bytes())?;
+fn replaced(rt: &impl Abort, alloc: Global, place: usize, byte: u8) -> Vec<u8> {
+    let mut text = Vec::from_slice(alloc, TEXT.as_bytes()).expect(rt, "memory");
     if place < text.len() {
         text[place] = byte;
     }
-    Ok(text)
+    text
 }
 
 // The line that is bad where the byte stands in the line that has these rows.
@@ -531,4 +506,78 @@ fn wanted_line(rows: &[Row<'_>], line: u32, byte: u8) -> u32 {
         }
     }
     line
+}
+
+/// The certificate of a text.
+pub fn certificate_of(rt: &impl Abort, alloc: Global, text: &str) -> Certificate
+    ensures { IsPrintable result }
+{
+    assert!(rt; text.len() <= LONGEST_CERT, "too long");
+    read_cert(alloc, text.as_bytes()).expect(rt, "a certificate")
+}
+
+/// A certificate with these four stages, which have marks between them. A stage is `untried`,
+/// `none` where one resource rules out all choices, or `-` or empty where it has no unit; else its
+/// cost, the numbers of its choice, the nodes of its tree, and the prices of a vector, if it has
+/// one, with colons between; `open` before the cost. The numbers of a choice alone cost nothing, by
+/// a tree of one leaf; `kept` is the choice of one unit that has its first alternative.
+pub fn certificate(rt: &impl Abort, alloc: Global, stages: &str, mark: char) -> Certificate
+    ensures { IsPrintable result }
+{
+    let mut text = String::from_str(alloc, "CERT 1\n").expect(rt, "memory");
+    put_stages(rt, &mut text, stages, mark);
+    text.push_str("END\n").expect(rt, "memory");
+    certificate_of(rt, alloc, text.as_str())
+}
+
+fn put_stages(rt: &impl Abort, text: &mut String, stages: &str, mark: char) {
+    for (before, stage) in stages.split(mark).enumerate() {
+        write!(text, "STAGE {} ", before.wrapping_add(1)).expect(rt, "memory");
+        put_stage(rt, text, stage);
+    }
+}
+
+// Adds the lines of a stage, from its mark on.
+fn put_stage(rt: &impl Abort, text: &mut String, stage: &str) {
+    let lines = match stage {
+        "untried" => "NOT TRIED",
+        "none" => "INFEASIBLE;CHOICES NONE;VECTORS 0;TREE 1;O 0",
+        "-" | "" => "OPTIMAL;CHOICES 0;COST 0;VECTORS 0;TREE 1;L 0 1 0",
+        "kept" => return put_proof(rt, text, "0"),
+        stage => return put_proof(rt, text, stage),
+    };
+    put_lines(rt, text, lines, ';');
+}
+
+// Adds the lines of a stage with its cost, choice, nodes and prices.
+fn put_proof(rt: &impl Abort, text: &mut String, stage: &str) {
+    let (mark, stage) = match stage.strip_prefix("open ") {
+        Some(stage) => ("OPEN", stage),
+        None => ("OPTIMAL", stage),
+    };
+    let (cost, rest) = stage.split_once(':').unwrap_or(("0", stage));
+    let (choice, rest) = rest.split_once(':').unwrap_or((rest, "L 0 1 0"));
+    let (nodes, price) = halves(rest, ':');
+    write!(text, "{mark}\nCHOICES {}\n", choice.split(' ').count()).expect(rt, "memory");
+    put_choice(rt, text, choice);
+    write!(text, "COST {cost}\n").expect(rt, "memory");
+    put_vectors(rt, text, price);
+    write!(text, "TREE {}\n", nodes.split(',').count()).expect(rt, "memory");
+    put_lines(rt, text, nodes, ',');
+}
+
+// Adds the lines of a choice.
+fn put_choice(rt: &impl Abort, text: &mut String, choice: &str) {
+    for (unit, number) in choice.split(' ').enumerate() {
+        write!(text, "C {unit} {number}\n").expect(rt, "memory");
+    }
+}
+
+// Adds the lines of a vector with one price, if there is one.
+fn put_vectors(rt: &impl Abort, text: &mut String, price: &str) {
+    if price.is_empty() {
+        text.push_str("VECTORS 0\n").expect(rt, "memory");
+    } else {
+        write!(text, "VECTORS 1\nVECTOR 1\nP {price}\n").expect(rt, "memory");
+    }
 }

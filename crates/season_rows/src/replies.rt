@@ -1,12 +1,12 @@
 //! The replies to the messages of worked seasons, byte for byte. The season S25 has 210 dates.
 
-use crate::certificates::{certificate_of, push_stage};
+use crate::certificates::certificate;
 use crate::lines::{halves, last_halves};
-use crate::seasons::{lines, numbers, submission};
+use crate::seasons::{submission, whole};
 use scr_replies::season_replies;
 use series_model::Submission;
 use std::alloc::Global;
-use std::test::Fail;
+use std::process::Abort;
 
 // Rows: the lines of a capacity file below the ground time; those of a message below its header, or
 // a whole text; the choices of the four stages; and the lines of the reply between header and empty
@@ -77,79 +77,34 @@ FLEX 60;REFUSE NONE|SCR;S25;20NOV;ABC;FBA001 30MAR 7 180320 JFK0610 J;;SCR;S25;2
     JFK0600 J;";
 
 #[test]
-fn replies_are_as_worked(rt: HostRuntime) -> Result<(), Fail> {
+fn replies_are_as_worked(rt: HostRuntime) {
     for row in ROWS.split('\n') {
-        assert!(rt; is_as_worked(rt.alloc(), row)?, "{row}");
+        check_row(&rt, rt.alloc(), row);
     }
-    Ok(())
 }
 
-fn is_as_worked(alloc: Global, row: &str) -> Result<bool, Fail> {
+fn check_row(rt: &impl Abort, alloc: Global, row: &str) {
     let (season, want) = last_halves(row, '|');
     let (season, choices) = last_halves(season, '|');
     let (capacity, messages) = halves(season, '|');
-    let submission = submission(alloc, "S25", capacity, messages)?;
-    has_replies(alloc, &submission, choices, want)
+    let submission = submission(rt, alloc, capacity, messages);
+    let replies = replies(rt, alloc, &submission, choices);
+    let want = whole_reply(rt, alloc, want);
+    assert!(rt; replies.as_slice() == want.as_bytes(), "{row}");
 }
 
-fn has_replies(
-    alloc: Global,
-    submission: &Submission,
-    choices: &str,
-    want: &str,
-) -> Result<bool, Fail> {
-    let text = replies(alloc, submission, choices)?;
-    let want = whole(alloc, want)?;
-    Ok(text.as_slice() == want.as_bytes())
-}
-
-// The replies by a certificate with these choices.
-fn replies(alloc: Global, submission: &Submission, choices: &str) -> Result<Vec<u8>, Fail> {
-    let text = certificate(alloc, choices)?;
-    let cert = certificate_of(alloc, text.as_str())?;
-    Ok(season_replies(alloc, submission, &cert)?)
-}
-
-// A certificate with these choices. Its marks and trees have their form, and prove nothing.
-fn certificate(alloc: Global, choices: &str) -> Result<String, Fail> {
-    let mut text = String::new(alloc);
-    for (before, choice) in choices.split(';').enumerate() {
-        push_stage(alloc, &mut text, before, &block(alloc, choice)?)?;
-    }
-    Ok(format!(in alloc; "CERT 1\n{text}END\n")?)
-}
-
-// The lines of a stage, from its mark on.
-fn block(alloc: Global, choice: &str) -> Result<String, Fail> {
-    match choice {
-        "untried" => Ok(String::from_str(alloc, "NOT TRIED\n")?),
-        "none" => lines(alloc, "INFEASIBLE;CHOICES NONE;VECTORS 0;TREE 1;O 0"),
-        _ => chosen(alloc, choice),
-    }
-}
-
-fn chosen(alloc: Global, choice: &str) -> Result<String, Fail> {
-    let numbers = numbers(alloc, choice)?;
-    let chosen = chosen_lines(alloc, &numbers)?;
-    Ok(format!(in alloc;
-        "OPTIMAL\nCHOICES {}\n{chosen}COST 0\nVECTORS 0\nTREE 1\nL 0 1 0\n",
-        numbers.len()
-    )?)
-}
-
-fn chosen_lines(alloc: Global, numbers: &[u32]) -> Result<String, Fail> {
-    let mut text = String::new(alloc);
-    for (unit, number) in numbers.iter().enumerate() {
-        text.push_str(&format!(in alloc; "C {unit} {number}\n")?)?;
-    }
-    Ok(text)
+// The replies by a certificate with these choices. Its marks and trees have their form, and prove
+// nothing.
+fn replies(rt: &impl Abort, alloc: Global, submission: &Submission, choices: &str) -> Vec<u8> {
+    let cert = certificate(rt, alloc, choices, ';');
+    season_replies(alloc, submission, &cert).expect(rt, "memory")
 }
 
 // A reply, with the header and the empty line where they are not there.
-fn whole(alloc: Global, reply: &str) -> Result<String, Fail> {
-    let text = lines(alloc, reply)?;
-    if reply.starts_with("SCR;") {
-        return Ok(text);
+fn whole_reply(rt: &impl Abort, alloc: Global, reply: &str) -> String {
+    let mut text = whole(rt, alloc, "S25", reply);
+    if !reply.starts_with("SCR") {
+        text.push('\n').expect(rt, "memory");
     }
-    Ok(format!(in alloc; "SCR\nS25\n20NOV\nABC\n{text}\n")?)
+    text
 }

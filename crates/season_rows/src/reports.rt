@@ -3,16 +3,16 @@
 
 ghost use Rattle.cert_format.specs.Printable.{IsPrintable};
 
-use crate::certificates::{certificate_of, push_stage};
-use crate::lines::{halves, last_halves};
-use crate::seasons::{lines, submission};
+use crate::certificates::certificate;
+use crate::lines::{halves, last_halves, lines};
+use crate::seasons::submission;
 use cert_checker::{Verdict, check};
 use cert_format::Certificate;
 use report_lines::{demand_lines, over_lines};
 use season_report::report_text;
 use series_model::Submission;
 use std::alloc::Global;
-use std::test::Fail;
+use std::process::Abort;
 
 // Rows: in one line the lines of a capacity file below the ground time, those of a message, and the
 // four stages, each with a proof; and then the report. A stage is `-` where it has no unit, `kept`
@@ -406,111 +406,38 @@ END
 ";
 
 #[test]
-fn reports_are_as_worked(rt: HostRuntime) -> Result<(), Fail> {
+fn reports_are_as_worked(rt: HostRuntime) {
     for row in ROWS.split("END\n") {
         if !row.is_empty() {
-            assert!(rt; is_as_worked(rt.alloc(), row)?, "{row}");
+            check_row(&rt, rt.alloc(), row);
         }
     }
-    Ok(())
 }
 
-fn is_as_worked(alloc: Global, row: &str) -> Result<bool, Fail> {
+fn check_row(rt: &impl Abort, alloc: Global, row: &str) {
     let (season, want) = halves(row, '\n');
     let (capacity, rest) = halves(season, '|');
     let (messages, stages) = halves(rest, '|');
-    let submission = submission(alloc, "S25", capacity, messages)?;
-    has_report(alloc, &submission, stages, want)
-}
-
-fn has_report(
-    alloc: Global,
-    submission: &Submission,
-    stages: &str,
-    want: &str,
-) -> Result<bool, Fail> {
-    let text = report(alloc, submission, stages)?;
-    let want = format!(in alloc; "{want}END\n")?;
-    Ok(text.as_slice() == want.as_bytes())
+    let submission = submission(rt, alloc, capacity, messages);
+    let report = report(rt, alloc, &submission, stages);
+    let found = report.strip_suffix(b"END\n").expect(rt, "an end");
+    assert!(rt; found == want.as_bytes(), "{row}");
 }
 
 // The report on a certificate with these stages.
-fn report(alloc: Global, submission: &Submission, stages: &str) -> Result<Vec<u8>, Fail> {
-    let text = certificate(alloc, stages)?;
-    let cert = certificate_of(alloc, text.as_str())?;
-    report_of(alloc, submission, &cert)
+fn report(rt: &impl Abort, alloc: Global, submission: &Submission, stages: &str) -> Vec<u8> {
+    let cert = certificate(rt, alloc, stages, '|');
+    report_of(rt, alloc, submission, &cert)
 }
 
 // The report on a certificate that is valid.
-fn report_of(alloc: Global, submission: &Submission, cert: &Certificate) -> Result<Vec<u8>, Fail>
+fn report_of(rt: &impl Abort, alloc: Global, submission: &Submission, cert: &Certificate) -> Vec<u8>
     requires { IsPrintable cert.now }
 {
-    match check(alloc, submission, cert)? {
-        Verdict::Yes => Ok(report_text(alloc, submission, cert)?),
-        Verdict::No { .. } => Err("not valid".into()),
+    match check(alloc, submission, cert).expect(rt, "memory") {
+        Verdict::Yes => report_text(alloc, submission, cert).expect(rt, "memory"),
+        Verdict::No { .. } => panic!(rt; "not valid"),
     }
-}
-
-// The text of a certificate with these stages.
-fn certificate(alloc: Global, stages: &str) -> Result<String, Fail> {
-    let mut text = String::new(alloc);
-    for (before, stage) in stages.split('|').enumerate() {
-        push_stage(alloc, &mut text, before, &block(alloc, stage)?)?;
-    }
-    Ok(format!(in alloc; "CERT 1\n{text}END\n")?)
-}
-
-// The lines of a stage, from its mark on.
-fn block(alloc: Global, stage: &str) -> Result<String, Fail> {
-    match stage {
-        "untried" => lines(alloc, "NOT TRIED"),
-        "none" => lines(alloc, "INFEASIBLE;CHOICES NONE;VECTORS 0;TREE 1;O 0"),
-        "-" => lines(alloc, "OPTIMAL;CHOICES 0;COST 0;VECTORS 0;TREE 1;L 0 1 0"),
-        "kept" => proof(alloc, "0:0:L 0 1 0"),
-        stage => proof(alloc, stage),
-    }
-}
-
-// The lines of a stage with its cost, choice, nodes and prices.
-fn proof(alloc: Global, stage: &str) -> Result<String, Fail> {
-    let (mark, stage) = match stage.strip_prefix("open ") {
-        Some(stage) => ("OPEN", stage),
-        None => ("OPTIMAL", stage),
-    };
-    let (cost, rest) = halves(stage, ':');
-    let (choice, rest) = halves(rest, ':');
-    let (tree, prices) = rest.split_once(':').unwrap_or((rest, ""));
-    let choices = choices(alloc, choice)?;
-    let proof = vectors_and_tree(alloc, prices, tree)?;
-    Ok(format!(in alloc; "{mark}\n{choices}COST {cost}\n{proof}")?)
-}
-
-// The lines of a choice.
-fn choices(alloc: Global, choice: &str) -> Result<String, Fail> {
-    let mut text = format!(in alloc; "CHOICES {}\n", choice.split(' ').count())?;
-    for (unit, number) in choice.split(' ').enumerate() {
-        text.push_str(&format!(in alloc; "C {unit} {number}\n")?)?;
-    }
-    Ok(text)
-}
-
-// The lines of a vector with one price, if there is one, and of a tree.
-fn vectors_and_tree(alloc: Global, price: &str, nodes: &str) -> Result<String, Fail> {
-    let tree = tree_lines(alloc, nodes)?;
-    if price.is_empty() {
-        return Ok(format!(in alloc; "VECTORS 0\n{tree}")?);
-    }
-    Ok(format!(in alloc; "VECTORS 1\nVECTOR 1\nP {price}\n{tree}")?)
-}
-
-// The lines of a tree.
-fn tree_lines(alloc: Global, nodes: &str) -> Result<String, Fail> {
-    let mut text = format!(in alloc; "TREE {}\n", nodes.split(',').count())?;
-    for node in nodes.split(',') {
-        text.push_str(node)?;
-        text.push('\n')?;
-    }
-    Ok(text)
 }
 
 // Rows: the lines of a capacity file, those of a message, and what the requests show: the windows
@@ -536,24 +463,25 @@ FLEX 60;REFUSE NONE;CAP ARR 60 0600 0600 1234567 1;CAP DEP 60 0600 0600 1234567 
     DEMAND NIGHT LIMIT 0 LOAD 1";
 
 #[test]
-fn requests_show_what_is_worked(rt: HostRuntime) -> Result<(), Fail> {
+fn requests_show_what_is_worked(rt: HostRuntime) {
     for row in REQUESTS.split('\n') {
-        assert!(rt; shows(rt.alloc(), row)?, "{row}");
+        check_requests(&rt, rt.alloc(), row);
     }
-    Ok(())
 }
 
-fn shows(alloc: Global, row: &str) -> Result<bool, Fail> {
+fn check_requests(rt: &impl Abort, alloc: Global, row: &str) {
     let (season, want) = last_halves(row, '|');
     let (capacity, messages) = halves(season, '|');
-    let submission = submission(alloc, "S25", capacity, messages)?;
-    let want = lines(alloc, want)?;
-    has_lines(alloc, &submission, want.as_str())
+    let submission = submission(rt, alloc, capacity, messages);
+    let found = shown(rt, alloc, &submission);
+    let want = lines(rt, alloc, want);
+    assert!(rt; found.as_slice() == want.as_bytes(), "{row}");
 }
 
-fn has_lines(alloc: Global, submission: &Submission, want: &str) -> Result<bool, Fail> {
-    let mut text = over_lines(alloc, submission)?;
-    let demand = demand_lines(alloc, submission)?;
-    text.extend_from_slice(&demand)?;
-    Ok(text.as_slice() == want.as_bytes())
+// What the requests of a submission show.
+fn shown(rt: &impl Abort, alloc: Global, submission: &Submission) -> Vec<u8> {
+    let mut text = over_lines(alloc, submission).expect(rt, "memory");
+    let demand = demand_lines(alloc, submission).expect(rt, "memory");
+    text.extend_from_slice(&demand).expect(rt, "memory");
+    text
 }

@@ -4,12 +4,12 @@
 
 ghost use Rattle.std.specs.Prelude.{◌≤◌, length};
 
-use crate::lines::{halves, last_halves};
-use crate::seasons::{numbers, submission, text_of};
+use crate::lines::{halves, last_halves, numbers, put_numbers};
+use crate::seasons::submission;
 use choice_problem::{Choice, Problem, cost_of, fits};
 use series_model::Submission;
 use std::alloc::Global;
-use std::test::Fail;
+use std::process::Abort;
 use wasg_stages::{Earlier, stage_problem, units_of_stage};
 
 // Rows: the lines of a capacity file below the ground time and those of a message below its header,
@@ -74,140 +74,100 @@ parts 4|start|0|349 50
 parts 2|start|0|13 14";
 
 #[test]
-fn stages_are_as_worked(rt: HostRuntime) -> Result<(), Fail> {
+fn stages_are_as_worked(rt: HostRuntime) {
     for season in ROWS.split('*') {
-        check_season(rt.alloc(), season)?;
+        check_season(&rt, rt.alloc(), season);
     }
-    Ok(())
 }
 
-fn check_season(alloc: Global, rows: &str) -> Result<(), Fail> {
+fn check_season(rt: &impl Abort, alloc: Global, rows: &str) {
     let (season, questions) = halves(rows, '\n');
     let (capacity, messages) = halves(season, '|');
-    let submission = submission(alloc, "S25", capacity, messages)?;
-    check_questions(alloc, &submission, questions)
+    let submission = submission(rt, alloc, capacity, messages);
+    check_questions(rt, alloc, &submission, questions);
 }
 
-fn check_questions(alloc: Global, submission: &Submission, questions: &str) -> Result<(), Fail> {
+fn check_questions(rt: &impl Abort, alloc: Global, submission: &Submission, questions: &str) {
     for row in questions.lines() {
-        check_question(alloc, submission, row)?;
+        check_question(rt, alloc, submission, row);
     }
-    Ok(())
 }
 
-fn check_question(alloc: Global, submission: &Submission, row: &str) -> Result<(), Fail> {
+fn check_question(rt: &impl Abort, alloc: Global, submission: &Submission, row: &str) {
     let (question, want) = last_halves(row, '|');
-    let found = answer(alloc, submission, question)?;
-    if found.as_str() == want {
-        return Ok(());
-    }
-    Err(Fail::new(format!(in alloc; "{row} has {found}")?))
+    let found = answer(rt, alloc, submission, question);
+    assert!(rt; found.as_str() == want, "{row} has {found}");
 }
 
-fn answer(alloc: Global, submission: &Submission, question: &str) -> Result<String, Fail> {
+fn answer(rt: &impl Abort, alloc: Global, submission: &Submission, question: &str) -> String {
     let (word, rest) = halves(question, ' ');
     let (stage, rest) = halves(rest, '|');
     let (before, asked) = halves(rest, '|');
-    answer_at(
-        alloc,
-        submission,
-        word,
-        stage.parse::<u32>()?,
-        before,
-        asked,
-    )
-}
-
-fn answer_at(
-    alloc: Global,
-    submission: &Submission,
-    word: &str,
-    stage: u32,
-    before: &str,
-    asked: &str,
-) -> Result<String, Fail> {
-    let choices = choices(alloc, before)?;
-    if choices.len() > 3 {
-        return Err("choices".into());
-    }
-    let earlier = Earlier::new(choices);
+    let stage = stage.parse::<u32>().expect(rt, "a stage");
+    let earlier = earlier(rt, alloc, before);
+    let problem = stage_problem(alloc, submission, stage, &earlier).expect(rt, "memory");
     match word {
-        "limit" => limit_after(alloc, submission, stage, &earlier, asked),
-        _ => {
-            let problem = stage_problem(alloc, submission, stage, &earlier)?;
-            of_problem(alloc, &problem, word, asked)
+        "choice" => judged(rt, alloc, &problem, asked),
+        "parts" => parts(rt, alloc, &problem, asked),
+        "limit" => {
+            let units = units_of_stage(alloc, submission, stage, &earlier).expect(rt, "memory");
+            limit(rt, alloc, &problem, &units, asked)
         }
-    }
-}
-
-fn limit_after(
-    alloc: Global,
-    submission: &Submission,
-    stage: u32,
-    earlier: &Earlier,
-    asked: &str,
-) -> Result<String, Fail>
-    requires { length earlier.now ≤ 3 }
-{
-    let problem = stage_problem(alloc, submission, stage, earlier)?;
-    let units = units_of_stage(alloc, submission, stage, earlier)?;
-    limit(alloc, &problem, &units, asked)
-}
-
-fn of_problem(alloc: Global, problem: &Problem, word: &str, asked: &str) -> Result<String, Fail> {
-    let numbers = numbers(alloc, asked)?;
-    match word {
-        "choice" => judged(alloc, problem, &Choice::new(numbers)),
-        "parts" => parts(alloc, problem, &numbers),
-        _ => Err("a question".into()),
+        _ => panic!(rt; "no question is {word}"),
     }
 }
 
 // The choices of the stages before one.
-fn choices(alloc: Global, text: &str) -> Result<Vec<Option<Choice>>, Fail> {
+fn earlier(rt: &impl Abort, alloc: Global, text: &str) -> Earlier
+    ensures { length result ≤ 3 }
+{
     let mut choices = Vec::new(alloc);
-    if text == "start" {
-        return Ok(choices);
+    if text != "start" {
+        put_choices(rt, alloc, &mut choices, text);
     }
+    assert!(rt; choices.len() <= 3, "{text} has too many choices");
+    Earlier::new(choices)
+}
+
+fn put_choices(rt: &impl Abort, alloc: Global, choices: &mut Vec<Option<Choice>>, text: &str) {
     for word in text.split(',') {
-        match word {
-            "none" => choices.push(None)?,
-            _ => choices.push(Some(Choice::new(numbers(alloc, word)?)))?,
-        }
+        let choice = match word {
+            "none" => None,
+            _ => Some(Choice::new(numbers(rt, alloc, word))),
+        };
+        choices.push(choice).expect(rt, "memory");
     }
-    Ok(choices)
 }
 
 // Whether a choice of a problem fits, and what it costs; none where it is no choice of it.
-fn judged(alloc: Global, problem: &Problem, choice: &Choice) -> Result<String, Fail> {
+fn judged(rt: &impl Abort, alloc: Global, problem: &Problem, asked: &str) -> String {
+    let choice = Choice::new(numbers(rt, alloc, asked));
     if !choice.is_for(problem) {
-        return Ok(String::from_str(alloc, "none")?);
+        return String::from_str(alloc, "none").expect(rt, "memory");
     }
-    let cost = cost_of(problem, choice);
-    if fits(alloc, problem, choice)? {
-        return Ok(format!(in alloc; "fits {cost}")?);
-    }
-    Ok(format!(in alloc; "over {cost}")?)
+    let fits = fits(alloc, problem, &choice).expect(rt, "memory");
+    let word = if fits { "fits" } else { "over" };
+    format!(in alloc; "{word} {}", cost_of(problem, &choice)).expect(rt, "memory")
 }
 
 // Positions of units, and the limit of a resource, if there is such a one.
-fn limit(alloc: Global, problem: &Problem, units: &[u32], asked: &str) -> Result<String, Fail> {
-    let resource = asked.parse::<u32>()?;
-    let units = text_of(alloc, units)?;
-    let units = units.trim();
+fn limit(rt: &impl Abort, alloc: Global, problem: &Problem, units: &[u32], asked: &str) -> String {
+    let resource = asked.parse::<u32>().expect(rt, "a resource");
+    let mut text = String::new(alloc);
+    put_numbers(rt, &mut text, units);
+    let units = text.trim();
     if resource < problem.resources() {
         let limit = problem.limit(resource);
-        return Ok(format!(in alloc; "{units}: {limit}")?);
+        format!(in alloc; "{units}: {limit}").expect(rt, "memory")
+    } else {
+        format!(in alloc; "{units}: none").expect(rt, "memory")
     }
-    Ok(format!(in alloc; "{units}: none")?)
 }
 
 // How many alternatives and parts a unit has.
-fn parts(alloc: Global, problem: &Problem, asked: &[u32]) -> Result<String, Fail> {
-    let unit = asked.first().copied().ok_or("a unit")?;
-    if unit >= problem.units() {
-        return Err("a unit".into());
-    }
+fn parts(rt: &impl Abort, alloc: Global, problem: &Problem, asked: &str) -> String {
+    let unit = asked.parse::<u32>().expect(rt, "a unit");
+    assert!(rt; unit < problem.units(), "{unit} is no unit");
     let (alts, parts) = (problem.alts(unit), problem.parts(unit));
-    Ok(format!(in alloc; "{alts} {parts}")?)
+    format!(in alloc; "{alts} {parts}").expect(rt, "memory")
 }

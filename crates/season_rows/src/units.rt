@@ -12,7 +12,7 @@ use series_model::{
     Group, ModelFault, Submission, Times, Unit, displacement, movements_of, options_of,
 };
 use std::alloc::Global;
-use std::test::Fail;
+use std::process::Abort;
 
 // Rows: what is asked, the season, lines of its capacity file below the ground time, the lines of
 // its message below the header, or all lines, and the answer; strokes stand between these, and
@@ -76,47 +76,52 @@ units|S25|FLEX 0;REFUSE NONE|SCR;S25;20NOV;ABC;ZBA001 30MAR 7 180320 JFK0610 J|N
 units|S25|FLEX 0;REFUSE NONE|SCR;S25;20NOV;ABC;ABA001 30MAR 7 180320 JFK0610 J|NotInitial 5";
 
 #[test]
-fn units_are_as_worked(rt: HostRuntime) -> Result<(), Fail> {
+fn units_are_as_worked(rt: HostRuntime) {
     for row in ROWS.split('\n') {
-        check_row(rt.alloc(), row)?;
+        check_row(&rt, rt.alloc(), row);
     }
-    Ok(())
 }
 
-fn check_row(alloc: Global, row: &str) -> Result<(), Fail> {
+fn check_row(rt: &impl Abort, alloc: Global, row: &str) {
     let (question, want) = last_halves(row, '|');
-    let found = answer(alloc, question)?;
-    if found.as_str() == want {
-        return Ok(());
-    }
-    Err(Fail::new(format!(in alloc; "{row} has {found}")?))
+    let found = answer(rt, alloc, question);
+    assert!(rt; found.as_str() == want, "{row} has {found}");
 }
 
-fn answer(alloc: Global, question: &str) -> Result<String, Fail> {
+fn answer(rt: &impl Abort, alloc: Global, question: &str) -> String {
     let (word, rest) = halves(question, '|');
     let (season, rest) = halves(rest, '|');
     let (capacity, messages) = halves(rest, '|');
-    match made(alloc, season, capacity, messages)? {
-        Ok(submission) => answer_of(alloc, &submission, word),
-        Err(fault) => refusal(alloc, fault),
+    match made(rt, alloc, season, capacity, messages) {
+        Ok(submission) => answer_of(rt, alloc, &submission, word),
+        Err(fault) => refusal(rt, alloc, fault),
     }
 }
 
-fn answer_of(alloc: Global, submission: &Submission, word: &str) -> Result<String, Fail> {
+fn answer_of(rt: &impl Abort, alloc: Global, submission: &Submission, word: &str) -> String {
+    let mut text = String::new(alloc);
     match word {
-        "units" => units(alloc, submission),
-        "parts" => parts(alloc, submission),
-        _ => answer_of_unit(alloc, submission, word),
+        "units" => put_units(rt, &mut text, submission),
+        "parts" => put_parts(rt, &mut text, submission),
+        _ => put_of_unit(rt, alloc, &mut text, submission, word),
     }
+    text
 }
 
-fn answer_of_unit(alloc: Global, submission: &Submission, word: &str) -> Result<String, Fail> {
-    let unit = first_unit(submission).ok_or("a unit")?;
+fn put_of_unit(
+    rt: &impl Abort,
+    alloc: Global,
+    text: &mut String,
+    submission: &Submission,
+    word: &str,
+) {
+    let unit = first_unit(submission).expect(rt, "a unit");
+    let options = options_of(alloc, unit, submission.declaration()).expect(rt, "memory");
     match word {
-        "options" => priced(alloc, submission, unit),
-        "totals" => totals(alloc, submission, unit),
-        "movements" => moved(alloc, submission, unit),
-        _ => Err("a question".into()),
+        "options" => put_options(rt, text, submission, unit, &options),
+        "totals" => put_totals(rt, text, submission, unit, &options),
+        "movements" => put_moved(rt, alloc, text, submission, unit, &options),
+        _ => panic!(rt; "no question is {word}"),
     }
 }
 
@@ -129,17 +134,14 @@ fn first_unit(submission: &Submission) -> Option<&Unit>
     }
 }
 
-// Adds a word, with a blank before it where there are others.
-fn add(text: &mut String, word: &str) -> Result<(), Fail> {
+// Adds a blank where there is text.
+fn put_gap(rt: &impl Abort, text: &mut String) {
     if !text.is_empty() {
-        text.push(' ')?;
+        text.push(' ').expect(rt, "memory");
     }
-    text.push_str(word)?;
-    Ok(())
 }
 
-fn units(alloc: Global, submission: &Submission) -> Result<String, Fail> {
-    let mut text = String::new(alloc);
+fn put_units(rt: &impl Abort, text: &mut String, submission: &Submission) {
     for unit in submission.units() {
         let line = unit.line;
         let group = match unit.group {
@@ -149,65 +151,83 @@ fn units(alloc: Global, submission: &Submission) -> Result<String, Fail> {
             Group::B => 'B',
             Group::N => 'N',
         };
-        let word = format!(in alloc; "{line}{group}")?;
-        add(&mut text, &word)?;
-    }
-    Ok(text)
-}
-
-fn refusal(alloc: Global, fault: ModelFault) -> Result<String, Fail> {
-    match fault {
-        ModelFault::OtherSeason { line } => Ok(format!(in alloc; "OtherSeason {line}")?),
-        ModelFault::OtherAirport { line } => Ok(format!(in alloc; "OtherAirport {line}")?),
-        ModelFault::NotInitial { line } => Ok(format!(in alloc; "NotInitial {line}")?),
-        ModelFault::TooMany { units } => Ok(format!(in alloc; "TooMany {units}")?),
-        ModelFault::Memory => Err("memory".into()),
+        put_gap(rt, text);
+        write!(text, "{line}{group}").expect(rt, "memory");
     }
 }
 
-fn parts(alloc: Global, submission: &Submission) -> Result<String, Fail> {
+fn refusal(rt: &impl Abort, alloc: Global, fault: ModelFault) -> String {
+    let (word, number) = match fault {
+        ModelFault::OtherSeason { line } => ("OtherSeason", line),
+        ModelFault::OtherAirport { line } => ("OtherAirport", line),
+        ModelFault::NotInitial { line } => ("NotInitial", line),
+        ModelFault::TooMany { units } => ("TooMany", units),
+        ModelFault::Memory => panic!(rt; "memory"),
+    };
+    format!(in alloc; "{word} {number}").expect(rt, "memory")
+}
+
+fn put_parts(rt: &impl Abort, text: &mut String, submission: &Submission) {
     let declaration = submission.declaration();
     let (flex, price) = (declaration.flex, declaration.refuse.unwrap_or(0));
     let resources = submission.windows().resources();
-    let (messages, units) = (
-        submission.messages().items().len(),
-        submission.units().len(),
-    );
-    Ok(format!(in alloc; "{flex} {price} {resources} {messages} {units}")?)
+    let messages = submission.messages().items().len();
+    let units = submission.units().len();
+    write!(text, "{flex} {price} {resources} {messages} {units}").expect(rt, "memory");
 }
 
-// An alternative and its cost.
-fn option(alloc: Global, times: Times, cost: u64) -> Result<String, Fail> {
+// Adds an alternative and its cost.
+fn put_option(
+    rt: &impl Abort,
+    text: &mut String,
+    submission: &Submission,
+    unit: &Unit,
+    times: Times,
+)
+    requires { UnitFits submission.now.declaration.season unit.now }
+{
+    let cost = displacement(unit, times, submission.declaration());
+    put_gap(rt, text);
     match times {
         Times::At { arrival, departure } => {
-            Ok(format!(in alloc; "{arrival}-{departure}:{cost}")?)
+            write!(text, "{arrival}-{departure}:{cost}").expect(rt, "memory")
         }
-        Times::Refused => Ok(format!(in alloc; "refused:{cost}")?),
+        Times::Refused => write!(text, "refused:{cost}").expect(rt, "memory"),
     }
 }
 
-fn priced(alloc: Global, submission: &Submission, unit: &Unit) -> Result<String, Fail>
+fn put_options(
+    rt: &impl Abort,
+    text: &mut String,
+    submission: &Submission,
+    unit: &Unit,
+    options: &[Times],
+)
     requires { UnitFits submission.now.declaration.season unit.now }
 {
-    let declaration = submission.declaration();
-    let mut text = String::new(alloc);
-    for times in &options_of(alloc, unit, declaration)? {
-        let cost = displacement(unit, *times, declaration);
-        let word = option(alloc, *times, cost)?;
-        add(&mut text, &word)?;
+    for times in options {
+        put_option(rt, text, submission, unit, *times);
     }
-    Ok(text)
 }
 
-fn totals(alloc: Global, submission: &Submission, unit: &Unit) -> Result<String, Fail>
+// Adds how many alternatives there are, the first and the last one, and their sums.
+fn put_totals(
+    rt: &impl Abort,
+    text: &mut String,
+    submission: &Submission,
+    unit: &Unit,
+    options: &[Times],
+)
     requires { UnitFits submission.now.declaration.season unit.now }
 {
-    let declaration = submission.declaration();
-    let options = options_of(alloc, unit, declaration)?;
-    let ends = ends(alloc, submission, unit, &options)?;
-    let (arrivals, departures) = sums(&options);
-    let (count, costs) = (options.len(), all_costs(submission, unit, &options));
-    Ok(format!(in alloc; "{count} {ends} {arrivals} {departures} {costs}")?)
+    let first = options.first().copied().expect(rt, "a first alternative");
+    let last = options.last().copied().expect(rt, "a last alternative");
+    let (arrivals, departures) = sums(options);
+    let (count, costs) = (options.len(), all_costs(submission, unit, options));
+    write!(text, "{count}").expect(rt, "memory");
+    put_option(rt, text, submission, unit, first);
+    put_option(rt, text, submission, unit, last);
+    write!(text, " {arrivals} {departures} {costs}").expect(rt, "memory");
 }
 
 // The sums of the minutes of alternatives.
@@ -233,71 +253,61 @@ fn all_costs(submission: &Submission, unit: &Unit, options: &[Times]) -> u64
     costs
 }
 
-// The first alternative and the last one, with their costs.
-fn ends(
+// Adds the movements at the last alternative.
+fn put_moved(
+    rt: &impl Abort,
     alloc: Global,
+    text: &mut String,
     submission: &Submission,
     unit: &Unit,
     options: &[Times],
-) -> Result<String, Fail>
+)
     requires { UnitFits submission.now.declaration.season unit.now }
 {
-    let declaration = submission.declaration();
-    let first = options.first().copied().ok_or("an alternative")?;
-    let last = options.last().copied().ok_or("an alternative")?;
-    let first = option(alloc, first, displacement(unit, first, declaration))?;
-    let last = option(alloc, last, displacement(unit, last, declaration))?;
-    Ok(format!(in alloc; "{first} {last}")?)
+    let season = &submission.declaration().season;
+    let times = options.last().copied().expect(rt, "an alternative");
+    let movements = movements_of(alloc, unit, times, season).expect(rt, "memory");
+    put_movements(rt, text, &movements);
 }
 
-// The movements at the last alternative.
-fn moved(alloc: Global, submission: &Submission, unit: &Unit) -> Result<String, Fail>
-    requires { UnitFits submission.now.declaration.season unit.now }
-{
-    let declaration = submission.declaration();
-    let options = options_of(alloc, unit, declaration)?;
-    let times = options.last().copied().ok_or("an alternative")?;
-    let mut text = String::new(alloc);
-    for movement in &movements_of(alloc, unit, times, &declaration.season)? {
+fn put_movements(rt: &impl Abort, text: &mut String, movements: &[Movement]) {
+    for movement in movements {
         let Movement { kind, day, minute } = *movement;
         let letter = if kind == Kind::Arr { 'A' } else { 'D' };
-        let word = format!(in alloc; "{letter}{day}:{minute}")?;
-        add(&mut text, &word)?;
+        put_gap(rt, text);
+        write!(text, "{letter}{day}:{minute}").expect(rt, "memory");
     }
-    Ok(text)
 }
 
 // 4,096 units and no more; a line that makes no unit is told first.
 #[test]
-fn submissions_have_few_units(rt: HostRuntime) -> Result<(), Fail> {
-    let alloc = rt.alloc();
+fn submissions_have_few_units(rt: HostRuntime) {
     for (count, last, want) in [
         (4_095, "F", ""),
         (4_096, "F", "TooMany 4097"),
         (4_097, "D", "NotInitial 4102"),
     ] {
-        let found = many(alloc, count, last)?;
+        let found = many(&rt, rt.alloc(), count, last);
         assert_eq!(rt; found.as_str(), want, "{count}");
     }
-    Ok(())
 }
 
 // Why so many historic lines and one with another code are no submission.
-fn many(alloc: Global, count: u32, last: &str) -> Result<String, Fail> {
-    let line = "BA001 30MAR 7 180320 JFK0610 J";
-    let lines = lines_of(alloc, count, line)?;
-    let text = format!(in alloc; "{lines}{last}{line}")?;
-    match made(alloc, "S25", "FLEX 0;REFUSE NONE", &text)? {
-        Ok(_) => Ok(String::new(alloc)),
-        Err(fault) => refusal(alloc, fault),
+fn many(rt: &impl Abort, alloc: Global, count: u32, last: &str) -> String {
+    let lines = lines_of(rt, alloc, count, last);
+    match made(rt, alloc, "S25", "FLEX 0;REFUSE NONE", lines.as_str()) {
+        Ok(_) => String::new(alloc),
+        Err(fault) => refusal(rt, alloc, fault),
     }
 }
 
-// So many historic lines.
-fn lines_of(alloc: Global, count: u32, line: &str) -> Result<String, Fail> {
+// So many historic lines, and one with another code.
+fn lines_of(rt: &impl Abort, alloc: Global, count: u32, last: &str) -> String {
+    let line = "BA001 30MAR 7 180320 JFK0610 J";
     let mut text = String::new(alloc);
     for _ in 0..count {
-        text.push_str(&format!(in alloc; "F{line};")?)?;
+        write!(text, "F{line};").expect(rt, "memory");
     }
-    Ok(text)
+    write!(text, "{last}{line}").expect(rt, "memory");
+    text
 }

@@ -7,7 +7,7 @@ use crate::seasons::submission;
 use cert_checker::{Reason, Verdict, check};
 use series_model::Submission;
 use std::alloc::Global;
-use std::test::Fail;
+use std::process::Abort;
 
 // A season: the lines of its capacity file below the ground time, and those of its message below
 // the header, with semicolons between; a certificate of it; and rows, each with the verdict where
@@ -587,7 +587,7 @@ NO 16 COST|16 16 COST 1",
 );
 
 #[test]
-fn each_damaged_line_is_named(rt: HostRuntime) -> Result<(), Fail> {
+fn each_damaged_line_is_named(rt: HostRuntime) {
     for season in [
         ONE_DATE,
         DAILY,
@@ -600,71 +600,63 @@ fn each_damaged_line_is_named(rt: HostRuntime) -> Result<(), Fail> {
         FIXED_ALONE,
         EMPTY,
     ] {
-        check_season(rt.alloc(), season.0, season.1, season.2, season.3)?;
+        check_season(&rt, rt.alloc(), season.0, season.1, season.2, season.3);
     }
-    Ok(())
 }
 
 fn check_season(
+    rt: &impl Abort,
     alloc: Global,
     capacity: &str,
     messages: &str,
     text: &str,
     rows: &str,
-) -> Result<(), Fail> {
-    let submission = submission(alloc, "S25", capacity, messages)?;
-    check_rows(alloc, &submission, text, rows)
+) {
+    let submission = submission(rt, alloc, capacity, messages);
+    check_rows(rt, alloc, &submission, text, rows);
 }
 
-fn check_rows(alloc: Global, submission: &Submission, text: &str, rows: &str) -> Result<(), Fail> {
+fn check_rows(rt: &impl Abort, alloc: Global, submission: &Submission, text: &str, rows: &str) {
     for line in rows.split('\n') {
-        check_row(alloc, submission, text, line)?;
+        check_row(rt, alloc, submission, text, line);
     }
-    Ok(())
 }
 
-fn check_row(alloc: Global, submission: &Submission, text: &str, line: &str) -> Result<(), Fail> {
-    let row = read_row(line)?;
-    let text = with_row(alloc, text, &row)?;
-    let found = verdict(alloc, submission, &text)?;
-    if found.as_str() == row.wanted {
-        return Ok(());
+fn check_row(rt: &impl Abort, alloc: Global, submission: &Submission, text: &str, line: &str) {
+    let row = read_row(rt, line);
+    let text = with_row(rt, alloc, text, &row);
+    let text = with_prices(rt, alloc, text);
+    let found = verdict(rt, alloc, submission, text.as_str());
+    assert!(rt; found.as_str() == row.wanted, "{line} has {found}");
+}
+
+// The text with a price at each of the first 210 resources in place of `PRICES`.
+fn with_prices(rt: &impl Abort, alloc: Global, text: String) -> String {
+    let Some((before, after)) = text.split_once("PRICES\n") else {
+        return text;
+    };
+    let mut out = String::from_str(alloc, before).expect(rt, "memory");
+    put_prices(rt, &mut out);
+    out.push_str(after).expect(rt, "memory");
+    out
+}
+
+fn put_prices(rt: &impl Abort, text: &mut String) {
+    for resource in 0..210 {
+        write!(text, "P {resource} 32768\n").expect(rt, "memory");
     }
-    Err(Fail::new(format!(in alloc; "{line} has {found}")?))
 }
 
-// The verdict on the certificate of a text, in which `PRICES` stands for a price at each of the
-// first 210 resources.
-fn verdict(alloc: Global, submission: &Submission, text: &str) -> Result<String, Fail> {
-    let text = with_prices(alloc, text)?;
-    let cert = certificate_of(alloc, &text)?;
-    said(alloc, check(alloc, submission, &cert)?)
-}
-
-fn said(alloc: Global, verdict: Verdict) -> Result<String, Fail> {
-    match verdict {
-        Verdict::Yes => Ok(String::from_str(alloc, "YES")?),
+// The verdict on the certificate of a text.
+fn verdict(rt: &impl Abort, alloc: Global, submission: &Submission, text: &str) -> String {
+    let cert = certificate_of(rt, alloc, text);
+    match check(alloc, submission, &cert).expect(rt, "memory") {
+        Verdict::Yes => String::from_str(alloc, "YES").expect(rt, "memory"),
         Verdict::No { line, reason } => {
             let word = word(reason);
-            Ok(format!(in alloc; "NO {line} {word}")?)
+            format!(in alloc; "NO {line} {word}").expect(rt, "memory")
         }
     }
-}
-
-fn with_prices(alloc: Global, text: &str) -> Result<String, Fail> {
-    let Some((before, after)) = text.split_once("PRICES\n") else {
-        return Ok(String::from_str(alloc, text)?);
-    };
-    let prices = price_lines(alloc)?;
-    Ok(format!(in alloc; "{before}{prices}{after}")?)
-}
-
-fn price_lines(alloc: Global) -> Result<String, Fail> {
-    let mut out = String::new(alloc);
-    for resource in 0..210 {
-        out.push_str(&format!(in alloc; "P {resource} 32768\n")?)?;
-    }
-    Ok(out)
 }
 
 fn word(reason: Reason) -> &'static str {

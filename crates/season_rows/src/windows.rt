@@ -3,16 +3,17 @@
 //! windows 0 to 209, one a day; day 0 is a Sunday and day 209 a Saturday. S01 has 217 dates, the
 //! most, from Sunday 25 March to Saturday 27 October 2001.
 
-ghost use Rattle.std.specs.Prelude.{◌≡◌, IfOk};
-ghost use Rattle.season_days.specs.Capacity.{IsDeclaration};
+ghost use Rattle.std.specs.Prelude.{ℕ, ◌≡◌, ◌≤◌};
+ghost use Rattle.choice_problem.specs.Strips.{part_uses};
+ghost use Rattle.season_days.specs.declared.season.TheConstants.{MOST_DATES};
 
-use crate::lines::halves;
-use crate::seasons::{lines, numbers, text_of};
-use capacity_file::read_capacity;
+use crate::lines::{halves, numbers, put_numbers};
+use crate::seasons::declaration;
 use capacity_windows::{Movement, Windows};
-use season_days::{Day, Declaration, Kind, MINUTES_OF_DAY, Period};
+use choice_problem::Part;
+use season_days::{Day, Kind, MINUTES_OF_DAY, Period};
 use std::alloc::Global;
-use std::test::Fail;
+use std::process::Abort;
 
 // Rows: a declaration's season and lines on a line with a stroke, and with a star where it is not
 // the first; and below it questions, each with its answer. `arrivals` and `departures` give the
@@ -141,139 +142,151 @@ arrivals 1420 0 209 216 96 = 209 210 216
 arrivals 10 0 209 216 96 = 208 209 215";
 
 #[test]
-fn windows_and_uses_are_as_worked(rt: HostRuntime) -> Result<(), Fail> {
+fn windows_and_uses_are_as_worked(rt: HostRuntime) {
     for season in ROWS.split('*') {
-        check_season(rt.alloc(), season)?;
+        check_season(&rt, rt.alloc(), season);
     }
-    Ok(())
 }
 
-fn check_season(alloc: Global, rows: &str) -> Result<(), Fail> {
+fn check_season(rt: &impl Abort, alloc: Global, rows: &str) {
     let (first, questions) = halves(rows, '\n');
     let (season, rules) = halves(first, '/');
-    let windows = declared(alloc, season, rules)?;
-    check_questions(alloc, &windows, questions)
+    let windows = declared(rt, alloc, season, rules);
+    check_questions(rt, alloc, &windows, questions);
 }
 
-fn check_questions(alloc: Global, windows: &Windows, questions: &str) -> Result<(), Fail> {
+fn check_questions(rt: &impl Abort, alloc: Global, windows: &Windows, questions: &str) {
     for row in questions.lines() {
-        check_question(alloc, windows, row)?;
+        check_question(rt, alloc, windows, row);
     }
-    Ok(())
 }
 
-fn check_question(alloc: Global, windows: &Windows, row: &str) -> Result<(), Fail> {
+fn check_question(rt: &impl Abort, alloc: Global, windows: &Windows, row: &str) {
     let (question, _) = row.split_once(" =").unwrap_or((row, ""));
-    let found = answer(alloc, windows, question)?;
-    if found.as_str() == row {
-        return Ok(());
-    }
-    Err(Fail::new(format!(in alloc; "{row} has {found}")?))
+    let found = answer(rt, alloc, windows, question);
+    assert!(rt; found.as_str() == row, "{row} has {found}");
 }
 
 // The windows of a declaration in a season, with these lines.
-fn declared(alloc: Global, season: &str, rules: &str) -> Result<Windows, Fail> {
-    let declaration = declaration(alloc, season, rules)?;
-    Ok(Windows::new(alloc, &declaration)?.copy(alloc)?)
-}
-
-fn declaration(alloc: Global, season: &str, rules: &str) -> Result<Declaration, Fail>
-    ensures { IfOk result (λ d. IsDeclaration d) }
-{
-    let rules = lines(alloc, rules)?;
-    let text = format!(in alloc;
-        "AIRPORT ABC\nSEASON {season}\nSTEP 5\nFLEX 60\nGROUND 40\nREFUSE NONE\n{rules}"
-    )?;
-    if text.len() > 1_000_000 {
-        return Err("too long".into());
-    }
-    Ok(read_capacity(alloc, text.as_bytes())?)
+fn declared(rt: &impl Abort, alloc: Global, season: &str, rules: &str) -> Windows {
+    let capacity = format!(in alloc; "FLEX 60;REFUSE NONE;{rules}").expect(rt, "memory");
+    let declaration = declaration(rt, alloc, season, capacity.as_str());
+    let windows = Windows::new(alloc, &declaration).expect(rt, "memory");
+    windows.copy(alloc).expect(rt, "memory")
 }
 
 // A question with its answer.
-fn answer(alloc: Global, windows: &Windows, question: &str) -> Result<String, Fail> {
+fn answer(rt: &impl Abort, alloc: Global, windows: &Windows, question: &str) -> String {
     let (word, rest) = halves(question, ' ');
+    let mut text = String::new(alloc);
     if word == "declared" {
-        return sizes(alloc, windows);
+        put_sizes(rt, &mut text, windows);
+        return text;
     }
-    let found = found(alloc, windows, word, &numbers(alloc, rest)?)?;
-    let found = text_of(alloc, &found)?;
-    Ok(format!(in alloc; "{question} ={found}")?)
+    write!(text, "{question} =").expect(rt, "memory");
+    let asked = numbers(rt, alloc, rest);
+    put_found(rt, alloc, &mut text, windows, word, &asked);
+    text
 }
 
-fn found(alloc: Global, windows: &Windows, word: &str, asked: &[u32]) -> Result<Vec<u32>, Fail> {
+fn put_found(
+    rt: &impl Abort,
+    alloc: Global,
+    text: &mut String,
+    windows: &Windows,
+    word: &str,
+    asked: &[u32],
+) {
     match word {
-        "limit" => limit(alloc, windows, asked),
-        "starts" => starts(alloc, windows, asked),
-        "window" => window(alloc, windows, asked),
-        "held" => held(alloc, windows, asked),
-        "arrival" => holders(alloc, windows, Kind::Arr, asked),
-        "departure" => holders(alloc, windows, Kind::Dep, asked),
-        "arrivals" => used(alloc, windows, Kind::Arr, asked),
-        "departures" => used(alloc, windows, Kind::Dep, asked),
-        _ => Err("a question".into()),
+        "arrival" => put_holders(rt, alloc, text, windows, Kind::Arr, asked),
+        "departure" => put_holders(rt, alloc, text, windows, Kind::Dep, asked),
+        "arrivals" => put_used(rt, alloc, text, windows, Kind::Arr, asked),
+        "departures" => put_used(rt, alloc, text, windows, Kind::Dep, asked),
+        _ => {
+            if let Some(number) = one_number(rt, alloc, windows, word, asked) {
+                put_numbers(rt, text, &[number]);
+            }
+        }
+    }
+}
+
+fn one_number(
+    rt: &impl Abort,
+    alloc: Global,
+    windows: &Windows,
+    word: &str,
+    asked: &[u32],
+) -> Option<u32> {
+    match word {
+        "limit" => Some(limit(rt, alloc, windows, asked)),
+        "starts" => starts(windows, asked),
+        "window" => window(rt, windows, asked),
+        "held" => Some(held(rt, alloc, windows, asked)),
+        _ => panic!(rt; "no question is {word}"),
     }
 }
 
 // The number of resources, and that of the quota.
-fn sizes(alloc: Global, windows: &Windows) -> Result<String, Fail> {
-    let resources = windows.resources();
-    match windows.night() {
-        Some(night) => Ok(format!(in alloc; "declared {resources} {night}")?),
-        None => Ok(format!(in alloc; "declared {resources}")?),
+fn put_sizes(rt: &impl Abort, text: &mut String, windows: &Windows) {
+    write!(text, "declared {}", windows.resources()).expect(rt, "memory");
+    if let Some(night) = windows.night() {
+        put_numbers(rt, text, &[night]);
     }
 }
 
 // The limit of a resource, which is also that of the list of all limits.
-fn limit(alloc: Global, windows: &Windows, asked: &[u32]) -> Result<Vec<u32>, Fail> {
+fn limit(rt: &impl Abort, alloc: Global, windows: &Windows, asked: &[u32]) -> u32 {
     let [resource] = asked else {
-        return Err("a resource".into());
+        panic!(rt; "a resource is asked for")
     };
     let limit = windows.limit(*resource);
-    let limits = windows.limits(alloc)?;
+    let limits = windows.limits(alloc).expect(rt, "memory");
     let listed = limits.get(*resource as usize).copied().unwrap_or(0);
-    if listed != limit {
-        return Err("another limit".into());
-    }
-    Ok(vec![in alloc; limit]?)
+    assert_eq!(rt; listed, limit, "resource {resource}");
+    limit
 }
 
 // How many windows of a line begin on a day.
-fn starts(alloc: Global, windows: &Windows, asked: &[u32]) -> Result<Vec<u32>, Fail> {
+fn starts(windows: &Windows, asked: &[u32]) -> Option<u32> {
     match asked {
-        [line] if *line < windows.lines() => Ok(vec![in alloc; windows.starts(*line)]?),
-        _ => Ok(Vec::new(alloc)),
+        [line] if *line < windows.lines() => Some(windows.starts(*line)),
+        _ => None,
     }
 }
 
 // The number of a window, if there is one.
-fn window(alloc: Global, windows: &Windows, asked: &[u32]) -> Result<Vec<u32>, Fail> {
+fn window(rt: &impl Abort, windows: &Windows, asked: &[u32]) -> Option<u32> {
     let [line, day, start] = asked else {
-        return Err("a window".into());
+        panic!(rt; "a window is asked for")
     };
     let (line, day, start) = (*line, *day, *start);
     if line >= windows.lines() {
-        return Ok(Vec::new(alloc));
+        return None;
     }
     if day >= windows.days() || start >= windows.starts(line) {
-        return Ok(Vec::new(alloc));
+        return None;
     }
-    Ok(vec![in alloc; windows.resource_of(line, Day(day), start)]?)
+    Some(windows.resource_of(line, Day(day), start))
 }
 
 // How many of a list of arrivals a resource holds.
-fn held(alloc: Global, windows: &Windows, asked: &[u32]) -> Result<Vec<u32>, Fail> {
-    let (resource, rest) = asked.split_first().ok_or("a resource")?;
+fn held(rt: &impl Abort, alloc: Global, windows: &Windows, asked: &[u32]) -> u32 {
+    let (resource, rest) = asked.split_first().expect(rt, "a resource");
+    let list = arrivals(rt, alloc, rest);
+    assert!(rt; list.len() <= 9, "too many arrivals");
+    windows.count_listed(&list, *resource)
+}
+
+// The arrivals on these days, at these minutes.
+fn arrivals(rt: &impl Abort, alloc: Global, numbers: &[u32]) -> Vec<Movement> {
     let mut list = Vec::new(alloc);
-    for pair in rest.chunks_exact(2) {
+    for pair in numbers.chunks_exact(2) {
         if let [day, minute] = pair {
-            list.push(movement(Kind::Arr, *day, *minute))?;
+            list.push(movement(Kind::Arr, *day, *minute))
+                .expect(rt, "memory");
         }
     }
-    if list.len() > 9 {
-        return Err("too many".into());
-    }
-    Ok(vec![in alloc; windows.count_listed(&list, *resource)]?)
+    list
 }
 
 fn movement(kind: Kind, day: u32, minute: u32) -> Movement
@@ -283,38 +296,66 @@ fn movement(kind: Kind, day: u32, minute: u32) -> Movement
 }
 
 // The resources that hold a movement.
-fn holders(alloc: Global, windows: &Windows, kind: Kind, asked: &[u32]) -> Result<Vec<u32>, Fail> {
+fn put_holders(
+    rt: &impl Abort,
+    alloc: Global,
+    text: &mut String,
+    windows: &Windows,
+    kind: Kind,
+    asked: &[u32],
+) {
     let [day, minute] = asked else {
-        return Err("a movement".into());
+        panic!(rt; "a movement is asked for")
     };
     let minute = *minute;
-    if minute >= MINUTES_OF_DAY {
-        return Err("a minute".into());
-    }
-    Ok(windows.uses_of(alloc, movement(kind, *day, minute))?)
+    assert!(rt; minute < MINUTES_OF_DAY, "{minute} is no minute");
+    let holders = windows
+        .uses_of(alloc, movement(kind, *day, minute))
+        .expect(rt, "memory");
+    put_numbers(rt, text, &holders);
 }
 
 // The resources that a stop uses, in rising order, each as often as it does.
-fn used(alloc: Global, windows: &Windows, kind: Kind, asked: &[u32]) -> Result<Vec<u32>, Fail> {
+fn put_used(
+    rt: &impl Abort,
+    alloc: Global,
+    text: &mut String,
+    windows: &Windows,
+    kind: Kind,
+    asked: &[u32],
+) {
     let [minute, later, first, last, days] = asked else {
-        return Err("a stop".into());
+        panic!(rt; "a stop is asked for")
     };
     let (minute, later, first, last) = (*minute, *later, *first, *last);
     let dates = windows.days();
-    if minute >= MINUTES_OF_DAY || first >= dates || last >= dates {
-        return Err("a stop".into());
-    }
+    assert!(rt; minute < MINUTES_OF_DAY, "{minute} is no minute");
+    assert!(rt;
+        first < dates && last < dates,
+        "{first} or {last} is no date"
+    );
     let period = Period {
         first: Day(first),
         last: Day(last),
         days: (*days % 128) as u8,
     };
-    let part = windows.strips_of(alloc, kind, minute, later, period)?;
-    let mut used = Vec::new(alloc);
-    for resource in 0..windows.resources() {
-        for _ in 0..part.uses(resource) {
-            used.push(resource)?;
-        }
+    let part = windows
+        .strips_of(alloc, kind, minute, later, period)
+        .expect(rt, "memory");
+    put_uses(rt, text, &part, windows.resources());
+}
+
+fn put_uses(rt: &impl Abort, text: &mut String, part: &Part, resources: u32)
+    requires { (r : ℕ) → part_uses part.now r ≤ MOST_DATES }
+{
+    for resource in 0..resources {
+        put_times(rt, text, resource, part.uses(resource));
     }
-    Ok(used)
+}
+
+// Adds a number so many times.
+fn put_times(rt: &impl Abort, text: &mut String, number: u32, times: u32) {
+    for _ in 0..times {
+        put_numbers(rt, text, &[number]);
+    }
 }
