@@ -5,7 +5,7 @@ ghost use Rattle.std.specs.Prelude.{◌≤◌, length};
 ghost use Rattle.cert_format.specs.Printable.{IsPrintable};
 ghost use Rattle.cert_format.specs.declared.cert.TheConstants.{LONGEST_CERT};
 
-use crate::lines::{Row, halves, put_lines, read_row, with_row};
+use crate::lines::{Row, put_lines, read_row, with_row};
 use cert_format::{
     CertFault, Certificate, LONGEST_CERT, print_cert, print_extra, read_cert, read_extra,
 };
@@ -378,16 +378,16 @@ const BYTE_ROWS: &str = "\
 
 #[test]
 fn one_changed_line_is_bad_or_is_read(rt: HostRuntime) {
-    for (text, rows, is_extra) in [
-        (TEXT, TEXT_ROWS, false),
-        (OPEN, OPEN_ROWS, false),
-        (FIXED, FIXED_ROWS, false),
-        (EXTRA, EXTRA_ROWS, true),
-        (FIXED_EXTRA, FIXED_EXTRA_ROWS, true),
-    ] {
-        for line in rows.split('\n') {
-            check_line(&rt, rt.alloc(), text, line, is_extra);
-        }
+    check_lines(&rt, rt.alloc(), TEXT, TEXT_ROWS, false);
+    check_lines(&rt, rt.alloc(), OPEN, OPEN_ROWS, false);
+    check_lines(&rt, rt.alloc(), FIXED, FIXED_ROWS, false);
+    check_lines(&rt, rt.alloc(), EXTRA, EXTRA_ROWS, true);
+    check_lines(&rt, rt.alloc(), FIXED_EXTRA, FIXED_EXTRA_ROWS, true);
+}
+
+fn check_lines(rt: &impl Abort, alloc: Global, text: &str, rows: &str, is_extra: bool) {
+    for line in rows.split('\n') {
+        check_line(rt, alloc, text, line, is_extra);
     }
 }
 
@@ -395,7 +395,7 @@ fn check_line(rt: &impl Abort, alloc: Global, text: &str, line: &str, is_extra: 
     let row = read_row(rt, line);
     let changed = with_row(rt, alloc, text, &row);
     let found = bad_line(rt, alloc, changed.as_bytes(), is_extra);
-    assert_eq!(rt; found, number(row.wanted), "{line}");
+    assert!(rt; found == number(row.wanted), "{line} has {found}");
 }
 
 // The number of a line; 0 for `-`.
@@ -406,35 +406,44 @@ fn number(text: &str) -> u32 {
 // The bad line of a text; 0 where it is read, and is then printed as it was.
 fn bad_line(rt: &impl Abort, alloc: Global, text: &[u8], is_extra: bool) -> u32 {
     assert!(rt; text.len() <= LONGEST_CERT, "too long");
-    let printed = if is_extra {
-        printed_extra(alloc, text)
+    if is_extra {
+        bad_line_of_extra(rt, alloc, text)
     } else {
-        printed_cert(alloc, text)
-    };
-    match printed {
-        Ok(printed) => {
-            assert!(rt; printed.as_slice() == text, "another text");
-            0
-        }
-        Err(CertFault::BadLine { line }) => line,
-        Err(CertFault::Memory) => panic!(rt; "memory"),
+        bad_line_of_cert(rt, alloc, text)
     }
 }
 
-fn printed_cert(alloc: Global, text: &[u8]) -> Result<Vec<u8>, CertFault>
+fn bad_line_of_cert(rt: &impl Abort, alloc: Global, text: &[u8]) -> u32
     requires { length text.now ≤ LONGEST_CERT }
 {
-    let cert = read_cert(alloc, text)?;
-    let printed = print_cert(alloc, &cert)?;
-    Ok(printed)
+    match read_cert(alloc, text) {
+        Ok(cert) => {
+            let printed = print_cert(alloc, &cert).expect(rt, "memory");
+            assert!(rt; printed.as_slice() == text, "another text");
+            0
+        }
+        Err(fault) => line_of(rt, fault),
+    }
 }
 
-fn printed_extra(alloc: Global, text: &[u8]) -> Result<Vec<u8>, CertFault>
+fn bad_line_of_extra(rt: &impl Abort, alloc: Global, text: &[u8]) -> u32
     requires { length text.now ≤ LONGEST_CERT }
 {
-    let stage = read_extra(alloc, text)?;
-    let printed = print_extra(alloc, &stage)?;
-    Ok(printed)
+    match read_extra(alloc, text) {
+        Ok(stage) => {
+            let printed = print_extra(alloc, &stage).expect(rt, "memory");
+            assert!(rt; printed.as_slice() == text, "another text");
+            0
+        }
+        Err(fault) => line_of(rt, fault),
+    }
+}
+
+fn line_of(rt: &impl Abort, fault: CertFault) -> u32 {
+    match fault {
+        CertFault::BadLine { line } => line,
+        CertFault::Memory => panic!(rt; "memory"),
+    }
 }
 
 #[test]
@@ -442,7 +451,8 @@ fn every_byte_replaced_is_bad_or_read(rt: HostRuntime) {
     let text = TEXT.as_bytes();
     let (mut line, mut column) = (1_u32, 0_u32);
     for (at, old) in text.iter().enumerate() {
-        check_byte(&rt, rt.alloc(), at, *old, line, column);
+        let rows = rows_at(&rt, rt.alloc(), line, column);
+        check_byte(&rt, rt.alloc(), at, *old, line, &rows);
         column = column.wrapping_add(1);
         if *old == b'\n' {
             line = line.wrapping_add(1);
@@ -451,16 +461,15 @@ fn every_byte_replaced_is_bad_or_read(rt: HostRuntime) {
     }
 }
 
-// Each other byte at this place, which is that of a line and a column.
-fn check_byte(rt: &impl Abort, alloc: Global, place: usize, old: u8, line: u32, column: u32) {
-    let rows = rows_at(rt, alloc, line, column);
+// Each other byte at this place, which is in the line that has these rows.
+fn check_byte(rt: &impl Abort, alloc: Global, place: usize, old: u8, line: u32, rows: &[Row<'_>]) {
     for byte in 0..=255_u8 {
         if byte != old {
             let found = bad_at(rt, alloc, place, byte);
-            assert_eq!(rt;
-                found,
-                wanted_line(&rows, line, byte),
-                "{line} {column} {byte}"
+            let wanted = wanted_line(rows, line, byte);
+            assert!(rt;
+                found == wanted,
+                "byte {byte} at {place}: {found}, not {wanted}"
             );
         }
     }
@@ -516,11 +525,10 @@ pub fn certificate_of(rt: &impl Abort, alloc: Global, text: &str) -> Certificate
     read_cert(alloc, text.as_bytes()).expect(rt, "a certificate")
 }
 
-/// A certificate with these four stages, which have marks between them. A stage is `untried`,
-/// `none` where one resource rules out all choices, or `-` or empty where it has no unit; else its
-/// cost, the numbers of its choice, the nodes of its tree, and the prices of a vector, if it has
-/// one, with colons between; `open` before the cost. The numbers of a choice alone cost nothing, by
-/// a tree of one leaf; `kept` is the choice of one unit that has its first alternative.
+/// A certificate with these four stages, which have marks between them: `-` for a stage without
+/// units, `kept` where the one unit has its first alternative at no cost, `none` where a window
+/// rules out all choices, `untried`, or else the stage's lines from its mark on, with semicolons
+/// between.
 pub fn certificate(rt: &impl Abort, alloc: Global, stages: &str, mark: char) -> Certificate
     ensures { IsPrintable result }
 {
@@ -531,53 +539,33 @@ pub fn certificate(rt: &impl Abort, alloc: Global, stages: &str, mark: char) -> 
 }
 
 fn put_stages(rt: &impl Abort, text: &mut String, stages: &str, mark: char) {
-    for (before, stage) in stages.split(mark).enumerate() {
-        write!(text, "STAGE {} ", before.wrapping_add(1)).expect(rt, "memory");
+    let mut number = 0_u32;
+    for stage in stages.split(mark) {
+        number = number.wrapping_add(1);
+        write!(text, "STAGE {number} ").expect(rt, "memory");
         put_stage(rt, text, stage);
     }
 }
 
 // Adds the lines of a stage, from its mark on.
 fn put_stage(rt: &impl Abort, text: &mut String, stage: &str) {
-    let lines = match stage {
-        "untried" => "NOT TRIED",
-        "none" => "INFEASIBLE;CHOICES NONE;VECTORS 0;TREE 1;O 0",
-        "-" | "" => "OPTIMAL;CHOICES 0;COST 0;VECTORS 0;TREE 1;L 0 1 0",
-        "kept" => return put_proof(rt, text, "0"),
-        stage => return put_proof(rt, text, stage),
-    };
-    put_lines(rt, text, lines, ';');
-}
-
-// Adds the lines of a stage with its cost, choice, nodes and prices.
-fn put_proof(rt: &impl Abort, text: &mut String, stage: &str) {
-    let (mark, stage) = match stage.strip_prefix("open ") {
-        Some(stage) => ("OPEN", stage),
-        None => ("OPTIMAL", stage),
-    };
-    let (cost, rest) = stage.split_once(':').unwrap_or(("0", stage));
-    let (choice, rest) = rest.split_once(':').unwrap_or((rest, "L 0 1 0"));
-    let (nodes, price) = halves(rest, ':');
-    write!(text, "{mark}\nCHOICES {}\n", choice.split(' ').count()).expect(rt, "memory");
-    put_choice(rt, text, choice);
-    write!(text, "COST {cost}\n").expect(rt, "memory");
-    put_vectors(rt, text, price);
-    write!(text, "TREE {}\n", nodes.split(',').count()).expect(rt, "memory");
-    put_lines(rt, text, nodes, ',');
-}
-
-// Adds the lines of a choice.
-fn put_choice(rt: &impl Abort, text: &mut String, choice: &str) {
-    for (unit, number) in choice.split(' ').enumerate() {
-        write!(text, "C {unit} {number}\n").expect(rt, "memory");
+    match stage {
+        "-" => put_lines(
+            rt,
+            text,
+            "OPTIMAL;CHOICES 0;COST 0;VECTORS 0;TREE 1;L 0 1 0",
+            ';',
+        ),
+        "kept" => put_lines(rt, text, KEPT, ';'),
+        "none" => put_lines(
+            rt,
+            text,
+            "INFEASIBLE;CHOICES NONE;VECTORS 0;TREE 1;O 0",
+            ';',
+        ),
+        "untried" => put_lines(rt, text, "NOT TRIED", ';'),
+        _ => put_lines(rt, text, stage, ';'),
     }
 }
 
-// Adds the lines of a vector with one price, if there is one.
-fn put_vectors(rt: &impl Abort, text: &mut String, price: &str) {
-    if price.is_empty() {
-        text.push_str("VECTORS 0\n").expect(rt, "memory");
-    } else {
-        write!(text, "VECTORS 1\nVECTOR 1\nP {price}\n").expect(rt, "memory");
-    }
-}
+const KEPT: &str = "OPTIMAL;CHOICES 1;C 0 0;COST 0;VECTORS 0;TREE 1;L 0 1 0";

@@ -4,7 +4,7 @@ use std::alloc::Global;
 use std::process::Abort;
 
 /// A row: the lines from one number to another, what stands in their place, and what is wanted.
-#[derive(Drop)]
+#[derive(Clone, Copy)]
 pub struct Row<'a> {
     pub wanted: &'a str,
     pub from: u32,

@@ -105,16 +105,7 @@ fn answer(rt: &impl Abort, alloc: Global, submission: &Submission, question: &st
     let (before, asked) = halves(rest, '|');
     let stage = stage.parse::<u32>().expect(rt, "a stage");
     let earlier = earlier(rt, alloc, before);
-    let problem = stage_problem(alloc, submission, stage, &earlier).expect(rt, "memory");
-    match word {
-        "choice" => judged(rt, alloc, &problem, asked),
-        "parts" => parts(rt, alloc, &problem, asked),
-        "limit" => {
-            let units = units_of_stage(alloc, submission, stage, &earlier).expect(rt, "memory");
-            limit(rt, alloc, &problem, &units, asked)
-        }
-        _ => panic!(rt; "no question is {word}"),
-    }
+    answer_after(rt, alloc, submission, stage, &earlier, word, asked)
 }
 
 // The choices of the stages before one.
@@ -125,43 +116,104 @@ fn earlier(rt: &impl Abort, alloc: Global, text: &str) -> Earlier
     if text != "start" {
         put_choices(rt, alloc, &mut choices, text);
     }
-    assert!(rt; choices.len() <= 3, "{text} has too many choices");
+    assert!(rt; choices.len() <= 3, "too many choices");
     Earlier::new(choices)
 }
 
 fn put_choices(rt: &impl Abort, alloc: Global, choices: &mut Vec<Option<Choice>>, text: &str) {
     for word in text.split(',') {
-        let choice = match word {
-            "none" => None,
-            _ => Some(Choice::new(numbers(rt, alloc, word))),
-        };
+        let choice = read_choice(rt, alloc, word);
         choices.push(choice).expect(rt, "memory");
+    }
+}
+
+fn read_choice(rt: &impl Abort, alloc: Global, word: &str) -> Option<Choice> {
+    if word == "none" {
+        return None;
+    }
+    Some(Choice::new(numbers(rt, alloc, word)))
+}
+
+fn answer_after(
+    rt: &impl Abort,
+    alloc: Global,
+    submission: &Submission,
+    stage: u32,
+    earlier: &Earlier,
+    word: &str,
+    asked: &str,
+) -> String
+    requires { length earlier.now ≤ 3 }
+{
+    let problem = stage_problem(alloc, submission, stage, earlier).expect(rt, "memory");
+    if word == "limit" {
+        return limit(rt, alloc, submission, stage, earlier, &problem, asked);
+    }
+    of_problem(rt, alloc, &problem, word, asked)
+}
+
+fn of_problem(
+    rt: &impl Abort,
+    alloc: Global,
+    problem: &Problem,
+    word: &str,
+    asked: &str,
+) -> String {
+    match word {
+        "choice" => judged(rt, alloc, problem, asked),
+        "parts" => parts(rt, alloc, problem, asked),
+        _ => panic!(rt; "no question is {word}"),
     }
 }
 
 // Whether a choice of a problem fits, and what it costs; none where it is no choice of it.
 fn judged(rt: &impl Abort, alloc: Global, problem: &Problem, asked: &str) -> String {
     let choice = Choice::new(numbers(rt, alloc, asked));
+    judged_choice(rt, alloc, problem, &choice)
+}
+
+fn judged_choice(rt: &impl Abort, alloc: Global, problem: &Problem, choice: &Choice) -> String {
     if !choice.is_for(problem) {
         return String::from_str(alloc, "none").expect(rt, "memory");
     }
-    let fits = fits(alloc, problem, &choice).expect(rt, "memory");
-    let word = if fits { "fits" } else { "over" };
-    format!(in alloc; "{word} {}", cost_of(problem, &choice)).expect(rt, "memory")
+    let cost = cost_of(problem, choice);
+    if fits(alloc, problem, choice).expect(rt, "memory") {
+        return format!(in alloc; "fits {cost}").expect(rt, "memory");
+    }
+    format!(in alloc; "over {cost}").expect(rt, "memory")
 }
 
 // Positions of units, and the limit of a resource, if there is such a one.
-fn limit(rt: &impl Abort, alloc: Global, problem: &Problem, units: &[u32], asked: &str) -> String {
-    let resource = asked.parse::<u32>().expect(rt, "a resource");
+fn limit(
+    rt: &impl Abort,
+    alloc: Global,
+    submission: &Submission,
+    stage: u32,
+    earlier: &Earlier,
+    problem: &Problem,
+    asked: &str,
+) -> String
+    requires { length earlier.now ≤ 3 }
+{
+    let units = units_of_stage(alloc, submission, stage, earlier).expect(rt, "memory");
     let mut text = String::new(alloc);
-    put_numbers(rt, &mut text, units);
-    let units = text.trim();
+    put_numbers(rt, &mut text, &units);
+    limit_text(rt, alloc, problem, text.trim(), asked)
+}
+
+fn limit_text(
+    rt: &impl Abort,
+    alloc: Global,
+    problem: &Problem,
+    units: &str,
+    asked: &str,
+) -> String {
+    let resource = asked.parse::<u32>().expect(rt, "a resource");
     if resource < problem.resources() {
         let limit = problem.limit(resource);
-        format!(in alloc; "{units}: {limit}").expect(rt, "memory")
-    } else {
-        format!(in alloc; "{units}: none").expect(rt, "memory")
+        return format!(in alloc; "{units}: {limit}").expect(rt, "memory");
     }
+    format!(in alloc; "{units}: none").expect(rt, "memory")
 }
 
 // How many alternatives and parts a unit has.

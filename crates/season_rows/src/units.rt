@@ -117,10 +117,24 @@ fn put_of_unit(
 ) {
     let unit = first_unit(submission).expect(rt, "a unit");
     let options = options_of(alloc, unit, submission.declaration()).expect(rt, "memory");
+    put_asked(rt, alloc, text, submission, unit, &options, word);
+}
+
+fn put_asked(
+    rt: &impl Abort,
+    alloc: Global,
+    text: &mut String,
+    submission: &Submission,
+    unit: &Unit,
+    options: &[Times],
+    word: &str,
+)
+    requires { UnitFits submission.now.declaration.season unit.now }
+{
     match word {
-        "options" => put_options(rt, text, submission, unit, &options),
-        "totals" => put_totals(rt, text, submission, unit, &options),
-        "movements" => put_moved(rt, alloc, text, submission, unit, &options),
+        "options" => put_options(rt, text, submission, unit, options),
+        "totals" => put_totals(rt, text, submission, unit, options),
+        "movements" => put_moved(rt, alloc, text, submission, unit, options),
         _ => panic!(rt; "no question is {word}"),
     }
 }
@@ -157,13 +171,16 @@ fn put_units(rt: &impl Abort, text: &mut String, submission: &Submission) {
 }
 
 fn refusal(rt: &impl Abort, alloc: Global, fault: ModelFault) -> String {
-    let (word, number) = match fault {
-        ModelFault::OtherSeason { line } => ("OtherSeason", line),
-        ModelFault::OtherAirport { line } => ("OtherAirport", line),
-        ModelFault::NotInitial { line } => ("NotInitial", line),
-        ModelFault::TooMany { units } => ("TooMany", units),
+    match fault {
+        ModelFault::OtherSeason { line } => numbered(rt, alloc, "OtherSeason", line),
+        ModelFault::OtherAirport { line } => numbered(rt, alloc, "OtherAirport", line),
+        ModelFault::NotInitial { line } => numbered(rt, alloc, "NotInitial", line),
+        ModelFault::TooMany { units } => numbered(rt, alloc, "TooMany", units),
         ModelFault::Memory => panic!(rt; "memory"),
-    };
+    }
+}
+
+fn numbered(rt: &impl Abort, alloc: Global, word: &str, number: u32) -> String {
     format!(in alloc; "{word} {number}").expect(rt, "memory")
 }
 
@@ -188,11 +205,16 @@ fn put_option(
 {
     let cost = displacement(unit, times, submission.declaration());
     put_gap(rt, text);
+    put_times(rt, text, times);
+    write!(text, ":{cost}").expect(rt, "memory");
+}
+
+fn put_times(rt: &impl Abort, text: &mut String, times: Times) {
     match times {
         Times::At { arrival, departure } => {
-            write!(text, "{arrival}-{departure}:{cost}").expect(rt, "memory")
+            write!(text, "{arrival}-{departure}").expect(rt, "memory")
         }
-        Times::Refused => write!(text, "refused:{cost}").expect(rt, "memory"),
+        Times::Refused => text.push_str("refused").expect(rt, "memory"),
     }
 }
 
@@ -220,14 +242,26 @@ fn put_totals(
 )
     requires { UnitFits submission.now.declaration.season unit.now }
 {
+    let (arrivals, departures) = sums(options);
+    let costs = all_costs(submission, unit, options);
+    write!(text, "{}", options.len()).expect(rt, "memory");
+    put_ends(rt, text, submission, unit, options);
+    write!(text, " {arrivals} {departures} {costs}").expect(rt, "memory");
+}
+
+fn put_ends(
+    rt: &impl Abort,
+    text: &mut String,
+    submission: &Submission,
+    unit: &Unit,
+    options: &[Times],
+)
+    requires { UnitFits submission.now.declaration.season unit.now }
+{
     let first = options.first().copied().expect(rt, "a first alternative");
     let last = options.last().copied().expect(rt, "a last alternative");
-    let (arrivals, departures) = sums(options);
-    let (count, costs) = (options.len(), all_costs(submission, unit, options));
-    write!(text, "{count}").expect(rt, "memory");
     put_option(rt, text, submission, unit, first);
     put_option(rt, text, submission, unit, last);
-    write!(text, " {arrivals} {departures} {costs}").expect(rt, "memory");
 }
 
 // The sums of the minutes of alternatives.

@@ -2,31 +2,52 @@
 //! are worked by hand.
 
 use crate::certificates::{TEXT, certificate_of};
-use crate::lines::{read_row, with_row};
+use crate::lines::{halves, read_row, with_row};
 use crate::seasons::submission;
 use cert_checker::{Reason, Verdict, check};
 use series_model::Submission;
 use std::alloc::Global;
 use std::process::Abort;
 
-// A season: the lines of its capacity file below the ground time, and those of its message below
-// the header, with semicolons between; a certificate of it; and rows, each with the verdict where
-// some lines of the certificate stand for others.
-type Season = (&'static str, &'static str, &'static str, &'static str);
-
-const BASE: &str = "FLEX 60;REFUSE NONE;CAP ARR 60 0600 0600 1234567 1";
-
-const REQUESTS: &str = "FBA001 30MAR 7 180320 JFK0610 J;NBA002 30MAR 7 180320 JFK0630 J";
-
-// A historic series at 0610 and a new request at 0630, which 0700 serves at 30 minutes. In stage 4
-// the requested time has 32,768 at the price, and the time 0700 has 1024 × 30 = 30,720, which is
-// above 1024 × 29 = 29,696. The price 29,696 gives no more than that.
-const ONE_DATE: Season = (
-    BASE,
-    REQUESTS,
-    TEXT,
-    "\
-YES|1 1 CERT 1
+// Seasons, with a star before them where they are not the first: the lines of a capacity file below
+// the ground time and those of a message below its header, in one line; a certificate, or nothing
+// for the example of `certificates`; and behind a hash rows, each with the verdict where some lines
+// of the certificate stand for others.
+//
+// First: a historic series at 0610 and a new request at 0630, which 0700 serves at 30 minutes. In
+// stage 4 the requested time has 32,768 at the price, and the time 0700 has 1024 × 30 = 30,720,
+// which is above 1024 × 29 = 29,696. The price 29,696 gives no more than that.
+//
+// Second: the same season daily. The vector has a price at each of the 210 windows, so that 0630
+// has 210 × 32,768 = 6,881,280, and 0700 has 1024 × 6300 = 6,451,200, which is above 1024 × 6299.
+// Without a vector, the alternatives 6 to 17 are those of the window, and 5 displaces 35 minutes.
+//
+// In the third stage 4 is OPEN with a bound of 30, which the undone node shows by 30,720 above
+// 29,696. The fourth has two historic series in one window that holds one.
+//
+// Fifth: a historic series at 0610 that asks for 0630, where another holds the window from 0620 to
+// 0640: its alternatives are 0630 and, at 20 minutes on 210 dates, 0610.
+//
+// Sixth: four new entrants at a window that holds three. Half of three, rounded up, is two; the two
+// that are refused stand again for the one that is left.
+//
+// Seventh: three turnarounds of which each two exclude each other. Where the first is served the
+// others are refused at 20 each; where it is refused, the window that the others share allows one
+// of them.
+//
+// Eighth: the three turnarounds with a fixing. With the first one served the first vector gives
+// 40,960, which is above 1024 × 39 = 39,936 and not above 1024 × 40: so a cost of 40 leaves its
+// refusal alone, and then the second vector gives 61,440 - 20,480 = 40,960. What the certificate
+// chooses is out itself, which is no matter. A cost of 41 leaves all alternatives, of which the
+// second vector gives 20,480.
+//
+// Ninth: the first season with a fixing: a cost of 31 leaves the time 0700 alone, as 30,720 is not
+// above 1024 × 30, and then no vector is wanted; a cost of 30 leaves nothing. The last season has
+// no unit at all.
+const SEASONS: &str = "\
+FLEX 60;REFUSE NONE;CAP ARR 60 0600 0600 1234567 1|FBA001 30MAR 7 180320 JFK0610 J;NBA002 30MAR 7 \
+    180320 JFK0630 J
+#YES|1 1 CERT 1
 NO 2 MARK|2 8 STAGE 1 NOT TRIED
 NO 3 MARK|2 2 STAGE 1 INFEASIBLE
 NO 3 MARK|3 5 CHOICES NONE
@@ -124,16 +145,9 @@ NO 28 CLOSED|21 21 STAGE 4 OPEN
 YES|21 29 STAGE 4 OPEN/CHOICES NONE/VECTORS 0/TREE 1/U
 YES|21 29 STAGE 4 OPEN/CHOICES 1/C 0 18/COST 30/VECTORS 0/TREE 1/U
 NO 24 FIT|21 29 STAGE 4 OPEN/CHOICES 1/C 0 12/COST 0/VECTORS 0/TREE 1/U
-NO 30 UNDONE|28 29 TREE 3/S 0 18 -/U/L 0 1 30",
-);
-
-// The same season daily. The vector has a price at each of the 210 windows, so that 0630 has 210 ×
-// 32,768 = 6,881,280, and 0700 has 1024 × 6300 = 6,451,200, which is above 1024 × 6299. Without a
-// vector, the alternatives 6 to 17 are those of the window, and 5 displaces 35 minutes.
-const DAILY: Season = (
-    BASE,
-    "FBA001 30MAR25OCT 1234567 180320 JFK0610 J;NBA002 30MAR25OCT 1234567 180320 JFK0630 J",
-    "\
+NO 30 UNDONE|28 29 TREE 3/S 0 18 -/U/L 0 1 30
+*FLEX 60;REFUSE NONE;CAP ARR 60 0600 0600 1234567 1|FBA001 30MAR25OCT 1234567 180320 JFK0610 J;\
+    NBA002 30MAR25OCT 1234567 180320 JFK0630 J
 CERT 1
 STAGE 1 OPTIMAL
 CHOICES 1
@@ -164,23 +178,16 @@ PRICES
 TREE 1
 L 1 1024 6300
 END
-",
-    "\
-YES|1 1 CERT 1
+#YES|1 1 CERT 1
 NO 24 COST|24 24 COST 6299
 NO 24 FIT|23 24 C 0 17/COST 5250
 NO 238 LEAF|29 29 L 0 1 -
 YES|25 29 VECTORS 0/TREE 5/S 0 6 -/L 0 1 -/S 0 18 -/O 0/L 0 1 -
 YES|25 29 VECTORS 0/TREE 5/S 0 6 -/L 0 1 -/S 0 18 -/O 209/L 0 1 -
 NO 30 OVER|25 29 VECTORS 0/TREE 5/S 0 6 -/L 0 1 -/S 0 18 -/O 210/L 0 1 -
-NO 31 LEAF|25 29 VECTORS 0/TREE 5/S 0 6 -/L 0 1 -/S 0 17 -/O 0/L 0 1 -",
-);
-
-// Stage 4 is OPEN with a bound of 30, which the undone node shows by 30,720 above 29,696.
-const OPEN: Season = (
-    BASE,
-    REQUESTS,
-    "\
+NO 31 LEAF|25 29 VECTORS 0/TREE 5/S 0 6 -/L 0 1 -/S 0 17 -/O 0/L 0 1 -
+*FLEX 60;REFUSE NONE;CAP ARR 60 0600 0600 1234567 1|FBA001 30MAR 7 180320 JFK0610 J;NBA002 30MAR \
+    7 180320 JFK0630 J
 CERT 2
 STAGE 1 OPTIMAL
 CHOICES 1
@@ -212,9 +219,7 @@ P 0 32768
 TREE 1
 U 1 1024
 END
-",
-    "\
-YES|1 1 CERT 2
+#YES|1 1 CERT 2
 YES|25 25 BOUND 0
 NO 25 BOUND|25 25 BOUND 31
 NO 30 FLOOR|30 30 U 0 1
@@ -228,14 +233,9 @@ YES|22 25 CHOICES NONE/BOUND 30
 NO 28 FLOOR|22 25 CHOICES NONE/BOUND 31
 NO 29 UNDONE|21 25 STAGE 4 OPTIMAL/CHOICES 1/C 0 18/COST 30
 NO 27 UNDONE|21 25 STAGE 4 INFEASIBLE/CHOICES NONE
-NO 29 CLOSED|30 30 L 1 1024 30",
-);
-
-// Two historic series in one window that holds one.
-const TWO_IN_ONE: Season = (
-    BASE,
-    "FBA001 30MAR25OCT 1234567 180320 JFK0610 J;FBA002 30MAR25OCT 1234567 180320 JFK0620 J",
-    "\
+NO 29 CLOSED|30 30 L 1 1024 30
+*FLEX 60;REFUSE NONE;CAP ARR 60 0600 0600 1234567 1|FBA001 30MAR25OCT 1234567 180320 JFK0610 J;\
+    FBA002 30MAR25OCT 1234567 180320 JFK0620 J
 CERT 1
 STAGE 1 INFEASIBLE
 CHOICES NONE
@@ -246,9 +246,7 @@ STAGE 2 NOT TRIED
 STAGE 3 NOT TRIED
 STAGE 4 NOT TRIED
 END
-",
-    "\
-YES|1 1 CERT 1
+#YES|1 1 CERT 1
 NO 3 MARK|2 2 STAGE 1 OPTIMAL
 NO 3 MARK|3 3 CHOICES 2/C 0 0/C 1 0/COST 0
 YES|6 6 O 209
@@ -266,15 +264,9 @@ NO 7 MARK|7 7 STAGE 2 OPTIMAL/CHOICES 0/COST 0/VECTORS 0/TREE 1/L 0 1 0
 NO 9 MARK|9 9 STAGE 4 OPTIMAL/CHOICES 0/COST 0/VECTORS 0/TREE 1/L 0 1 0
 YES|2 6 STAGE 1 OPEN/CHOICES NONE/VECTORS 0/TREE 1/U
 NO 5 CLOSED|2 6 STAGE 1 OPEN/CHOICES NONE/VECTORS 0/TREE 1/O 0
-NO 6 FIT|2 6 STAGE 1 OPEN/CHOICES 2/C 0 0/C 1 0/COST 0/VECTORS 0/TREE 1/U",
-);
-
-// A historic series at 0610 that asks for 0630, where another holds the window from 0620 to 0640:
-// its alternatives are 0630 and, at 20 minutes on 210 dates, 0610.
-const KEEPS_TIMES: Season = (
-    "FLEX 60;REFUSE NONE;CAP ARR 20 0620 0620 1234567 1",
-    "FBA001 30MAR25OCT 1234567 180320 JFK0625 J;CBA002 30MAR25OCT 1234567 180320 JFK0610 J;LBA002 30MAR25OCT 1234567 180320 JFK0630 J",
-    "\
+NO 6 FIT|2 6 STAGE 1 OPEN/CHOICES 2/C 0 0/C 1 0/COST 0/VECTORS 0/TREE 1/U
+*FLEX 60;REFUSE NONE;CAP ARR 20 0620 0620 1234567 1|FBA001 30MAR25OCT 1234567 180320 JFK0625 J;\
+    CBA002 30MAR25OCT 1234567 180320 JFK0610 J;LBA002 30MAR25OCT 1234567 180320 JFK0630 J
 CERT 1
 STAGE 1 OPTIMAL
 CHOICES 1
@@ -305,9 +297,7 @@ VECTORS 0
 TREE 1
 L 0 1 0
 END
-",
-    "\
-YES|1 1 CERT 1
+#YES|1 1 CERT 1
 NO 11 CHOICE|11 11 C 0 2
 NO 12 COST|12 12 COST 4199
 NO 12 COST|12 12 COST 4201
@@ -315,15 +305,9 @@ NO 12 FIT|11 12 C 0 0/COST 0
 NO 16 LEAF|16 16 L 0 1 4200
 NO 17 OVER|17 17 O 0
 NO 14 SHAPE|14 15 TREE 2
-NO 16 UNDONE|16 16 U",
-);
-
-// Four new entrants at a window that holds three. Half of three, rounded up, is two; the two that
-// are refused stand again for the one that is left.
-const SHARED: Season = (
-    "FLEX 0;REFUSE 10;CAP ARR 60 0600 0600 1234567 3",
-    "BBA001 30MAR 7 180320 JFK0610 J;BBA002 30MAR 7 180320 JFK0610 J;BBA003 30MAR 7 180320 JFK0610 J;BBA004 30MAR 7 180320 JFK0610 J",
-    "\
+NO 16 UNDONE|16 16 U
+*FLEX 0;REFUSE 10;CAP ARR 60 0600 0600 1234567 3|BBA001 30MAR 7 180320 JFK0610 J;BBA002 30MAR 7 \
+    180320 JFK0610 J;BBA003 30MAR 7 180320 JFK0610 J;BBA004 30MAR 7 180320 JFK0610 J
 CERT 1
 STAGE 1 OPTIMAL
 CHOICES 0
@@ -360,21 +344,14 @@ P 0 10240
 TREE 1
 L 1 1024 10
 END
-",
-    "\
-YES|1 1 CERT 1
+#YES|1 1 CERT 1
 NO 20 FIT|18 20 C 2 0/C 3 1/COST 10
 NO 25 LEAF|17 20 C 1 1/C 2 1/C 3 1/COST 30
 NO 30 FIT|28 30 C 0 0/C 1 0/COST 0
-NO 27 UNITS|27 30 CHOICES 1/C 0 0/COST 0",
-);
-
-// Three turnarounds of which each two exclude each other. Where the first is served the others are
-// refused at 20 each; where it is refused, the window that the others share allows one of them.
-const EXCLUSIVE: Season = (
-    "FLEX 0;REFUSE 10;CAP TOT 10 0600 0600 1234567 1;CAP TOT 10 0700 0700 1234567 1;CAP TOT 10 0800 0800 1234567 1",
-    "NBA001 BA011 30MAR 7 180320 JFK0600 0700JFK JJ;NBA002 BA012 30MAR 7 180320 JFK0700 0800JFK JJ;NBA003 BA013 30MAR 7 180320 JFK0600 0800JFK JJ",
-    "\
+NO 27 UNITS|27 30 CHOICES 1/C 0 0/COST 0
+*FLEX 0;REFUSE 10;CAP TOT 10 0600 0600 1234567 1;CAP TOT 10 0700 0700 1234567 1;CAP TOT 10 0800 \
+    0800 1234567 1|NBA001 BA011 30MAR 7 180320 JFK0600 0700JFK JJ;NBA002 BA012 30MAR 7 180320 \
+    JFK0700 0800JFK JJ;NBA003 BA013 30MAR 7 180320 JFK0600 0800JFK JJ
 CERT 1
 STAGE 1 OPTIMAL
 CHOICES 0
@@ -411,9 +388,7 @@ S 0 1 -
 L 1 1024 40
 L 2 1024 40
 END
-",
-    "\
-YES|1 1 CERT 1
+#YES|1 1 CERT 1
 NO 29 PRICE|29 29 P 0 20480
 NO 34 LEAF|34 34 L 2 1024 40
 NO 35 LEAF|35 35 L 1 1024 40
@@ -421,18 +396,10 @@ NO 34 UNDONE|34 34 U
 NO 25 FIT|21 25 CHOICES 3/C 0 0/C 1 0/C 2 1/COST 20
 NO 33 LEAF|32 35 TREE 1/L 1 1024 40
 YES|20 35 STAGE 4 OPEN/CHOICES 3/C 0 0/C 1 1/C 2 1/COST 40/VECTORS 0/TREE 3/S 0 1 -/U/U
-NO 28 SPLIT|20 35 STAGE 4 OPEN/CHOICES 3/C 0 0/C 1 1/C 2 1/COST 40/VECTORS 0/TREE 3/S 0 2 -/U/U",
-);
-
-// The three turnarounds with a fixing. With the first one served the first vector gives 40,960,
-// which is above 1024 × 39 = 39,936 and not above 1024 × 40: so a cost of 40 leaves its refusal
-// alone, and then the second vector gives 61,440 - 20,480 = 40,960. What the certificate chooses is
-// out itself, which is no matter. A cost of 41 leaves all alternatives, of which the second vector
-// gives 20,480.
-const FIXED: Season = (
-    "FLEX 0;REFUSE 10;CAP TOT 10 0600 0600 1234567 1;CAP TOT 10 0700 0700 1234567 1;CAP TOT 10 0800 0800 1234567 1",
-    "NBA001 BA011 30MAR 7 180320 JFK0600 0700JFK JJ;NBA002 BA012 30MAR 7 180320 JFK0700 0800JFK JJ;NBA003 BA013 30MAR 7 180320 JFK0600 0800JFK JJ",
-    "\
+NO 28 SPLIT|20 35 STAGE 4 OPEN/CHOICES 3/C 0 0/C 1 1/C 2 1/COST 40/VECTORS 0/TREE 3/S 0 2 -/U/U
+*FLEX 0;REFUSE 10;CAP TOT 10 0600 0600 1234567 1;CAP TOT 10 0700 0700 1234567 1;CAP TOT 10 0800 \
+    0800 1234567 1|NBA001 BA011 30MAR 7 180320 JFK0600 0700JFK JJ;NBA002 BA012 30MAR 7 180320 \
+    JFK0700 0800JFK JJ;NBA003 BA013 30MAR 7 180320 JFK0600 0800JFK JJ
 CERT 3
 STAGE 1 OPTIMAL
 CHOICES 0
@@ -468,9 +435,7 @@ FIX 1 1024 40
 TREE 1
 L 2 1024 40
 END
-",
-    "\
-YES|1 1 CERT 3
+#YES|1 1 CERT 3
 NO 33 LEAF|32 32
 NO 34 LEAF|32 32 FIX 1 1024 41
 NO 32 FIXING|32 32 FIX 1 1024 39
@@ -493,15 +458,9 @@ NO 33 FIXING|20 32 STAGE 4 OPEN/CHOICES 3/C 0 0/C 1 1/C 2 1/COST 40/BOUND 20/VEC
 NO 28 FIXING|20 32 STAGE 4 INFEASIBLE/CHOICES NONE/VECTORS 2/VECTOR 2/P 0 20480/P 210 20480/VECTOR 1/P 420 20480/FIX 1 1024 40
 NO 25 FIT|21 25 CHOICES 3/C 0 0/C 1 0/C 2 1/COST 20
 NO 32 FIXING|22 25 C 0 1/C 1 1/C 2 1/COST 60
-NO 34 LEAF|22 32 C 0 1/C 1 1/C 2 1/COST 60/VECTORS 2/VECTOR 2/P 0 20480/P 210 20480/VECTOR 1/P 420 20480/FIX 1 1024 60",
-);
-
-// The first season with a fixing: a cost of 31 leaves the time 0700 alone, as 30,720 is not above
-// 1024 × 30, and then no vector is wanted; a cost of 30 leaves nothing.
-const FIXED_ALONE: Season = (
-    BASE,
-    REQUESTS,
-    "\
+NO 34 LEAF|22 32 C 0 1/C 1 1/C 2 1/COST 60/VECTORS 2/VECTOR 2/P 0 20480/P 210 20480/VECTOR 1/P 420 20480/FIX 1 1024 60
+*FLEX 60;REFUSE NONE;CAP ARR 60 0600 0600 1234567 1|FBA001 30MAR 7 180320 JFK0610 J;NBA002 30MAR \
+    7 180320 JFK0630 J
 CERT 3
 STAGE 1 OPTIMAL
 CHOICES 1
@@ -534,9 +493,7 @@ FIX 1 1024 31
 TREE 1
 L 0 1 30
 END
-",
-    "\
-YES|1 1 CERT 3
+#YES|1 1 CERT 3
 NO 7 FIXING|7 7 FIX 0 1 0
 NO 7 FIXING|7 7 FIX 1 1 1
 NO 29 FIXING|29 29 FIX 1 1024 30
@@ -545,14 +502,8 @@ NO 30 LEAF|29 29
 NO 31 SPLIT|30 31 TREE 3/S 0 1 -/L 0 1 30/L 0 1 30
 NO 31 OVER|31 31 O 0
 YES|29 29 FIX 1 1023 31
-YES|29 31 FIX 0 1 1000/TREE 1/L 1 1024 30",
-);
-
-// No unit at all.
-const EMPTY: Season = (
-    BASE,
-    "",
-    "\
+YES|29 31 FIX 0 1 1000/TREE 1/L 1 1024 30
+*FLEX 60;REFUSE NONE;CAP ARR 60 0600 0600 1234567 1|
 CERT 1
 STAGE 1 OPTIMAL
 CHOICES 0
@@ -579,45 +530,31 @@ VECTORS 0
 TREE 1
 L 0 1 0
 END
-",
-    "\
-YES|1 1 CERT 1
+#YES|1 1 CERT 1
 NO 7 LEAF|7 7 L 0 0 -
-NO 16 COST|16 16 COST 1",
-);
+NO 16 COST|16 16 COST 1";
 
 #[test]
 fn each_damaged_line_is_named(rt: HostRuntime) {
-    for season in [
-        ONE_DATE,
-        DAILY,
-        OPEN,
-        TWO_IN_ONE,
-        KEEPS_TIMES,
-        SHARED,
-        EXCLUSIVE,
-        FIXED,
-        FIXED_ALONE,
-        EMPTY,
-    ] {
-        check_season(&rt, rt.alloc(), season.0, season.1, season.2, season.3);
+    for season in SEASONS.split('*') {
+        check_season(&rt, rt.alloc(), season);
     }
 }
 
-fn check_season(
-    rt: &impl Abort,
-    alloc: Global,
-    capacity: &str,
-    messages: &str,
-    text: &str,
-    rows: &str,
-) {
+fn check_season(rt: &impl Abort, alloc: Global, season: &str) {
+    let (first, rest) = halves(season, '\n');
+    let (capacity, messages) = halves(first, '|');
+    let (text, rows) = halves(rest, '#');
     let submission = submission(rt, alloc, capacity, messages);
-    check_rows(rt, alloc, &submission, text, rows);
+    if text.is_empty() {
+        check_rows(rt, alloc, &submission, TEXT, rows);
+    } else {
+        check_rows(rt, alloc, &submission, text, rows);
+    }
 }
 
 fn check_rows(rt: &impl Abort, alloc: Global, submission: &Submission, text: &str, rows: &str) {
-    for line in rows.split('\n') {
+    for line in rows.lines() {
         check_row(rt, alloc, submission, text, line);
     }
 }
@@ -626,8 +563,19 @@ fn check_row(rt: &impl Abort, alloc: Global, submission: &Submission, text: &str
     let row = read_row(rt, line);
     let text = with_row(rt, alloc, text, &row);
     let text = with_prices(rt, alloc, text);
-    let found = verdict(rt, alloc, submission, text.as_str());
-    assert!(rt; found.as_str() == row.wanted, "{line} has {found}");
+    check_verdict(rt, alloc, submission, text.as_str(), row.wanted, line);
+}
+
+fn check_verdict(
+    rt: &impl Abort,
+    alloc: Global,
+    submission: &Submission,
+    text: &str,
+    wanted: &str,
+    line: &str,
+) {
+    let found = verdict(rt, alloc, submission, text);
+    assert!(rt; found.as_str() == wanted, "{line} has {found}");
 }
 
 // The text with a price at each of the first 210 resources in place of `PRICES`.
