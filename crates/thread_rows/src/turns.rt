@@ -2,8 +2,8 @@
 ghost use Rattle.std.specs.Prelude.{◌≡◌, All};
 ghost use Rattle.turn_lock.specs.Seats.{IsAtRest};
 
+use std::process::Abort;
 use std::sync::Wait;
-use std::test::Fail;
 use std::thread;
 use std::thread::Threads;
 use turn_lock::{Story, Turn, TurnSeat, laws};
@@ -99,19 +99,24 @@ fn look_on_threads<R: Threads + Wait + Sync, T: Story + Send>(
 }
 
 #[test]
-fn lines_of_each_caller_stand_in_its_order(rt: HostRuntime) -> Result<(), Fail> {
+fn lines_of_each_caller_stand_in_its_order(rt: HostRuntime) {
     let log = Log {
         name: 25,
         lines: Vec::new(rt.alloc()),
     };
-    let (turn, mut seats) = Turn::new(rt.alloc(), log, CALLERS)?;
+    let (turn, mut seats) = Turn::new(rt.alloc(), log, CALLERS).expect(&rt, "memory");
     write_on_threads(&rt, &turn, seats.as_mut_slice());
     look_on_threads(&rt, &turn, seats.as_mut_slice());
     let log = turn.close(seats);
     assert_eq!(rt; log.name, 25);
-    assert_eq!(rt; log.lines.len(), 8000);
+    check_lines(&rt, &log.lines);
+}
+
+// 1,000 lines of each of eight callers, those of each in its order.
+fn check_lines(rt: &impl Abort, lines: &[Line]) {
+    assert_eq!(rt; lines.len(), 8000);
     let mut places = [0u32; 8];
-    for line in log.lines.iter() {
+    for line in lines {
         let Some(place) = places.get_mut(line.caller as usize) else {
             panic!(rt; "no caller has this number")
         };
@@ -119,31 +124,38 @@ fn lines_of_each_caller_stand_in_its_order(rt: HostRuntime) -> Result<(), Fail> 
         *place = place.wrapping_add(1);
     }
     assert_eq!(rt; places, [1000; 8]);
-    Ok(())
 }
 
 #[test]
-fn a_seat_sees_what_another_gave(rt: HostRuntime) -> Result<(), Fail> {
+fn a_seat_sees_what_another_gave(rt: HostRuntime) {
     laws::histories::<Log>();
     let log = Log {
         name: 1,
         lines: Vec::new(rt.alloc()),
     };
-    let (turn, mut seats) = Turn::new(rt.alloc(), log, 2)?;
-    let Some(mut second) = seats.pop() else {
-        panic!(rt; "no second seat")
-    };
-    let Some(mut first) = seats.pop() else {
-        panic!(rt; "no first seat")
-    };
-    assert_eq!(rt; (first.number(), second.number()), (0, 1));
-    write_line(&rt, &turn, &mut second, 7);
-    let log = turn.take(&rt, &mut first);
-    assert_eq!(rt; log.length(), 1);
-    turn.give(&rt, &mut first, log);
-    seats.push(second)?;
-    seats.push(first)?;
+    let (turn, mut seats) = Turn::new(rt.alloc(), log, 2).expect(&rt, "memory");
+    let mut second = seats.pop().expect(&rt, "a second seat");
+    let mut first = seats.pop().expect(&rt, "a first seat");
+    write_and_look(&rt, &turn, &mut first, &mut second);
+    seats.push(second).expect(&rt, "memory");
+    seats.push(first).expect(&rt, "memory");
     let log = turn.close(seats);
     assert_eq!(rt; log.lines.len(), 1);
-    Ok(())
+}
+
+// The second caller writes a line, which the first one then sees.
+fn write_and_look<R: Abort + Wait>(
+    rt: &R,
+    turn: &Turn<Log>,
+    first: &mut TurnSeat<Log>,
+    second: &mut TurnSeat<Log>,
+)
+    requires { IsAtRest turn.now first.old × IsAtRest turn.now second.old }
+    ensures { IsAtRest turn.now first.new × IsAtRest turn.now second.new }
+{
+    assert_eq!(rt; (first.number(), second.number()), (0, 1));
+    write_line(rt, turn, second, 7);
+    let log = turn.take(rt, first);
+    assert_eq!(rt; log.length(), 1);
+    turn.give(rt, first, log);
 }

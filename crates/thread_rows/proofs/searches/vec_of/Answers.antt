@@ -7,7 +7,7 @@ use Rattle.search_workers.specs.Outcomes.{AreFurther, price_count}
 use Rattle.thread_rows.proofs.searches.vec_of.Goals as goal
 
 pub returns : goal.returns
-returns c =
+returns g c =
     let p = c.args._problem.now in
     let v = c.args.vector in
     let pushed : c.push.new.self.items ≡ v ∷ [] = search rules in
