@@ -36,6 +36,11 @@ pub fn last_halves(text: &str, mark: char) -> (&str, &str) {
     text.rsplit_once(mark).unwrap_or((text, ""))
 }
 
+/// What was found in a row is what is wanted.
+pub fn check_found(rt: &impl Abort, row: &str, found: &str, wanted: &str) {
+    assert!(rt; found == wanted, "{row} has {found}");
+}
+
 /// The text with the lines of a row in place of those that it names.
 pub fn with_row(rt: &impl Abort, alloc: Global, text: &str, row: &Row) -> String {
     let mut out = String::new(alloc);

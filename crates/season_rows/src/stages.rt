@@ -4,7 +4,7 @@
 
 ghost use Rattle.std.specs.Prelude.{◌≤◌, length};
 
-use crate::lines::{halves, last_halves, numbers, put_numbers};
+use crate::lines::{check_found, halves, last_halves, numbers, put_numbers};
 use crate::seasons::submission;
 use choice_problem::{Choice, Problem, cost_of, fits};
 use series_model::Submission;
@@ -96,7 +96,7 @@ fn check_questions(rt: &impl Abort, alloc: Global, submission: &Submission, ques
 fn check_question(rt: &impl Abort, alloc: Global, submission: &Submission, row: &str) {
     let (question, want) = last_halves(row, '|');
     let found = answer(rt, alloc, submission, question);
-    assert!(rt; found.as_str() == want, "{row} has {found}");
+    check_found(rt, row, found.as_str(), want);
 }
 
 fn answer(rt: &impl Abort, alloc: Global, submission: &Submission, question: &str) -> String {

@@ -4,7 +4,7 @@
 ghost use Rattle.std.specs.Prelude.{IfSome};
 ghost use Rattle.series_model.specs.Units.{UnitFits};
 
-use crate::lines::{halves, last_halves};
+use crate::lines::{check_found, halves, last_halves};
 use crate::seasons::made;
 use capacity_windows::Movement;
 use season_days::Kind;
@@ -85,7 +85,7 @@ fn units_are_as_worked(rt: HostRuntime) {
 fn check_row(rt: &impl Abort, alloc: Global, row: &str) {
     let (question, want) = last_halves(row, '|');
     let found = answer(rt, alloc, question);
-    assert!(rt; found.as_str() == want, "{row} has {found}");
+    check_found(rt, row, found.as_str(), want);
 }
 
 fn answer(rt: &impl Abort, alloc: Global, question: &str) -> String {

@@ -2,7 +2,7 @@
 //! are worked by hand.
 
 use crate::certificates::{TEXT, certificate_of};
-use crate::lines::{halves, read_row, with_row};
+use crate::lines::{check_found, halves, read_row, with_row};
 use crate::seasons::submission;
 use cert_checker::{Reason, Verdict, check};
 use series_model::Submission;
@@ -546,11 +546,8 @@ fn check_season(rt: &impl Abort, alloc: Global, season: &str) {
     let (capacity, messages) = halves(first, '|');
     let (text, rows) = halves(rest, '#');
     let submission = submission(rt, alloc, capacity, messages);
-    if text.is_empty() {
-        check_rows(rt, alloc, &submission, TEXT, rows);
-    } else {
-        check_rows(rt, alloc, &submission, text, rows);
-    }
+    let text = if text.is_empty() { TEXT } else { text };
+    check_rows(rt, alloc, &submission, text, rows);
 }
 
 fn check_rows(rt: &impl Abort, alloc: Global, submission: &Submission, text: &str, rows: &str) {
@@ -575,7 +572,7 @@ fn check_verdict(
     line: &str,
 ) {
     let found = verdict(rt, alloc, submission, text);
-    assert!(rt; found.as_str() == wanted, "{line} has {found}");
+    check_found(rt, line, found.as_str(), wanted);
 }
 
 // The text with a price at each of the first 210 resources in place of `PRICES`.

@@ -7,7 +7,7 @@ ghost use Rattle.std.specs.Prelude.{ℕ, ◌≡◌, ◌≤◌};
 ghost use Rattle.choice_problem.specs.Strips.{part_uses};
 ghost use Rattle.season_days.specs.declared.season.TheConstants.{MOST_DATES};
 
-use crate::lines::{halves, numbers, put_numbers};
+use crate::lines::{check_found, halves, numbers, put_numbers};
 use crate::seasons::declaration;
 use capacity_windows::{Movement, Windows};
 use choice_problem::Part;
@@ -164,7 +164,7 @@ fn check_questions(rt: &impl Abort, alloc: Global, windows: &Windows, questions:
 fn check_question(rt: &impl Abort, alloc: Global, windows: &Windows, row: &str) {
     let (question, _) = row.split_once(" =").unwrap_or((row, ""));
     let found = answer(rt, alloc, windows, question);
-    assert!(rt; found.as_str() == row, "{row} has {found}");
+    check_found(rt, row, found.as_str(), row);
 }
 
 // The windows of a declaration in a season, with these lines.
@@ -242,7 +242,10 @@ fn limit(rt: &impl Abort, alloc: Global, windows: &Windows, asked: &[u32]) -> u3
     let limit = windows.limit(*resource);
     let limits = windows.limits(alloc).expect(rt, "memory");
     let listed = limits.get(*resource as usize).copied().unwrap_or(0);
-    assert_eq!(rt; listed, limit, "resource {resource}");
+    assert!(rt;
+        listed == limit,
+        "resource {resource} is listed with {listed}, not {limit}"
+    );
     limit
 }
 
@@ -324,6 +327,14 @@ fn put_used(
     kind: Kind,
     asked: &[u32],
 ) {
+    let part = part_of(rt, alloc, windows, kind, asked);
+    put_uses(rt, text, &part, windows.resources());
+}
+
+// The part that a stop is.
+fn part_of(rt: &impl Abort, alloc: Global, windows: &Windows, kind: Kind, asked: &[u32]) -> Part
+    ensures { (r : ℕ) → part_uses result r ≤ MOST_DATES }
+{
     let [minute, later, first, last, days] = asked else {
         panic!(rt; "a stop is asked for")
     };
@@ -339,10 +350,9 @@ fn put_used(
         last: Day(last),
         days: (*days % 128) as u8,
     };
-    let part = windows
+    windows
         .strips_of(alloc, kind, minute, later, period)
-        .expect(rt, "memory");
-    put_uses(rt, text, &part, windows.resources());
+        .expect(rt, "memory")
 }
 
 fn put_uses(rt: &impl Abort, text: &mut String, part: &Part, resources: u32)
