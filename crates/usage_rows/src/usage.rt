@@ -5,13 +5,13 @@ ghost use Rattle.std.specs.Prelude.{◌≡◌};
 ghost use Rattle.scr_reader.specs.Printed.{LineFits};
 ghost use Rattle.scr_reader.specs.declared.line.Code.TheVariants.{F};
 
-use crate::rows::{Case, walk};
+use crate::rows::{Case, Finding, walk};
 use holding_book::{Holding, State};
-use scr_reader::{Code, Header, Item, Line, read_message};
+use scr_reader::{Code, Header, Item, Line, Message, read_message};
 use season_days::Season;
 use slot_text::{Lines, Memory, Station, put_number};
 use std::alloc::Global;
-use std::test::Fail;
+use std::process::Abort;
 use usage_watch::{OperatedFault, OperatedList, Usage, print_next, read_operated, watch};
 
 /// The most bytes that a row may give.
@@ -23,77 +23,79 @@ const MOST_BYTES: usize = 10_000;
 struct Watched;
 
 impl Case for Watched {
-    fn find(&mut self, alloc: Global, given: &[u8], out: &mut Vec<u8>) -> Result<(), Fail> {
+    fn find(&mut self, rt: &impl Abort, given: &[u8], out: &mut Finding) {
         let mut lines = Lines::new(given);
-        let name = lines.next_line().ok_or("season")?;
-        let held = lines.next_line().ok_or("line")?;
-        let season = Season::read(name).ok_or("season")?;
-        let Some(next) = season.next() else {
-            out.extend_from_slice(b"NEXT NONE")?;
-            return Ok(());
-        };
-        let line = one_line(alloc, name, held)?;
-        let read = reports(alloc, &season, lines.rest())?;
-        match read {
-            Ok(operated) => put_usage(alloc, out, &season, &next, line, &operated),
-            Err(OperatedFault::BadLine { line }) => {
-                out.extend_from_slice(b"FORM ")?;
-                put_number(alloc, out, u64::from(line))?;
-                Ok(())
+        let name = lines.next_line().expect(rt, "season");
+        let held = lines.next_line().expect(rt, "line");
+        let season = Season::read(name).expect(rt, "season");
+        match season.next() {
+            Some(next) => {
+                let line = one_line(rt, out.alloc, name, held);
+                put_reports(rt, out, (season, next), line, lines.rest())
             }
-            Err(OperatedFault::Memory) => Err("memory".into()),
+            None => out.put(b"NEXT NONE"),
         }
     }
 }
 
-/// The reports of a text, which is short.
-fn reports(
-    alloc: Global,
-    season: &Season,
+/// Appends what the reports make of a line of this season, and in the next, or the fault of them.
+fn put_reports(
+    rt: &impl Abort,
+    out: &mut Finding,
+    seasons: (Season, Season),
+    line: Line,
     text: &[u8],
-) -> Result<Result<OperatedList, OperatedFault>, Fail> {
-    if text.len() > MOST_BYTES {
-        return Err("a long row".into());
+) {
+    assert!(rt; text.len() <= MOST_BYTES, "a long row");
+    match read_operated(out.alloc, &seasons.0, text) {
+        Ok(operated) => put_usage(rt, out, seasons, line, &operated),
+        Err(OperatedFault::BadLine { line }) => {
+            out.put(b"FORM ");
+            say_number(out, u64::from(line))
+        }
+        Err(OperatedFault::Memory) => panic!(rt; "memory"),
     }
-    Ok(read_operated(alloc, season, text))
 }
 
 /// The line of a message of one line.
-fn one_line(alloc: Global, season: &[u8], line: &[u8]) -> Result<Line, Fail> {
-    let mut text = Vec::from_slice(alloc, b"SCR\n")?;
-    text.extend_from_slice(season)?;
-    text.extend_from_slice(b"\n15OCT\nLHR\n")?;
-    text.extend_from_slice(line)?;
-    if text.len() > MOST_BYTES {
-        return Err("a long line".into());
-    }
-    let message = read_message(alloc, &text)?;
+fn one_line(rt: &impl Abort, alloc: Global, season: &[u8], line: &[u8]) -> Line {
+    let parts = [b"SCR\n".as_slice(), season, b"\n15OCT\nLHR\n", line];
+    let text = parts.concat(alloc).expect(rt, "memory");
+    assert!(rt; text.len() <= MOST_BYTES, "a long line");
+    let message = read_message(alloc, &text).expect(rt, "a message");
+    only_line(rt, &message)
+}
+
+fn only_line(rt: &impl Abort, message: &Message) -> Line {
     match message.items.items() {
         [placed] => match placed.item {
-            Item::One(line) => Ok(line),
-            _ => Err("no line".into()),
+            Item::One(line) => line,
+            _ => panic!(rt; "no line"),
         },
-        _ => Err("not one line".into()),
+        _ => panic!(rt; "not one line"),
     }
 }
 
 /// Appends the numbers of series, and the text of the next lines behind an LF where there are some.
 fn put_usage(
-    alloc: Global,
-    out: &mut Vec<u8>,
-    season: &Season,
-    next: &Season,
+    rt: &impl Abort,
+    out: &mut Finding,
+    seasons: (Season, Season),
     line: Line,
     operated: &OperatedList,
-) -> Result<(), Fail> {
-    if !line.fits(season) {
-        return Err("a line that does not fit".into());
-    }
-    let usage = watch_one(alloc, season, next, line, operated)?;
-    put_number(alloc, out, usage.series)?;
-    out.extend_from_slice(b" ")?;
-    put_number(alloc, out, usage.kept)?;
-    put_next(alloc, out, *next, usage.next.items())
+) {
+    let (season, next) = seasons;
+    assert!(rt; line.fits(&season), "a line that does not fit");
+    let usage = watch_one(out.alloc, &season, &next, line, operated).expect(rt, "memory");
+    say_number(out, usage.series);
+    out.put(b" ");
+    say_number(out, usage.kept);
+    put_next(rt, out, next, usage.next.items())
+}
+
+fn say_number(out: &mut Finding, number: u64) {
+    let kept = put_number(out.alloc, &mut out.bytes, number);
+    out.keep(kept);
 }
 
 /// What is found of one holding.
@@ -122,27 +124,31 @@ fn state_of(code: Code) -> State {
 }
 
 /// Appends the text of the next line behind an LF, if there is one.
-fn put_next(alloc: Global, out: &mut Vec<u8>, season: Season, lines: &[Line]) -> Result<(), Fail> {
+fn put_next(rt: &impl Abort, out: &mut Finding, season: Season, lines: &[Line]) {
     let [line] = lines else {
-        return Ok(());
+        return;
     };
-    if !line.fits(&season) {
-        return Err("a next line that does not fit".into());
-    }
+    assert!(rt; line.fits(&season), "a next line that does not fit");
     match line.code {
-        Code::F => {}
-        _ => return Err("a next line with another code".into()),
+        Code::F => put_line(rt, out, season, *line),
+        _ => panic!(rt; "a next line with another code"),
     }
+}
+
+/// Appends the text of a historic line behind an LF.
+fn put_line(rt: &impl Abort, out: &mut Finding, season: Season, line: Line)
+    requires fits { LineFits season line }
+    requires code { line.code ≡ F }
+{
     let header = Header {
         season,
         day: 15,
         month: 10,
         airport: Station(*b"LHR"),
     };
-    let text = print_one(alloc, &header, *line)?;
-    out.extend_from_slice(b"\n")?;
-    out.extend_from_slice(&text)?;
-    Ok(())
+    let text = print_one(out.alloc, &header, line).expect(rt, "memory");
+    out.put(b"\n");
+    out.put(&text);
 }
 
 /// The text of one historic line.
@@ -208,16 +214,16 @@ OPER ARR BA001 30MAR 7<1\r><1\r>|FORM 1
 struct ReadRows;
 
 impl Case for ReadRows {
-    fn find(&mut self, alloc: Global, given: &[u8], out: &mut Vec<u8>) -> Result<(), Fail> {
-        let mut text = Vec::from_slice(alloc, b"S25\nFBA001 30MAR20APR 7 180320 JFK0610 J\n")?;
-        text.extend_from_slice(given)?;
-        Watched.find(alloc, &text, out)
+    fn find(&mut self, rt: &impl Abort, given: &[u8], out: &mut Finding) {
+        let line = b"S25\nFBA001 30MAR20APR 7 180320 JFK0610 J\n".as_slice();
+        let text = [line, given].concat(out.alloc).expect(rt, "memory");
+        Watched.find(rt, &text, out)
     }
 }
 
 #[test]
-fn usage_is_watched(rt: HostRuntime) -> Result<(), Fail> {
+fn usage_is_watched(rt: HostRuntime) {
     let alloc = rt.alloc();
-    walk(alloc, &mut Watched, WATCHED)?;
-    walk(alloc, &mut ReadRows, READ)
+    walk(&rt, alloc, &mut Watched, WATCHED);
+    walk(&rt, alloc, &mut ReadRows, READ)
 }
