@@ -1,11 +1,11 @@
 //! Seasons, their dates and the dates of periods. The rows are worked by hand.
 
-use crate::rows::{Case, ascii, number, say, walk, yes_no};
+use crate::rows::{Case, Finding, ascii, number, walk, yes_no};
 use jiff_core::civil::Date;
 use season_days::{Day, Declaration, Kind, Night, Period, Rule, RuleList, Season};
 use slot_text::{Station, field};
 use std::alloc::Global;
-use std::test::Fail;
+use std::process::Abort;
 
 /// The first and the last date of a season, its length, its name, the season a year later, and what
 /// the name says.
@@ -13,12 +13,12 @@ use std::test::Fail;
 struct Seasons;
 
 impl Case for Seasons {
-    fn find(&mut self, alloc: Global, given: &[u8], out: &mut Vec<u8>) -> Result<(), Fail> {
+    fn find(&mut self, _rt: &impl Abort, given: &[u8], out: &mut Finding) {
         let Some(season) = Season::read(given) else {
-            return say(alloc, out, "-");
+            return out.say("-");
         };
-        say_date(alloc, out, season.first())?;
-        say_date(alloc, out, season.last())?;
+        say_date(out, season.first());
+        say_date(out, season.last());
         let (length, half, year) = (season.length(), season.half(), season.year());
         let name = season.text();
         let next = match season.next() {
@@ -26,17 +26,13 @@ impl Case for Seasons {
             None => *b"---",
         };
         let (name, next) = (ascii(&name), ascii(&next));
-        say(
-            alloc,
-            out,
-            format_args!("{length} {name} {next} {half:?} {year}"),
-        )
+        out.say(format_args!("{length} {name} {next} {half:?} {year}"))
     }
 }
 
-fn say_date(alloc: Global, out: &mut Vec<u8>, date: Date) -> Result<(), Fail> {
+fn say_date(out: &mut Finding, date: Date) {
     let (year, month, day) = (date.year, date.month, date.day);
-    say(alloc, out, format_args!("{year}-{month}-{day} "))
+    out.say(format_args!("{year}-{month}-{day} "))
 }
 
 // Weekdays are counted from Saturday 1 January 2000.
@@ -67,30 +63,24 @@ S2A|-
 struct Days;
 
 impl Case for Days {
-    fn find(&mut self, alloc: Global, given: &[u8], out: &mut Vec<u8>) -> Result<(), Fail> {
-        let season = Season::read(field(given, 1).ok_or("season")?).ok_or("season")?;
-        let month = u8::try_from(number(given, 2)?)?;
-        let of_month = u8::try_from(number(given, 3)?)?;
+    fn find(&mut self, rt: &impl Abort, given: &[u8], out: &mut Finding) {
+        let season = Season::read(field(given, 1).expect(rt, "season")).expect(rt, "season");
+        let month = u8::try_from(number(rt, given, 2)).expect(rt, "a number below 256");
+        let of_month = u8::try_from(number(rt, given, 3)).expect(rt, "a number below 256");
         match season.day_of(month, of_month) {
-            Ok(day) => say_day(alloc, out, &season, day),
-            Err(fault) => say(alloc, out, fault),
+            Ok(day) => say_day(rt, out, &season, day),
+            Err(fault) => out.say(fault),
         }
     }
 }
 
-fn say_day(alloc: Global, out: &mut Vec<u8>, season: &Season, day: Day) -> Result<(), Fail> {
-    if day.0 >= season.length() {
-        return Err("a day outside the season".into());
-    }
+fn say_day(rt: &impl Abort, out: &mut Finding, season: &Season, day: Day) {
+    assert!(rt; day.0 < season.length(), "a day outside the season");
     let (month, of_month) = season.date_of(day);
     let weekday = season.weekday(day);
     let sunday = yes_no(season.is_on(64, day));
     let other = yes_no(season.is_on(63, day));
-    say(
-        alloc,
-        out,
-        format_args!("{} {weekday} {month}-{of_month} {sunday} {other}", day.0),
-    )
+    out.say(format_args!("{} {weekday} {month}-{of_month} {sunday} {other}", day.0))
 }
 
 // 6 days of October, 30 of November and 31 of December come before 1 January 2026, a Thursday.
@@ -117,25 +107,22 @@ W24 2 29|no such date
 
 /// A period of three numbers, the first of them at this place: its days by their numbers, and its
 /// weekdays.
-fn period_at(given: &[u8], n: u32) -> Result<Period, Fail> {
-    if n > 9 {
-        return Err("no such place".into());
+fn period_at(rt: &impl Abort, given: &[u8], n: u32) -> Period {
+    assert!(rt; n <= 9, "no such place");
+    Period {
+        first: Day(number(rt, given, n)),
+        last: Day(number(rt, given, n + 1)),
+        days: u8::try_from(number(rt, given, n + 2)).expect(rt, "a number below 256"),
     }
-    Ok(Period {
-        first: Day(number(given, n)?),
-        last: Day(number(given, n + 1)?),
-        days: u8::try_from(number(given, n + 2)?)?,
-    })
 }
 
-fn say_period(alloc: Global, out: &mut Vec<u8>, part: Option<Period>) -> Result<(), Fail> {
+fn say_period(out: &mut Finding, part: Option<Period>) {
     match part {
-        Some(Period { first, last, days }) => say(
-            alloc,
-            out,
-            format_args!(" {}-{}/{days}", first.0, last.0),
-        ),
-        None => say(alloc, out, " -"),
+        Some(Period { first, last, days }) => out.say(format_args!(
+            " {}-{}/{days}",
+            first.0, last.0
+        )),
+        None => out.say(" -"),
     }
 }
 
@@ -146,28 +133,27 @@ struct Dates {
 }
 
 impl Case for Dates {
-    fn find(&mut self, alloc: Global, given: &[u8], out: &mut Vec<u8>) -> Result<(), Fail> {
+    fn find(&mut self, rt: &impl Abort, given: &[u8], out: &mut Finding) {
         let season = self.season;
-        let period = period_at(given, 1)?;
-        if period.first.0 >= season.length() || period.last.0 >= season.length() {
-            return Err("a day outside the season".into());
-        }
+        let period = period_at(rt, given, 1);
+        let length = season.length();
+        let inside = period.first.0 < length && period.last.0 < length;
+        assert!(rt; inside, "a day outside the season");
         let some = yes_no(season.has_dates(period));
-        let held = yes_no(season.has_date(period, Day(number(given, 4)?)));
+        let held = yes_no(season.has_date(period, Day(number(rt, given, 4))));
         let count = season.count_dates(period);
-        say(alloc, out, format_args!("{count} {some} {held}:"))?;
-        match season.dates_of(alloc, period) {
-            Ok(days) => say_days(alloc, out, &days),
-            Err(fault) => say(alloc, out, format_args!(" {fault}")),
+        out.say(format_args!("{count} {some} {held}:"));
+        match season.dates_of(out.alloc, period) {
+            Ok(days) => say_days(out, &days),
+            Err(fault) => out.say(format_args!(" {fault}")),
         }
     }
 }
 
-fn say_days(alloc: Global, out: &mut Vec<u8>, days: &[Day]) -> Result<(), Fail> {
+fn say_days(out: &mut Finding, days: &[Day]) {
     for day in days {
-        say(alloc, out, format_args!(" {}", day.0))?;
+        out.say(format_args!(" {}", day.0));
     }
-    Ok(())
 }
 
 // Sundays from 30 March to 20 April 2025. Mondays and Wednesdays from 7 to 27 April, where 7 April
@@ -190,15 +176,15 @@ struct Cuts {
 }
 
 impl Case for Cuts {
-    fn find(&mut self, alloc: Global, given: &[u8], out: &mut Vec<u8>) -> Result<(), Fail> {
-        let (held, asked) = (period_at(given, 1)?, period_at(given, 4)?);
+    fn find(&mut self, rt: &impl Abort, given: &[u8], out: &mut Finding) {
+        let (held, asked) = (period_at(rt, given, 1), period_at(rt, given, 4));
         let all = yes_no(self.season.has_all_dates(held, asked));
         let shared = yes_no(self.season.share_date(held, asked));
         let parts = self.season.cut(held, asked);
-        say(alloc, out, format_args!("{all} {shared}"))?;
-        say_period(alloc, out, parts.before)?;
-        say_period(alloc, out, parts.between)?;
-        say_period(alloc, out, parts.after)
+        out.say(format_args!("{all} {shared}"));
+        say_period(out, parts.before);
+        say_period(out, parts.between);
+        say_period(out, parts.after)
     }
 }
 
@@ -216,46 +202,57 @@ const CUTS: &[u8] = b"\
 ";
 
 #[test]
-fn seasons_and_their_dates(rt: HostRuntime) -> Result<(), Fail> {
+fn seasons_and_their_dates(rt: HostRuntime) {
     let alloc = rt.alloc();
-    let season = Season::read(b"S25").ok_or("season")?;
-    walk(alloc, &mut Seasons, SEASONS)?;
-    walk(alloc, &mut Days, DAYS)?;
-    walk(alloc, &mut Dates { season }, DATES)?;
-    walk(alloc, &mut Cuts { season }, CUTS)
+    let season = Season::read(b"S25").expect(&rt, "season");
+    walk(&rt, alloc, &mut Seasons, SEASONS);
+    walk(&rt, alloc, &mut Days, DAYS);
+    walk(&rt, alloc, &mut Dates { season }, DATES);
+    walk(&rt, alloc, &mut Cuts { season }, CUTS)
 }
 
 #[test]
-fn a_declaration_is_copied(rt: HostRuntime) -> Result<(), Fail> {
-    let rule = Rule {
-        kind: Kind::Arr,
-        length: 60,
-        from: 360,
-        to: 360,
-        days: 127,
-        limit: 1,
-    };
-    let declaration = Declaration {
+fn a_declaration_is_copied(rt: HostRuntime) {
+    let declaration = declaration(&rt, rt.alloc());
+    let copy = declaration.copy(rt.alloc()).expect(&rt, "memory");
+    has_its_windows(&rt, &copy);
+}
+
+/// Whether a declaration has the rule, and a window of an hour from 6:00 on each of 210 dates, and
+/// the night.
+fn has_its_windows(rt: &impl Abort, copy: &Declaration) {
+    let rules = copy.rules.items();
+    assert_eq!(rt; rules, [RULE].as_slice());
+    assert!(rt; copy.step == 5, "a step of {}", copy.step);
+    let windows = copy.season.count_windows(copy.step, &copy.night, rules);
+    assert!(rt; windows == 211, "{windows} windows, not 211");
+}
+
+const RULE: Rule = Rule {
+    kind: Kind::Arr,
+    length: 60,
+    from: 360,
+    to: 360,
+    days: 127,
+    limit: 1,
+};
+
+const NIGHT: Night = Night {
+    from: 1380,
+    to: 300,
+    limit: 2,
+};
+
+fn declaration(rt: &impl Abort, alloc: Global) -> Declaration {
+    Declaration {
         airport: Station(*b"ABC"),
-        season: Season::read(b"S25").ok_or("season")?,
+        season: Season::read(b"S25").expect(rt, "season"),
         step: 5,
         flex: 60,
         ground: 40,
         share: 50,
         refuse: None,
-        night: Some(Night {
-            from: 1380,
-            to: 300,
-            limit: 2,
-        }),
-        rules: RuleList::new(vec![in rt.alloc(); rule; 1]?),
-    };
-    let copy = declaration.copy(rt.alloc())?;
-    assert_eq!(rt; copy.rules.items(), [rule].as_slice());
-    // A window of an hour from 6:00 on each of 210 dates, and the night.
-    let windows = copy
-        .season
-        .count_windows(copy.step, &copy.night, copy.rules.items());
-    assert_eq!(rt; windows, 211);
-    Ok(())
+        night: Some(NIGHT),
+        rules: RuleList::new(vec![in alloc; RULE].expect(rt, "memory")),
+    }
 }

@@ -1,11 +1,11 @@
 //! Capacity files. The declarations and faults are worked by hand.
 
-use crate::rows::{Case, ascii, cut, number, say, walk};
+use crate::rows::{Case, Finding, ascii, cut, number, walk};
 use capacity_file::{CapFault, read_capacity};
 use season_days::{Declaration, Rule};
 use slot_text::Lines;
 use std::alloc::Global;
-use std::test::Fail;
+use std::process::Abort;
 
 const MOST_BYTES: usize = 10_000_000;
 
@@ -17,10 +17,10 @@ fn read(alloc: Global, text: &[u8]) -> Result<Declaration, CapFault> {
 }
 
 /// Says the fault of a text, if it has one.
-fn say_fault(alloc: Global, out: &mut Vec<u8>, text: &[u8]) -> Result<(), Fail> {
-    match read(alloc, text) {
-        Ok(_) => say(alloc, out, "-"),
-        Err(fault) => say(alloc, out, fault),
+fn say_fault(out: &mut Finding, text: &[u8]) {
+    match read(out.alloc, text) {
+        Ok(_) => out.say("-"),
+        Err(fault) => out.say(fault),
     }
 }
 
@@ -29,42 +29,29 @@ fn say_fault(alloc: Global, out: &mut Vec<u8>, text: &[u8]) -> Result<(), Fail> 
 struct Files;
 
 impl Case for Files {
-    fn find(&mut self, alloc: Global, given: &[u8], out: &mut Vec<u8>) -> Result<(), Fail> {
-        match read(alloc, given) {
-            Ok(declaration) => say_declaration(alloc, out, &declaration),
-            Err(fault) => say(alloc, out, fault),
+    fn find(&mut self, _rt: &impl Abort, given: &[u8], out: &mut Finding) {
+        match read(out.alloc, given) {
+            Ok(declaration) => say_declaration(out, &declaration),
+            Err(fault) => out.say(fault),
         }
     }
 }
 
-fn say_declaration(alloc: Global, out: &mut Vec<u8>, found: &Declaration) -> Result<(), Fail> {
+fn say_declaration(out: &mut Finding, found: &Declaration) {
     let season = found.season.text();
     let (airport, season) = (ascii(&found.airport.0), ascii(&season));
     let (step, flex, ground, share) = (found.step, found.flex, found.ground, found.share);
-    say(
-        alloc,
-        out,
-        format_args!("{airport} {season} {step} {flex} {ground} {share} "),
-    )?;
-    say(
-        alloc,
-        out,
-        format_args!("{:?} {:?}", found.refuse, found.night),
-    )?;
+    out.say(format_args!("{airport} {season} {step} {flex} {ground} {share} "));
+    out.say(format_args!("{:?} {:?}", found.refuse, found.night));
     for rule in found.rules.items() {
-        say_rule(alloc, out, rule)?;
+        say_rule(out, rule);
     }
-    Ok(())
 }
 
-fn say_rule(alloc: Global, out: &mut Vec<u8>, rule: &Rule) -> Result<(), Fail> {
+fn say_rule(out: &mut Finding, rule: &Rule) {
     let (kind, length, from, to) = (rule.kind, rule.length, rule.from, rule.to);
     let (days, limit) = (rule.days, rule.limit);
-    say(
-        alloc,
-        out,
-        format_args!(", {kind:?} {length} {from} {to} {days} {limit}"),
-    )
+    out.say(format_args!(", {kind:?} {length} {from} {to} {days} {limit}"))
 }
 
 const FILES: &[u8] = b"\
@@ -108,15 +95,16 @@ CAP ARR 60 0600 0600 1234567 1
 ";
 
 /// The base with one of its lines, from 1, replaced. Line 8 is one more.
-fn with_line(alloc: Global, place: u32, line: &[u8]) -> Result<Vec<u8>, Fail> {
+fn with_line(rt: &impl Abort, alloc: Global, place: u32, line: &[u8]) -> Vec<u8> {
     let mut text = Vec::new(alloc);
     let mut lines = Lines::new(BASE);
     for at in 1..=8 {
         let base = lines.next_line().unwrap_or(b"");
-        text.extend_from_slice(if at == place { line } else { base })?;
-        text.push(b'\n')?;
+        let kept = if at == place { line } else { base };
+        text.extend_from_slice(kept).expect(rt, "memory");
+        text.push(b'\n').expect(rt, "memory");
     }
-    Ok(text)
+    text
 }
 
 /// The fault of the base with one line replaced, if it has one.
@@ -124,10 +112,10 @@ fn with_line(alloc: Global, place: u32, line: &[u8]) -> Result<Vec<u8>, Fail> {
 struct OneLine;
 
 impl Case for OneLine {
-    fn find(&mut self, alloc: Global, given: &[u8], out: &mut Vec<u8>) -> Result<(), Fail> {
+    fn find(&mut self, rt: &impl Abort, given: &[u8], out: &mut Finding) {
         let (_, line) = cut(given, b' ');
-        let text = with_line(alloc, number(given, 1)?, line)?;
-        say_fault(alloc, out, &text)
+        let text = with_line(rt, out.alloc, number(rt, given, 1), line);
+        say_fault(out, &text)
     }
 }
 
@@ -217,30 +205,34 @@ const GOOD_LINES: &[u8] = b"\
 struct Spoiled;
 
 impl Case for Spoiled {
-    fn find(&mut self, alloc: Global, given: &[u8], out: &mut Vec<u8>) -> Result<(), Fail> {
-        let place = number(given, 1)?;
+    fn find(&mut self, rt: &impl Abort, given: &[u8], out: &mut Finding) {
+        let place = number(rt, given, 1);
         let (_, line) = cut(given, b' ');
         for at in 0..line.len() {
             for byte in [0, 127, 128, 255] {
-                if !is_refused(alloc, place, line, at, byte)? {
-                    say(alloc, out, format_args!("byte {at} as {byte}, "))?;
+                if !is_refused(rt, out.alloc, place, line, at, byte) {
+                    out.say(format_args!("byte {at} as {byte}, "));
                 }
             }
         }
-        Ok(())
     }
 }
 
 /// Whether the line is named, where one of its bytes is replaced by this one.
-fn is_refused(alloc: Global, place: u32, line: &[u8], at: usize, byte: u8) -> Result<bool, Fail> {
+fn is_refused(
+    rt: &impl Abort,
+    alloc: Global,
+    place: u32,
+    line: &[u8],
+    at: usize,
+    byte: u8,
+) -> bool {
     if at >= line.len() {
-        return Ok(false);
+        return false;
     }
-    let mut spoiled = Vec::from_slice(alloc, &line[..at])?;
-    spoiled.push(byte)?;
-    spoiled.extend_from_slice(&line[at + 1..])?;
-    let text = with_line(alloc, place, &spoiled)?;
-    Ok(read(alloc, &text).err() == Some(CapFault::BadLine { line: place }))
+    let spoiled = [&line[..at], &[byte], &line[at + 1..]].concat(alloc);
+    let text = with_line(rt, alloc, place, &spoiled.expect(rt, "memory"));
+    read(alloc, &text).err() == Some(CapFault::BadLine { line: place })
 }
 
 const SPOILED: &[u8] = b"\
@@ -263,21 +255,28 @@ const SPOILED: &[u8] = b"\
 struct Limits;
 
 impl Case for Limits {
-    fn find(&mut self, alloc: Global, given: &[u8], out: &mut Vec<u8>) -> Result<(), Fail> {
-        let (count, lines) = cut(given, b'#');
-        let (capacity, further) = cut(lines, b'#');
-        let base = b"AIRPORT ABC\nSEASON S25\nSTEP 5\nGROUND 40\nREFUSE NONE\n";
-        let mut text = Vec::from_slice(alloc, base)?;
-        for _ in 0..number(count, 1)? {
-            text.extend_from_slice(capacity)?;
-            text.push(b'\n')?;
-        }
-        text.extend_from_slice(further)?;
-        say_fault(alloc, out, &text)?;
-        text.extend_from_slice(b"\nNIGHT 0000 0600 1\n")?;
-        say(alloc, out, ", ")?;
-        say_fault(alloc, out, &text)
+    fn find(&mut self, rt: &impl Abort, given: &[u8], out: &mut Finding) {
+        let mut text = limits_text(rt, out.alloc, given);
+        say_fault(out, &text);
+        let night = b"\nNIGHT 0000 0600 1\n";
+        text.extend_from_slice(night).expect(rt, "memory");
+        out.say(", ");
+        say_fault(out, &text)
     }
+}
+
+/// The file of a row of limits.
+fn limits_text(rt: &impl Abort, alloc: Global, given: &[u8]) -> Vec<u8> {
+    let (count, lines) = cut(given, b'#');
+    let (capacity, further) = cut(lines, b'#');
+    let base = b"AIRPORT ABC\nSEASON S25\nSTEP 5\nGROUND 40\nREFUSE NONE\n";
+    let mut text = Vec::from_slice(alloc, base).expect(rt, "memory");
+    for _ in 0..number(rt, count, 1) {
+        text.extend_from_slice(capacity).expect(rt, "memory");
+        text.push(b'\n').expect(rt, "memory");
+    }
+    text.extend_from_slice(further).expect(rt, "memory");
+    text
 }
 
 // 17 lines with 288 starts on 210 days, and the night. 16 lines with 288 starts, and a line with
@@ -297,16 +296,16 @@ const LIMITS: &[u8] = b"\
 ";
 
 #[test]
-fn files_and_their_limits(rt: HostRuntime) -> Result<(), Fail> {
+fn files_and_their_limits(rt: HostRuntime) {
     let alloc = rt.alloc();
-    walk(alloc, &mut Files, FILES)?;
-    walk(alloc, &mut Limits, LIMITS)
+    walk(&rt, alloc, &mut Files, FILES);
+    walk(&rt, alloc, &mut Limits, LIMITS)
 }
 
 #[test]
-fn lines_and_their_form(rt: HostRuntime) -> Result<(), Fail> {
+fn lines_and_their_form(rt: HostRuntime) {
     let alloc = rt.alloc();
-    walk(alloc, &mut OneLine, BAD_LINES)?;
-    walk(alloc, &mut OneLine, GOOD_LINES)?;
-    walk(alloc, &mut Spoiled, SPOILED)
+    walk(&rt, alloc, &mut OneLine, BAD_LINES);
+    walk(&rt, alloc, &mut OneLine, GOOD_LINES);
+    walk(&rt, alloc, &mut Spoiled, SPOILED)
 }

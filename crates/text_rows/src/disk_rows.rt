@@ -2,13 +2,13 @@
 ghost use Rattle.std.specs.Prelude.{◌≡◌, ◌≤◌, true};
 ghost use Rattle.desk_disk.specs.Disks.{shown_length};
 
-use crate::rows::{Case, cut, number, say, walk};
+use crate::rows::{Case, Finding, check_bytes, cut, number, path_in, walk};
 use desk_disk::laws::joined_calls;
 use desk_disk::{Disk, MemoryDisk, RealDisk};
 use desk_outside::Failure;
 use std::alloc::Global;
-use std::test::Fail;
-use std::{env, fs, process};
+use std::process::Abort;
+use std::{env, fs, io, process};
 
 /// Calls of a disk, one a row: `length`; `read` with a place and a count; `write` with a place and
 /// bytes; `cut` with a length; `sync`. Each answers what it found, or `ok`, or `fault`; then the
@@ -20,49 +20,52 @@ struct DiskCalls<K: Disk> {
 }
 
 impl Case for DiskCalls<MemoryDisk> {
-    fn find(&mut self, alloc: Global, given: &[u8], out: &mut Vec<u8>) -> Result<(), Fail> {
-        call(alloc, &mut self.disk, given, out)
+    fn find(&mut self, rt: &impl Abort, given: &[u8], out: &mut Finding) {
+        call(rt, &mut self.disk, given, out)
     }
 }
 
 impl Case for DiskCalls<RealDisk<fs::File>> {
-    fn find(&mut self, alloc: Global, given: &[u8], out: &mut Vec<u8>) -> Result<(), Fail> {
-        call(alloc, &mut self.disk, given, out)
+    fn find(&mut self, rt: &impl Abort, given: &[u8], out: &mut Finding) {
+        call(rt, &mut self.disk, given, out)
     }
 }
 
-/// Makes the call of a row.
-fn call<K: Disk>(alloc: Global, disk: &mut K, given: &[u8], out: &mut Vec<u8>) -> Result<(), Fail> {
+/// Makes the call of a row, and says the count of faults then.
+fn call<K: Disk>(rt: &impl Abort, disk: &mut K, given: &[u8], out: &mut Finding) {
     let (name, rest) = cut(given, b' ');
-    let (place, bytes) = cut(rest, b' ');
+    answer(rt, disk, name, rest, out);
+    out.say(format_args!(" {}", disk.faults()))
+}
+
+/// Makes the call of a name and what stands behind it.
+fn answer<K: Disk>(rt: &impl Abort, disk: &mut K, name: &[u8], rest: &[u8], out: &mut Finding) {
     match name {
-        b"length" => length(alloc, disk, out)?,
-        b"read" => read(disk, number(place, 1)?, number(bytes, 1)?, out)?,
-        b"write" => done(out, writes(disk, number(place, 1)?, bytes))?,
-        b"cut" => done(out, cuts(disk, number(place, 1)?))?,
-        b"sync" => done(out, disk.sync().is_ok())?,
-        _ => return Err("no such call".into()),
+        b"length" => length(disk, out),
+        b"read" => read(rt, disk, rest, out),
+        b"write" => done(out, writes(rt, disk, rest)),
+        b"cut" => done(out, cuts(disk, number(rt, rest, 1))),
+        b"sync" => done(out, disk.sync().is_ok()),
+        _ => out.put(b"no such call"),
     }
-    say(alloc, out, format_args!(" {}", disk.faults()))
 }
 
-fn length<K: Disk>(alloc: Global, disk: &mut K, out: &mut Vec<u8>) -> Result<(), Fail> {
+fn length<K: Disk>(disk: &mut K, out: &mut Finding) {
     match disk.length() {
-        Ok(length) => say(alloc, out, length)?,
-        Err(_) => out.extend_from_slice(b"fault")?,
+        Ok(length) => out.say(length),
+        Err(_) => out.put(b"fault"),
     }
-    Ok(())
 }
 
-fn read<K: Disk>(disk: &mut K, at: u32, count: u32, out: &mut Vec<u8>) -> Result<(), Fail> {
+fn read<K: Disk>(rt: &impl Abort, disk: &mut K, rest: &[u8], out: &mut Finding) {
+    let (at, count) = (number(rt, rest, 1), number(rt, rest, 2));
     let mut bytes = [0u8; 16];
     let into = &mut bytes[..count.min(16) as usize];
     if fills(disk, at, into) {
-        out.extend_from_slice(into)?;
+        out.put(into)
     } else {
-        out.extend_from_slice(b"fault")?;
+        out.put(b"fault")
     }
-    Ok(())
 }
 
 fn fills<K: Disk>(disk: &mut K, at: u32, into: &mut [u8]) -> bool {
@@ -70,8 +73,10 @@ fn fills<K: Disk>(disk: &mut K, at: u32, into: &mut [u8]) -> bool {
     reaches(disk, end) && disk.read(u64::from(at), into).is_ok()
 }
 
-fn writes<K: Disk>(disk: &mut K, at: u32, bytes: &[u8]) -> bool {
-    reaches(disk, u64::from(at)) && disk.write_at(u64::from(at), bytes).is_ok()
+fn writes<K: Disk>(rt: &impl Abort, disk: &mut K, rest: &[u8]) -> bool {
+    let (place, bytes) = cut(rest, b' ');
+    let at = u64::from(number(rt, place, 1));
+    reaches(disk, at) && disk.write_at(at, bytes).is_ok()
 }
 
 fn cuts<K: Disk>(disk: &mut K, size: u32) -> bool {
@@ -89,9 +94,9 @@ fn reaches<K: Disk>(disk: &mut K, size: u64) -> bool
     }
 }
 
-fn done(out: &mut Vec<u8>, done: bool) -> Result<(), Fail> {
-    out.extend_from_slice(if done { b"ok" } else { b"fault" })?;
-    Ok(())
+fn done(out: &mut Finding, done: bool) {
+    let said: &[u8] = if done { b"ok" } else { b"fault" };
+    out.put(said);
 }
 
 // The file `abcdef`, room for 8 bytes. Calls count from 0, and these fail: 4 after 2 bytes, 8, 12,
@@ -111,17 +116,15 @@ length|fault 6
 ";
 
 #[test]
-fn a_disk_fails_where_listed_or_full(rt: HostRuntime) -> Result<(), Fail> {
+fn a_disk_fails_where_listed_or_full(rt: HostRuntime) {
     let alloc = rt.alloc();
-    let mut calls = DiskCalls {
-        disk: failing_disk(alloc)?,
-    };
-    walk(alloc, &mut calls, DISK_CALLS)?;
-    assert_eq!(rt; calls.disk.bytes(), b"abcdXYZ".as_slice());
-    Ok(())
+    let disk = failing_disk(&rt, alloc);
+    let mut calls = DiskCalls { disk };
+    walk(&rt, alloc, &mut calls, DISK_CALLS);
+    check_bytes(&rt, calls.disk.bytes(), b"abcdXYZ");
 }
 
-fn failing_disk(alloc: Global) -> Result<MemoryDisk, Fail> {
+fn failing_disk(rt: &impl Abort, alloc: Global) -> MemoryDisk {
     let failing = [
         Failure::after(4, 2),
         Failure::at(8),
@@ -129,15 +132,20 @@ fn failing_disk(alloc: Global) -> Result<MemoryDisk, Fail> {
         Failure::at(15),
         Failure::at(18),
     ];
-    Ok(MemoryDisk::new(alloc, b"abcdef", 8, 99, failing.to_vec(alloc)?)?)
+    let failing = failing.to_vec(alloc).expect(rt, "memory");
+    MemoryDisk::new(alloc, b"abcdef", 8, 99, failing).expect(rt, "memory")
 }
 
 #[test]
-fn a_disk_fails_after_its_calls(rt: HostRuntime) -> Result<(), Fail> {
-    let mut full = MemoryDisk::new(rt.alloc(), b"", 8, 1, Vec::new(rt.alloc()))?;
-    assert!(rt; full.sync().is_ok());
-    assert!(rt; full.sync().is_err());
-    Ok(())
+fn a_disk_fails_after_its_calls(rt: HostRuntime) {
+    let none = Vec::new(rt.alloc());
+    let disk = MemoryDisk::new(rt.alloc(), b"", 8, 1, none).expect(&rt, "memory");
+    walk(
+        &rt,
+        rt.alloc(),
+        &mut DiskCalls { disk },
+        b"sync|ok 0\nsync|fault 1\n",
+    )
 }
 
 const FILE_CALLS: &[u8] = b"\
@@ -150,29 +158,36 @@ length|4 0
 ";
 
 #[test]
-fn the_system_has_a_disk(rt: HostRuntime) -> Result<(), Fail> {
-    let alloc = rt.alloc();
-    let file = format!(in alloc; "desk-disk-test-{}", process::id(rt.process()))?;
-    let path = env::temp_dir(&rt)?.join(alloc, file.as_str())?;
-    let name = path.as_path().to_str().ok_or("path")?;
-    let file = fs::OpenOptions::new()
+fn the_system_has_a_disk(rt: HostRuntime) {
+    let folder = env::temp_dir(&rt).expect(&rt, "a folder for files of a test");
+    let process = process::id(rt.process());
+    let path = path_in(&rt, rt.alloc(), folder.as_path(), "desk-disk-test", process);
+    let name = path.as_path().to_str().expect(&rt, "path");
+    let file = new_file(&rt, name).expect(&rt, "a new file");
+    walk_file(&rt, rt.alloc(), file);
+    fs::remove_file(&rt, name).expect(&rt, "the file is there");
+}
+
+fn new_file(rt: &HostRuntime, name: &str) -> io::Result<fs::File> {
+    fs::OpenOptions::new()
         .read(true)
         .write(true)
         .create(true)
-        .open(&rt, name)?;
-    walk_file(alloc, file)?;
-    fs::remove_file(&rt, name)?;
-    Ok(())
+        .open(rt, name)
 }
 
-fn walk_file(alloc: Global, file: fs::File) -> Result<(), Fail> {
+fn walk_file(rt: &impl Abort, alloc: Global, file: fs::File) {
     let disk = RealDisk::new(Some(file));
-    walk(alloc, &mut DiskCalls { disk }, FILE_CALLS)
+    walk(rt, alloc, &mut DiskCalls { disk }, FILE_CALLS)
 }
 
 #[test]
 fn a_disk_without_a_file_fails(rt: HostRuntime) {
-    let mut none = RealDisk::<fs::File>::new(None);
-    assert!(rt; none.length().is_err() && none.sync().is_err());
-    assert_eq!(rt; none.faults(), 2);
+    let disk = RealDisk::<fs::File>::new(None);
+    walk(
+        &rt,
+        rt.alloc(),
+        &mut DiskCalls { disk },
+        b"length|fault 1\nsync|fault 2\n",
+    )
 }

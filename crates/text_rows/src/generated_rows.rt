@@ -4,7 +4,7 @@
 ghost use Rattle.std.specs.Prelude.{◌≤◌, length};
 ghost use Rattle.season_days.specs.Capacity.{IsDeclaration};
 
-use crate::rows::{Case, number, say, walk};
+use crate::rows::{Case, Finding, number, walk};
 use capacity_file::read_capacity;
 use choice_problem::MOST_UNITS;
 use scr_reader::laws::read_lines_fit;
@@ -15,7 +15,7 @@ use series_model::Submission;
 use series_model::laws::read_messages;
 use slot_text::Lines;
 use std::alloc::Global;
-use std::test::Fail;
+use std::process::Abort;
 
 /// The files of a season.
 #[derive(Drop)]
@@ -25,13 +25,11 @@ struct Files {
 }
 
 /// The files of the season of a number and so many units, which are the first two fields.
-fn make(alloc: Global, given: &[u8]) -> Result<Files, Fail> {
-    let (season, units) = (number(given, 1)?, number(given, 2)?);
-    if units > MOST_UNITS {
-        return Err("more units than a season may have".into());
-    }
-    let (capacity, requests) = make_season(alloc, season, units)?;
-    Ok(Files { capacity, requests })
+fn make(rt: &impl Abort, alloc: Global, given: &[u8]) -> Files {
+    let (season, units) = (number(rt, given, 1), number(rt, given, 2));
+    assert!(rt; units <= MOST_UNITS, "more units than a season may have");
+    let (capacity, requests) = make_season(alloc, season, units).expect(rt, "memory");
+    Files { capacity, requests }
 }
 
 /// The line of a number, counted from 1.
@@ -48,16 +46,16 @@ fn line_of(text: &[u8], line: u32) -> &[u8] {
 struct Capacities;
 
 impl Case for Capacities {
-    fn find(&mut self, alloc: Global, given: &[u8], out: &mut Vec<u8>) -> Result<(), Fail> {
-        let files = make(alloc, given)?;
-        out.extend_from_slice(&files.capacity)?;
-        Ok(())
+    fn find(&mut self, rt: &impl Abort, given: &[u8], out: &mut Finding) {
+        let files = make(rt, out.alloc, given);
+        out.put(&files.capacity);
     }
 }
 
 #[test]
-fn capacity_files(rt: HostRuntime) -> Result<(), Fail> {
+fn capacity_files(rt: HostRuntime) {
     walk(
+        &rt,
         rt.alloc(),
         &mut Capacities,
         b"1 1|AIRPORT ABC;SEASON S25;STEP 5;FLEX 30;GROUND 40;REFUSE 60;CAP ARR 60 0600 2200 1234567 5;
@@ -73,18 +71,19 @@ fn capacity_files(rt: HostRuntime) -> Result<(), Fail> {
 struct RequestLines;
 
 impl Case for RequestLines {
-    fn find(&mut self, alloc: Global, given: &[u8], out: &mut Vec<u8>) -> Result<(), Fail> {
-        let files = make(alloc, given)?;
-        out.extend_from_slice(line_of(&files.requests, number(given, 3)?))?;
-        Ok(())
+    fn find(&mut self, rt: &impl Abort, given: &[u8], out: &mut Finding) {
+        let files = make(rt, out.alloc, given);
+        let line = line_of(&files.requests, number(rt, given, 3));
+        out.put(line);
     }
 }
 
 // Number 1 has the states 149, 11249, 57305 and 38044; number 0, and 65,537 too, has 74, 5624,
 // 28652 and 51790; at number 65,536 the state stays as it is.
 #[test]
-fn lines_of_requests(rt: HostRuntime) -> Result<(), Fail> {
+fn lines_of_requests(rt: HostRuntime) {
     walk(
+        &rt,
         rt.alloc(),
         &mut RequestLines,
         b"1 4 1|SCR
@@ -116,55 +115,57 @@ fn lines_of_requests(rt: HostRuntime) -> Result<(), Fail> {
 struct Readings;
 
 impl Case for Readings {
-    fn find(&mut self, alloc: Global, given: &[u8], out: &mut Vec<u8>) -> Result<(), Fail> {
-        let files = make(alloc, given)?;
+    fn find(&mut self, rt: &impl Abort, given: &[u8], out: &mut Finding) {
+        let files = make(rt, out.alloc, given);
         let (capacity, requests) = (files.capacity.len(), files.requests.len());
-        say(alloc, out, format_args!("{capacity} {requests}"))?;
-        let submission = submission(alloc, &files)?;
-        say_submission(alloc, out, &submission)
+        out.say(format_args!("{capacity} {requests}"));
+        let submission = submission(rt, out.alloc, &files);
+        say_submission(out, &submission)
     }
 }
 
-fn say_submission(alloc: Global, out: &mut Vec<u8>, submission: &Submission) -> Result<(), Fail> {
+fn say_submission(out: &mut Finding, submission: &Submission) {
     for rule in submission.declaration().rules.items() {
         let limit = rule.limit;
-        say(alloc, out, format_args!(" {limit}"))?;
+        out.say(format_args!(" {limit}"));
     }
-    say_units(alloc, out, submission)
+    say_units(out, submission)
 }
 
 /// The submission that the files make.
-fn submission(alloc: Global, files: &Files) -> Result<Submission, Fail> {
+fn submission(rt: &impl Abort, alloc: Global, files: &Files) -> Submission {
     let (capacity, requests) = (files.capacity.as_slice(), files.requests.as_slice());
-    if capacity.len() > 1_000_000 || requests.len() > 1_000_000 {
-        return Err("too long".into());
-    }
-    let declaration = read_capacity(alloc, capacity)?;
-    made(alloc, declaration, requests)
+    assert!(rt;
+        capacity.len() <= 1_000_000 && requests.len() <= 1_000_000,
+        "too long"
+    );
+    let declaration = read_capacity(alloc, capacity).expect(rt, "a declaration");
+    made(rt, alloc, declaration, requests)
 }
 
 /// The submission that requests make under a declaration.
-fn made(alloc: Global, declaration: Declaration, requests: &[u8]) -> Result<Submission, Fail>
+fn made(rt: &impl Abort, alloc: Global, declaration: Declaration, requests: &[u8]) -> Submission
     requires declared { IsDeclaration declaration }
     requires short { length requests.now ≤ 1000000 }
 {
     read_lines_fit();
     read_messages();
-    let messages = read_all(alloc, requests)?;
-    Ok(Submission::make(alloc, declaration, messages)?)
+    let messages = read_all(alloc, requests).expect(rt, "messages");
+    Submission::make(alloc, declaration, messages).expect(rt, "a submission")
 }
 
-fn say_units(alloc: Global, out: &mut Vec<u8>, submission: &Submission) -> Result<(), Fail> {
+fn say_units(out: &mut Finding, submission: &Submission) {
     let units = submission.units();
     let first = units.first().map_or(0, |unit| unit.line);
     let last = units.last().map_or(0, |unit| unit.line);
     let count = units.len();
-    say(alloc, out, format_args!(" {first} {last} {count}"))
+    out.say(format_args!(" {first} {last} {count}"))
 }
 
 #[test]
-fn files_are_read(rt: HostRuntime) -> Result<(), Fail> {
+fn files_are_read(rt: HostRuntime) {
     walk(
+        &rt,
         rt.alloc(),
         &mut Readings,
         b"0 1|89 62 5 5 5 1

@@ -1,17 +1,17 @@
 //! The amendment journal: which pairs a file stands for, and what a stop at each moment leaves. The
 //! files are laid out by hand.
 
-ghost use Rattle.std.specs.Prelude.{◌≡◌, ◌≤◌, IfOk};
+ghost use Rattle.std.specs.Prelude.{◌≡◌, ◌≤◌};
 ghost use Rattle.scr_reader.specs.Again.{IsFitItem};
 
-use crate::rows::{Case, say, walk};
+use crate::rows::{Case, Finding, walk};
 use amend_journal::{Asked, Journal, MOST_PAIRS, OpenFault, Slot};
 use desk_disk::{Disk, MemoryDisk};
 use desk_outside::Failure;
 use scr_reader::{Item, print_item, read_item};
 use season_days::Season;
 use std::alloc::Global;
-use std::test::Fail;
+use std::process::Abort;
 
 /// Room for a journal of four pairs.
 const ROOM: usize = 1041;
@@ -23,47 +23,44 @@ struct Openings {
 }
 
 impl Case for Openings {
-    fn find(&mut self, alloc: Global, given: &[u8], out: &mut Vec<u8>) -> Result<(), Fail> {
-        if given.len() > ROOM {
-            return Err("too long".into());
-        }
-        let disk = MemoryDisk::new(alloc, given, ROOM, 99, Vec::new(alloc))?;
-        let disk = match Journal::open(alloc, disk, &self.season) {
+    fn find(&mut self, rt: &impl Abort, given: &[u8], out: &mut Finding) {
+        assert!(rt; given.len() <= ROOM, "too long");
+        let none = Vec::new(out.alloc);
+        let disk = MemoryDisk::new(out.alloc, given, ROOM, 99, none).expect(rt, "memory");
+        match Journal::open(out.alloc, disk, &self.season) {
             Ok((journal, asks)) => {
-                say_asks(alloc, out, &self.season, &asks)?;
-                journal.into_disk()
+                say_asks(out, &self.season, &asks);
+                out.say(journal.into_disk().bytes().len())
             }
             Err((fault, disk)) => {
-                say_fault(alloc, out, fault)?;
-                disk
+                say_fault(out, fault);
+                out.say(disk.bytes().len())
             }
-        };
-        say(alloc, out, disk.bytes().len())
+        }
     }
 }
 
-fn say_asks(alloc: Global, out: &mut Vec<u8>, season: &Season, asks: &[Asked]) -> Result<(), Fail> {
+fn say_asks(out: &mut Finding, season: &Season, asks: &[Asked]) {
     for asked in asks {
-        say(alloc, out, format_args!("{} ", asked.caller))?;
-        put_item(alloc, out, season, &asked.ask)?;
+        out.say(format_args!("{} ", asked.caller));
+        put_item(out, season, &asked.ask);
     }
-    Ok(())
 }
 
-fn say_fault(alloc: Global, out: &mut Vec<u8>, fault: OpenFault) -> Result<(), Fail> {
+fn say_fault(out: &mut Finding, fault: OpenFault) {
     match fault {
-        OpenFault::NotJournal => say(alloc, out, "OTHER "),
-        OpenFault::BadSlot { number } => say(alloc, out, format_args!("SLOT {number} ")),
-        OpenFault::DiskFault => say(alloc, out, "FAULT "),
-        OpenFault::Memory => Err("memory".into()),
+        OpenFault::NotJournal => out.say("OTHER "),
+        OpenFault::BadSlot { number } => out.say(format_args!("SLOT {number} ")),
+        OpenFault::DiskFault => out.say("FAULT "),
+        OpenFault::Memory => out.put(b"MEMORY "),
     }
 }
 
-fn put_item(alloc: Global, out: &mut Vec<u8>, season: &Season, item: &Item) -> Result<(), Fail> {
+fn put_item(out: &mut Finding, season: &Season, item: &Item) {
     if item.fits(season) {
-        print_item(alloc, out, season, item)?;
+        let kept = print_item(out.alloc, &mut out.bytes, season, item);
+        out.keep(kept);
     }
-    Ok(())
 }
 
 // The rows stand for: no file; short ones; one of zeros; a header with a closed gate and anything
@@ -99,9 +96,9 @@ SLOT JOURNAL 01;\x01\x05+YBA001 30MAR25OCT 1234567 180320 JFK0600 J;<210\x00>\x0
 ";
 
 #[test]
-fn a_file_stands_for_pairs_or_for_none(rt: HostRuntime) -> Result<(), Fail> {
-    let season = Season::read(b"S25").ok_or("season")?;
-    walk(rt.alloc(), &mut Openings { season }, OPENINGS)
+fn a_file_stands_for_pairs_or_for_none(rt: HostRuntime) {
+    let season = Season::read(b"S25").expect(&rt, "season");
+    walk(&rt, rt.alloc(), &mut Openings { season }, OPENINGS)
 }
 
 /// What is put into the journal of the tests below, by the callers 0, 1 and 2.
@@ -116,252 +113,286 @@ fn text_of(number: u32) -> &'static [u8] {
 /// The journal of the first so many of these, over a disk of which some calls may fail: how many
 /// puts were answered, whether one call failed, and the bytes then.
 fn journal_of(
+    rt: &impl Abort,
     alloc: Global,
     season: &Season,
     count: u32,
     failing: Vec<Failure>,
-) -> Result<(u32, bool, Vec<u8>), Fail>
-    ensures { IfOk result (λ made. made.0 ≤ 3) }
+) -> (u32, bool, Vec<u8>)
+    ensures { result.0 ≤ 3 }
 {
-    let disk = MemoryDisk::new(alloc, b"", ROOM, 99, failing)?;
+    let disk = MemoryDisk::new(alloc, b"", ROOM, 99, failing).expect(rt, "memory");
     match Journal::open(alloc, disk, season) {
-        Ok((journal, _)) => {
-            let mut journal = journal;
-            let done = put_texts(alloc, &mut journal, season, count)?;
-            let disk = journal.into_disk();
-            made(alloc, done, &disk)
-        }
-        Err((OpenFault::DiskFault, disk)) => made(alloc, 0, &disk),
-        Err(_) => Err("not opened".into()),
+        Ok((journal, _)) => filled(rt, alloc, journal, season, count),
+        Err((OpenFault::DiskFault, disk)) => made(rt, alloc, 0, &disk),
+        Err(_) => panic!(rt; "not opened"),
     }
 }
 
-/// How many puts were answered, whether one call of the disk failed, and its bytes.
-fn made(alloc: Global, done: u32, disk: &MemoryDisk) -> Result<(u32, bool, Vec<u8>), Fail>
-    ensures { IfOk result (λ made. made.0 ≡ done) }
+/// What the first so many of the texts make of a journal.
+fn filled(
+    rt: &impl Abort,
+    alloc: Global,
+    mut journal: Journal<MemoryDisk>,
+    season: &Season,
+    count: u32,
+) -> (u32, bool, Vec<u8>)
+    requires { journal.season ≡ season.now }
+    ensures { result.0 ≤ 3 }
 {
-    let bytes = Vec::from_slice(alloc, disk.bytes())?;
-    Ok((done, disk.faults() == 1, bytes))
+    let done = put_texts(rt, alloc, &mut journal, season, count);
+    made(rt, alloc, done, &journal.into_disk())
+}
+
+/// How many puts were answered, whether one call of the disk failed, and its bytes.
+fn made(rt: &impl Abort, alloc: Global, done: u32, disk: &MemoryDisk) -> (u32, bool, Vec<u8>)
+    ensures { result.0 ≡ done }
+{
+    let bytes = Vec::from_slice(alloc, disk.bytes()).expect(rt, "memory");
+    (done, disk.faults() == 1, bytes)
 }
 
 /// Puts the first so many of the texts, up to a put that fails: how many were answered.
 fn put_texts(
+    rt: &impl Abort,
     alloc: Global,
     journal: &mut Journal<MemoryDisk>,
     season: &Season,
     count: u32,
-) -> Result<u32, Fail>
+) -> u32
     requires { journal.old.season ≡ season.now }
-    ensures { IfOk result (λ done. done ≤ 3) }
+    ensures { result ≤ 3 }
 {
     for done in 0..3 {
         if done == count {
-            return Ok(done);
+            return done;
         }
-        if !put_text(alloc, journal, season, done)? {
-            return Ok(done);
+        if !put_text(rt, alloc, journal, season, done) {
+            return done;
         }
     }
-    Ok(3)
+    3
 }
 
 /// Whether a put of the text of this number was answered.
 fn put_text(
+    rt: &impl Abort,
     alloc: Global,
     journal: &mut Journal<MemoryDisk>,
     season: &Season,
     number: u32,
-) -> Result<bool, Fail>
+) -> bool
     requires { journal.old.season ≡ season.now }
     ensures { journal.new.season ≡ journal.old.season }
 {
-    if journal.count() >= MOST_PAIRS {
-        return Err("full".into());
-    }
-    let slot = slot_of(alloc, journal, season, number)?;
-    Ok(journal.put(slot).is_ok())
+    assert!(rt; journal.count() < MOST_PAIRS, "full");
+    let slot = slot_of(rt, alloc, journal, season, number);
+    journal.put(slot).is_ok()
 }
 
 /// The text of this number, laid out for its slot.
 fn slot_of(
+    rt: &impl Abort,
     alloc: Global,
     journal: &Journal<MemoryDisk>,
     season: &Season,
     number: u32,
-) -> Result<Slot, Fail>
+) -> Slot
     requires { journal.now.season ≡ season.now }
 {
-    let ask = item_of(alloc, season, number)?;
-    Ok(journal.ready(alloc, u8::try_from(number)?, &ask)?)
+    let ask = item_of(rt, alloc, season, number);
+    let caller = u8::try_from(number).expect(rt, "a caller below 256");
+    journal.ready(alloc, caller, &ask).expect(rt, "memory")
 }
 
-fn item_of(alloc: Global, season: &Season, number: u32) -> Result<Item, Fail>
-    ensures { IfOk result (IsFitItem season.now) }
+fn item_of(rt: &impl Abort, alloc: Global, season: &Season, number: u32) -> Item
+    ensures { IsFitItem season.now result }
 {
-    match read_item(alloc, season, text_of(number))? {
-        Some(ask) => Ok(ask),
-        None => Err("no item".into()),
-    }
+    let item = read_item(alloc, season, text_of(number)).expect(rt, "memory");
+    item.expect(rt, "an item")
 }
 
 /// How many pairs a file stands for, where they are the first of those above; 9 where it does not
-/// stand for such pairs.
-fn reopened(alloc: Global, season: &Season, bytes: &[u8]) -> Result<u32, Fail> {
+/// stand for such pairs, or memory runs out.
+fn reopened(alloc: Global, season: &Season, bytes: &[u8]) -> u32 {
     if bytes.len() > ROOM {
-        return Err("too long".into());
+        return 9;
     }
-    let disk = MemoryDisk::new(alloc, bytes, ROOM, 99, Vec::new(alloc))?;
+    match MemoryDisk::new(alloc, bytes, ROOM, 99, Vec::new(alloc)) {
+        Ok(disk) => pairs_on(alloc, season, disk),
+        Err(_) => 9,
+    }
+}
+
+fn pairs_on(alloc: Global, season: &Season, disk: MemoryDisk) -> u32 {
     match Journal::open(alloc, disk, season) {
         Ok((_, asks)) => pairs_of(alloc, season, &asks),
-        Err(_) => Ok(9),
+        Err(_) => 9,
     }
 }
 
-fn pairs_of(alloc: Global, season: &Season, asks: &[Asked]) -> Result<u32, Fail> {
+fn pairs_of(alloc: Global, season: &Season, asks: &[Asked]) -> u32 {
     for number in 0..3 {
         let Some(asked) = asks.get(number as usize) else {
-            return Ok(number);
+            return number;
         };
-        if !is_pair(alloc, season, asked, number)? {
-            return Ok(9);
+        if !is_pair(alloc, season, asked, number) {
+            return 9;
         }
     }
-    Ok(if asks.len() == 3 { 3 } else { 9 })
+    if asks.len() == 3 { 3 } else { 9 }
 }
 
-fn is_pair(alloc: Global, season: &Season, asked: &Asked, number: u32) -> Result<bool, Fail> {
-    let mut printed = Vec::new(alloc);
-    put_item(alloc, &mut printed, season, &asked.ask)?;
-    Ok(u32::from(asked.caller) == number && printed.as_slice() == text_of(number))
+fn is_pair(alloc: Global, season: &Season, asked: &Asked, number: u32) -> bool {
+    let mut printed = Finding::new(alloc);
+    put_item(&mut printed, season, &asked.ask);
+    u32::from(asked.caller) == number && printed.bytes.as_slice() == text_of(number)
 }
 
 /// Each call of the disk fails once: five to open an empty file, and four for each of three puts.
 #[test]
-fn each_call_of_the_disk_fails_once(rt: HostRuntime) -> Result<(), Fail> {
+fn each_call_of_the_disk_fails_once(rt: HostRuntime) {
     let alloc = rt.alloc();
-    let season = Season::read(b"S25").ok_or("season")?;
+    let season = Season::read(b"S25").expect(&rt, "season");
     for call in 0..17 {
-        let kept = fails_once(alloc, &season, call)?;
+        let kept = fails_once(&rt, alloc, &season, call);
         assert!(rt; kept, "call {call}");
     }
-    let (done, failed, bytes) = journal_of(alloc, &season, 3, Vec::new(alloc))?;
-    assert!(rt; done == 3 && !failed && bytes.len() == 785);
-    Ok(())
+    assert!(rt; puts_all(&rt, alloc, &season));
+}
+
+/// Whether all three puts are answered where no call fails.
+fn puts_all(rt: &impl Abort, alloc: Global, season: &Season) -> bool {
+    let (done, failed, bytes) = journal_of(rt, alloc, season, 3, Vec::new(alloc));
+    done == 3 && !failed && bytes.len() == 785
 }
 
 /// Where this call fails, a write after so many of its bytes, what is left stands for the pairs
 /// whose put was answered, or, from the opening of the gate on, for one more.
-fn fails_once(alloc: Global, season: &Season, call: u64) -> Result<bool, Fail> {
+fn fails_once(rt: &impl Abort, alloc: Global, season: &Season, call: u64) -> bool {
     for part in [0, 1, 2, 100, 255, 256, 999] {
-        let failing = vec![in alloc; Failure::after(call, part)]?;
-        if !fails_with(alloc, season, call, failing)? {
-            return Ok(false);
+        let failing = vec![in alloc; Failure::after(call, part)].expect(rt, "memory");
+        if !fails_with(rt, alloc, season, call, failing) {
+            return false;
         }
     }
-    Ok(true)
+    true
 }
 
 fn fails_with(
+    rt: &impl Abort,
     alloc: Global,
     season: &Season,
     call: u64,
     failing: Vec<Failure>,
-) -> Result<bool, Fail> {
-    let (done, failed, bytes) = journal_of(alloc, season, 3, failing)?;
-    let count = reopened(alloc, season, &bytes)?;
+) -> bool {
+    let (done, failed, bytes) = journal_of(rt, alloc, season, 3, failing);
+    let count = reopened(alloc, season, &bytes);
     let opening = call >= 5 && (call - 5) % 4 >= 2;
-    Ok(failed && (count == done || opening && count == done + 1))
+    failed && (count == done || opening && count == done + 1)
 }
 
 /// A stop at each moment of three puts: while the slot is written it may hold any bytes, and the
 /// file may have any length from the old one on; while the gate is opened it may have any value.
 /// Of two bytes all values of both are tried, of the others some of one at a time.
 #[test]
-fn a_stop_leaves_the_pairs(rt: HostRuntime) -> Result<(), Fail> {
+fn a_stop_leaves_the_pairs(rt: HostRuntime) {
     let alloc = rt.alloc();
-    let season = Season::read(b"S25").ok_or("season")?;
+    let season = Season::read(b"S25").expect(&rt, "season");
     for done in 0..3 {
-        assert!(rt; leaves_pairs(alloc, &season, done)?, "slot {done}");
+        assert!(rt; leaves_pairs(&rt, alloc, &season, done), "slot {done}");
     }
-    Ok(())
 }
 
 /// Whether each stop in the put behind so many pairs leaves them.
-fn leaves_pairs(alloc: Global, season: &Season, done: u32) -> Result<bool, Fail> {
-    let (_, _, old) = journal_of(alloc, season, done, Vec::new(alloc))?;
-    let (_, _, new) = journal_of(alloc, season, done.wrapping_add(1), Vec::new(alloc))?;
-    Ok(
-        stop_in_slot(alloc, season, &new, old.len(), done)?
-            && stop_in_two_bytes(alloc, season, &new, old.len(), done)?
-            && stop_in_gate(alloc, season, &new, old.len(), done)?,
-    )
+fn leaves_pairs(rt: &impl Abort, alloc: Global, season: &Season, done: u32) -> bool {
+    let (_, _, old) = journal_of(rt, alloc, season, done, Vec::new(alloc));
+    let (_, _, new) = journal_of(rt, alloc, season, done.wrapping_add(1), Vec::new(alloc));
+    stops(rt, alloc, season, &new, old.len(), done)
+}
+
+/// Whether each stop leaves so many pairs, past a file of so many bytes.
+fn stops(
+    rt: &impl Abort,
+    alloc: Global,
+    season: &Season,
+    new: &[u8],
+    from: usize,
+    done: u32,
+) -> bool {
+    stop_in_slot(rt, alloc, season, new, from, done)
+        && stop_in_two_bytes(rt, alloc, season, new, from, done)
+        && stop_in_gate(rt, alloc, season, new, from, done)
 }
 
 /// A file with this byte at a place.
-fn with_byte(alloc: Global, file: &[u8], place: usize, byte: u8) -> Result<Vec<u8>, Fail> {
-    let mut image = Vec::from_slice(alloc, file)?;
+fn with_byte(rt: &impl Abort, alloc: Global, file: &[u8], place: usize, byte: u8) -> Vec<u8> {
+    let mut image = Vec::from_slice(alloc, file).expect(rt, "memory");
     put_byte(&mut image, place, byte);
-    Ok(image)
+    image
 }
 
 /// Whether each image of a stop while a slot is written, past a file of so many bytes, stands for
 /// the old pairs: the gate is closed, each byte behind it has some other value once, and the file
 /// each length.
 fn stop_in_slot(
+    rt: &impl Abort,
     alloc: Global,
     season: &Season,
     new: &[u8],
     from: usize,
     done: u32,
-) -> Result<bool, Fail> {
-    let laid = with_byte(alloc, new, from.saturating_sub(1), 0)?;
+) -> bool {
+    let laid = with_byte(rt, alloc, new, from.saturating_sub(1), 0);
     for place in from..laid.len() {
-        if !is_torn(alloc, season, &laid, place, done)? {
-            return Ok(false);
+        if !is_torn(rt, alloc, season, &laid, place, done) {
+            return false;
         }
     }
-    Ok(true)
+    true
 }
 
 /// Whether the file stands for so many pairs with some other bytes at a place, and where it ends
 /// there.
 fn is_torn(
+    rt: &impl Abort,
     alloc: Global,
     season: &Season,
     laid: &[u8],
     place: usize,
     done: u32,
-) -> Result<bool, Fail> {
+) -> bool {
     for byte in [0, 1, 2, 255] {
-        let image = with_byte(alloc, laid, place, byte)?;
-        if reopened(alloc, season, &image)? != done {
-            return Ok(false);
+        let image = with_byte(rt, alloc, laid, place, byte);
+        if reopened(alloc, season, &image) != done {
+            return false;
         }
     }
     if place > laid.len() {
-        return Ok(false);
+        return false;
     }
-    Ok(reopened(alloc, season, &laid[..place])? == done)
+    reopened(alloc, season, &laid[..place]) == done
 }
 
 /// Whether the file stands for the old pairs with each value of the two bytes behind the gate,
 /// which is closed.
 fn stop_in_two_bytes(
+    rt: &impl Abort,
     alloc: Global,
     season: &Season,
     new: &[u8],
     from: usize,
     done: u32,
-) -> Result<bool, Fail> {
-    let mut image = with_byte(alloc, new, from.saturating_sub(1), 0)?;
+) -> bool {
+    let mut image = with_byte(rt, alloc, new, from.saturating_sub(1), 0);
     for value in 0..65_536_u32 {
         put_byte(&mut image, from, (value / 256) as u8);
         put_byte(&mut image, from.saturating_add(1), (value % 256) as u8);
-        if reopened(alloc, season, &image)? != done {
-            return Ok(false);
+        if reopened(alloc, season, &image) != done {
+            return false;
         }
     }
-    Ok(true)
+    true
 }
 
 fn put_byte(image: &mut Vec<u8>, place: usize, byte: u8) {
@@ -373,71 +404,71 @@ fn put_byte(image: &mut Vec<u8>, place: usize, byte: u8) {
 /// Whether each image of a stop while the gate is opened stands for the old pairs, or with gate 1
 /// for one more.
 fn stop_in_gate(
+    rt: &impl Abort,
     alloc: Global,
     season: &Season,
     new: &[u8],
     from: usize,
     done: u32,
-) -> Result<bool, Fail> {
+) -> bool {
     for value in 0..256_u32 {
-        let image = with_byte(alloc, new, from.saturating_sub(1), value as u8)?;
+        let image = with_byte(rt, alloc, new, from.saturating_sub(1), value as u8);
         let wanted = done.saturating_add(u32::from(value == 1));
-        if reopened(alloc, season, &image)? != wanted {
-            return Ok(false);
+        if reopened(alloc, season, &image) != wanted {
+            return false;
         }
     }
-    Ok(true)
+    true
 }
 
 /// A journal of two pairs, of which one byte has the next value, is none of these two: it stands
 /// for other pairs, for fewer, or for none.
 #[test]
-fn each_byte_of_a_slot_counts(rt: HostRuntime) -> Result<(), Fail> {
+fn each_byte_of_a_slot_counts(rt: HostRuntime) {
     let alloc = rt.alloc();
-    let season = Season::read(b"S25").ok_or("season")?;
-    let (_, _, file) = journal_of(alloc, &season, 2, Vec::new(alloc))?;
-    assert_eq!(rt; reopened(alloc, &season, &file)?, 2);
-    for (place, byte) in file.as_slice().iter().enumerate() {
-        let next = byte.wrapping_add(1);
-        assert!(rt;
-            !has_two(alloc, &season, &file, place, next)?,
-            "byte {place}"
-        );
+    let season = Season::read(b"S25").expect(&rt, "season");
+    let (_, _, file) = journal_of(&rt, alloc, &season, 2, Vec::new(alloc));
+    assert_eq!(rt; reopened(alloc, &season, &file), 2);
+    counts_bytes(&rt, alloc, &season, &file);
+}
+
+fn counts_bytes(rt: &impl Abort, alloc: Global, season: &Season, file: &[u8]) {
+    for (place, byte) in file.iter().enumerate() {
+        let two = has_two(rt, alloc, season, file, place, byte.wrapping_add(1));
+        assert!(rt; !two, "byte {place}");
     }
-    Ok(())
 }
 
 /// Whether the file with this byte at a place stands for the first two pairs.
 fn has_two(
+    rt: &impl Abort,
     alloc: Global,
     season: &Season,
     file: &[u8],
     place: usize,
     byte: u8,
-) -> Result<bool, Fail> {
-    let image = with_byte(alloc, file, place, byte)?;
-    Ok(reopened(alloc, season, &image)? == 2)
+) -> bool {
+    let image = with_byte(rt, alloc, file, place, byte);
+    reopened(alloc, season, &image) == 2
 }
 
 /// A stop at each moment of the opening of a short file leaves a file of at most 17 bytes: any
 /// bytes, and any length. Each is opened again as a journal of no pair.
 #[test]
-fn a_stop_in_an_opening_leaves_no_pair(rt: HostRuntime) -> Result<(), Fail> {
+fn a_stop_in_an_opening_leaves_no_pair(rt: HostRuntime) {
     let alloc = rt.alloc();
-    let season = Season::read(b"S25").ok_or("season")?;
-    assert!(rt; are_empty(alloc, &season, &[0; 17])?);
-    assert!(rt; are_empty(alloc, &season, &[1; 17])?);
-    assert!(rt; are_empty(alloc, &season, &[255; 17])?);
-    assert!(rt; are_empty(alloc, &season, b"SLOT JOURNAL 01\n\x01")?);
-    Ok(())
+    let season = Season::read(b"S25").expect(&rt, "season");
+    for file in [[0; 17], [1; 17], [255; 17], *b"SLOT JOURNAL 01\n\x01"] {
+        assert!(rt; are_empty(alloc, &season, &file), "{file:?}");
+    }
 }
 
 /// Whether each front of a file of 17 bytes stands for no pair.
-fn are_empty(alloc: Global, season: &Season, file: &[u8; 17]) -> Result<bool, Fail> {
+fn are_empty(alloc: Global, season: &Season, file: &[u8; 17]) -> bool {
     for size in 0..18_usize {
-        if reopened(alloc, season, &file[..size])? != 0 {
-            return Ok(false);
+        if reopened(alloc, season, &file[..size]) != 0 {
+            return false;
         }
     }
-    Ok(true)
+    true
 }

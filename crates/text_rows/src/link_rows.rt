@@ -1,15 +1,14 @@
 //! Links and doors in memory, whose listed calls fail, and those of the real system.
-ghost use Rattle.std.specs.Prelude.{All, IfOk};
+ghost use Rattle.std.specs.Prelude.{All};
 ghost use Rattle.desk_links.specs.LinksInMemory.{IsUnused};
 
-use crate::rows::{Case, cut, number, say, walk};
-use desk_links::{Door, DoorFault, Link, MemoryDoor, MemoryLink, RealDoor};
+use crate::rows::{Case, Finding, check_bytes, cut, number, walk};
+use desk_links::{Door, DoorFault, Link, MemoryDoor, MemoryLink, RealDoor, RealLink};
 use desk_outside::Failure;
 use std::alloc::Global;
 use std::io::{Read, Write};
 use std::net::{OpenListener, Shutdown, TcpListener, TcpStream};
-use std::test::Fail;
-use std::thread;
+use std::process::Abort;
 
 /// Calls of a link, one a row: `take` with the room of the caller, `put` with bytes. Each answers
 /// the bytes that were taken, or `put`, or `fault`; then the count of faults, and whether the input
@@ -19,27 +18,47 @@ struct LinkCalls<L: Link> {
     link: L,
 }
 
-impl<L: Link> Case for LinkCalls<L> {
-    fn find(&mut self, alloc: Global, given: &[u8], out: &mut Vec<u8>) -> Result<(), Fail> {
-        let (call, rest) = cut(given, b' ');
-        match call {
-            b"take" => {
-                let mut into = [0u8; 16];
-                let room = (number(rest, 1)? as usize).clamp(1, 16);
-                match self.link.take(&mut into[..room]) {
-                    Ok(n) => out.extend_from_slice(&into[..n.min(16)])?,
-                    Err(_) => out.extend_from_slice(b"fault")?,
-                }
-            }
-            b"put" => match self.link.put(rest) {
-                Ok(()) => out.extend_from_slice(b"put")?,
-                Err(_) => out.extend_from_slice(b"fault")?,
-            },
-            _ => return Err("no such call".into()),
-        }
-        let (faults, ended) = (self.link.faults(), self.link.ended());
-        say(alloc, out, format_args!(" {faults} {ended}"))
+impl Case for LinkCalls<MemoryLink> {
+    fn find(&mut self, rt: &impl Abort, given: &[u8], out: &mut Finding) {
+        call(rt, &mut self.link, given, out)
     }
+}
+
+impl Case for LinkCalls<RealLink<TcpStream>> {
+    fn find(&mut self, rt: &impl Abort, given: &[u8], out: &mut Finding) {
+        call(rt, &mut self.link, given, out)
+    }
+}
+
+/// Makes the call of a row, and says the count of faults then, and whether the input has ended.
+fn call<L: Link>(rt: &impl Abort, link: &mut L, given: &[u8], out: &mut Finding) {
+    let (call, rest) = cut(given, b' ');
+    match call {
+        b"take" => take(rt, link, rest, out),
+        b"put" => put(link, rest, out),
+        _ => out.put(b"no such call"),
+    }
+    let (faults, ended) = (link.faults(), link.ended());
+    out.say(format_args!(" {faults} {ended}"))
+}
+
+fn take<L: Link>(rt: &impl Abort, link: &mut L, room: &[u8], out: &mut Finding) {
+    let mut into = [0u8; 16];
+    let room = (number(rt, room, 1) as usize).clamp(1, 16);
+    let taken: &[u8] = match link.take(&mut into[..room]) {
+        Ok(n) => &into[..n.min(16)],
+        Err(_) => b"fault",
+    };
+    out.put(taken);
+}
+
+fn put<L: Link>(link: &mut L, bytes: &[u8], out: &mut Finding) {
+    let answer: &[u8] = if link.put(bytes).is_ok() {
+        b"put"
+    } else {
+        b"fault"
+    };
+    out.put(answer);
 }
 
 // The input `abcdefgh` in pieces of 3, 0 (which is 1) and 9 bytes, then as they fit; room for 4
@@ -60,74 +79,85 @@ put |put 3 true
 ";
 
 #[test]
-fn a_link_comes_in_its_pieces(rt: HostRuntime) -> Result<(), Fail> {
-    let mut calls = LinkCalls {
-        link: link_in_pieces(rt.alloc())?,
-    };
-    walk(rt.alloc(), &mut calls, LINK_CALLS)?;
-    assert_eq!(rt; calls.link.sent(), b"xyzz".as_slice());
-    Ok(())
+fn a_link_comes_in_its_pieces(rt: HostRuntime) {
+    let link = link_in_pieces(&rt, rt.alloc());
+    let mut calls = LinkCalls { link };
+    walk(&rt, rt.alloc(), &mut calls, LINK_CALLS);
+    check_bytes(&rt, calls.link.sent(), b"xyzz");
 }
 
-fn link_in_pieces(alloc: Global) -> Result<MemoryLink, Fail> {
-    let input = Vec::from_slice(alloc, b"abcdefgh")?;
-    let sizes = [3, 0, 9].to_vec(alloc)?;
-    let failing = [Failure::at(1), Failure::after(5, 1)].to_vec(alloc)?;
-    Ok(MemoryLink::new(alloc, input, sizes, 4, failing)?)
+fn link_in_pieces(rt: &impl Abort, alloc: Global) -> MemoryLink {
+    let input = Vec::from_slice(alloc, b"abcdefgh").expect(rt, "memory");
+    let sizes = [3, 0, 9].to_vec(alloc).expect(rt, "memory");
+    let failing = [Failure::at(1), Failure::after(5, 1)];
+    let failing = failing.to_vec(alloc).expect(rt, "memory");
+    MemoryLink::new(alloc, input, sizes, 4, failing).expect(rt, "memory")
 }
 
-fn link_of(alloc: Global, input: &[u8]) -> Result<MemoryLink, Fail>
-    ensures { IfOk result IsUnused }
+fn link_of(rt: &impl Abort, alloc: Global, input: &[u8]) -> MemoryLink
+    ensures { IsUnused result }
 {
-    let input = Vec::from_slice(alloc, input)?;
-    Ok(MemoryLink::new(alloc, input, Vec::new(alloc), 9, Vec::new(alloc))?)
+    let input = Vec::from_slice(alloc, input).expect(rt, "memory");
+    MemoryLink::new(alloc, input, Vec::new(alloc), 9, Vec::new(alloc)).expect(rt, "memory")
 }
 
-fn two_links(alloc: Global) -> Result<Vec<MemoryLink>, Fail>
-    ensures { IfOk result (λ links. All IsUnused links.items) }
+fn two_links(rt: &impl Abort, alloc: Global) -> Vec<MemoryLink>
+    ensures { All IsUnused result.items }
 {
     let mut links = Vec::new(alloc);
-    links.push(link_of(alloc, b"one")?)?;
-    links.push(link_of(alloc, b"two")?)?;
-    Ok(links)
+    links.push(link_of(rt, alloc, b"one")).expect(rt, "memory");
+    links.push(link_of(rt, alloc, b"two")).expect(rt, "memory");
+    links
 }
 
 // A door with two links, room for so many, of which some accepts fail.
-fn door_of(alloc: Global, places: usize, failing: &[Failure]) -> Result<MemoryDoor, Fail> {
-    let failing = failing.to_vec(alloc)?;
-    Ok(MemoryDoor::new(alloc, two_links(alloc)?, places, failing)?)
+fn door_of(rt: &impl Abort, alloc: Global, places: usize, failing: &[Failure]) -> MemoryDoor {
+    let failing = failing.to_vec(alloc).expect(rt, "memory");
+    MemoryDoor::new(alloc, two_links(rt, alloc), places, failing).expect(rt, "memory")
+}
+
+/// Links that a door hands out, one a row: what the row gives is put over the link, which is then
+/// handed back. Each answers what became of it, and the count of faults.
+#[derive(Drop)]
+struct Serves<D: Door + Drop> {
+    door: D,
+}
+
+impl Case for Serves<MemoryDoor> {
+    fn find(&mut self, _rt: &impl Abort, given: &[u8], out: &mut Finding) {
+        out.put(serve(&mut self.door, given));
+        out.say(format_args!(" {}", self.door.faults()))
+    }
+}
+
+impl Case for Serves<RealDoor<TcpListener>> {
+    fn find(&mut self, _rt: &impl Abort, given: &[u8], out: &mut Finding) {
+        out.put(serve(&mut self.door, given));
+        out.say(format_args!(" {}", self.door.faults()))
+    }
 }
 
 /// Accepts a link, puts the bytes over it, and hands it back.
-fn serve<D: Door>(door: &mut D, bytes: &[u8]) -> &'static str {
+fn serve<D: Door>(door: &mut D, bytes: &[u8]) -> &'static [u8] {
     match door.accept() {
         Ok(Some(mut link)) => {
-            let answer = if link.put(bytes).is_ok() {
-                "served"
-            } else {
-                "fault"
-            };
+            let served = link.put(bytes).is_ok();
             door.finish(link);
-            answer
+            if served { b"served" } else { b"fault" }
         }
-        Ok(None) => "none",
-        Err(DoorFault) => "no link",
+        Ok(None) => b"none",
+        Err(DoorFault) => b"no link",
     }
 }
 
 // Two links, room for two; the second accept fails.
 #[test]
-fn a_door_hands_out_its_links(rt: HostRuntime) -> Result<(), Fail> {
-    let mut door = door_of(rt.alloc(), 2, &[Failure::at(1)])?;
-    let said = [
-        serve(&mut door, b"1"),
-        serve(&mut door, b"-"),
-        serve(&mut door, b"2"),
-        serve(&mut door, b"3"),
-    ];
-    assert_eq!(rt; said, ["served", "no link", "served", "none"]);
-    assert!(rt; door.faults() == 1 && kept_two(&door));
-    Ok(())
+fn a_door_hands_out_its_links(rt: HostRuntime) {
+    let door = door_of(&rt, rt.alloc(), 2, &[Failure::at(1)]);
+    let mut serves = Serves { door };
+    let rows = b"1|served 0\n-|no link 1\n2|served 1\n3|none 1\n";
+    walk(&rt, rt.alloc(), &mut serves, rows);
+    assert!(rt; kept_two(&serves.door));
 }
 
 // Whether two links were kept, and the second was sent its byte.
@@ -140,56 +170,67 @@ fn kept_two(door: &MemoryDoor) -> bool {
 
 // More links than there is room for.
 #[test]
-fn a_full_door_hands_out_no_link(rt: HostRuntime) -> Result<(), Fail> {
-    let mut full = door_of(rt.alloc(), 1, &[])?;
-    assert_eq!(rt; serve(&mut full, b"1"), "served");
-    assert_eq!(rt; serve(&mut full, b"2"), "no link");
-    Ok(())
+fn a_full_door_hands_out_no_link(rt: HostRuntime) {
+    let door = door_of(&rt, rt.alloc(), 1, &[]);
+    walk(
+        &rt,
+        rt.alloc(),
+        &mut Serves { door },
+        b"1|served 0\n2|no link 1\n",
+    )
 }
 
 // A door over a listener of the system: a client that sends and half-closes gets what is put.
 #[test]
-fn the_system_has_links(rt: HostRuntime) -> Result<(), Fail> {
-    let alloc = rt.alloc();
-    let listener = TcpListener::bind(&rt, "127.0.0.1:0")?;
-    let address = listener.local_addr()?;
-    let mut door = RealDoor::new(alloc, Some(listener), 1)?;
-    let mut client = TcpStream::connect(&rt, address)?;
-    client.write_all(b"abc")?;
-    client.shutdown(Shutdown::Write)?;
-    serve_one(alloc, &mut door)?;
-    assert!(rt; has_come(alloc, &mut client)?);
+fn the_system_has_links(rt: HostRuntime) {
+    let listener = TcpListener::bind(&rt, "127.0.0.1:0").expect(&rt, "a free port");
+    let address = listener.local_addr().expect(&rt, "the address of a port");
+    let mut door = RealDoor::new(rt.alloc(), Some(listener), 1).expect(&rt, "memory");
+    let mut client = TcpStream::connect(&rt, address).expect(&rt, "a client");
+    exchange(&rt, rt.alloc(), &mut door, &mut client);
     assert!(rt; door.accept().is_err());
-    Ok(())
+}
+
+/// The client sends bytes, and gets what is put.
+fn exchange(
+    rt: &impl Abort,
+    alloc: Global,
+    door: &mut RealDoor<TcpListener>,
+    client: &mut TcpStream,
+) {
+    client.write_all(b"abc").expect(rt, "the client sends");
+    client
+        .shutdown(Shutdown::Write)
+        .expect(rt, "the client ends its input");
+    serve_one(rt, alloc, door);
+    has_come(rt, alloc, client);
 }
 
 /// Takes the bytes of a client, puts others, and hands the link back.
-fn serve_one(alloc: Global, door: &mut RealDoor<TcpListener>) -> Result<(), Fail> {
-    let Some(link) = door.accept().map_err(|_| "no link")? else {
-        return Err("no link comes".into());
+fn serve_one(rt: &impl Abort, alloc: Global, door: &mut RealDoor<TcpListener>) {
+    let Ok(Some(link)) = door.accept() else {
+        panic!(rt; "no link comes");
     };
     let mut calls = LinkCalls { link };
     walk(
+        rt,
         alloc,
         &mut calls,
         b"take 16|abc 0 false\ntake 16| 0 true\nput xy|put 0 true\n",
-    )?;
+    );
     let LinkCalls { link } = calls;
     door.finish(link);
-    Ok(())
 }
 
-/// Whether what was put has come to the client.
-fn has_come(alloc: Global, client: &mut TcpStream) -> Result<bool, Fail> {
+/// What was put has come to the client.
+fn has_come(rt: &impl Abort, alloc: Global, client: &mut TcpStream) {
     let mut got = Vec::new(alloc);
-    client.read_to_end(&mut got)?;
-    Ok(got.as_slice() == b"xy".as_slice())
+    client.read_to_end(&mut got).expect(rt, "the client reads");
+    check_bytes(rt, &got, b"xy");
 }
 
 #[test]
-fn a_door_without_a_listener_fails(rt: HostRuntime) -> Result<(), Fail> {
-    let mut unbound = RealDoor::<TcpListener>::new(rt.alloc(), None, 1)?;
-    assert!(rt; unbound.accept().is_err());
-    assert_eq!(rt; unbound.faults(), 1);
-    Ok(())
+fn a_door_without_a_listener_fails(rt: HostRuntime) {
+    let door = RealDoor::<TcpListener>::new(rt.alloc(), None, 1).expect(&rt, "memory");
+    walk(&rt, rt.alloc(), &mut Serves { door }, b"1|no link 1\n")
 }

@@ -1,6 +1,6 @@
 //! Slot clearance messages. What is read, printed or refused is worked by hand.
 
-use crate::rows::{Case, ascii, cut, say, show, walk};
+use crate::rows::{Case, Finding, ascii, cut, walk};
 use scr_reader::{
     Code, Flight, Item, Line, Message, MessageList, ScrFault, Stop, cut_messages, print_flight,
     print_header, print_item, print_line, read_all, read_flight, read_item, read_message,
@@ -9,7 +9,7 @@ use scr_reader::{
 use season_days::Season;
 use slot_text::{Station, field};
 use std::alloc::Global;
-use std::test::Fail;
+use std::process::Abort;
 
 const MOST_BYTES: usize = 10_000_000;
 
@@ -30,10 +30,10 @@ fn message(alloc: Global, text: &[u8]) -> Result<Message, ScrFault> {
 }
 
 /// A message for the summer of 2025 with these lines below its header.
-fn below(alloc: Global, lines: &[u8]) -> Result<Vec<u8>, Fail> {
-    let mut text = Vec::from_slice(alloc, HEADER)?;
-    text.extend_from_slice(lines)?;
-    Ok(text)
+fn below(rt: &impl Abort, alloc: Global, lines: &[u8]) -> Vec<u8> {
+    let mut text = Vec::from_slice(alloc, HEADER).expect(rt, "memory");
+    text.extend_from_slice(lines).expect(rt, "memory");
+    text
 }
 
 /// Where messages stand: the number of the first line, and the bytes.
@@ -41,19 +41,12 @@ fn below(alloc: Global, lines: &[u8]) -> Result<Vec<u8>, Fail> {
 struct Cuts;
 
 impl Case for Cuts {
-    fn find(&mut self, alloc: Global, given: &[u8], out: &mut Vec<u8>) -> Result<(), Fail> {
-        if given.len() > MOST_BYTES {
-            return Err("too long".into());
-        }
-        let pieces = cut_messages(alloc, given)?;
+    fn find(&mut self, rt: &impl Abort, given: &[u8], out: &mut Finding) {
+        assert!(rt; given.len() <= MOST_BYTES, "too long");
+        let pieces = cut_messages(out.alloc, given).expect(rt, "messages");
         for piece in pieces.as_slice() {
-            say(
-                alloc,
-                out,
-                format_args!("{} {}-{},", piece.line, piece.from, piece.to),
-            )?;
+            out.say(format_args!("{} {}-{},", piece.line, piece.from, piece.to));
         }
-        Ok(())
     }
 }
 
@@ -72,84 +65,75 @@ a\r ;\t|1 0-4,
 struct Readings;
 
 impl Case for Readings {
-    fn find(&mut self, alloc: Global, given: &[u8], out: &mut Vec<u8>) -> Result<(), Fail> {
-        let found = messages(alloc, given)?;
+    fn find(&mut self, rt: &impl Abort, given: &[u8], out: &mut Finding) {
+        let found = messages(out.alloc, given).expect(rt, "messages");
         for message in found.items() {
-            say_message(alloc, out, message)?;
+            say_message(out, message);
         }
-        Ok(())
     }
 }
 
-fn say_message(alloc: Global, out: &mut Vec<u8>, message: &Message) -> Result<(), Fail> {
+fn say_message(out: &mut Finding, message: &Message) {
     let (line, day, month) = (message.line, message.day, message.month);
-    say(alloc, out, format_args!("{line} {day} {month}\n"))?;
-    print_header(alloc, out, &message.header())?;
+    out.say(format_args!("{line} {day} {month}\n"));
+    let kept = print_header(out.alloc, &mut out.bytes, &message.header());
+    out.keep(kept);
     for placed in message.items.items() {
-        say(alloc, out, format_args!("{} ", placed.line))?;
-        say_item(alloc, out, &placed.item)?;
-        out.push(b'\n')?;
+        out.say(format_args!("{} ", placed.line));
+        say_item(out, &placed.item);
+        out.put(b"\n");
     }
-    Ok(())
 }
 
-fn say_item(alloc: Global, out: &mut Vec<u8>, item: &Item) -> Result<(), Fail> {
+fn say_item(out: &mut Finding, item: &Item) {
     match item {
-        Item::One(line) => say_line(alloc, out, line),
+        Item::One(line) => say_line(out, line),
         Item::Pair(changed, asked) => {
-            say_line(alloc, out, changed)?;
-            say(alloc, out, " to ")?;
-            say_line(alloc, out, asked)
+            say_line(out, changed);
+            out.say(" to ");
+            say_line(out, asked)
         }
         Item::Query(flight) => {
-            say(alloc, out, "asks for ")?;
-            say_flight(alloc, out, *flight)
+            out.say("asks for ");
+            say_flight(out, *flight)
         }
     }
 }
 
-fn say_line(alloc: Global, out: &mut Vec<u8>, line: &Line) -> Result<(), Fail> {
-    say(alloc, out, format_args!("{:?} ", line.code))?;
-    say_stop(alloc, out, line.arrival)?;
-    say_stop(alloc, out, line.departure)?;
+fn say_line(out: &mut Finding, line: &Line) {
+    out.say(format_args!("{:?} ", line.code));
+    say_stop(out, line.arrival);
+    say_stop(out, line.departure);
     let (nights, period, seats) = (line.nights, line.period, line.seats);
     let (first, last, days) = (period.first.0, period.last.0, period.days);
     let craft = ascii(&line.craft.0);
-    say(
-        alloc,
-        out,
-        format_args!("{nights} {first}-{last}/{days} {seats} {craft}"),
-    )
+    out.say(format_args!("{nights} {first}-{last}/{days} {seats} {craft}"))
 }
 
-fn say_stop(alloc: Global, out: &mut Vec<u8>, stop: Option<Stop>) -> Result<(), Fail> {
+fn say_stop(out: &mut Finding, stop: Option<Stop>) {
     let Some(stop) = stop else {
-        return say(alloc, out, "- ");
+        return out.say("- ");
     };
     let far = match stop.far {
         Some(far) => far.0,
         None => *b"...",
     };
     let (near, far, service) = (ascii(&stop.near.0), ascii(&far), char::from(stop.service));
-    say_flight(alloc, out, stop.flight)?;
-    say(
-        alloc,
-        out,
-        format_args!(" {} {near} {far} {service}, ", stop.minute),
-    )
+    say_flight(out, stop.flight);
+    out.say(format_args!(" {} {near} {far} {service}, ", stop.minute))
 }
 
-fn say_flight(alloc: Global, out: &mut Vec<u8>, flight: Flight) -> Result<(), Fail> {
+fn say_flight(out: &mut Finding, flight: Flight) {
     for byte in flight.airline {
-        out.push(if byte == 0 { b'.' } else { byte })?;
+        let letter = if byte == 0 { b'.' } else { byte };
+        out.put(&[letter]);
     }
-    say(alloc, out, format_args!(" {} ", flight.number))?;
-    out.push(if flight.suffix == 0 {
-        b'.'
-    } else {
-        flight.suffix
-    })?;
-    Ok(())
+    out.say(format_args!(" {} ", flight.number));
+    let suffix = match flight.suffix {
+        0 => b'.',
+        letter => letter,
+    };
+    out.put(&[suffix]);
 }
 
 // Mondays, Wednesdays and Fridays from the 31st of March to the 24th of October of 2025, at Luton
@@ -175,17 +159,25 @@ SCR;S25;20NOV;ABC;D 2A7 30MAR19OCT 7 005A32 2359JFKLHR J|2 20 11;SCR;S25;20NOV;A
 struct Strays;
 
 impl Case for Strays {
-    fn find(&mut self, alloc: Global, given: &[u8], out: &mut Vec<u8>) -> Result<(), Fail> {
-        let season = Season::read(field(given, 1).ok_or("season")?).ok_or("season")?;
-        let airport = Station::read(field(given, 2).ok_or("airport")?).ok_or("airport")?;
-        let found = message(alloc, b"SCR\n/ABC123\nS25\n20NOV\nABC\n")?;
-        if found.line > 1_000 {
-            return Err("a line behind the text".into());
-        }
-        match found.stray_line(season, airport) {
-            Some(stray) => say(alloc, out, format_args!("{stray:?} {}", stray.line())),
-            None => say(alloc, out, "-"),
-        }
+    fn find(&mut self, rt: &impl Abort, given: &[u8], out: &mut Finding) {
+        let season = Season::read(field(given, 1).expect(rt, "season")).expect(rt, "season");
+        let airport = Station::read(field(given, 2).expect(rt, "airport")).expect(rt, "airport");
+        let found = message(out.alloc, b"SCR\n/ABC123\nS25\n20NOV\nABC\n").expect(rt, "a message");
+        say_stray(rt, out, &found, season, airport)
+    }
+}
+
+fn say_stray(
+    rt: &impl Abort,
+    out: &mut Finding,
+    found: &Message,
+    season: Season,
+    airport: Station,
+) {
+    assert!(rt; found.line <= 1_000, "a line behind the text");
+    match found.stray_line(season, airport) {
+        Some(stray) => out.say(format_args!("{stray:?} {}", stray.line())),
+        None => out.say("-"),
     }
 }
 
@@ -196,31 +188,30 @@ S25 ABC|-
 ";
 
 /// Appends the printed item, if it has a spelling.
-fn put_item(alloc: Global, out: &mut Vec<u8>, season: &Season, item: &Item) -> Result<(), Fail> {
+fn put_item(out: &mut Finding, season: &Season, item: &Item) {
     if item.fits(season) {
-        print_item(alloc, out, season, item)?;
+        let kept = print_item(out.alloc, &mut out.bytes, season, item);
+        out.keep(kept);
     }
-    Ok(())
 }
 
 /// The items of the first message in their printed spelling, or its fault.
-fn print_items(alloc: Global, out: &mut Vec<u8>, text: &[u8]) -> Result<(), Fail> {
-    let found = match message(alloc, text) {
+fn print_items(out: &mut Finding, text: &[u8]) {
+    let found = match message(out.alloc, text) {
         Ok(found) => found,
-        Err(fault) => return say(alloc, out, fault),
+        Err(fault) => return out.say(fault),
     };
     for placed in found.items.items() {
-        put_item(alloc, out, &found.season, &placed.item)?;
+        put_item(out, &found.season, &placed.item);
     }
-    Ok(())
 }
 
 #[derive(Drop)]
 struct FirstMessages;
 
 impl Case for FirstMessages {
-    fn find(&mut self, alloc: Global, given: &[u8], out: &mut Vec<u8>) -> Result<(), Fail> {
-        print_items(alloc, out, given)
+    fn find(&mut self, _rt: &impl Abort, given: &[u8], out: &mut Finding) {
+        print_items(out, given)
     }
 }
 
@@ -240,9 +231,9 @@ SCR;W27;20NOV;ABC;NBA1 28FEB01MAR 3 180320 JFK0610 J|NBA001 28FEB01MAR 0030000 1
 struct Printed;
 
 impl Case for Printed {
-    fn find(&mut self, alloc: Global, given: &[u8], out: &mut Vec<u8>) -> Result<(), Fail> {
-        let text = below(alloc, given)?;
-        print_items(alloc, out, &text)
+    fn find(&mut self, rt: &impl Abort, given: &[u8], out: &mut Finding) {
+        let text = below(rt, out.alloc, given);
+        print_items(out, &text)
     }
 }
 
@@ -292,42 +283,35 @@ NBA001 1A2320 30MAR25OCT 1234567 180320 JFK0610 0700JFK JJ|\
 struct Replies;
 
 impl Case for Replies {
-    fn find(&mut self, alloc: Global, given: &[u8], out: &mut Vec<u8>) -> Result<(), Fail> {
+    fn find(&mut self, rt: &impl Abort, given: &[u8], out: &mut Finding) {
         let (word, lines) = cut(given, b' ');
-        let code = reply_code(word)?;
-        let text = below(alloc, lines)?;
-        let found = message(alloc, &text)?;
+        let code = reply_code(rt, word);
+        let text = below(rt, out.alloc, lines);
+        let found = message(out.alloc, &text).expect(rt, "a message");
         for placed in found.items.items() {
-            put_reply(alloc, out, &found.season, code, &placed.item)?;
+            put_reply(out, &found.season, code, &placed.item);
         }
-        Ok(())
     }
 }
 
 /// Appends a line under the code, if it has a spelling.
-fn put_reply(
-    alloc: Global,
-    out: &mut Vec<u8>,
-    season: &Season,
-    code: Code,
-    item: &Item,
-) -> Result<(), Fail> {
+fn put_reply(out: &mut Finding, season: &Season, code: Code, item: &Item) {
     if let Item::One(line) = item
         && line.fits(season)
     {
-        print_line(alloc, out, season, code, line)?;
+        let kept = print_line(out.alloc, &mut out.bytes, season, code, line);
+        out.keep(kept);
     }
-    Ok(())
 }
 
-fn reply_code(word: &[u8]) -> Result<Code, Fail> {
+fn reply_code(rt: &impl Abort, word: &[u8]) -> Code {
     match word {
-        b"F" => Ok(Code::F),
-        b"U" => Ok(Code::U),
-        b"H" => Ok(Code::H),
-        b"X" => Ok(Code::X),
-        b"O" => Ok(Code::O),
-        _ => Err("code".into()),
+        b"F" => Code::F,
+        b"U" => Code::U,
+        b"H" => Code::H,
+        b"X" => Code::X,
+        b"O" => Code::O,
+        _ => panic!(rt; "code"),
     }
 }
 
@@ -346,14 +330,14 @@ O D 2A7 30MAR19OCT 7 005A32 2359JFKLHR J|O 2A007 30MAR19OCT 0000007 005A32 2359J
 struct Flights;
 
 impl Case for Flights {
-    fn find(&mut self, alloc: Global, given: &[u8], out: &mut Vec<u8>) -> Result<(), Fail> {
+    fn find(&mut self, _rt: &impl Abort, given: &[u8], out: &mut Finding) {
         let Some(flight) = read_flight(given) else {
-            return say(alloc, out, "-");
+            return out.say("-");
         };
-        say_flight(alloc, out, flight)?;
-        out.push(b' ')?;
-        print_flight(alloc, out, flight)?;
-        Ok(())
+        say_flight(out, flight);
+        out.put(b" ");
+        let kept = print_flight(out.alloc, &mut out.bytes, flight);
+        out.keep(kept);
     }
 }
 
@@ -369,16 +353,15 @@ BA0012|BA. 12 . BA012
 struct Periods;
 
 impl Case for Periods {
-    fn find(&mut self, alloc: Global, given: &[u8], out: &mut Vec<u8>) -> Result<(), Fail> {
-        let season = Season::read(b"S25").ok_or("season")?;
+    fn find(&mut self, rt: &impl Abort, given: &[u8], out: &mut Finding) {
+        let season = Season::read(b"S25").expect(rt, "season");
         let (period, days) = cut(given, b' ');
         match read_period(&season, period, days) {
-            Some(found) => say(
-                alloc,
-                out,
-                format_args!("{}-{}/{}", found.first.0, found.last.0, found.days),
-            ),
-            None => say(alloc, out, "-"),
+            Some(found) => out.say(format_args!(
+                "{}-{}/{}",
+                found.first.0, found.last.0, found.days
+            )),
+            None => out.say("-"),
         }
     }
 }
@@ -394,11 +377,11 @@ const PERIODS: &[u8] = b"\
 struct Items;
 
 impl Case for Items {
-    fn find(&mut self, alloc: Global, given: &[u8], out: &mut Vec<u8>) -> Result<(), Fail> {
-        let season = Season::read(b"S25").ok_or("season")?;
-        match read_item(alloc, &season, given)? {
-            Some(item) => put_item(alloc, out, &season, &item),
-            None => say(alloc, out, "-"),
+    fn find(&mut self, rt: &impl Abort, given: &[u8], out: &mut Finding) {
+        let season = Season::read(b"S25").expect(rt, "season");
+        match read_item(out.alloc, &season, given).expect(rt, "memory") {
+            Some(item) => put_item(out, &season, &item),
+            None => out.say("-"),
         }
     }
 }
@@ -422,10 +405,10 @@ CBA002 31MAR31MAR 1030500 180320 JFK0610 J;|-
 ";
 
 /// Says the fault of a text, if it has one.
-fn say_fault(alloc: Global, out: &mut Vec<u8>, text: &[u8]) -> Result<(), Fail> {
-    match messages(alloc, text) {
-        Ok(_) => say(alloc, out, "-"),
-        Err(fault) => say(alloc, out, fault),
+fn say_fault(out: &mut Finding, text: &[u8]) {
+    match messages(out.alloc, text) {
+        Ok(_) => out.say("-"),
+        Err(fault) => out.say(fault),
     }
 }
 
@@ -434,8 +417,8 @@ fn say_fault(alloc: Global, out: &mut Vec<u8>, text: &[u8]) -> Result<(), Fail> 
 struct Faults;
 
 impl Case for Faults {
-    fn find(&mut self, alloc: Global, given: &[u8], out: &mut Vec<u8>) -> Result<(), Fail> {
-        say_fault(alloc, out, given)
+    fn find(&mut self, _rt: &impl Abort, given: &[u8], out: &mut Finding) {
+        say_fault(out, given)
     }
 }
 
@@ -472,9 +455,9 @@ SCR;S25;20NOV;ABC;;SCR;S25;20NOV;ABC|-
 struct FaultsBelow;
 
 impl Case for FaultsBelow {
-    fn find(&mut self, alloc: Global, given: &[u8], out: &mut Vec<u8>) -> Result<(), Fail> {
-        let text = below(alloc, given)?;
-        say_fault(alloc, out, &text)
+    fn find(&mut self, rt: &impl Abort, given: &[u8], out: &mut Finding) {
+        let text = below(rt, out.alloc, given);
+        say_fault(out, &text)
     }
 }
 
@@ -483,11 +466,11 @@ impl Case for FaultsBelow {
 struct FaultLines;
 
 impl Case for FaultLines {
-    fn find(&mut self, alloc: Global, given: &[u8], out: &mut Vec<u8>) -> Result<(), Fail> {
-        let text = below(alloc, given)?;
-        match messages(alloc, &text) {
-            Ok(_) => say(alloc, out, "-"),
-            Err(fault) => show(alloc, out, fault.line()),
+    fn find(&mut self, rt: &impl Abort, given: &[u8], out: &mut Finding) {
+        let text = below(rt, out.alloc, given);
+        match messages(out.alloc, &text) {
+            Ok(_) => out.say("-"),
+            Err(fault) => out.show(fault.line()),
         }
     }
 }
@@ -578,29 +561,29 @@ CBA001 31MAR 1 180320 JFK0610 J;SI <198A>;RBA001 31MAR 1 180320 JFK0610 J|\
 ";
 
 #[test]
-fn messages_are_read(rt: HostRuntime) -> Result<(), Fail> {
+fn messages_are_read(rt: HostRuntime) {
     let alloc = rt.alloc();
-    walk(alloc, &mut Cuts, CUTS)?;
-    walk(alloc, &mut Readings, READINGS)?;
-    walk(alloc, &mut Strays, STRAYS)?;
-    walk(alloc, &mut Flights, FLIGHTS)?;
-    walk(alloc, &mut Periods, PERIODS)
+    walk(&rt, alloc, &mut Cuts, CUTS);
+    walk(&rt, alloc, &mut Readings, READINGS);
+    walk(&rt, alloc, &mut Strays, STRAYS);
+    walk(&rt, alloc, &mut Flights, FLIGHTS);
+    walk(&rt, alloc, &mut Periods, PERIODS)
 }
 
 #[test]
-fn messages_are_printed(rt: HostRuntime) -> Result<(), Fail> {
+fn messages_are_printed(rt: HostRuntime) {
     let alloc = rt.alloc();
-    walk(alloc, &mut FirstMessages, FIRST_MESSAGES)?;
-    walk(alloc, &mut Printed, PRINTED)?;
-    walk(alloc, &mut Replies, REPLIES)?;
-    walk(alloc, &mut Items, ITEMS)
+    walk(&rt, alloc, &mut FirstMessages, FIRST_MESSAGES);
+    walk(&rt, alloc, &mut Printed, PRINTED);
+    walk(&rt, alloc, &mut Replies, REPLIES);
+    walk(&rt, alloc, &mut Items, ITEMS)
 }
 
 #[test]
-fn faults_are_named(rt: HostRuntime) -> Result<(), Fail> {
+fn faults_are_named(rt: HostRuntime) {
     let alloc = rt.alloc();
-    walk(alloc, &mut Faults, FAULTS)?;
-    walk(alloc, &mut FaultLines, FAULT_LINES)?;
-    walk(alloc, &mut FaultsBelow, FIELD_FAULTS)?;
-    walk(alloc, &mut FaultsBelow, PAIR_FAULTS)
+    walk(&rt, alloc, &mut Faults, FAULTS);
+    walk(&rt, alloc, &mut FaultLines, FAULT_LINES);
+    walk(&rt, alloc, &mut FaultsBelow, FIELD_FAULTS);
+    walk(&rt, alloc, &mut FaultsBelow, PAIR_FAULTS)
 }

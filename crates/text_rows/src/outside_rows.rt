@@ -1,12 +1,11 @@
 //! A cabinet and a sink in memory, whose listed calls fail, and those of the real system.
 
-use crate::rows::{Case, cut, number, say, show, walk};
-use desk_outside::{
-    Cabinet, Failure, MemoryCabinet, MemorySink, RealCabinet, RealSink, Sink, SinkFault,
-};
+use crate::rows::{Case, Finding, cut, number, path_in, walk};
+use desk_outside::{Cabinet, Failure, MemoryCabinet, MemorySink, RealCabinet, RealSink, Sink};
 use std::alloc::Global;
 use std::fmt::Display;
-use std::test::Fail;
+use std::process::Abort;
+use std::rt::Files;
 use std::{env, fs, io, process};
 use worker_gate::{Gate, RealGate};
 
@@ -18,35 +17,39 @@ struct CabinetCalls {
 }
 
 impl Case for CabinetCalls {
-    fn find(&mut self, alloc: Global, given: &[u8], out: &mut Vec<u8>) -> Result<(), Fail> {
+    fn find(&mut self, rt: &impl Abort, given: &[u8], out: &mut Finding) {
         let (call, rest) = cut(given, b' ');
         let (name, bytes) = cut(rest, b' ');
-        let name = str::from_utf8(name)?;
-        match call {
-            b"load" => show(alloc, out, self.cabinet.load(name, bytes))?,
-            b"write" => show(alloc, out, self.cabinet.write(name, bytes))?,
-            b"read" => read(alloc, out, &mut self.cabinet, name, bytes)?,
-            _ => return Err("no such call".into()),
-        }
-        let faults = self.cabinet.faults();
-        say(alloc, out, format_args!(" {faults} "))?;
-        out.extend_from_slice(self.cabinet.file(name).unwrap_or(b"-"))?;
-        Ok(())
+        let name = str::from_utf8(name).expect(rt, "a name of text");
+        answer(rt, &mut self.cabinet, call, name, bytes, out);
+        out.say(format_args!(" {} ", self.cabinet.faults()));
+        let file = self.cabinet.file(name).unwrap_or(b"-");
+        out.put(file);
     }
 }
 
-fn read<C: Cabinet>(
-    alloc: Global,
-    out: &mut Vec<u8>,
-    cabinet: &mut C,
+/// Makes the call of this word on a cabinet in memory.
+fn answer(
+    rt: &impl Abort,
+    cabinet: &mut MemoryCabinet,
+    call: &[u8],
     name: &str,
-    most: &[u8],
-) -> Result<(), Fail> {
-    match cabinet.read(alloc, name, number(most, 1)? as usize) {
-        Ok(found) => out.extend_from_slice(&found)?,
-        Err(fault) => say(alloc, out, format_args!("Err({fault:?})"))?,
+    bytes: &[u8],
+    out: &mut Finding,
+) {
+    match call {
+        b"load" => out.show(cabinet.load(name, bytes)),
+        b"write" => out.show(cabinet.write(name, bytes)),
+        b"read" => read(rt, out, cabinet, name, bytes),
+        _ => out.put(b"no such call"),
     }
-    Ok(())
+}
+
+fn read<C: Cabinet>(rt: &impl Abort, out: &mut Finding, cabinet: &mut C, name: &str, most: &[u8]) {
+    match cabinet.read(out.alloc, name, number(rt, most, 1) as usize) {
+        Ok(found) => out.put(&found),
+        Err(fault) => out.say(format_args!("Err({fault:?})")),
+    }
 }
 
 // Room for two files of at most 4 bytes. Reads and writes count from 0, and these fail: 2; 5 after
@@ -77,16 +80,15 @@ struct SinkCalls {
 }
 
 impl Case for SinkCalls {
-    fn find(&mut self, alloc: Global, given: &[u8], out: &mut Vec<u8>) -> Result<(), Fail> {
+    fn find(&mut self, _rt: &impl Abort, given: &[u8], out: &mut Finding) {
         let answer = if self.sink.put(given).is_ok() {
             "put"
         } else {
             "fault"
         };
         let faults = self.sink.faults();
-        say(alloc, out, format_args!("{answer} {faults} "))?;
-        out.extend_from_slice(self.sink.bytes())?;
-        Ok(())
+        out.say(format_args!("{answer} {faults} "));
+        out.put(self.sink.bytes());
     }
 }
 
@@ -103,19 +105,33 @@ a|fault 5 abcdex
 ";
 
 #[test]
-fn objects_in_memory_fail_where_listed_or_full(rt: HostRuntime) -> Result<(), Fail> {
-    let alloc = rt.alloc();
+fn objects_in_memory_fail_where_listed_or_full(rt: HostRuntime) {
+    let cabinet = failing_cabinet(&rt, rt.alloc());
+    walk(
+        &rt,
+        rt.alloc(),
+        &mut CabinetCalls { cabinet },
+        CABINET_CALLS,
+    );
+    let sink = failing_sink(&rt, rt.alloc());
+    walk(&rt, rt.alloc(), &mut SinkCalls { sink }, SINK_CALLS)
+}
+
+fn failing_cabinet(rt: &impl Abort, alloc: Global) -> MemoryCabinet {
     let failing = [
         Failure::at(2),
         Failure::after(5, 2),
         Failure::after(7, 9),
         Failure::at(9),
     ];
-    let cabinet = MemoryCabinet::new(alloc, 2, 4, failing.to_vec(alloc)?)?;
-    walk(alloc, &mut CabinetCalls { cabinet }, CABINET_CALLS)?;
+    let failing = failing.to_vec(alloc).expect(rt, "memory");
+    MemoryCabinet::new(alloc, 2, 4, failing).expect(rt, "memory")
+}
+
+fn failing_sink(rt: &impl Abort, alloc: Global) -> MemorySink {
     let failing = [Failure::at(1), Failure::after(3, 2), Failure::after(5, 9)];
-    let sink = MemorySink::new(alloc, 6, failing.to_vec(alloc)?)?;
-    walk(alloc, &mut SinkCalls { sink }, SINK_CALLS)
+    let failing = failing.to_vec(alloc).expect(rt, "memory");
+    MemorySink::new(alloc, 6, failing).expect(rt, "memory")
 }
 
 /// Calls of the real cabinet under one name, one a row: what each answers, and the count of faults.
@@ -126,14 +142,14 @@ struct RealCalls<'a, C: Cabinet + Drop> {
 }
 
 impl<C: Cabinet + Drop> Case for RealCalls<'_, C> {
-    fn find(&mut self, alloc: Global, given: &[u8], out: &mut Vec<u8>) -> Result<(), Fail> {
+    fn find(&mut self, rt: &impl Abort, given: &[u8], out: &mut Finding) {
         let (call, bytes) = cut(given, b' ');
         match call {
-            b"write" => show(alloc, out, self.cabinet.write(self.name, bytes))?,
-            b"read" => read(alloc, out, &mut self.cabinet, self.name, bytes)?,
-            _ => return Err("no such call".into()),
+            b"write" => out.show(self.cabinet.write(self.name, bytes)),
+            b"read" => read(rt, out, &mut self.cabinet, self.name, bytes),
+            _ => out.put(b"no such call"),
         }
-        say(alloc, out, format_args!(" {}", self.cabinet.faults()))
+        out.say(format_args!(" {}", self.cabinet.faults()))
     }
 }
 
@@ -153,24 +169,42 @@ write x|Err(Failed) 2
 ";
 
 #[test]
-fn the_system_keeps_a_file(rt: HostRuntime) -> Result<(), Fail> {
-    let alloc = rt.alloc();
-    let file = format!(in alloc; "desk-outside-test-{}", process::id(rt.process()))?;
-    let path = env::temp_dir(&rt)?.join(alloc, file.as_str())?;
-    let name = path.as_path().to_str().ok_or("path")?;
-    let cabinet = RealCabinet::new(&rt);
+fn the_system_keeps_a_file(rt: HostRuntime) {
+    let folder = env::temp_dir(&rt).expect(&rt, "a folder for files of a test");
+    let process = process::id(rt.process());
+    let path = path_in(
+        &rt,
+        rt.alloc(),
+        folder.as_path(),
+        "desk-outside-test",
+        process,
+    );
+    keeps(&rt, rt.alloc(), path.as_path().to_str().expect(&rt, "path"))
+}
+
+/// Keeps a file of this name, and then finds none.
+fn keeps<R: Abort + Files>(rt: &R, alloc: Global, name: &str) {
+    let cabinet = RealCabinet::new(rt);
     let mut calls = RealCalls { cabinet, name };
-    walk(alloc, &mut calls, FILE_CALLS)?;
-    fs::remove_file(&rt, name)?;
-    walk(alloc, &mut calls, CALLS_WITHOUT_FILE)
+    walk(rt, alloc, &mut calls, FILE_CALLS);
+    fs::remove_file(rt, name).expect(rt, "the file is there");
+    walk(rt, alloc, &mut calls, CALLS_WITHOUT_FILE)
 }
 
 #[test]
-fn the_system_refuses_a_folder(rt: HostRuntime) -> Result<(), Fail> {
-    let folder = env::temp_dir(&rt)?;
-    let name = folder.as_path().to_str().ok_or("path")?;
-    let cabinet = RealCabinet::new(&rt);
-    walk(rt.alloc(), &mut RealCalls { cabinet, name }, FOLDER_CALLS)
+fn the_system_refuses_a_folder(rt: HostRuntime) {
+    let folder = env::temp_dir(&rt).expect(&rt, "a folder for files of a test");
+    refuses(
+        &rt,
+        rt.alloc(),
+        folder.as_path().to_str().expect(&rt, "path"),
+    )
+}
+
+/// Refuses to read and to write a folder of this name.
+fn refuses<R: Abort + Files>(rt: &R, alloc: Global, name: &str) {
+    let cabinet = RealCabinet::new(rt);
+    walk(rt, alloc, &mut RealCalls { cabinet, name }, FOLDER_CALLS)
 }
 
 /// An output that takes nothing.
@@ -193,13 +227,34 @@ impl Print for ClosedOutput {
 
 #[test]
 fn the_system_has_an_output(rt: HostRuntime) {
-    let mut sink = RealSink::new(&rt);
-    assert_eq!(rt; sink.put(b"a line of a test\n"), Ok(()));
-    assert_eq!(rt; sink.faults(), 0);
+    let sink = RealSink::new(&rt);
+    walk(
+        &rt,
+        rt.alloc(),
+        &mut OutputCalls { sink },
+        b"a line of a test;|Ok(()) 0\n",
+    );
     let closed = ClosedOutput;
-    let mut sink = RealSink::new(&closed);
-    assert_eq!(rt; sink.put(b"lost"), Err(SinkFault));
-    assert_eq!(rt; sink.faults(), 1);
+    let sink = RealSink::new(&closed);
+    walk(
+        &rt,
+        rt.alloc(),
+        &mut OutputCalls { sink },
+        b"lost|Err(SinkFault) 1\n",
+    )
+}
+
+/// Calls of a sink over an output, one a row: what each answers, and the count of faults.
+#[derive(Drop)]
+struct OutputCalls<S: Sink + Drop> {
+    sink: S,
+}
+
+impl<S: Sink + Drop> Case for OutputCalls<S> {
+    fn find(&mut self, _rt: &impl Abort, given: &[u8], out: &mut Finding) {
+        out.show(self.sink.put(given));
+        out.say(format_args!(" {}", self.sink.faults()))
+    }
 }
 
 /// Passes both points of a gate, and counts them.
@@ -209,17 +264,13 @@ fn pass<G: Gate>(gate: &G, worker: u32) -> u32 {
     2
 }
 
-/// Takes what may go to another thread and be shared there.
-fn share<T: Send + Sync>(_value: &T) -> bool {
+/// Whether values of this type may go to another thread and be shared there.
+fn is_shared<T: Send + Sync>() -> bool {
     true
 }
 
 #[test]
-fn what_threads_may_have(rt: HostRuntime) -> Result<(), Fail> {
-    let alloc = rt.alloc();
-    assert_eq!(rt; pass(&RealGate, 0), 2);
-    let cabinet = MemoryCabinet::new(alloc, 1, 1, Vec::new(alloc))?;
-    let sink = MemorySink::new(alloc, 1, Vec::new(alloc))?;
-    assert!(rt; share(&cabinet) && share(&sink));
-    Ok(())
+fn what_threads_may_have(rt: HostRuntime) {
+    assert!(rt; pass(&RealGate, 0) == 2);
+    assert!(rt; is_shared::<MemoryCabinet>() && is_shared::<MemorySink>());
 }

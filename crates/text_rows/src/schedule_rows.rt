@@ -1,21 +1,21 @@
 //! Times, days of operation and kinds. The rows are worked by hand.
 
-use crate::rows::{Case, say, show, walk};
+use crate::rows::{Case, Finding, walk};
 use schedule_text::{
     kind_text, places_of, read_kind, read_places, read_time, read_two_digits, read_weekdays,
 };
 use std::alloc::Global;
-use std::test::Fail;
+use std::process::Abort;
 
 /// A text as a time, and as two digits.
 #[derive(Drop)]
 struct Times;
 
 impl Case for Times {
-    fn find(&mut self, alloc: Global, given: &[u8], out: &mut Vec<u8>) -> Result<(), Fail> {
-        show(alloc, out, read_time(given))?;
-        out.push(b' ')?;
-        show(alloc, out, read_two_digits(given))
+    fn find(&mut self, _rt: &impl Abort, given: &[u8], out: &mut Finding) {
+        out.show(read_time(given));
+        out.put(b" ");
+        out.show(read_two_digits(given))
     }
 }
 
@@ -38,16 +38,15 @@ const TIMES: &[u8] = b"\
 struct Weekdays;
 
 impl Case for Weekdays {
-    fn find(&mut self, alloc: Global, given: &[u8], out: &mut Vec<u8>) -> Result<(), Fail> {
+    fn find(&mut self, _rt: &impl Abort, given: &[u8], out: &mut Finding) {
         let days = read_weekdays(given);
-        show(alloc, out, days)?;
-        out.push(b' ')?;
-        show(alloc, out, read_places(given))?;
+        out.show(days);
+        out.put(b" ");
+        out.show(read_places(given));
         if let Some(days) = days {
-            out.push(b' ')?;
-            out.extend_from_slice(&places_of(days))?;
+            out.put(b" ");
+            out.put(&places_of(days));
         }
-        Ok(())
     }
 }
 
@@ -74,14 +73,13 @@ const WEEKDAYS: &[u8] = b"\
 struct Kinds;
 
 impl Case for Kinds {
-    fn find(&mut self, alloc: Global, given: &[u8], out: &mut Vec<u8>) -> Result<(), Fail> {
+    fn find(&mut self, _rt: &impl Abort, given: &[u8], out: &mut Finding) {
         let Some(kind) = read_kind(given) else {
-            return say(alloc, out, "-");
+            return out.say("-");
         };
-        show(alloc, out, kind)?;
-        out.push(b' ')?;
-        out.extend_from_slice(&kind_text(kind))?;
-        Ok(())
+        out.show(kind);
+        out.put(b" ");
+        out.put(&kind_text(kind));
     }
 }
 
@@ -95,9 +93,9 @@ ARRX|-
 ";
 
 #[test]
-fn times_days_and_kinds(rt: HostRuntime) -> Result<(), Fail> {
+fn times_days_and_kinds(rt: HostRuntime) {
     let alloc = rt.alloc();
-    walk(alloc, &mut Times, TIMES)?;
-    walk(alloc, &mut Weekdays, WEEKDAYS)?;
-    walk(alloc, &mut Kinds, KINDS)
+    walk(&rt, alloc, &mut Times, TIMES);
+    walk(&rt, alloc, &mut Weekdays, WEEKDAYS);
+    walk(&rt, alloc, &mut Kinds, KINDS)
 }

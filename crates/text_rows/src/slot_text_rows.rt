@@ -1,21 +1,21 @@
 //! Lines, fields, numbers and stations. The rows are worked by hand.
 
-use crate::rows::{Case, cut, number, say, walk, yes_no};
+use crate::rows::{Case, Finding, cut, number, walk, yes_no};
 use slot_text::{
     Lines, Station, field, is_blank_byte, is_blank_line, is_trimmed, put_number, put_padded,
     read_u64,
 };
 use std::alloc::Global;
-use std::test::Fail;
+use std::process::Abort;
 
 #[derive(Drop)]
 struct Numbers;
 
 impl Case for Numbers {
-    fn find(&mut self, alloc: Global, given: &[u8], out: &mut Vec<u8>) -> Result<(), Fail> {
+    fn find(&mut self, _rt: &impl Abort, given: &[u8], out: &mut Finding) {
         match read_u64(given) {
-            Ok(value) => say(alloc, out, value),
-            Err(fault) => say(alloc, out, fault),
+            Ok(value) => out.say(value),
+            Err(fault) => out.say(fault),
         }
     }
 }
@@ -46,19 +46,18 @@ const NUMBERS: &[u8] = b"\
 struct LinesOf;
 
 impl Case for LinesOf {
-    fn find(&mut self, _alloc: Global, given: &[u8], out: &mut Vec<u8>) -> Result<(), Fail> {
-        let most = number(given, 1)?;
+    fn find(&mut self, rt: &impl Abort, given: &[u8], out: &mut Finding) {
+        let most = number(rt, given, 1);
         let (_, text) = cut(given, b' ');
         let mut lines = Lines::new(text);
         for _ in 0..most {
             let Some(line) = lines.next_line() else {
                 break;
             };
-            out.extend_from_slice(line)?;
-            out.push(b',')?;
+            out.put(line);
+            out.put(b",");
         }
-        out.extend_from_slice(lines.rest())?;
-        Ok(())
+        out.put(lines.rest());
     }
 }
 
@@ -83,11 +82,10 @@ const LINES: &[u8] = b"\
 struct Fields;
 
 impl Case for Fields {
-    fn find(&mut self, _alloc: Global, given: &[u8], out: &mut Vec<u8>) -> Result<(), Fail> {
+    fn find(&mut self, rt: &impl Abort, given: &[u8], out: &mut Finding) {
         let (line, place) = cut(given, b'#');
-        let found = field(line, number(place, 1)?);
-        out.extend_from_slice(found.unwrap_or(b"(none)"))?;
-        Ok(())
+        let found = field(line, number(rt, place, 1));
+        out.put(found.unwrap_or(b"(none)"));
     }
 }
 
@@ -110,14 +108,14 @@ a#4294967295|(none)
 struct Blanks;
 
 impl Case for Blanks {
-    fn find(&mut self, alloc: Global, given: &[u8], out: &mut Vec<u8>) -> Result<(), Fail> {
+    fn find(&mut self, _rt: &impl Abort, given: &[u8], out: &mut Finding) {
         let first = match given.first() {
             Some(byte) => yes_no(is_blank_byte(*byte)),
             None => "-",
         };
         let blank = yes_no(is_blank_line(given));
         let trimmed = yes_no(is_trimmed(given));
-        say(alloc, out, format_args!("{blank} {trimmed} {first}"))
+        out.say(format_args!("{blank} {trimmed} {first}"))
     }
 }
 
@@ -138,13 +136,14 @@ a\t|no no no
 struct Digits;
 
 impl Case for Digits {
-    fn find(&mut self, alloc: Global, given: &[u8], out: &mut Vec<u8>) -> Result<(), Fail> {
-        let value = read_u64(field(given, 1).ok_or("value")?)?;
-        out.push(b'=')?;
-        put_number(alloc, out, value)?;
-        out.push(b'=')?;
-        put_padded(alloc, out, value, number(given, 2)?)?;
-        Ok(())
+    fn find(&mut self, rt: &impl Abort, given: &[u8], out: &mut Finding) {
+        let value = read_u64(field(given, 1).expect(rt, "value")).expect(rt, "a number");
+        out.put(b"=");
+        let kept = put_number(out.alloc, &mut out.bytes, value);
+        out.keep(kept);
+        out.put(b"=");
+        let kept = put_padded(out.alloc, &mut out.bytes, value, number(rt, given, 2));
+        out.keep(kept);
     }
 }
 
@@ -161,12 +160,11 @@ const DIGITS: &[u8] = b"\
 struct Stations;
 
 impl Case for Stations {
-    fn find(&mut self, _alloc: Global, given: &[u8], out: &mut Vec<u8>) -> Result<(), Fail> {
+    fn find(&mut self, _rt: &impl Abort, given: &[u8], out: &mut Finding) {
         match Station::read(given) {
-            Some(station) => out.extend_from_slice(&station.0)?,
-            None => out.push(b'-')?,
+            Some(station) => out.put(&station.0),
+            None => out.put(b"-"),
         }
-        Ok(())
     }
 }
 
@@ -182,17 +180,17 @@ AB[|-
 ";
 
 #[test]
-fn lines_and_their_fields(rt: HostRuntime) -> Result<(), Fail> {
+fn lines_and_their_fields(rt: HostRuntime) {
     let alloc = rt.alloc();
-    walk(alloc, &mut LinesOf, LINES)?;
-    walk(alloc, &mut Fields, FIELDS)?;
-    walk(alloc, &mut Blanks, BLANKS)
+    walk(&rt, alloc, &mut LinesOf, LINES);
+    walk(&rt, alloc, &mut Fields, FIELDS);
+    walk(&rt, alloc, &mut Blanks, BLANKS)
 }
 
 #[test]
-fn numbers_and_stations(rt: HostRuntime) -> Result<(), Fail> {
+fn numbers_and_stations(rt: HostRuntime) {
     let alloc = rt.alloc();
-    walk(alloc, &mut Numbers, NUMBERS)?;
-    walk(alloc, &mut Digits, DIGITS)?;
-    walk(alloc, &mut Stations, STATIONS)
+    walk(&rt, alloc, &mut Numbers, NUMBERS);
+    walk(&rt, alloc, &mut Digits, DIGITS);
+    walk(&rt, alloc, &mut Stations, STATIONS)
 }

@@ -1,9 +1,9 @@
 //! Words of a command line, and what they ask for.
 
-use crate::rows::{Case, say, walk};
+use crate::rows::{Case, Finding, walk};
 use command_words::{Job, NameList, WordFault, read_words};
 use std::alloc::Global;
-use std::test::Fail;
+use std::process::Abort;
 
 /// Words with one blank between two, so that two blanks have an empty word between them; what they
 /// ask for, with a comma between two names, or `no`.
@@ -11,108 +11,122 @@ use std::test::Fail;
 struct CommandWords;
 
 impl Case for CommandWords {
-    fn find(&mut self, alloc: Global, given: &[u8], out: &mut Vec<u8>) -> Result<(), Fail> {
-        let words = words_in(alloc, given)?;
-        match read_words(alloc, &words) {
-            Ok(job) => say_job(alloc, out, &job),
-            Err(WordFault::Words) => say(alloc, out, "no"),
-            Err(WordFault::Memory) => Err("memory ran out".into()),
+    fn find(&mut self, rt: &impl Abort, given: &[u8], out: &mut Finding) {
+        let words = words_in(rt, out.alloc, given);
+        match read_words(out.alloc, &words) {
+            Ok(job) => say_job(out, &job),
+            Err(WordFault::Words) => out.say("no"),
+            Err(WordFault::Memory) => out.put(b"memory ran out"),
         }
     }
 }
 
-fn words_in(alloc: Global, given: &[u8]) -> Result<Vec<String>, Fail> {
+fn words_in(rt: &impl Abort, alloc: Global, given: &[u8]) -> Vec<String> {
     let mut words = Vec::new(alloc);
     for word in given.split(|byte| *byte == b' ') {
-        let mut bytes = Vec::new(alloc);
-        bytes.extend_from_slice(word)?;
-        words.push(String::from_utf8(bytes)?)?;
+        words.push(word_of(rt, alloc, word)).expect(rt, "memory");
     }
-    Ok(words)
+    words
 }
 
-fn say_job(alloc: Global, out: &mut Vec<u8>, job: &Job) -> Result<(), Fail> {
-    match job {
-        Job::Allocate {
-            names,
-            nodes,
-            workers,
-        } => {
-            say_names(alloc, out, "allocate", names)?;
-            say_numbers(alloc, out, *nodes, *workers)
-        }
-        Job::Check { names } => say_names(alloc, out, "check", names),
-        Job::Amend { names } => say_names(alloc, out, "amend", names),
+fn word_of(rt: &impl Abort, alloc: Global, bytes: &[u8]) -> String {
+    let text = str::from_utf8(bytes).expect(rt, "a word of text");
+    String::from_str(alloc, text).expect(rt, "memory")
+}
+
+fn say_job(out: &mut Finding, job: &Job) {
+    out.say(command_of(job));
+    if let Some(names) = names_of(job) {
+        say_names(out, names);
+    }
+    for number in numbers_of(job) {
+        say_number(out, number);
+    }
+}
+
+fn say_number(out: &mut Finding, number: Option<u32>) {
+    if let Some(number) = number {
+        out.say(format_args!(" {number}"));
+    }
+}
+
+/// The numbers of a job, in their order.
+fn numbers_of(job: &Job) -> [Option<u32>; 3] {
+    match *job {
+        Job::Allocate { nodes, workers, .. } => [Some(nodes), Some(workers), None],
+        Job::Reclear { nodes, workers, .. } => [Some(nodes), Some(workers), None],
         Job::Serve {
-            names,
             links,
             port,
             workers,
-        } => {
-            say_names(alloc, out, "serve", names)?;
-            say_numbers(alloc, out, *links, *port)?;
-            say(alloc, out, format!(in alloc; " {workers}")?)
-        }
+            ..
+        } => [Some(links), Some(port), Some(workers)],
         Job::Resume {
-            names,
             links,
             port,
             workers,
-        } => {
-            say_names(alloc, out, "resume", names)?;
-            say_numbers(alloc, out, *links, *port)?;
-            say(alloc, out, format!(in alloc; " {workers}")?)
-        }
-        Job::Usage { names } => say_names(alloc, out, "usage", names),
-        Job::Reclear {
-            names,
-            nodes,
-            workers,
-        } => {
-            say_names(alloc, out, "reclear", names)?;
-            say_numbers(alloc, out, *nodes, *workers)
-        }
-        Job::Recheck { names } => say_names(alloc, out, "recheck", names),
-        Job::Report { names } => say_names(alloc, out, "report", names),
-        Job::Inspect { names } => say_names(alloc, out, "inspect", names),
-        Job::Make {
-            number,
-            units,
-            names,
-        } => {
-            say_names(alloc, out, "make", names)?;
-            say_numbers(alloc, out, *number, *units)
-        }
-        Job::Trial { number, units } => {
-            say(alloc, out, "trial")?;
-            say_numbers(alloc, out, *number, *units)
-        }
+            ..
+        } => [Some(links), Some(port), Some(workers)],
+        Job::Make { number, units, .. } => [Some(number), Some(units), None],
+        Job::Trial { number, units } => [Some(number), Some(units), None],
+        Job::Check { .. }
+        | Job::Amend { .. }
+        | Job::Usage { .. }
+        | Job::Recheck { .. }
+        | Job::Report { .. }
+        | Job::Inspect { .. } => [None; 3],
     }
 }
 
-fn say_numbers(alloc: Global, out: &mut Vec<u8>, one: u32, two: u32) -> Result<(), Fail> {
-    say(alloc, out, format!(in alloc; " {one} {two}")?)
+/// The command of a job.
+fn command_of(job: &Job) -> &'static str {
+    match job {
+        Job::Allocate { .. } => "allocate",
+        Job::Check { .. } => "check",
+        Job::Amend { .. } => "amend",
+        Job::Serve { .. } => "serve",
+        Job::Resume { .. } => "resume",
+        Job::Usage { .. } => "usage",
+        Job::Reclear { .. } => "reclear",
+        Job::Recheck { .. } => "recheck",
+        Job::Report { .. } => "report",
+        Job::Inspect { .. } => "inspect",
+        Job::Make { .. } => "make",
+        Job::Trial { .. } => "trial",
+    }
 }
 
-fn say_names(
-    alloc: Global,
-    out: &mut Vec<u8>,
-    command: &str,
-    names: &NameList,
-) -> Result<(), Fail> {
-    say(alloc, out, command)?;
+/// The names of a job, if it has some.
+fn names_of(job: &Job) -> Option<&NameList> {
+    match job {
+        Job::Allocate { names, .. }
+        | Job::Check { names }
+        | Job::Amend { names }
+        | Job::Serve { names, .. }
+        | Job::Resume { names, .. }
+        | Job::Usage { names }
+        | Job::Reclear { names, .. }
+        | Job::Recheck { names }
+        | Job::Report { names }
+        | Job::Inspect { names }
+        | Job::Make { names, .. } => Some(names),
+        Job::Trial { .. } => None,
+    }
+}
+
+fn say_names(out: &mut Finding, names: &NameList) {
     let mut mark = " ";
     for name in names.items() {
-        say(alloc, out, mark)?;
-        say(alloc, out, name.text())?;
+        out.say(mark);
+        out.say(name.text());
         mark = ",";
     }
-    Ok(())
 }
 
 #[test]
-fn words_ask_for_jobs(rt: HostRuntime) -> Result<(), Fail> {
+fn words_ask_for_jobs(rt: HostRuntime) {
     walk(
+        &rt,
         rt.alloc(),
         &mut CommandWords,
         b"\
@@ -159,8 +173,9 @@ allocate A B C D -h|no
 }
 
 #[test]
-fn words_are_names(rt: HostRuntime) -> Result<(), Fail> {
+fn words_are_names(rt: HostRuntime) {
     walk(
+        &rt,
         rt.alloc(),
         &mut CommandWords,
         "\
@@ -278,8 +293,9 @@ resume -- --links 5 A B C|resume --links,5,A,B,C 1 7710 4
 
 /// The two numbers stand before the names.
 #[test]
-fn words_ask_for_generated_seasons(rt: HostRuntime) -> Result<(), Fail> {
+fn words_ask_for_generated_seasons(rt: HostRuntime) {
     walk(
+        &rt,
         rt.alloc(),
         &mut CommandWords,
         b"\
