@@ -1,6 +1,6 @@
 //! Days of operation: as seven places, or as rising digits.
 
-ghost use Rattle.std.specs.Prelude.{◌≡◌, ◌<◌, ◌≤◌, ◌↔◌, ◌++◌, [], ℕ, List, IfSome, IsSomeAnd, IsTrue, Some, length, slice_index_or};
+ghost use Rattle.std.specs.Prelude.{◌≡◌, ◌<◌, ◌≤◌, ◌↔◌, ◌++◌, [], ℕ, List, IfSome, IfNone, IsSomeAnd, IsTrue, Some, length, slice_index_or};
 ghost use Rattle.schedule_text.specs.Days.{IsDays, days_text, place_of_day, rising_text, rising_digit};
 ghost use Rattle.schedule_text.specs.Bits.{bit_of_place, digit_bit, digit_bits};
 
@@ -127,6 +127,21 @@ pub fn read_places(text: &[u8]) -> Option<u8>
     ensures found { IfSome result (λ days. (days < 128) × (text.now ≡ days_text days)) }
     ensures only { (days : ℕ) → days < 128 → text.now ≡ days_text days → result ≡ Some days }
 {
+    let days = bits_of(text)?;
+    if text == places_of(days).as_slice() {
+        Some(days)
+    } else {
+        None
+    }
+}
+
+/// The bits of seven places, of which each holds 0 or a digit.
+fn bits_of(text: &[u8]) -> Option<u8>
+    ensures week { IfSome result (λ days. days < 128) }
+    ensures only { IfSome result (λ days. (named : ℕ) → named < 128 → text.now ≡ days_text named →
+        days ≡ named) }
+    ensures none { IfNone result ((named : ℕ) → text.now ≡ days_text named → ⊥) }
+{
     let [
         monday,
         tuesday,
@@ -146,16 +161,13 @@ pub fn read_places(text: &[u8]) -> Option<u8>
         + 16 * bit(*friday)
         + 32 * bit(*saturday)
         + 64 * bit(*sunday);
-    if text == places_of(days).as_slice() {
-        Some(days)
-    } else {
-        None
-    }
+    Some(days)
 }
 
 /// 1 where the place holds the digit of its weekday.
 fn bit(place: u8) -> u8
-    ensures { result ≡ bit_of_place place }
+    ensures value { result ≡ bit_of_place place }
+    ensures bound { result ≤ 1 }
 {
     if place == b'0' { 0 } else { 1 }
 }
