@@ -260,8 +260,8 @@ pub day_named : (season : Term) (month of_month day : ℕ) → season.year < 100
 day_named season month of_month day small lt m d = subst (λ (n : ℕ). IsDayNamed season n of_month day) m (subst (λ (n : ℕ). IsDayNamed season (date_at season day).month n day) d (at_named season day small lt))
 
 -- a date that lies as many days after the first as the season has, or more, is after the last
-pub outside_after : (season : Term) (month of_month n : ℕ) (first date : Date) (days : ℤ) → epoch_day first ≡ first_number season → epoch_day date ≡ number_named season month of_month
-    → days ≡ epoch_day date -ℤ epoch_day first → days ≡ pos n → date_count season ≤ n → IsOutside season (number_named season month of_month)
-outside_after season month of_month n first date days f d e same le =
+pub outside_after : (season : Term) (n : ℕ) (first date : Date) (days : ℤ) → epoch_day first ≡ first_number season
+    → days ≡ epoch_day date -ℤ epoch_day first → days ≡ pos n → date_count season ≤ n → IsOutside season (epoch_day date)
+outside_after season n first date days f e same le =
     let after = date_count-after season in
-    inr (omega (arith, ints, f, d, e, same, le, after))
+    inr (omega (arith, ints, f, e, same, le, after))

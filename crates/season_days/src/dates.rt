@@ -1,10 +1,12 @@
 //! The days that months and days of a month name, the dates of days, and the dates of a period.
 
-ghost use Rattle.std.specs.Prelude.{◌≡◌, ◌≢◌, ◌↔◌, ◌<◌, map, [], ℕ, Ok, IfOk, IfErr, IsErrOf};
-ghost use Rattle.season_days.specs.Seasons.{date_count, date_at, is_on, dates_of, IsDatesFault, NamesDate, number_named, IsDayNamed, IsOutside, IsDayOfFault};
+ghost use Rattle.std.specs.Prelude.{◌≡◌, ◌≢◌, ◌↔◌, ◌<◌, map, [], ℕ, Ok, IfOk, IfErr, IsErrOf, Some, IfSome, IfNone, ◌+ℤ◌, pos};
+ghost use Rattle.season_days.specs.Seasons.{first_number, date_count, date_at, is_on, dates_of, IsDatesFault, NamesDate, number_named, IsDayNamed, IsOutside, IsDayOfFault};
+ghost use Rattle.jiff_core.specs.Date.{epoch_day};
 
 use crate::day::{Day, DayFault, Period};
 use crate::season::Season;
+use jiff_core::civil::Date;
 use std::alloc::Global;
 
 impl Season {
@@ -27,15 +29,29 @@ impl Season {
         let Some(date) = self.date_named(month, day) else {
             return Err(DayFault::NoSuchDate);
         };
+        match self.number_of(date) {
+            Some(found) => Ok(Day(found)),
+            None => Err(DayFault::OutsideSeason),
+        }
+    }
+
+    // The number of the day of the season that is this date.
+    fn number_of(&self, date: Date) -> Option<u32>
+        ensures some { IfSome result (λ number. (number < date_count self.now)
+            × (first_number self.now +ℤ pos number ≡ epoch_day date)) }
+        ensures only { (number : ℕ) → number < date_count self.now →
+            first_number self.now +ℤ pos number ≡ epoch_day date → result ≡ Some number }
+        ensures none { IfNone result (IsOutside self.now (epoch_day date)) }
+    {
         let days = self.first().until(date);
         if days < 0 {
-            return Err(DayFault::OutsideSeason);
+            return None;
         }
         let found = days.unsigned_abs();
         if found >= self.length() {
-            return Err(DayFault::OutsideSeason);
+            return None;
         }
-        Ok(Day(found))
+        Some(found)
     }
 
     /// The month (1 to 12) and the day of the month of a day of the season.

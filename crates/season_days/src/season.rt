@@ -6,7 +6,7 @@ ghost use Rattle.jiff_core.specs.Calendar.{IsBetween};
 ghost use Rattle.jiff_core.specs.Date.{epoch_day, weekday_of};
 ghost use Rattle.season_days.specs.Term.{Term};
 ghost use Rattle.season_days.specs.Dates.{HasDate, IsLastSunday, last_sunday_number};
-ghost use Rattle.season_days.specs.Seasons.{season_text, same_season_next_year, first_year, first_month, year_after, month_after, first_number, number_after, date_count, date_at, weekday_on, NamesDate, number_named, IsDayNamed};
+ghost use Rattle.season_days.specs.Seasons.{season_text, same_season_next_year, first_year, first_month, year_after, month_after, first_number, number_after, date_count, date_at, weekday_on, year_of_month, NamesDate, number_named, IsDayNamed};
 
 use crate::day::Day;
 use jiff_core::civil::{Date, Weekday};
@@ -167,13 +167,20 @@ impl Season {
             × (epoch_day date ≡ number_named self.now month day)) }
         ensures none { IfNone result (¬ (NamesDate self.now month day)) }
     {
-        let year = match self.half {
-            Half::Winter if month <= 6 => self.first_year() + 1,
-            _ => self.first_year(),
-        };
+        let year = self.year_of(month);
         let month = i8::try_from(month).ok()?;
         let day = i8::try_from(day).ok()?;
         Date::new(year, month, day).ok()
+    }
+
+    // The season's year of a month.
+    fn year_of(&self, month: u8) -> i16
+        ensures { result ≡ pos (year_of_month self.now.half (first_year self.now) month) }
+    {
+        match self.half {
+            Half::Winter if month <= 6 => self.first_year() + 1,
+            _ => self.first_year(),
+        }
     }
 
     /// The date of a day of the season.
