@@ -1,6 +1,6 @@
 //! The marks of the resources that parts use.
 
-ghost use Rattle.std.specs.Prelude.{◌≡◌, ◌↔◌, ℕ, ◌*◌, ◌^◌, ◌<◌, ◌≤◌, length, IsTrue};
+ghost use Rattle.std.specs.Prelude.{◌≡◌, ◌↔◌, ℕ, ◌*◌, ◌^◌, ◌<◌, ◌≤◌, ◌≢◌, length, slice_index, IsTrue};
 ghost use Rattle.choice_problem.specs.Strips.{strip_uses, part_uses, IsStripInRange, IsPartInRange};
 ghost use Rattle.choice_problem.specs.Loops.{run_uses};
 ghost use Rattle.left_counts.specs.Private.Marks.{mark_at, AreCleared, AreMarked};
@@ -73,9 +73,22 @@ pub(crate) fn mark_run(words: &mut [u64], left: &Counts, start: usize, end: usiz
     ensures marks { AreMarked left.now (λ r. run_uses start end r) words.old words.new }
 {
     for at in start..end {
-        if left.count(at as u32) == 0 {
-            set_mark(words, at, true);
-        }
+        mark_one(words, left, at);
+    }
+}
+
+// The same of one resource.
+fn mark_one(words: &mut [u64], left: &Counts, at: usize)
+    requires there { at < length left.now }
+    requires room { length left.now ≤ 64 * length words.old }
+    requires few { length left.now < 2 ^ 32 }
+    ensures length { length words.new ≡ length words.old }
+    ensures full { slice_index left.now at ≡ 0 → mark_at words.new at ≡ 1 }
+    ensures some { 1 ≤ slice_index left.now at → mark_at words.new at ≡ mark_at words.old at }
+    ensures others { (r : ℕ) → r ≢ at → mark_at words.new r ≡ mark_at words.old r }
+{
+    if left.count(at as u32) == 0 {
+        set_mark(words, at, true);
     }
 }
 
