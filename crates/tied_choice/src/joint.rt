@@ -59,17 +59,39 @@ pub(crate) fn joint_problem(
 ) -> Result<Option<Problem>, Memory> {
     let both = Reduced::of(alloc, pair.both)?;
     let first = Reduced::of(alloc, pair.first)?;
-    let Some(choosers) = joint_choosers(alloc, pair, &both, &first, units)? else {
+    joined(alloc, pair, &both, &first, units)
+}
+
+// The same over the classes of both problems together and of the first one.
+fn joined(
+    alloc: Global,
+    pair: &Pair<'_>,
+    both: &Reduced,
+    first: &Reduced,
+    units: &[JointUnit],
+) -> Result<Option<Problem>, Memory> {
+    let Some(choosers) = joint_choosers(alloc, pair, both, first, units)? else {
         return Ok(None);
     };
-    let mut limits = Vec::new(alloc);
-    add_limits(&mut limits, both.classes())?;
-    add_limits(&mut limits, first.classes())?;
+    let limits = joint_limits(alloc, both.classes(), first.classes())?;
+    Ok(problem_of(choosers, limits))
+}
+
+// The problem of these units and limits, if it is within what a problem may have.
+fn problem_of(choosers: Vec<Chooser>, limits: Vec<i64>) -> Option<Problem> {
     if Problem::allows(&choosers, &limits) {
-        Ok(Some(Problem::new(choosers, limits)))
+        Some(Problem::new(choosers, limits))
     } else {
-        Ok(None)
+        None
     }
+}
+
+// The limits of classes, and behind them those of others.
+fn joint_limits(alloc: Global, classes: &[Class], others: &[Class]) -> Result<Vec<i64>, Memory> {
+    let mut limits = Vec::new(alloc);
+    add_limits(&mut limits, classes)?;
+    add_limits(&mut limits, others)?;
+    Ok(limits)
 }
 
 // Adds the limits of classes.
