@@ -12,3 +12,4 @@ mod KeptLoadLemmas
 mod LoadLemmas
 mod StateLemmas
 mod FixedLemmas
+mod NoneLemmas

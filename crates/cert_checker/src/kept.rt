@@ -148,10 +148,11 @@ fn moved(
     if kept.scale == scale {
         let units = &changes[kept.seen..];
         follow(problem, &kept.table, &mut kept.totals, ranges, units);
-    } else {
-        kept.totals = Totals::of(alloc, problem, ranges, &kept.table, scale)?;
-        kept.scale = scale;
+        kept.seen = changes.len();
+        return Ok(kept);
     }
+    kept.totals = Totals::of(alloc, problem, ranges, &kept.table, scale)?;
+    kept.scale = scale;
     kept.seen = changes.len();
     Ok(kept)
 }

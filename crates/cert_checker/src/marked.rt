@@ -58,10 +58,11 @@ impl Marked {
         ensures marked { OnOk result (Contains self.new.units unit) }
         ensures stay { (u : ℕ) → Contains self.old.units u → Contains self.new.units u }
     {
-        if !self.is_in[unit as usize] {
-            self.units.push(unit)?;
-            self.is_in[unit as usize] = true;
+        if self.is_in[unit as usize] {
+            return Ok(());
         }
+        self.units.push(unit)?;
+        self.is_in[unit as usize] = true;
         Ok(())
     }
 }

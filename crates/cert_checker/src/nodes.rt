@@ -174,15 +174,34 @@ fn check_nodes(
 {
     let whole = Ranges::whole(alloc, problem)?;
     let mut walk = RangeWalk::new(alloc, whole);
+    let mut state = first_state(alloc, problem, &cert.vectors, cert.tree.items())?;
+    walk_nodes(alloc, problem, cert, line, &mut state, &mut walk)
+}
+
+// One line for each node, from the first ranges of a walk on.
+fn walk_nodes(
+    alloc: Global,
+    problem: &Problem,
+    cert: &StageCert,
+    line: u32,
+    state: &mut State,
+    walk: &mut RangeWalk,
+) -> Result<Judged, Memory>
+    requires vectors { All (IsVector problem.now) cert.now.vectors }
+    requires room { line + length cert.now.tree < 2 ^ 32 }
+    requires ranges { All (AreRanges problem.now) walk.old }
+    requires state { IsStateFirst problem.now cert.now.vectors walk.old state.old }
+    ensures { IfOk result (λ judged. IsPart problem.now (unfixed cert.now) line
+        (node_tests walk.old cert.now.tree cert.now.floors) judged.verdict judged.next) }
+{
     let nodes = cert.tree.items();
-    let mut state = first_state(alloc, problem, &cert.vectors, nodes)?;
     let mut floors = cert.floors.items();
     let mut at = line;
     for node in nodes {
         if walk.is_done() {
             return Ok(Judged::passed(line + nodes.len() as u32));
         }
-        let fault = check_node(alloc, problem, cert, &mut state, &mut walk, *node, floors)?;
+        let fault = check_node(alloc, problem, cert, state, walk, *node, floors)?;
         if let Some(reason) = fault {
             return Ok(Judged::refused(at, reason));
         }

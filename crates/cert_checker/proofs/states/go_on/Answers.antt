@@ -31,3 +31,21 @@ returns-in_ok-mark_all-clause-state c = λ yes.
     (record { bounds = s.bounds; loads = record { whole = s.loads.whole; changed = c.mark_all.new.marked; named = s.loads.named; known = s.loads.known; kept = s.loads.kept }; changes = c.advance.new.changed })
     c.requires.some c.requires.ranges c.requires.state on (c.in_ok-goes_on.ensures.changed yes) refl refl refl refl refl c.mark_all.ensures.most
     (λ u h. c.in_ok-mark_all.ensures.all u (subst (λ (xs : List ℕ). Contains xs u) (sym same) h)) c.mark_all.ensures.stay
+
+pub returns-in_ok-mark_all-clause-step : goal.returns-in_ok-mark_all-clause-step
+returns-in_ok-mark_all-clause-step c = c.in_ok-goes_on.ensures.step
+
+pub returns-in_ok-mark_all-clause-stop : goal.returns-in_ok-mark_all-clause-stop
+returns-in_ok-mark_all-clause-stop c = c.in_ok-goes_on.ensures.stop
+
+pub returns-in_ok-mark_all-clause-ranges : goal.returns-in_ok-mark_all-clause-ranges
+returns-in_ok-mark_all-clause-ranges c = c.in_ok-goes_on.ensures.valid c.args.problem.now c.requires.ranges
+
+pub returns-else-goes_on-clause-step : goal.returns-else-goes_on-clause-step
+returns-else-goes_on-clause-step c = c.in_ok-goes_on.ensures.step
+
+pub returns-else-goes_on-clause-stop : goal.returns-else-goes_on-clause-stop
+returns-else-goes_on-clause-stop c = c.in_ok-goes_on.ensures.stop
+
+pub returns-else-goes_on-clause-ranges : goal.returns-else-goes_on-clause-ranges
+returns-else-goes_on-clause-ranges c = c.in_ok-goes_on.ensures.valid c.args.problem.now c.requires.ranges
