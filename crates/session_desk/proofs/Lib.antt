@@ -8,3 +8,4 @@ mod ServedLemmas
 mod JoinLemmas
 mod AmendLemmas
 mod SeenLemmas
+mod MoveLemmas

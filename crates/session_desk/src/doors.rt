@@ -1,13 +1,13 @@
 //! Sessions of a ledger: over one link, and over the links of several doors at once.
 ghost use Rattle.std.specs.Prelude.{◌≡◌, ◌≤◌, ◌<◌, ◌+◌, ◌^◌, [], All, List, ℕ, length};
-ghost use Rattle.std.specs.Prelude.{IfOk, IfErr, OnErr, slice_index_or};
-ghost use Rattle.turn_lock.specs.Seats.{SeatView, IsAtRest};
+ghost use Rattle.std.specs.Prelude.{IfOk, IfErr, OnErr, slice_index_or, vec_capacity};
+ghost use Rattle.turn_lock.specs.Seats.{SeatView, IsAtRest, new_seats};
 ghost use Rattle.turn_lock.specs.History.{StartsWith, own};
 ghost use Rattle.scr_reader.specs.Again.{IsFitItem};
 ghost use Rattle.scr_reader.specs.declared.line.Item.{Item as ItemValue};
 ghost use Rattle.holding_book.specs.Histories.{IsLegal};
 ghost use Rattle.holding_book.specs.Asks.{CanAsk};
-ghost use Rattle.slot_ledger.specs.Starts.{entry_caller};
+ghost use Rattle.slot_ledger.specs.Starts.{entry_caller, first_book};
 ghost use Rattle.slot_ledger.specs.declared.shared.Origin.{Origin};
 ghost use Rattle.desk_links.specs.Links.{IsFresh};
 ghost use Rattle.amend_journal.specs.Told.{read_told, EndsBroken};
@@ -248,6 +248,55 @@ fn serve_all<R: Threads + Wait + Sync, G: Gate, B: Beside + Send, D: Door>(
     );
 }
 
+/// Room for so many workers, and for what they do.
+fn rooms<B: Beside + Send, D: Door + Drop>(
+    alloc: Global,
+    count: usize,
+) -> Result<(Vec<Worker<SharedPass<B>, D>>, Vec<DoorWork>), Memory>
+    ensures workers { IfOk result (λ r. (r.0.items ≡ []) × (count ≤ vec_capacity r.0)) }
+    ensures works { IfOk result (λ r. (r.1.items ≡ []) × (count ≤ vec_capacity r.1)) }
+{
+    let works = Vec::with_capacity(alloc, count)?;
+    let workers = Vec::with_capacity(alloc, count)?;
+    Ok((workers, works))
+}
+
+/// A ledger with so many passes, and room for as many workers and for what they do.
+fn started<B: Beside + Send, D: Door + Drop>(
+    alloc: Global,
+    book: Book,
+    beside: B,
+    count: usize,
+    most: u32,
+) -> Result<
+    (
+        SharedLedger<B>,
+        Vec<SharedPass<B>>,
+        Vec<Worker<SharedPass<B>, D>>,
+        Vec<DoorWork>,
+    ),
+    Memory,
+>
+    requires some { 1 ≤ count }
+    requires few { count ≤ MOST_DOORS }
+    requires most { B.found (B.start beside) + most ≤ 100000 }
+    requires agrees { B.agrees beside [] }
+    requires empty { B.told beside [] ≡ [] }
+    requires holdings { length book.book.holdings < 2 ^ 31 }
+    ensures first { IfOk result (λ r. first_book r.0.origin.start ≡ book.book) }
+    ensures most { IfOk result (λ r. r.0.origin.start.most ≡ most) }
+    ensures beside { IfOk result (λ r. r.0.origin.beside ≡ B.start beside) }
+    ensures callers { IfOk result (λ r. r.0.callers ≡ count) }
+    ensures passes { IfOk result (λ r. r.1.items ≡ new_seats r.0.id r.0.origin 0 count) }
+    ensures rest { IfOk result (λ r. All (IsAtRest r.0) r.1.items) }
+    ensures workers { IfOk result (λ r. (r.2.items ≡ []) × (count ≤ vec_capacity r.2)) }
+    ensures works { IfOk result (λ r. (r.3.items ≡ []) × (count ≤ vec_capacity r.3)) }
+{
+    let (workers, works) = rooms::<B, D>(alloc, count)?;
+    let (ledger, passes) = SharedLedger::start(alloc, book, beside, count as u32, most)?;
+    Ok((ledger, passes, workers, works))
+}
+
 /// Serves doors at once, each by a worker and a caller of its own, with the numbers from 0 on in
 /// their order. Hands out the one history, what each worker did, and what was kept beside.
 ///
@@ -302,9 +351,9 @@ pub fn serve_doors<R: Threads + Wait + Sync, G: Gate, B: Beside + Send, D: Door 
     let count = doors.len();
     let season = book.declaration().season;
     let airport = book.declaration().airport;
-    let mut works = Vec::with_capacity(alloc, count)?;
-    let mut workers = Vec::with_capacity(alloc, count)?;
-    let (ledger, mut passes) = SharedLedger::start(alloc, book, beside, count as u32, most)?;
+    let (ledger, mut passes, mut workers, mut works) = started::<B, D>(
+        alloc, book, beside, count, most,
+    )?;
     pair_up(doors, &mut passes, &mut workers);
     let line = TimeSlices::new();
     serve_all(

@@ -224,6 +224,7 @@ fn answer<A: Responder, L: Link>(
 fn end_of(pending: &Pending) -> Result<SessionEnd, SessionFault>
     ensures ends { (taken : List ℕ) → IsHeld pending.now taken → EndsSo result taken }
     ensures cause { (count : ℕ) → HasSessionCause count count result }
+    ensures fault { IfErr result (λ fault. fault ≡ SessionFault.TooLong) }
 {
     breaks_stay();
     match pending.end() {

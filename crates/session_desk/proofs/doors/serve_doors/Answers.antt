@@ -1,6 +1,8 @@
-use Rattle.std.proofs.Common.{◌≡◌, ◌<◌, [], ◌++◌, length, map, reverse, take, drop, get_or, sym, ap, subst, ◌∙◌, arith}
+use Rattle.std.proofs.Common.{◌≡◌, ℕ, ◌<◌, ◌≤◌, [], ◌++◌, length, map, reverse, take, drop, get_or, sym, ap, subst, ◌∙◌, arith}
 use Rattle.season_days.specs.declared.declaration.Declaration.{Declaration}
 use Rattle.scr_reader.specs.Again.{IsFitItem}
+use Rattle.holding_book.specs.Books.{SlotBook}
+use Rattle.holding_book.specs.Histories.{IsLegal}
 use Rattle.turn_lock.specs.Seats.{IsAtRest}
 use Rattle.session_desk.specs.Served.{HasServed}
 use Rattle.session_desk.specs.Begun.{IsAnsweredBy, IsBegunBy, HasBroken, ledger_caller}
@@ -120,3 +122,50 @@ returns-clause-broken g c i k lt is =
     let seats = sym (c.take_apart.ensures.passes ∙ ap (λ l. reverse (map (λ w. w.pass) l)) whole) in
     broken_at_close g.B.Beside.read g.B.Beside.broken origin.start.most (λ w. w.pass) (λ w. w.work) us vs c.take_apart.new.passes.items c.take_apart.new.works.items same works seats stopped
     g.B.Beside.number (g.B.Beside.told c.close-history.result.2 c.close-history.result.1.items) c.close-history.ensures.told i k there is
+
+pub returns-clause-legal : goal.returns-clause-legal
+returns-clause-legal g c = subst (λ (b : SlotBook). IsLegal b c.close-history.result.1.items) c.in_ok-ledger.ensures.first c.close-history.ensures.legal
+
+pub returns-clause-few : goal.returns-clause-few
+returns-clause-few g c = subst (λ (n : ℕ). length c.close-history.result.1.items ≤ n) c.in_ok-ledger.ensures.most c.close-history.ensures.few
+
+pub returns-clause-start : goal.returns-clause-start
+returns-clause-start g c = c.close-history.ensures.start ∙ c.in_ok-ledger.ensures.beside
+
+pub returns-clause-agrees : goal.returns-clause-agrees
+returns-clause-agrees g c = c.close-history.ensures.agrees
+
+pub returns-clause-doors : goal.returns-clause-doors
+returns-clause-doors g c =
+    let us = c.pair_up.new.workers.items in
+    let vs = c.serve_all.new.workers in
+    let same : length vs ≡ length us = c.serve_all.auto.workers ∙ ap length c.as_mut_slice.ensures.value in
+    let whole = written_back vs us c.pair_up.new.workers.len same (omega (arith, c.pair_up.new.workers.ok.0)) in
+    paired-length (λ w. w.door) vs c.take_apart.new.doors.items (sym (c.take_apart.ensures.doors ∙ ap (λ l. reverse (map (λ w. w.door) l)) whole))
+    ∙ same
+    ∙ sym (paired-length (λ w. w.door) us c.args.doors.now.items c.pair_up.ensures.doors)
+
+pub returns-clause-works : goal.returns-clause-works
+returns-clause-works g c =
+    let us = c.pair_up.new.workers.items in
+    let vs = c.serve_all.new.workers in
+    let same : length vs ≡ length us = c.serve_all.auto.workers ∙ ap length c.as_mut_slice.ensures.value in
+    let whole = written_back vs us c.pair_up.new.workers.len same (omega (arith, c.pair_up.new.workers.ok.0)) in
+    paired-length (λ w. w.work) vs c.take_apart.new.works.items (sym (c.take_apart.ensures.works ∙ ap (λ l. reverse (map (λ w. w.work) l)) whole))
+    ∙ same
+    ∙ sym (paired-length (λ w. w.door) us c.args.doors.now.items c.pair_up.ensures.doors)
+
+pub pair_up-requires-clause-none : goal.pair_up-requires-clause-none
+pair_up-requires-clause-none g c = c.in_ok-ledger.ensures.workers.0
+
+pub pair_up-requires-clause-room : goal.pair_up-requires-clause-room
+pair_up-requires-clause-room g c = omega (arith, c.in_ok-ledger.ensures.workers.1, c.len-count.ensures, c.args.doors.now.ok.0)
+
+pub take_apart-requires-clause-works : goal.take_apart-requires-clause-works
+take_apart-requires-clause-works g c =
+    let us = c.pair_up.new.workers.items in
+    let vs = c.serve_all.new.workers in
+    let same : length vs ≡ length us = c.serve_all.auto.workers ∙ ap length c.as_mut_slice.ensures.value in
+    let whole = written_back vs us c.pair_up.new.workers.len same (omega (arith, c.pair_up.new.workers.ok.0)) in
+    let count : length (take c.pair_up.new.workers.len (vs ++ drop (length vs) us)) ≡ length c.args.doors.now.items = ap length whole ∙ same ∙ sym (paired-length (λ w. w.door) us c.args.doors.now.items c.pair_up.ensures.doors) in
+    (c.in_ok-ledger.ensures.works.0, rw count (omega (arith, c.in_ok-ledger.ensures.works.1, c.len-count.ensures, c.args.doors.now.ok.0)))

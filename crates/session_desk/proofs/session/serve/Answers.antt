@@ -1,7 +1,7 @@
 use Rattle.std.proofs.Common.{◌≡◌, ℕ, List, ◌++◌, take, refl, sym, ap, ◌∙◌, append-nil, arith}
 use Rattle.desk_links.specs.Links.{taken_of}
 use Rattle.session_desk.proofs.PassedLemmas.{took_taken, nothing_passed, passed_took, passed_same, ended_now}
-use Rattle.session_desk.proofs.AnsweredLemmas.{piece_taken}
+use Rattle.session_desk.proofs.AnsweredLemmas.{piece_taken, on_err}
 use Rattle.session_desk.proofs.SessionLemmas.{session_start, session_end, session_failed, session_stopped, cause_since}
 use Rattle.session_desk.proofs.SeenLemmas.{seen_same, seen_on}
 use Rattle.session_desk.proofs.session.serve.Goals as goal
@@ -95,3 +95,27 @@ returns-in-Ok-eq0-clause-seen g c = c.loop.invariant.6
 pub returns-in-Err-read_piece-clause-seen : goal.returns-in-Err-read_piece-clause-seen
 returns-in-Err-read_piece-clause-seen g c =
     seen_on (g.A.Responder.legal c.args.responder.now) (g.A.Responder.seen c.args.pass.now) (g.A.Responder.seen c.loop.pass) (g.A.Responder.seen c.read_piece.new.pass) c.loop.invariant.6 c.read_piece.ensures.seen
+
+pub returns-in-Err-clause-ready : goal.returns-in-Err-clause-ready
+returns-in-Err-clause-ready g c = c.loop.invariant.1
+
+pub returns-in-Ok-eq0-clause-ready : goal.returns-in-Ok-eq0-clause-ready
+returns-in-Ok-eq0-clause-ready g c = c.loop.invariant.1
+
+pub returns-in-Ok-eq0-clause-stopped : goal.returns-in-Ok-eq0-clause-stopped
+returns-in-Ok-eq0-clause-stopped g c = on_err c.end_of.result (λ f same. rw same tt) c.end_of.ensures.fault
+
+pub returns-in-Err-read_piece-clause-ready : goal.returns-in-Err-read_piece-clause-ready
+returns-in-Err-read_piece-clause-ready g c = c.read_piece.ensures.ready
+
+pub returns-in-Err-read_piece-clause-stopped : goal.returns-in-Err-read_piece-clause-stopped
+returns-in-Err-read_piece-clause-stopped g c = c.in-Err-read_piece.ensures.stopped
+
+pub read_piece-requires-clause-ready : goal.read_piece-requires-clause-ready
+read_piece-requires-clause-ready g c κs lives = c.loop.invariant.1
+
+pub read_piece-requires-clause-size : goal.read_piece-requires-clause-size
+read_piece-requires-clause-size g c κs lives = c.loop.invariant.0
+
+pub read_piece-requires-clause-held : goal.read_piece-requires-clause-held
+read_piece-requires-clause-held g c κs lives = (taken_of (g.L.Link.view c.loop.link).log, c.loop.invariant.5.held)
