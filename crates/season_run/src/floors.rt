@@ -3,6 +3,7 @@
 ghost use Rattle.std.specs.Prelude.{◌≡◌, ◌≤◌, ◌∷◌, ◌++◌, [], ℕ, List, Option, All, IfOk, OnOk, length};
 ghost use Rattle.choice_problem.specs.declared.vectors.TheConstants.{MOST_VECTORS};
 ghost use Rattle.choice_problem.specs.Bounds.{AreRanges, whole_of};
+ghost use Rattle.choice_problem.specs.Grafts.{open_ranges};
 ghost use Rattle.choice_problem.specs.Walks.{AreWalkable};
 ghost use Rattle.price_table.specs.Tables.{IsTableFor, vectors_of};
 ghost use Rattle.dual_bound.specs.Stated.{scale_at};
@@ -46,12 +47,30 @@ pub(crate) fn stated_floors(
         floors: Vec::new(alloc),
         bound: cost,
     };
-    for node in tree {
-        add_floor(&mut kept, walk.ranges(), *node, &mut stated)?;
-        changed.clear();
-        walk.advance(*node, &mut changed)?;
-    }
+    walk_floors(&mut kept, &mut walk, tree, &mut stated, &mut changed)?;
     Ok(stated)
+}
+
+// Adds the floors of a tree's undone nodes on the ranges of a walk, where none are stated yet.
+fn walk_floors(
+    kept: &mut KeptFloors<'_>,
+    walk: &mut RangeWalk,
+    tree: &[Node],
+    stated: &mut Stated,
+    changed: &mut Vec<u32>,
+) -> Result<(), Memory>
+    requires ranges { All (AreRanges kept.old.problem) walk.old }
+    requires tree { AreWalkable walk.old tree.now }
+    requires none { stated.old.floors.items ≡ [] }
+    ensures { OnOk result (AreFound kept.old.problem kept.old.vectors stated.old.bound
+        (open_ranges walk.old tree.now) stated.new) }
+{
+    for node in tree {
+        add_floor(kept, walk.ranges(), *node, stated)?;
+        changed.clear();
+        walk.advance(*node, changed)?;
+    }
+    Ok(())
 }
 
 // Adds the floor of a node's ranges, where it is undone.
