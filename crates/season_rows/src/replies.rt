@@ -98,12 +98,12 @@ fn check_row(rt: &impl Abort, alloc: Global, row: &str) {
     let (capacity, messages) = halves(season, '|');
     let submission = submission(rt, alloc, capacity, messages);
     let replies = replies(rt, alloc, &submission, stages);
-    check_replies(rt, alloc, &replies, want);
+    check_replies(rt, alloc, &replies, want, row);
 }
 
-fn check_replies(rt: &impl Abort, alloc: Global, replies: &[u8], want: &str) {
+fn check_replies(rt: &impl Abort, alloc: Global, replies: &[u8], want: &str, row: &str) {
     let text = whole_reply(rt, alloc, want);
-    assert!(rt; replies == text.as_bytes(), "other replies than {want}");
+    assert!(rt; replies == text.as_bytes(), "{row}");
 }
 
 // The replies by a certificate with these stages.

@@ -421,15 +421,12 @@ fn check_row(rt: &impl Abort, alloc: Global, row: &str) {
     let (capacity, rest) = halves(season, '|');
     let (messages, stages) = halves(rest, '|');
     let submission = submission(rt, alloc, capacity, messages);
-    check_report(rt, alloc, &submission, stages, want);
+    let report = report(rt, alloc, &submission, stages);
+    check_report(rt, &report, want, row);
 }
 
-fn check_report(rt: &impl Abort, alloc: Global, submission: &Submission, stages: &str, want: &str) {
-    let report = report(rt, alloc, submission, stages);
-    assert!(rt;
-        report.as_slice() == want.as_bytes(),
-        "{stages} has another report than {want}"
-    );
+fn check_report(rt: &impl Abort, report: &[u8], want: &str, row: &str) {
+    assert!(rt; report == want.as_bytes(), "{row}");
 }
 
 // The report on a certificate with these stages.
@@ -481,13 +478,13 @@ fn check_requests(rt: &impl Abort, alloc: Global, row: &str) {
     let (season, want) = last_halves(row, '|');
     let (capacity, messages) = halves(season, '|');
     let submission = submission(rt, alloc, capacity, messages);
-    check_shown(rt, alloc, &submission, want);
+    check_shown(rt, alloc, &submission, want, row);
 }
 
-fn check_shown(rt: &impl Abort, alloc: Global, submission: &Submission, want: &str) {
+fn check_shown(rt: &impl Abort, alloc: Global, submission: &Submission, want: &str, row: &str) {
     let found = shown(rt, alloc, submission);
     let lines = lines(rt, alloc, want);
-    assert!(rt; found.as_slice() == lines.as_bytes(), "{want} is not shown");
+    assert!(rt; found.as_slice() == lines.as_bytes(), "{row}");
 }
 
 // What the requests of a submission show.
