@@ -2,7 +2,7 @@
 //! work is done.
 
 /// A command of the desk.
-#[derive(Clone, Copy, Debug, PartialEq, Eq)]
+#[derive(Clone, Copy, PartialEq)]
 pub enum Command {
     Allocate,
     Check,

@@ -13,5 +13,7 @@ mod worlds;
 pub use commands::{COMMANDS, Command, has_name};
 pub use draws::Draws;
 pub use seasons::{HEAD, queries_text};
-pub use texts::{are_same, begins, count_of, field, file_text, held_lines, number, text_of, word};
+pub use texts::{
+    are_same, begins, count_of, field, file_text, held_lines, number, put_bytes, put_text, word,
+};
 pub use worlds::{copied, damage_world, keep_writes, whole_world};

@@ -2,10 +2,9 @@
 
 use crate::draws::Draws;
 use slot_text::Memory;
-use std::alloc::Global;
 
 /// Which movements a line has.
-#[derive(Clone, Copy, Debug, PartialEq, Eq)]
+#[derive(Clone, Copy)]
 pub enum Shape {
     Arrival,
     Departure,
@@ -13,7 +12,7 @@ pub enum Shape {
 }
 
 /// A line of a flight within June, where the times of its movements are minutes of the day.
-#[derive(Clone, Copy, Debug, PartialEq, Eq)]
+#[derive(Clone, Copy)]
 pub struct Series {
     pub shape: Shape,
     pub number: u64,
@@ -109,36 +108,42 @@ fn clock(minute: u64) -> u64 {
     (minute / 60).wrapping_mul(100).wrapping_add(minute % 60)
 }
 
-/// The flights and the period of a line, and behind them its movements.
-pub fn line_text(alloc: Global, code: &str, series: &Series) -> Result<String, Memory> {
-    let number = series.number;
-    let other = number.wrapping_add(500);
+/// Appends the flights and the period of a line, and behind them its movements.
+pub fn put_line(text: &mut String, code: &str, series: &Series) -> Result<(), Memory> {
     let (first, last, days) = (series.first, series.last, series.days);
-    let (arrival, departure) = (clock(series.arrival), clock(series.departure));
-    let nights = series.nights;
-    let flights = match series.shape {
-        Shape::Arrival => format!(in alloc; "{code}BA{number}")?,
-        Shape::Departure => format!(in alloc; "{code} BA{number}")?,
-        Shape::Turnaround => format!(in alloc; "{code}BA{number} BA{other}")?,
-    };
-    let stops = match series.shape {
-        Shape::Arrival => format!(in alloc; "JFK{arrival:04} J")?,
-        Shape::Departure => format!(in alloc; "{departure:04}JFK J")?,
-        Shape::Turnaround => format!(in alloc; "JFK{arrival:04} {departure:04}{nights}JFK JJ")?,
-    };
-    let text = format!(in alloc; "{flights} {first:02}JUN{last:02}JUN {days} 180320 {stops}\n")?;
-    Ok(text)
+    put_flights(text, code, series.shape, series.number)?;
+    write!(text, " {first:02}JUN{last:02}JUN {days} 180320 ")?;
+    put_stops(text, series)
 }
 
-/// A pair of the series and of the same at other times, asked for by a code.
-pub fn pair_text(
-    alloc: Global,
+fn put_flights(text: &mut String, code: &str, shape: Shape, number: u64) -> Result<(), Memory> {
+    let other = number.wrapping_add(500);
+    match shape {
+        Shape::Arrival => write!(text, "{code}BA{number}")?,
+        Shape::Departure => write!(text, "{code} BA{number}")?,
+        Shape::Turnaround => write!(text, "{code}BA{number} BA{other}")?,
+    }
+    Ok(())
+}
+
+fn put_stops(text: &mut String, series: &Series) -> Result<(), Memory> {
+    let (arrival, departure) = (clock(series.arrival), clock(series.departure));
+    let nights = series.nights;
+    match series.shape {
+        Shape::Arrival => write!(text, "JFK{arrival:04} J\n")?,
+        Shape::Departure => write!(text, "{departure:04}JFK J\n")?,
+        Shape::Turnaround => write!(text, "JFK{arrival:04} {departure:04}{nights}JFK JJ\n")?,
+    }
+    Ok(())
+}
+
+/// Appends a pair of the series and of the same at other times, asked for by a code.
+pub fn put_pair(
     draws: &mut Draws,
+    text: &mut String,
     code: &str,
     series: &Series,
-) -> Result<String, Memory> {
-    let historic = line_text(alloc, "C", series)?;
-    let request = line_text(alloc, code, &retimed(draws, *series))?;
-    let text = format!(in alloc; "{historic}{request}")?;
-    Ok(text)
+) -> Result<(), Memory> {
+    put_line(text, "C", series)?;
+    put_line(text, code, &retimed(draws, *series))
 }

@@ -1,7 +1,9 @@
 //! Drawn seasons, asks and reports of what was operated.
 
 use crate::draws::Draws;
-use crate::lines::{line_text, narrowed, pair_text, series_of};
+use crate::lines::{Series, narrowed, put_line, put_pair, series_of};
+use crate::texts::put_bytes;
+use memory_desk::Given;
 use slot_text::Memory;
 use std::alloc::Global;
 
@@ -30,27 +32,41 @@ const LAST_CAPACITY: &str = "AIRPORT ABC\nSEASON S99\nSTEP 5\nFLEX 60\nGROUND 40
 const LAST_REQUESTS: &str = "SCR\nS99\n20NOV\nABC\n\
     FBA001 29MAR19APR 7 180320 JFK0610 J\nNBA002 29MAR 7 180320 JFK0630 J\n";
 
-/// The capacity file and the requests of a season.
-pub fn season_texts(
+/// Puts the capacity file and the requests of a season.
+pub fn put_season(
     alloc: Global,
     draws: &mut Draws,
     case: u64,
-) -> Result<(String, String), Memory> {
+    given: &mut Given,
+) -> Result<(), Memory> {
     if draws.once_in(40) {
-        let capacity = String::from_str(alloc, LAST_CAPACITY)?;
-        return Ok((capacity, String::from_str(alloc, LAST_REQUESTS)?));
+        put_bytes(alloc, given, "CAP", LAST_CAPACITY.as_bytes())?;
+        return put_bytes(alloc, given, "SCR", LAST_REQUESTS.as_bytes());
     }
-    let mut requests = requests_text(alloc, draws, case)?;
-    if draws.once_in(8) {
-        requests.push_str(KNOT)?;
-        return Ok((String::from_str(alloc, KNOT_CAPACITY)?, requests));
-    }
-    let capacity = capacity_text(alloc, draws)?;
-    Ok((capacity, requests))
+    let mut requests = String::from_str(alloc, HEAD)?;
+    put_requests(draws, &mut requests, case)?;
+    put_capacity_file(alloc, draws, given, &mut requests)?;
+    given.put(alloc, "SCR", requests.into_bytes())
 }
 
-/// A capacity file of at most three lines.
-fn capacity_text(alloc: Global, draws: &mut Draws) -> Result<String, Memory> {
+/// Puts a capacity file; where it is that of a knot, the knot is requested, too.
+fn put_capacity_file(
+    alloc: Global,
+    draws: &mut Draws,
+    given: &mut Given,
+    requests: &mut String,
+) -> Result<(), Memory> {
+    if draws.once_in(8) {
+        requests.push_str(KNOT)?;
+        return put_bytes(alloc, given, "CAP", KNOT_CAPACITY.as_bytes());
+    }
+    let mut text = String::new(alloc);
+    put_capacity(draws, &mut text)?;
+    given.put(alloc, "CAP", text.into_bytes())
+}
+
+/// Appends a capacity file of at most three lines.
+fn put_capacity(draws: &mut Draws, text: &mut String) -> Result<(), Memory> {
     let step = draws.pick(&[
         "STEP 5\nFLEX 30",
         "STEP 5\nFLEX 0",
@@ -61,139 +77,135 @@ fn capacity_text(alloc: Global, draws: &mut Draws) -> Result<String, Memory> {
     let share = draws.pick(&["", "", "SHARE 0\n", "SHARE 34\n", "SHARE 100\n"]);
     let refuse = draws.pick(&["NONE", "10", "1", "9999"]);
     let night = draws.pick(&["", "", "NIGHT 2300 0500 3\n", "NIGHT 0600 0620 40\n"]);
-    let mut text = format!(in alloc;
+    write!(
+        text,
         "AIRPORT ABC\nSEASON S25\n{step}\nGROUND 40\n{share}REFUSE {refuse}\n{night}"
     )?;
     for _ in 0..draws.below(4) {
-        put_rule(alloc, draws, &mut text)?;
+        put_rule(draws, text)?;
     }
-    Ok(text)
+    Ok(())
 }
 
-fn put_rule(alloc: Global, draws: &mut Draws, text: &mut String) -> Result<(), Memory> {
+fn put_rule(draws: &mut Draws, text: &mut String) -> Result<(), Memory> {
     let kind = draws.pick(&["ARR", "ARR", "DEP", "TOT"]);
     let length = draws.pick(&["60", "30", "20", "180"]);
     let starts = draws.pick(&["0600 0600", "0600 0630", "0555 0700", "2330 2330"]);
     let days = draws.pick(&["1234567", "1234567", "67", "1234500", "0000007"]);
     let limit = draws.below(4);
-    let line = format!(in alloc; "CAP {kind} {length} {starts} {days} {limit}\n")?;
-    text.push_str(&line)?;
+    write!(text, "CAP {kind} {length} {starts} {days} {limit}\n")?;
     Ok(())
 }
 
-/// The requests of a season: one message, or two, of the first series of the case.
-fn requests_text(alloc: Global, draws: &mut Draws, case: u64) -> Result<String, Memory> {
-    let mut text = String::from_str(alloc, HEAD)?;
+/// Appends the requests of a season behind their header: one message, or two, of the first series
+/// of the case.
+fn put_requests(draws: &mut Draws, text: &mut String, case: u64) -> Result<(), Memory> {
     for number in 0..draws.below(7) {
         if draws.once_in(12) {
             text.push('\n')?;
             text.push_str(HEAD)?;
         }
-        let lines = request_text(alloc, draws, case, number)?;
-        text.push_str(&lines)?;
+        put_request(draws, text, &series_of(case, number))?;
     }
-    Ok(text)
+    Ok(())
 }
 
-fn request_text(
-    alloc: Global,
-    draws: &mut Draws,
-    case: u64,
-    number: u64,
-) -> Result<String, Memory> {
-    let series = series_of(case, number);
+fn put_request(draws: &mut Draws, text: &mut String, series: &Series) -> Result<(), Memory> {
     match draws.below(8) {
-        0 | 1 => line_text(alloc, "F", &series),
-        2 => pair_text(alloc, draws, "R", &series),
-        3 => pair_text(alloc, draws, "L", &series),
-        4 | 5 => line_text(alloc, "N", &series),
-        _ => line_text(alloc, "B", &series),
+        0 | 1 => put_line(text, "F", series),
+        2 => put_pair(draws, text, "R", series),
+        3 => put_pair(draws, text, "L", series),
+        4 | 5 => put_line(text, "N", series),
+        _ => put_line(text, "B", series),
     }
 }
 
-/// A message of at most five asks, with its empty line. Some ask about lines that replies gave.
-pub fn message_text(
-    alloc: Global,
+/// Appends a message of at most five asks, with its empty line. Some ask about lines that replies
+/// gave.
+pub fn put_message(
     draws: &mut Draws,
+    text: &mut String,
     case: u64,
     held: &str,
-) -> Result<String, Memory> {
-    let mut text = String::from_str(alloc, HEAD)?;
+) -> Result<(), Memory> {
+    text.push_str(HEAD)?;
     for _ in 0..draws.below(6) {
-        let ask = ask_text(alloc, draws, case, held)?;
-        text.push_str(&ask)?;
+        put_ask(draws, text, case, held)?;
     }
     text.push('\n')?;
-    Ok(text)
+    Ok(())
 }
 
-fn ask_text(alloc: Global, draws: &mut Draws, case: u64, held: &str) -> Result<String, Memory> {
+fn put_ask(draws: &mut Draws, text: &mut String, case: u64, held: &str) -> Result<(), Memory> {
     let number = draws.below(MOST_SERIES);
     let series = series_of(case, number);
     match draws.below(12) {
         0..=3 => {
             let code = draws.pick(&["N", "B", "Y", "V"]);
-            line_text(alloc, code, &series)
+            put_line(text, code, &series)
         }
         4 => {
             let part = narrowed(draws, series);
-            line_text(alloc, "D", &part)
+            put_line(text, "D", &part)
         }
         5 | 6 => {
             let code = draws.pick(&["R", "L", "I"]);
-            pair_text(alloc, draws, code, &series)
+            put_pair(draws, text, code, &series)
         }
         7 => {
             let code = draws.pick(&["D", "Z", "A", "F"]);
-            line_text(alloc, code, &series)
+            put_line(text, code, &series)
         }
-        8 => query_text(alloc, number),
-        _ => held_text(alloc, draws, held, number),
+        8 => put_query(text, number),
+        _ => put_held(draws, text, held, number),
     }
 }
 
-fn query_text(alloc: Global, number: u64) -> Result<String, Memory> {
+fn put_query(text: &mut String, number: u64) -> Result<(), Memory> {
     let flight = number.wrapping_add(100);
-    let text = format!(in alloc; "QBA{flight}\n")?;
-    Ok(text)
+    write!(text, "QBA{flight}\n")?;
+    Ok(())
 }
 
-/// An ask about one of the lines that replies gave; a query where there is none.
-fn held_text(alloc: Global, draws: &mut Draws, held: &str, number: u64) -> Result<String, Memory> {
+/// Appends an ask about one of the lines that replies gave; a query where there is none.
+fn put_held(draws: &mut Draws, text: &mut String, held: &str, number: u64) -> Result<(), Memory> {
     let code = draws.pick(&["A", "A", "Z", "D"]);
     let place = draws.place(held.lines().count());
     match held.lines().nth(place) {
         Some(line) => {
-            let text = format!(in alloc; "{code}{line}\n")?;
-            Ok(text)
+            write!(text, "{code}{line}\n")?;
+            Ok(())
         }
-        None => query_text(alloc, number),
+        None => put_query(text, number),
     }
 }
 
 /// A message that asks for all flights of a case, with its empty line.
 pub fn queries_text(alloc: Global) -> Result<String, Memory> {
-    let mut text = String::from_str(alloc, HEAD)?;
+    let mut text = String::new(alloc);
+    put_queries(&mut text)?;
+    Ok(text)
+}
+
+fn put_queries(text: &mut String) -> Result<(), Memory> {
+    text.push_str(HEAD)?;
     for number in 0..MOST_SERIES {
-        let query = query_text(alloc, number)?;
-        text.push_str(&query)?;
+        put_query(text, number)?;
     }
     text.push_str("QBA200\nQBA201\nQBA202\n\n")?;
-    Ok(text)
+    Ok(())
 }
 
-/// Reports of what was operated of the first series of a case.
-pub fn operated_text(alloc: Global, draws: &mut Draws, case: u64) -> Result<String, Memory> {
-    let mut text = String::new(alloc);
+/// Appends reports of what was operated of the first series of a case.
+pub fn put_reports(draws: &mut Draws, text: &mut String, case: u64) -> Result<(), Memory> {
     for _ in 0..draws.below(12) {
-        let report = report_text(alloc, draws, case)?;
-        text.push_str(&report)?;
+        let series = series_of(case, draws.below(7));
+        put_report(draws, text, series)?;
     }
-    Ok(text)
+    Ok(())
 }
 
-fn report_text(alloc: Global, draws: &mut Draws, case: u64) -> Result<String, Memory> {
-    let series = series_of(case, draws.below(7));
+fn put_report(draws: &mut Draws, text: &mut String, series: Series) -> Result<(), Memory> {
     let part = if draws.once_in(3) {
         narrowed(draws, series)
     } else {
@@ -202,6 +214,9 @@ fn report_text(alloc: Global, draws: &mut Draws, case: u64) -> Result<String, Me
     let (first, last) = (part.first, part.last);
     let kind = draws.pick(&["ARR", "DEP"]);
     let flight = part.number.wrapping_add(draws.below(2).wrapping_mul(500));
-    let text = format!(in alloc; "OPER {kind} BA{flight} {first:02}JUN{last:02}JUN 1234567\n")?;
-    Ok(text)
+    write!(
+        text,
+        "OPER {kind} BA{flight} {first:02}JUN{last:02}JUN 1234567\n"
+    )?;
+    Ok(())
 }

@@ -4,8 +4,8 @@
 use crate::commands::{Command, has_name};
 use crate::damage::{damage, damaged_bytes};
 use crate::draws::Draws;
-use crate::seasons::{message_text, operated_text, season_texts};
-use crate::texts::{file_text, held_lines};
+use crate::seasons::{put_message, put_reports, put_season};
+use crate::texts::{file_text, held_lines, put_bytes};
 use memory_desk::{Given, RunEnd, RunFault, run_desk};
 use slot_text::Memory;
 use std::alloc::Global;
@@ -28,23 +28,23 @@ pub fn whole_world<R: Threads + Wait + Sync>(
     command: Command,
 ) -> Result<Given, RunFault> {
     let mut given = Given::new(alloc, ROOM);
-    put_season(alloc, draws, case, &mut given)?;
-    put_made_files(rt, alloc, draws, case, command, &mut given)?;
-    put_old_files(alloc, draws, command, &mut given)?;
-    put_idle_disk(alloc, draws, command, &mut given)?;
+    put_world(rt, alloc, draws, case, command, &mut given)?;
     Ok(given)
 }
 
-/// The capacity file and the requests.
-fn put_season(
+fn put_world<R: Threads + Wait + Sync>(
+    rt: &R,
     alloc: Global,
     draws: &mut Draws,
     case: u64,
+    command: Command,
     given: &mut Given,
-) -> Result<(), Memory> {
-    let (capacity, requests) = season_texts(alloc, draws, case)?;
-    given.put(alloc, "CAP", capacity.into_bytes())?;
-    given.put(alloc, "SCR", requests.into_bytes())
+) -> Result<(), RunFault> {
+    put_season(alloc, draws, case, given)?;
+    put_made_files(rt, alloc, draws, case, command, given)?;
+    put_old_files(alloc, draws, command, given)?;
+    put_idle_disk(alloc, draws, command, given)?;
+    Ok(())
 }
 
 /// The files that other commands made, and what is asked and reported.
@@ -65,18 +65,27 @@ fn put_made_files<R: Threads + Wait + Sync>(
             put_asks(rt, alloc, draws, case, given)?;
             make(rt, alloc, Command::Reclear, given)
         }
-        Command::Usage => {
-            let text = operated_text(alloc, draws, case)?;
-            given.put(alloc, "OPERATED", text.into_bytes())?;
-            Ok(())
-        }
+        Command::Usage => put_operated(alloc, draws, case, given),
         Command::Serve => put_clients(rt, alloc, draws, case, given),
         Command::Resume => put_journal(rt, alloc, draws, case, given),
         _ => Ok(()),
     }
 }
 
-/// Runs a command, and keeps what it wrote.
+/// The file of what was operated.
+fn put_operated(
+    alloc: Global,
+    draws: &mut Draws,
+    case: u64,
+    given: &mut Given,
+) -> Result<(), RunFault> {
+    let mut text = String::new(alloc);
+    put_reports(draws, &mut text, case)?;
+    given.put(alloc, "OPERATED", text.into_bytes())?;
+    Ok(())
+}
+
+/// Runs a command, and keeps what it wrote, and its journal.
 fn make<R: Threads + Wait + Sync>(
     rt: &R,
     alloc: Global,
@@ -84,7 +93,19 @@ fn make<R: Threads + Wait + Sync>(
     given: &mut Given,
 ) -> Result<(), RunFault> {
     let ran = run_desk(rt, alloc, command.words(), given, &RealGate)?;
-    keep_writes(alloc, command, &ran, given)?;
+    keep_run(alloc, command, &ran, given)
+}
+
+fn keep_run(
+    alloc: Global,
+    command: Command,
+    ran: &RunEnd,
+    given: &mut Given,
+) -> Result<(), RunFault> {
+    keep_writes(alloc, command, ran, given)?;
+    if let Some(disk) = &ran.disk {
+        keep_journal(given, Vec::from_slice(alloc, disk.bytes())?);
+    }
     Ok(())
 }
 
@@ -97,20 +118,28 @@ pub fn keep_writes(
 ) -> Result<(), Memory> {
     for name in command.writes().split_whitespace() {
         if let Some(bytes) = ran.cabinet.file(name) {
-            given.put(alloc, name, Vec::from_slice(alloc, bytes)?)?;
+            put_bytes(alloc, given, name, bytes)?;
         }
     }
     Ok(())
 }
 
+fn keep_journal(given: &mut Given, bytes: Vec<u8>) {
+    given.journal = Some(bytes);
+}
+
 /// A copy of the files alone.
 pub fn copied(alloc: Global, given: &Given) -> Result<Given, Memory> {
     let mut copy = Given::new(alloc, ROOM);
-    for file in &given.files {
-        let bytes = Vec::from_slice(alloc, &file.bytes)?;
-        copy.put(alloc, file.name.as_str(), bytes)?;
-    }
+    put_copies(alloc, given, &mut copy)?;
     Ok(copy)
+}
+
+fn put_copies(alloc: Global, given: &Given, copy: &mut Given) -> Result<(), Memory> {
+    for file in &given.files {
+        put_bytes(alloc, copy, file.name.as_str(), &file.bytes)?;
+    }
+    Ok(())
 }
 
 /// Two messages, the second of which may ask about what the first was answered.
@@ -121,26 +150,54 @@ fn put_asks<R: Threads + Wait + Sync>(
     case: u64,
     given: &mut Given,
 ) -> Result<(), RunFault> {
-    let first = drawn_message(alloc, draws, case, given, "REPLIES")?;
-    given.put(alloc, "ASKS", Vec::from_slice(alloc, first.as_bytes())?)?;
+    add_message(alloc, draws, case, given, "REPLIES")?;
     make(rt, alloc, Command::Amend, given)?;
-    let second = drawn_message(alloc, draws, case, given, "ANSWERS")?;
-    let both = format!(in alloc; "{first}{second}")?;
-    given.put(alloc, "ASKS", both.into_bytes())?;
+    add_message(alloc, draws, case, given, "ANSWERS")?;
     Ok(())
 }
 
-/// A message of asks, some about the lines of a file of replies.
+/// Adds a message of asks to the file of them, some about the lines of a file of replies.
+fn add_message(
+    alloc: Global,
+    draws: &mut Draws,
+    case: u64,
+    given: &mut Given,
+    name: &str,
+) -> Result<(), Memory> {
+    let mut text = file_text(alloc, given.file("ASKS"))?;
+    put_drawn(alloc, draws, case, given, name, &mut text)?;
+    given.put(alloc, "ASKS", text.into_bytes())
+}
+
+/// Appends a message of asks, some about the lines of a file of replies.
+fn put_drawn(
+    alloc: Global,
+    draws: &mut Draws,
+    case: u64,
+    given: &Given,
+    name: &str,
+    text: &mut String,
+) -> Result<(), Memory> {
+    let held = held_in(alloc, given, name)?;
+    put_message(draws, text, case, &held)
+}
+
+fn held_in(alloc: Global, given: &Given, name: &str) -> Result<String, Memory> {
+    let replies = file_text(alloc, given.file(name))?;
+    held_lines(alloc, &replies)
+}
+
+/// The bytes of a message of asks, some about the lines of a file of replies.
 fn drawn_message(
     alloc: Global,
     draws: &mut Draws,
     case: u64,
     given: &Given,
     name: &str,
-) -> Result<String, Memory> {
-    let replies = file_text(alloc, given.file(name))?;
-    let held = held_lines(alloc, &replies)?;
-    message_text(alloc, draws, case, &held)
+) -> Result<Vec<u8>, Memory> {
+    let mut text = String::new(alloc);
+    put_drawn(alloc, draws, case, given, name, &mut text)?;
+    Ok(text.into_bytes())
 }
 
 /// One door, or two, the first with one client, two or three; the asks stand in a file, too.
@@ -168,12 +225,12 @@ fn put_more_clients(
     for _ in 0..2 {
         if draws.once_in(2) {
             let text = drawn_message(alloc, draws, case, given, "ANSWERS")?;
-            given.add_client(text.into_bytes())?;
+            given.add_client(text)?;
         }
     }
     if draws.once_in(3) {
         let text = drawn_message(alloc, draws, case, given, "REPLIES")?;
-        given.open_door(alloc, text.into_bytes())?;
+        given.open_door(alloc, text)?;
     }
     Ok(())
 }
@@ -194,31 +251,17 @@ fn put_journal<R: Threads + Wait + Sync>(
     given: &mut Given,
 ) -> Result<(), RunFault> {
     put_asks(rt, alloc, draws, case, given)?;
-    given.journal = Some(Vec::new(alloc));
+    keep_journal(given, Vec::new(alloc));
     open_door_of_asks(alloc, given)?;
     if !draws.once_in(4) {
-        keep_journal(rt, alloc, given)?;
+        make(rt, alloc, Command::Resume, given)?;
         let text = drawn_message(alloc, draws, case, given, "ANSWERS")?;
-        given.replace_client(text.into_bytes());
+        given.replace_client(text);
     }
     if draws.once_in(2) {
         put_more_clients(alloc, draws, case, given)?;
     }
     given.piece = draws.place(3);
-    Ok(())
-}
-
-/// Runs a desk with a journal, and keeps its record and its journal.
-fn keep_journal<R: Threads + Wait + Sync>(
-    rt: &R,
-    alloc: Global,
-    given: &mut Given,
-) -> Result<(), RunFault> {
-    let ran = run_desk(rt, alloc, Command::Resume.words(), given, &RealGate)?;
-    keep_writes(alloc, Command::Resume, &ran, given)?;
-    if let Some(disk) = &ran.disk {
-        given.journal = Some(Vec::from_slice(alloc, disk.bytes())?);
-    }
     Ok(())
 }
 
@@ -231,7 +274,7 @@ fn put_old_files(
 ) -> Result<(), Memory> {
     for name in command.writes().split_whitespace() {
         if given.file(name).is_none() && draws.once_in(2) {
-            given.put(alloc, name, Vec::from_slice(alloc, OLD)?)?;
+            put_bytes(alloc, given, name, OLD)?;
         }
     }
     Ok(())
@@ -245,7 +288,7 @@ fn put_idle_disk(
     given: &mut Given,
 ) -> Result<(), Memory> {
     if command != Command::Resume && draws.once_in(8) {
-        given.journal = Some(Vec::from_slice(alloc, OLD)?);
+        keep_journal(given, Vec::from_slice(alloc, OLD)?);
     }
     Ok(())
 }
@@ -270,14 +313,24 @@ pub fn damage_world(
     }
     let place = draws.place(command.reads().split_whitespace().count());
     let name = command.file_of(place);
-    if draws.once_in(12) {
-        given.rename(alloc, name, "AWAY")?;
-    } else if name == "CAP" && draws.once_in(6) {
-        put_more_lines(alloc, given)?;
-    } else {
-        damage(alloc, draws, given, name)?;
-    }
+    damage_file(alloc, draws, given, name)?;
     Ok(name)
+}
+
+/// Damages a file, or it is away then.
+fn damage_file(
+    alloc: Global,
+    draws: &mut Draws,
+    given: &mut Given,
+    name: &str,
+) -> Result<(), Memory> {
+    if draws.once_in(12) {
+        given.rename(alloc, name, "AWAY")
+    } else if name == "CAP" && draws.once_in(6) {
+        put_more_lines(alloc, given)
+    } else {
+        damage(alloc, draws, given, name)
+    }
 }
 
 /// One capacity line more than there may be, or more.
