@@ -3,14 +3,15 @@
 
 use crate::laws::{first_of, law};
 use crate::next_season::{counted, is_next};
-use crate::places::{Due, are_by_their_places, is_count_of, reply_due};
+use crate::places::{are_by_their_places, is_count_of, reply_due};
 use crate::plain::first_line;
 use crate::printed::{links_due, links_of, stage_lines};
 use crate::records::{History, answers_to, history_of};
 use crate::refusals::open_slots;
+use crate::seen::Seen;
 use crate::sent::{are_sent, broken_door};
-use crate::works::{fit_replies, held_slots, is_found_valid, said_of};
-use drawn_worlds::{Command, copied, count_of, file_text, number, queries_text, text_of};
+use crate::works::{fit_replies, held_slots, is_found_valid, replied, said_of};
+use drawn_worlds::{Command, copied, count_of, number, queries_text};
 use memory_desk::{Given, RunEnd, RunFault};
 use slot_text::Memory;
 use std::alloc::Global;
@@ -23,31 +24,19 @@ pub fn amended<R: Threads + Wait + Sync>(
     rt: &R,
     alloc: Global,
     given: &Given,
-    ran: &RunEnd,
+    seen: &Seen,
     damaged: &str,
 ) -> Result<&'static str, RunFault> {
-    let asks = file_text(alloc, given.file("ASKS"))?;
-    let due = reply_due(alloc, given, damaged == "ASKS")?;
-    if !is_count_of(alloc, ran, &asks, due)? {
+    let asks = seen.before("ASKS");
+    let due = reply_due(seen.before("CAP"), damaged == "ASKS");
+    if !is_count_of(alloc, &seen.said, asks, due)? {
         return Ok("entries of asks");
     }
     if !asks.ends_with('\n') {
         return Ok("");
     }
-    broken_replies(rt, alloc, given, ran, &asks, due)
-}
-
-fn broken_replies<R: Threads + Wait + Sync>(
-    rt: &R,
-    alloc: Global,
-    given: &Given,
-    ran: &RunEnd,
-    asks: &str,
-    due: Due,
-) -> Result<&'static str, RunFault> {
-    let answers = file_text(alloc, ran.cabinet.file("ANSWERS"))?;
-    let are_placed = are_by_their_places(rt, alloc, given, asks, &answers, due)?;
-    let later = broken_behind(rt, alloc, given, asks, &answers)?;
+    let are_placed = are_by_their_places(rt, alloc, given, asks, seen.after("ANSWERS"), due)?;
+    let later = broken_behind(rt, alloc, given, seen)?;
     Ok(first_of(law(are_placed, "replies by their places"), later))
 }
 
@@ -56,11 +45,11 @@ fn broken_behind<R: Threads + Wait + Sync>(
     rt: &R,
     alloc: Global,
     given: &Given,
-    asks: &str,
-    answers: &str,
+    seen: &Seen,
 ) -> Result<&'static str, RunFault> {
-    let listed = listed_behind(rt, alloc, given, asks)?;
-    let fit = fit_replies(alloc, given, behind(&listed, answers))?;
+    let listed = listed_behind(rt, alloc, given, seen.before("ASKS"))?;
+    let answers = seen.after("ANSWERS");
+    let fit = fit_replies(alloc, seen.before("CAP"), behind(&listed, answers))?;
     Ok(first_of(
         law(listed.starts_with(answers), "replies before later asks"),
         law(fit, "loads behind asks"),
@@ -74,9 +63,15 @@ fn listed_behind<R: Threads + Wait + Sync>(
     given: &Given,
     asks: &str,
 ) -> Result<String, RunFault> {
+    let all = with_queries(alloc, asks)?;
+    answers_to(rt, alloc, given, &all)
+}
+
+/// Asks, and a message that asks for all flights behind them.
+fn with_queries(alloc: Global, asks: &str) -> Result<String, Memory> {
     let queries = queries_text(alloc)?;
     let all = format!(in alloc; "{asks}\n{queries}")?;
-    answers_to(rt, alloc, given, &all)
+    Ok(all)
 }
 
 fn behind<'a>(whole: &'a str, front: &str) -> &'a str {
@@ -91,12 +86,13 @@ pub fn served<R: Threads + Wait + Sync>(
     alloc: Global,
     given: &Given,
     ran: &RunEnd,
+    seen: &Seen,
     damaged: &str,
 ) -> Result<&'static str, RunFault> {
-    let record = file_text(alloc, ran.cabinet.file("RECORD"))?;
-    let counts = broken_counts(alloc, given, ran, &record, "")?;
-    let is_history = is_one_history(rt, alloc, given, &record)?;
-    let sent = are_sent(alloc, given, ran, &record)?;
+    let record = seen.after("RECORD");
+    let counts = broken_counts(alloc, given, ran, seen, "")?;
+    let is_history = is_one_history(rt, alloc, given, record)?;
+    let sent = are_sent(alloc, given, ran, record)?;
     let first = first_of(counts, first_of(law(is_history, "a record"), sent));
     let is_calm = given.fails.link.is_none() && given.fails.accept.is_none();
     if !is_calm || damaged == "CLIENT" {
@@ -111,16 +107,15 @@ fn broken_counts(
     alloc: Global,
     given: &Given,
     ran: &RunEnd,
-    record: &str,
+    seen: &Seen,
     front: &str,
 ) -> Result<&'static str, Memory> {
-    let said = text_of(alloc, ran.sink.bytes())?;
-    let entries = count_of(record, "ENTRY ");
+    let entries = count_of(seen.after("RECORD"), "ENTRY ");
     let links = links_of(ran);
-    let due = format!(in alloc; "{front}ENTRIES {entries}\nLINKS {links}\n")?;
     let are_all = ran.status != 0 || links == links_due(given);
+    let due = format!(in alloc; "{front}ENTRIES {entries}\nLINKS {links}\n")?;
     Ok(first_of(
-        law(said.as_str() == due.as_str(), "entries and links"),
+        law(seen.said.as_str() == due.as_str(), "entries and links"),
         law(are_all, "links"),
     ))
 }
@@ -133,8 +128,19 @@ fn is_one_history<R: Threads + Wait + Sync>(
     record: &str,
 ) -> Result<bool, RunFault> {
     let history = history_of(alloc, record, u64::MAX)?;
-    let answers = answers_to(rt, alloc, given, &history.asks)?;
-    Ok(answers.as_str() == history.due.as_str())
+    is_answered(rt, alloc, given, &history.asks, &history.due)
+}
+
+/// Whether `amend` answers asks with these answers in the end.
+fn is_answered<R: Threads + Wait + Sync>(
+    rt: &R,
+    alloc: Global,
+    given: &Given,
+    asks: &str,
+    due: &str,
+) -> Result<bool, RunFault> {
+    let answers = answers_to(rt, alloc, given, asks)?;
+    Ok(answers.as_str() == due)
 }
 
 /// Clients were served with a journal: the pairs that were found are its open slots, the record
@@ -145,36 +151,32 @@ pub fn resumed<R: Threads + Wait + Sync>(
     alloc: Global,
     given: &Given,
     ran: &RunEnd,
+    seen: &Seen,
     damaged: &str,
 ) -> Result<&'static str, RunFault> {
-    let said = text_of(alloc, ran.sink.bytes())?;
-    if said.starts_with("JOURNAL ") {
+    if seen.said.starts_with("JOURNAL ") {
         return Ok(law(is_journal_left(given, ran), "a journal that was refused"));
     }
     let kept = match &given.journal {
         Some(bytes) => open_slots(bytes.as_slice()),
         None => u64::MAX,
     };
-    let record = file_text(alloc, ran.cabinet.file("RECORD"))?;
-    let printed = broken_print(alloc, given, ran, &record, kept)?;
-    let is_damaged = damaged == "JOURNAL";
-    Ok(first_of(
-        printed,
-        broken_record(rt, alloc, given, ran, &record, kept, is_damaged)?,
-    ))
+    let counts = broken_kept(alloc, given, ran, seen, kept)?;
+    let sent = are_sent(alloc, given, ran, seen.after("RECORD"))?;
+    let record = broken_record(rt, alloc, given, ran, seen, kept, damaged == "JOURNAL")?;
+    Ok(first_of(first_of(counts, sent), record))
 }
 
-/// The first law that what was printed, or sent, breaks where so many pairs were found.
-fn broken_print(
+/// The first law that what was printed breaks where so many pairs were found.
+fn broken_kept(
     alloc: Global,
     given: &Given,
     ran: &RunEnd,
-    record: &str,
+    seen: &Seen,
     kept: u64,
 ) -> Result<&'static str, Memory> {
     let front = format!(in alloc; "KEPT {kept}\n")?;
-    let counts = broken_counts(alloc, given, ran, record, &front)?;
-    Ok(first_of(counts, are_sent(alloc, given, ran, record)?))
+    broken_counts(alloc, given, ran, seen, &front)
 }
 
 /// The first law that a record breaks, and the journal beside it, in which so many pairs were
@@ -184,15 +186,15 @@ fn broken_record<R: Threads + Wait + Sync>(
     alloc: Global,
     given: &Given,
     ran: &RunEnd,
-    record: &str,
+    seen: &Seen,
     kept: u64,
     is_damaged: bool,
 ) -> Result<&'static str, RunFault> {
-    let entries = count_of(record, "ENTRY ") as u64;
+    let entries = count_of(seen.after("RECORD"), "ENTRY ") as u64;
     let found = found_again(rt, alloc, given, ran)?;
     let all = kept.saturating_add(entries);
     let stands = found == Some(all) || ran.status == 14 && found == Some(all.saturating_add(1));
-    let follows = is_damaged || follows_kept(rt, alloc, given, record, kept)?;
+    let follows = is_damaged || follows_kept(rt, alloc, given, seen, kept)?;
     Ok(first_of(
         law(stands, "a journal opened again"),
         law(follows, "a record behind a journal"),
@@ -215,19 +217,30 @@ fn found_again<R: Threads + Wait + Sync>(
     given: &Given,
     ran: &RunEnd,
 ) -> Result<Option<u64>, RunFault> {
-    let Some(disk) = &ran.disk else {
-        return Ok(None);
-    };
-    let world = with_journal(alloc, given, disk.bytes())?;
-    let said = said_of(rt, alloc, Command::Resume.words(), &world)?;
-    Ok(number(first_line(&said), 2))
+    match &ran.disk {
+        Some(disk) => found_on(rt, alloc, given, disk.bytes()),
+        None => Ok(None),
+    }
 }
 
-/// The files that are given, and a journal.
-fn with_journal(alloc: Global, given: &Given, bytes: &[u8]) -> Result<Given, Memory> {
+fn found_on<R: Threads + Wait + Sync>(
+    rt: &R,
+    alloc: Global,
+    given: &Given,
+    bytes: &[u8],
+) -> Result<Option<u64>, RunFault> {
     let mut world = copied(alloc, given)?;
     world.journal = Some(Vec::from_slice(alloc, bytes)?);
-    Ok(world)
+    found_in(rt, alloc, &world)
+}
+
+fn found_in<R: Threads + Wait + Sync>(
+    rt: &R,
+    alloc: Global,
+    world: &Given,
+) -> Result<Option<u64>, RunFault> {
+    let said = said_of(rt, alloc, Command::Resume.words(), world)?;
+    Ok(number(first_line(&said), 2))
 }
 
 /// Whether the answers of a record are those behind the first entries of the record before it.
@@ -235,26 +248,46 @@ fn follows_kept<R: Threads + Wait + Sync>(
     rt: &R,
     alloc: Global,
     given: &Given,
-    record: &str,
+    seen: &Seen,
     kept: u64,
 ) -> Result<bool, RunFault> {
-    let earlier = file_text(alloc, given.file("RECORD"))?;
-    let before = history_of(alloc, &earlier, kept)?;
-    let history = history_of(alloc, record, u64::MAX)?;
-    let asks = joined(alloc, &before, &history, kept)?;
-    let answers = answers_to(rt, alloc, given, &asks)?;
-    Ok(answers.ends_with(history.due.as_str()))
+    let history = history_of(alloc, seen.after("RECORD"), u64::MAX)?;
+    follows(rt, alloc, given, seen.before("RECORD"), kept, &history)
 }
 
-/// The asks of both histories, of the first only where pairs were kept.
-fn joined(alloc: Global, before: &History, after: &History, kept: u64) -> Result<String, Memory> {
-    let (first, second) = (&before.asks, &after.asks);
-    let asks = if kept == 0 {
-        format!(in alloc; "{second}")?
-    } else {
-        format!(in alloc; "{first}{second}")?
-    };
-    Ok(asks)
+/// Whether the answers of a history are those behind the first entries of a record.
+fn follows<R: Threads + Wait + Sync>(
+    rt: &R,
+    alloc: Global,
+    given: &Given,
+    earlier: &str,
+    kept: u64,
+    history: &History,
+) -> Result<bool, RunFault> {
+    let asks = joined(alloc, earlier, kept, &history.asks)?;
+    ends_answered(rt, alloc, given, &asks, &history.due)
+}
+
+/// Whether `amend` answers asks with these answers at the end.
+fn ends_answered<R: Threads + Wait + Sync>(
+    rt: &R,
+    alloc: Global,
+    given: &Given,
+    asks: &str,
+    due: &str,
+) -> Result<bool, RunFault> {
+    let answers = answers_to(rt, alloc, given, asks)?;
+    Ok(answers.ends_with(due))
+}
+
+/// The asks of the first entries of a record, where pairs were kept, and others behind them.
+fn joined(alloc: Global, earlier: &str, kept: u64, asks: &str) -> Result<String, Memory> {
+    if kept == 0 {
+        return Ok(String::from_str(alloc, asks)?);
+    }
+    let mut before = history_of(alloc, earlier, kept)?.asks;
+    before.push_str(asks)?;
+    Ok(before)
 }
 
 /// A waiting list was cleared: its stage is found valid, each line that waits has one reply, and
@@ -264,11 +297,11 @@ pub fn recleared<R: Threads + Wait + Sync>(
     alloc: Global,
     given: &Given,
     ran: &RunEnd,
+    seen: &Seen,
 ) -> Result<&'static str, RunFault> {
-    let replies = file_text(alloc, ran.cabinet.file("REPLIES"))?;
-    let is_whole = is_waiting_text(alloc, ran, &replies)?;
+    let is_whole = is_waiting_text(alloc, seen)?;
     let is_valid = is_found_valid(rt, alloc, given, ran, Command::Reclear, Command::Recheck)?;
-    let fit = fit_together(rt, alloc, given, &replies)?;
+    let fit = fit_together(rt, alloc, given, seen)?;
     Ok(first_of(
         law(is_valid, "a stage that was written"),
         first_of(
@@ -280,14 +313,16 @@ pub fn recleared<R: Threads + Wait + Sync>(
 
 /// Whether what was printed counts the lines that were replied to, and has the cost, the bound and
 /// the status of the stage that was written.
-fn is_waiting_text(alloc: Global, ran: &RunEnd, replies: &str) -> Result<bool, Memory> {
-    let said = text_of(alloc, ran.sink.bytes())?;
-    let replied = count_of(replies, "K").saturating_add(count_of(replies, "U"));
-    let stage = file_text(alloc, ran.cabinet.file("EXTRA"))?;
-    let lines = stage_lines(alloc, &stage)?;
-    let due = format!(in alloc; "WAITING {replied}\n{lines}")?;
+fn is_waiting_text(alloc: Global, seen: &Seen) -> Result<bool, Memory> {
+    let lines = stage_lines(alloc, seen.after("EXTRA"))?;
+    is_waiting(alloc, seen, &lines)
+}
+
+fn is_waiting(alloc: Global, seen: &Seen, lines: &str) -> Result<bool, Memory> {
+    let count = replied(seen.after("REPLIES"));
     let status = if lines.contains(" OPEN ") { 9 } else { 0 };
-    Ok(said.as_str() == due.as_str() && ran.status == status)
+    let due = format!(in alloc; "WAITING {count}\n{lines}")?;
+    Ok(seen.said.as_str() == due.as_str() && seen.status == status)
 }
 
 /// Whether what the book holds behind the asks fits beside the slots of replies.
@@ -295,27 +330,33 @@ fn fit_together<R: Threads + Wait + Sync>(
     rt: &R,
     alloc: Global,
     given: &Given,
-    replies: &str,
+    seen: &Seen,
 ) -> Result<bool, RunFault> {
-    let asks = file_text(alloc, given.file("ASKS"))?;
+    let asks = seen.before("ASKS");
     if !asks.ends_with('\n') {
         return Ok(true);
     }
-    let held = held_behind(rt, alloc, given, &asks)?;
-    let both = format!(in alloc; "{held}{replies}")?;
-    Ok(fit_replies(alloc, given, &both)?)
+    let answers = answers_to(rt, alloc, given, asks)?;
+    fit_behind(rt, alloc, given, seen, &answers)
 }
 
-/// What all flights hold behind asks.
-fn held_behind<R: Threads + Wait + Sync>(
+fn fit_behind<R: Threads + Wait + Sync>(
     rt: &R,
     alloc: Global,
     given: &Given,
-    asks: &str,
-) -> Result<String, RunFault> {
-    let answers = answers_to(rt, alloc, given, asks)?;
-    let listed = listed_behind(rt, alloc, given, asks)?;
-    Ok(String::from_str(alloc, behind(&listed, &answers))?)
+    seen: &Seen,
+    answers: &str,
+) -> Result<bool, RunFault> {
+    let listed = listed_behind(rt, alloc, given, seen.before("ASKS"))?;
+    let held = behind(&listed, answers);
+    Ok(fit_both(alloc, seen, held)?)
+}
+
+/// Whether held lines and those of replies are within the limits together.
+fn fit_both(alloc: Global, seen: &Seen, held: &str) -> Result<bool, Memory> {
+    let replies = seen.after("REPLIES");
+    let both = format!(in alloc; "{held}{replies}")?;
+    fit_replies(alloc, seen.before("CAP"), &both)
 }
 
 /// Usage was watched: the numbers of series, and of those with precedence, are those of a count
@@ -324,30 +365,24 @@ pub fn watched<R: Threads + Wait + Sync>(
     rt: &R,
     alloc: Global,
     given: &Given,
-    ran: &RunEnd,
+    seen: &Seen,
     damaged: &str,
 ) -> Result<&'static str, RunFault> {
     if !damaged.is_empty() {
         return Ok("");
     }
     let held = held_slots(rt, alloc, given)?;
-    Ok(broken_usage(alloc, given, ran, &held)?)
+    Ok(broken_usage(alloc, seen, &held)?)
 }
 
 /// The first law that what was printed and written of these holdings breaks.
-fn broken_usage(
-    alloc: Global,
-    given: &Given,
-    ran: &RunEnd,
-    held: &str,
-) -> Result<&'static str, Memory> {
-    let said = text_of(alloc, ran.sink.bytes())?;
-    let operated = file_text(alloc, given.file("OPERATED"))?;
-    let next = file_text(alloc, ran.cabinet.file("NEXT"))?;
-    let (series, kept) = counted(held, &operated);
+fn broken_usage(alloc: Global, seen: &Seen, held: &str) -> Result<&'static str, Memory> {
+    let operated = seen.before("OPERATED");
+    let is_next = is_next(alloc, seen.after("NEXT"), held, operated)?;
+    let (series, kept) = counted(held, operated);
     let due = format!(in alloc; "SERIES {series} KEPT {kept}\n")?;
     Ok(first_of(
-        law(said.as_str() == due.as_str(), "numbers of series"),
-        law(is_next(alloc, &next, held, &operated)?, "the next season"),
+        law(seen.said.as_str() == due.as_str(), "numbers of series"),
+        law(is_next, "the next season"),
     ))
 }

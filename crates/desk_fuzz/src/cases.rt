@@ -4,10 +4,11 @@ use crate::answers::{amended, recleared, resumed, served, watched};
 use crate::compared::broken_beside;
 use crate::general::{broken_law, is_refused_behind};
 use crate::laws::{first_of, law};
+use crate::seen::Seen;
 use crate::sent::is_front_of;
 use crate::works::{allotted, checked, inspected, made, reported, tried};
 use desk_outside::Failure;
-use drawn_worlds::{COMMANDS, Command, Draws, damage_world, text_of, whole_world};
+use drawn_worlds::{COMMANDS, Command, Draws, damage_world, whole_world};
 use memory_desk::{Fails, Given, NO_FAILS, RunEnd, RunFault, run_desk};
 use slot_text::Memory;
 use std::alloc::Global;
@@ -36,53 +37,77 @@ pub fn broken_case<R: Threads + Wait + Sync>(
     counts: &mut [u64],
 ) -> Result<&'static str, RunFault> {
     let mut draws = Draws::new(number, 0);
-    let mut case = drawn_case(alloc, &mut draws)?;
-    let mut given = whole_world(rt, alloc, &mut draws, number, case.command)?;
-    if draws.once_in(2) {
-        case.damaged = damage_world(alloc, &mut draws, case.command, &mut given)?;
-    }
-    broken_runs(rt, alloc, &mut draws, &case, &mut given, counts)
-}
-
-fn drawn_case(alloc: Global, draws: &mut Draws) -> Result<Case, Memory> {
     let place = draws.place(COMMANDS.len());
-    let command = COMMANDS.get(place).copied().unwrap_or(Command::Check);
-    let words = drawn_words(alloc, draws, command)?;
-    if !draws.once_in(25) {
-        return Ok(Case {
-            command,
-            words,
-            refused: false,
-            damaged: "",
-        });
-    }
-    let more = draws.pick(&["MORE", "--nodes 0", "--help", "-x", "--links=1001", "--"]);
-    let words = format!(in alloc; "{words} {more} X")?;
-    Ok(Case {
-        command,
-        words,
-        refused: true,
+    let mut case = Case {
+        command: COMMANDS.get(place).copied().unwrap_or(Command::Check),
+        words: String::new(alloc),
+        refused: false,
         damaged: "",
-    })
+    };
+    broken_drawn(rt, alloc, &mut draws, number, &mut case, counts)
 }
 
-fn drawn_words(alloc: Global, draws: &mut Draws, command: Command) -> Result<String, Memory> {
+/// Draws the words and the world of a case, and runs it.
+fn broken_drawn<R: Threads + Wait + Sync>(
+    rt: &R,
+    alloc: Global,
+    draws: &mut Draws,
+    number: u64,
+    case: &mut Case,
+    counts: &mut [u64],
+) -> Result<&'static str, RunFault> {
+    put_words(draws, &mut case.words, case.command)?;
+    if draws.once_in(25) {
+        case.refused = true;
+        put_more(draws, &mut case.words)?;
+    }
+    let mut given = whole_world(rt, alloc, draws, number, case.command)?;
+    broken_given(rt, alloc, draws, case, &mut given, counts)
+}
+
+/// Damages half of the worlds, and runs the case.
+fn broken_given<R: Threads + Wait + Sync>(
+    rt: &R,
+    alloc: Global,
+    draws: &mut Draws,
+    case: &mut Case,
+    given: &mut Given,
+    counts: &mut [u64],
+) -> Result<&'static str, RunFault> {
+    if draws.once_in(2) {
+        case.damaged = damage_world(alloc, draws, case.command, given)?;
+    }
+    broken_runs(rt, alloc, draws, case, given, counts)
+}
+
+/// Words more than a command has.
+fn put_more(draws: &mut Draws, words: &mut String) -> Result<(), Memory> {
+    let more = draws.pick(&["MORE", "--nodes 0", "--help", "-x", "--links=1001", "--"]);
+    write!(words, " {more} X")?;
+    Ok(())
+}
+
+/// Appends the words of a command.
+fn put_words(draws: &mut Draws, words: &mut String, command: Command) -> Result<(), Memory> {
     let seed = draws.below(65_537);
     let units = draws.below(6).wrapping_add(1);
     let nodes = draws.pick(&["1", "2", "200"]);
-    let searches = "--workers 1 --nodes";
-    let words = match command {
+    match command {
         Command::Allocate => {
-            format!(in alloc; "allocate CAP SCR CERT REPLIES {searches} {nodes}")?
+            write!(
+                words,
+                "allocate CAP SCR CERT REPLIES --workers 1 --nodes {nodes}"
+            )?;
         }
         Command::Reclear => {
-            format!(in alloc; "reclear CAP SCR CERT ASKS EXTRA REPLIES {searches} {nodes}")?
+            let files = "CAP SCR CERT ASKS EXTRA REPLIES";
+            write!(words, "reclear {files} --workers 1 --nodes {nodes}")?;
         }
-        Command::Make => format!(in alloc; "make {seed} {units} CAP SCR")?,
-        Command::Trial => format!(in alloc; "trial {seed} {units}")?,
-        _ => String::from_str(alloc, command.words())?,
-    };
-    Ok(words)
+        Command::Make => write!(words, "make {seed} {units} CAP SCR")?,
+        Command::Trial => write!(words, "trial {seed} {units}")?,
+        _ => words.push_str(command.words())?,
+    }
+    Ok(())
 }
 
 /// The run where no call fails, and the one where one may.
@@ -109,7 +134,7 @@ fn broken_beside_calm<R: Threads + Wait + Sync>(
     calm: &RunEnd,
     counts: &mut [u64],
 ) -> Result<&'static str, RunFault> {
-    let first = broken_calm(rt, alloc, case, given, calm)?;
+    let first = broken_run(rt, alloc, case, given, None, calm)?;
     if !first.is_empty() {
         return Ok(first);
     }
@@ -127,7 +152,7 @@ fn broken_second<R: Threads + Wait + Sync>(
     counts: &mut [u64],
 ) -> Result<&'static str, RunFault> {
     let ran = counted_run(rt, alloc, case, given, counts)?;
-    broken_failing(rt, alloc, case, given, calm, &ran)
+    broken_run(rt, alloc, case, given, Some(calm), &ran)
 }
 
 /// Runs the desk, and counts the status.
@@ -187,6 +212,39 @@ fn drawn_fails(draws: &mut Draws, command: Command, has_disk: bool) -> Fails {
     fails
 }
 
+/// The first law that a run breaks: where calls may fail, beside the one where none does.
+fn broken_run<R: Threads + Wait + Sync>(
+    rt: &R,
+    alloc: Global,
+    case: &Case,
+    given: &Given,
+    calm: Option<&RunEnd>,
+    ran: &RunEnd,
+) -> Result<&'static str, RunFault> {
+    let mut seen = Seen::new(alloc);
+    seen.look(alloc, case.command, given, ran)?;
+    broken_seen(rt, alloc, case, given, calm, ran, &seen)
+}
+
+fn broken_seen<R: Threads + Wait + Sync>(
+    rt: &R,
+    alloc: Global,
+    case: &Case,
+    given: &Given,
+    calm: Option<&RunEnd>,
+    ran: &RunEnd,
+    seen: &Seen,
+) -> Result<&'static str, RunFault> {
+    let general = broken_law(alloc, case.command, given, ran, seen)?;
+    if !general.is_empty() {
+        return Ok(general);
+    }
+    match calm {
+        Some(calm) => broken_failing(rt, alloc, case, given, calm, ran, seen),
+        None => broken_calm(rt, alloc, case, given, ran, seen),
+    }
+}
+
 /// The first law that a run breaks where no call fails.
 fn broken_calm<R: Threads + Wait + Sync>(
     rt: &R,
@@ -194,31 +252,27 @@ fn broken_calm<R: Threads + Wait + Sync>(
     case: &Case,
     given: &Given,
     ran: &RunEnd,
+    seen: &Seen,
 ) -> Result<&'static str, RunFault> {
-    let general = broken_law(alloc, case.command, given, ran)?;
-    if !general.is_empty() {
-        return Ok(general);
-    }
     if case.refused {
         return Ok(law(ran.status == 2, "words that are no command's"));
     }
-    let refusal = broken_refusal(alloc, case, ran)?;
-    let work = broken_work(rt, alloc, case, given, ran)?;
+    let refusal = broken_refusal(case, ran.status, &seen.said);
+    let work = broken_work(rt, alloc, case, given, ran, seen)?;
     Ok(first_of(refusal, work))
 }
 
 /// The first law that a refusal breaks where no call fails.
-fn broken_refusal(alloc: Global, case: &Case, ran: &RunEnd) -> Result<&'static str, Memory> {
-    let said = text_of(alloc, ran.sink.bytes())?;
-    let is_done = case.command.ends(ran.status) || ran.status == 15;
-    let is_behind = is_refused_behind(case.command, case.damaged, ran.status, &said);
-    Ok(first_of(
+fn broken_refusal(case: &Case, status: u8, said: &str) -> &'static str {
+    let is_done = case.command.ends(status) || status == 15;
+    let is_behind = is_refused_behind(case.command, case.damaged, status, said);
+    first_of(
         law(
             is_done || !case.damaged.is_empty(),
             "a refused world that is whole",
         ),
         law(is_behind, "a refused file that is whole"),
-    ))
+    )
 }
 
 /// The first law that work which is done breaks, or a refusal that another command gives too.
@@ -228,25 +282,26 @@ fn broken_work<R: Threads + Wait + Sync>(
     case: &Case,
     given: &Given,
     ran: &RunEnd,
+    seen: &Seen,
 ) -> Result<&'static str, RunFault> {
     let command = case.command;
     if command == Command::Inspect {
-        return inspected(rt, alloc, given, ran, case.damaged.is_empty());
+        return inspected(rt, alloc, given, seen, case.damaged.is_empty());
     }
     if !command.ends(ran.status) && ran.status != 13 {
         return Ok("");
     }
     match command {
-        Command::Allocate => allotted(rt, alloc, given, ran),
-        Command::Check => checked(rt, alloc, given),
-        Command::Amend => amended(rt, alloc, given, ran, case.damaged),
-        Command::Serve => served(rt, alloc, given, ran, case.damaged),
-        Command::Resume => resumed(rt, alloc, given, ran, case.damaged),
-        Command::Usage => watched(rt, alloc, given, ran, case.damaged),
-        Command::Reclear => recleared(rt, alloc, given, ran),
-        Command::Report => reported(alloc, given, ran),
-        Command::Make => made(alloc, case.words.as_str(), ran),
-        Command::Trial => tried(rt, alloc, case.words.as_str(), ran),
+        Command::Allocate => allotted(rt, alloc, given, ran, seen),
+        Command::Check => checked(rt, alloc, given, seen),
+        Command::Amend => amended(rt, alloc, given, seen, case.damaged),
+        Command::Serve => served(rt, alloc, given, ran, seen, case.damaged),
+        Command::Resume => resumed(rt, alloc, given, ran, seen, case.damaged),
+        Command::Usage => watched(rt, alloc, given, seen, case.damaged),
+        Command::Reclear => recleared(rt, alloc, given, ran, seen),
+        Command::Report => reported(alloc, seen),
+        Command::Make => made(alloc, case.words.as_str(), seen),
+        Command::Trial => tried(rt, alloc, case.words.as_str(), seen),
         Command::Recheck | Command::Inspect => Ok(""),
     }
 }
@@ -259,19 +314,17 @@ fn broken_failing<R: Threads + Wait + Sync>(
     given: &Given,
     calm: &RunEnd,
     ran: &RunEnd,
+    seen: &Seen,
 ) -> Result<&'static str, RunFault> {
-    let general = broken_law(alloc, case.command, given, ran)?;
-    if !general.is_empty() {
-        return Ok(general);
-    }
     let fails = given.fails;
     let is_session = fails.accept.is_some() || fails.link.is_some() || fails.disk.is_some();
     if !is_session && given.clients.len() < 2 {
-        return Ok(broken_beside(alloc, case.command, given, calm, ran)?);
+        return Ok(broken_beside(case.command, given, calm, ran, &seen.said));
     }
     if case.refused || !case.command.ends(ran.status) {
         return Ok("");
     }
     let sent = law(is_front_of(calm, ran), "what a first link was sent");
-    Ok(first_of(sent, broken_work(rt, alloc, case, given, ran)?))
+    let work = broken_work(rt, alloc, case, given, ran, seen)?;
+    Ok(first_of(sent, work))
 }

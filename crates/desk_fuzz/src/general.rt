@@ -4,11 +4,13 @@
 //! where it was.
 
 use crate::laws::{first_of, law};
+use crate::plain::first_line;
 use crate::refusals::{is_cause, is_named};
+use crate::seen::Seen;
 use desk_disk::Disk;
 use desk_links::Door;
 use desk_outside::{Cabinet, Sink};
-use drawn_worlds::{Command, are_same, has_name, text_of, word};
+use drawn_worlds::{Command, are_same, has_name, word};
 use memory_desk::{Given, RunEnd};
 use slot_text::Memory;
 use std::alloc::Global;
@@ -19,35 +21,28 @@ pub fn broken_law(
     command: Command,
     given: &Given,
     ran: &RunEnd,
+    seen: &Seen,
 ) -> Result<&'static str, Memory> {
-    let said = text_of(alloc, ran.sink.bytes())?;
+    let said = seen.said.as_str();
     let status = ran.status;
+    let is_named = is_named(alloc, command, given, seen)?;
     let first = first_of(
         law(may_end(command, status), "status"),
-        law(is_text_of(command, status, &said), "text"),
+        law(is_text_of(command, status, said), "text"),
     );
-    let second = first_of(
-        law(is_named(alloc, command, given, status, &said)?, "name"),
-        law(has_cause(ran, &said), "cause"),
-    );
+    let second = first_of(law(is_named, "name"), law(has_cause(ran, said), "cause"));
     let third = first_of(
-        law(are_files_left(command, given, ran, &said), "files"),
+        law(are_files_left(command, given, ran, said), "files"),
         law(is_disk_back(command, given, ran), "disk"),
     );
-    let told = law(tells_why(alloc, command, given, status, &said)?, "why");
-    Ok(first_of(first, first_of(first_of(second, third), told)))
+    let told = law(tells_why(command, seen), "why");
+    Ok(first_of(first_of(first, second), first_of(third, told)))
 }
 
 /// Whether `inspect` says why it refuses.
-fn tells_why(
-    alloc: Global,
-    command: Command,
-    given: &Given,
-    status: u8,
-    said: &str,
-) -> Result<bool, Memory> {
-    let tells = command == Command::Inspect && (status == 3 || status == 4);
-    Ok(!tells || is_cause(alloc, given, said)?)
+fn tells_why(command: Command, seen: &Seen) -> bool {
+    let tells = command == Command::Inspect && (seen.status == 3 || seen.status == 4);
+    !tells || is_cause(seen)
 }
 
 /// Whether a command may end with a status.
@@ -103,7 +98,7 @@ fn are_done_lines(command: Command, status: u8, said: &str) -> bool {
 /// Whether what was refused where no call failed is the file that was damaged, or one behind it, by
 /// the order in which the command reads. What a client says and a journal stand behind all files.
 pub fn is_refused_behind(command: Command, damaged: &str, status: u8, said: &str) -> bool {
-    let second = word(said.lines().next().unwrap_or(""), 1);
+    let second = word(first_line(said), 1);
     let refused = match status {
         1 if second == "EXTRA" => "EXTRA",
         1 => "CERT",
@@ -192,9 +187,13 @@ fn are_files_left(command: Command, given: &Given, ran: &RunEnd, said: &str) -> 
     };
     for name in NAMES {
         let may_change = !refused && has_name(command.writes(), name);
-        if !may_change && !are_same(given.file(name), ran.cabinet.file(name)) {
+        if !may_change && !is_file_left(given, ran, name) {
             return false;
         }
     }
     true
+}
+
+fn is_file_left(given: &Given, ran: &RunEnd, name: &str) -> bool {
+    are_same(given.file(name), ran.cabinet.file(name))
 }

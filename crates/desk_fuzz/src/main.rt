@@ -22,6 +22,7 @@ mod plain;
 mod printed;
 mod records;
 mod refusals;
+mod seen;
 mod sent;
 mod told;
 mod works;
@@ -38,18 +39,28 @@ use std::thread::Threads;
 const SHORT: u64 = 3_000;
 
 fn main(rt: HostRuntime) -> anyhow::Result<()> {
-    let alloc = rt.alloc();
-    let mut numbers = Vec::new(alloc);
+    let mut numbers = [0, SHORT];
+    let mut place = 0_usize;
     for word in env::args(&rt)?.skip(1) {
-        numbers.push(word.as_str().parse::<u64>()?)?;
+        let number = word.as_str().parse::<u64>()?;
+        if place < 2 {
+            numbers[place] = number;
+            place += 1;
+        }
     }
-    let first = numbers.first().copied().unwrap_or(0);
-    let count = numbers.get(1).copied().unwrap_or(SHORT);
-    let mut counts = vec![in alloc; 0_u64; 192]?;
-    let broken = run_cases(&rt, alloc, first, count, &mut counts)?;
-    for command in COMMANDS {
-        print_counts(&rt, command, &counts)?;
-    }
+    run(&rt, rt.alloc(), numbers[0], numbers[1])
+}
+
+/// Runs so many cases from a number on, and prints what they are.
+fn run<R: Threads + Wait + Sync + Print>(
+    rt: &R,
+    alloc: Global,
+    first: u64,
+    count: u64,
+) -> anyhow::Result<()> {
+    let mut counts = [0_u64; 192];
+    let broken = run_cases(rt, alloc, first, count, &mut counts)?;
+    print_commands(rt, &counts)?;
     println!(rt; "cases {count}, broken {broken}")?;
     Ok(())
 }
@@ -66,24 +77,44 @@ fn run_cases<R: Threads + Wait + Sync + Print>(
     for place in 0..count {
         let number = first.wrapping_add(place);
         let law = broken_case(rt, alloc, number, counts)?;
-        if !law.is_empty() {
-            println!(rt; "case {number}: {law}")?;
-            broken = broken.saturating_add(1);
-        }
+        broken = broken.saturating_add(u64::from(!law.is_empty()));
+        print_law(rt, number, law)?;
     }
     Ok(broken)
+}
+
+/// Tells of a case that breaks a law.
+fn print_law<R: Print>(rt: &R, number: u64, law: &str) -> anyhow::Result<()> {
+    if !law.is_empty() {
+        println!(rt; "case {number}: {law}")?;
+    }
+    Ok(())
+}
+
+/// How often each command ended with each status.
+fn print_commands<R: Print>(rt: &R, counts: &[u64]) -> anyhow::Result<()> {
+    for command in COMMANDS {
+        print_counts(rt, command, counts)?;
+    }
+    Ok(())
 }
 
 /// How often a command ended with each status.
 fn print_counts<R: Print>(rt: &R, command: Command, counts: &[u64]) -> anyhow::Result<()> {
     let name = word(command.words(), 0);
-    print!(rt; "{name}")?;
     let begin = command.place().saturating_mul(STATUSES);
-    for (status, count) in counts.iter().skip(begin).take(STATUSES).enumerate() {
-        if *count > 0 {
-            print!(rt; " {status}:{count}")?;
-        }
+    print!(rt; "{name}")?;
+    for status in 0..STATUSES {
+        let count = counts.get(begin.saturating_add(status)).copied();
+        print_count(rt, status, count.unwrap_or(0))?;
     }
     println!(rt; "")?;
+    Ok(())
+}
+
+fn print_count<R: Print>(rt: &R, status: usize, count: u64) -> anyhow::Result<()> {
+    if count > 0 {
+        print!(rt; " {status}:{count}")?;
+    }
     Ok(())
 }

@@ -13,7 +13,19 @@ const NEXT_HEAD: &str = "SCR\nS26\n20NOV\nABC\n";
 pub fn counted(held: &str, operated: &str) -> (u64, u64) {
     let mut series = 0_u64;
     let mut kept = 0_u64;
-    for line in held.lines().filter(|line| line.starts_with('H')) {
+    for line in held.lines() {
+        let (own, own_kept) = counted_of(line, operated);
+        series = series.saturating_add(own);
+        kept = kept.saturating_add(own_kept);
+    }
+    (series, kept)
+}
+
+/// The same of one line, which may be no confirmed holding.
+fn counted_of(line: &str, operated: &str) -> (u64, u64) {
+    let mut series = 0_u64;
+    let mut kept = 0_u64;
+    if line.starts_with('H') {
         for weekday in 0..7 {
             let (dates, flown) = dates_of(line, weekday, operated);
             series = series.saturating_add(u64::from(dates > 0));
@@ -54,12 +66,15 @@ fn is_flown(line: &str, plain: &Plain<'_>, date: u64, operated: &str) -> bool {
 
 fn is_reported(operated: &str, kind: &str, flight: &str, date: u64) -> bool {
     for line in operated.lines() {
-        let is_of = word(line, 1) == kind && word(line, 2) == flight;
-        if is_of && has_date(word(line, 3), date) {
+        if is_report_of(line, kind, flight, date) {
             return true;
         }
     }
     false
+}
+
+fn is_report_of(line: &str, kind: &str, flight: &str, date: u64) -> bool {
+    word(line, 1) == kind && word(line, 2) == flight && has_date(word(line, 3), date)
 }
 
 /// Whether a period of June, whose days are all days, has a date.
@@ -78,13 +93,18 @@ fn days_of(period: &str) -> (u64, u64) {
 /// Whether a message of the next season has a line for each holding that keeps precedence on some
 /// weekday, and no other; where there is none it is empty.
 pub fn is_next(alloc: Global, next: &str, held: &str, operated: &str) -> Result<bool, Memory> {
-    let due = next_lines(alloc, held, operated)?;
+    let mut due = String::new(alloc);
+    put_lines(alloc, &mut due, held, operated)?;
+    Ok(is_message(next, &due))
+}
+
+fn is_message(next: &str, due: &str) -> bool {
     if due.is_empty() {
-        return Ok(next.is_empty());
+        return next.is_empty();
     }
-    let is_message = next.starts_with(NEXT_HEAD) && next.ends_with("\n\n");
     let size = NEXT_HEAD.len().saturating_add(due.len()).saturating_add(1);
-    Ok(is_message && next.len() == size && has_lines(next, &due))
+    let is_message = next.starts_with(NEXT_HEAD) && next.ends_with("\n\n");
+    is_message && next.len() == size && has_lines(next, due)
 }
 
 /// Whether a text has each of these lines as often as they stand here.
@@ -97,65 +117,77 @@ fn has_lines(text: &str, lines: &str) -> bool {
     true
 }
 
-/// The lines of the next season for the confirmed holdings of a listing.
-fn next_lines(alloc: Global, held: &str, operated: &str) -> Result<String, Memory> {
-    let mut text = String::new(alloc);
-    for line in held.lines().filter(|line| line.starts_with('H')) {
-        let days = kept_days(alloc, line, operated)?;
-        if days.as_str() != "0000000" {
-            put_next(alloc, &mut text, line, &days)?;
+/// Appends the lines of the next season for the confirmed holdings of a listing.
+fn put_lines(alloc: Global, text: &mut String, held: &str, operated: &str) -> Result<(), Memory> {
+    for line in held.lines() {
+        if line.starts_with('H') {
+            put_kept(alloc, text, line, operated)?;
         }
     }
-    Ok(text)
+    Ok(())
 }
 
-/// The weekdays on which a line keeps precedence, in seven places from Monday on.
-fn kept_days(alloc: Global, line: &str, operated: &str) -> Result<String, Memory> {
+/// Appends a holding that keeps precedence on some weekday.
+fn put_kept(alloc: Global, text: &mut String, line: &str, operated: &str) -> Result<(), Memory> {
     let mut days = String::new(alloc);
-    for digit in ["1", "2", "3", "4", "5", "6", "7"] {
-        let weekday = digit.parse::<u64>().unwrap_or(0) % 7;
-        let (dates, flown) = dates_of(line, weekday, operated);
-        days.push_str(if is_kept(dates, flown) { digit } else { "0" })?;
+    put_kept_days(&mut days, line, operated)?;
+    if days.as_str() == "0000000" {
+        return Ok(());
     }
-    Ok(days)
+    put_next(text, line, &days)
 }
 
-/// A holding as a historic line of the next season, on these weekdays.
-fn put_next(alloc: Global, text: &mut String, line: &str, days: &str) -> Result<(), Memory> {
+/// Appends the weekdays on which a line keeps precedence, in seven places from Monday on.
+fn put_kept_days(days: &mut String, line: &str, operated: &str) -> Result<(), Memory> {
+    for place in 1..8_u64 {
+        let (dates, flown) = dates_of(line, place % 7, operated);
+        let digit = if is_kept(dates, flown) { place } else { 0 };
+        write!(days, "{digit}")?;
+    }
+    Ok(())
+}
+
+/// Appends a holding as a historic line of the next season, on these weekdays.
+fn put_next(text: &mut String, line: &str, days: &str) -> Result<(), Memory> {
     let at = if line.split(' ').count() == 6 { 1 } else { 2 };
     let bare = line.strip_prefix('H').unwrap_or("");
-    text.push('F')?;
     for (place, part) in bare.split(' ').enumerate() {
-        if place > 0 {
-            text.push(' ')?;
-        }
-        if place == at {
-            put_period(alloc, text, part)?;
-        } else if place == at.saturating_add(1) {
-            text.push_str(days)?;
-        } else {
-            text.push_str(part)?;
-        }
+        text.push(if place == 0 { 'F' } else { ' ' })?;
+        put_part(text, place, at, part, days)?;
     }
     text.push('\n')?;
     Ok(())
 }
 
-/// A period of June, one date earlier.
-fn put_period(alloc: Global, text: &mut String, period: &str) -> Result<(), Memory> {
-    let (first, last) = days_of(period);
-    put_day(alloc, text, first)?;
-    put_day(alloc, text, last)
+/// Appends a part of a line whose period stands at a place, and its weekdays behind that.
+fn put_part(
+    text: &mut String,
+    place: usize,
+    at: usize,
+    part: &str,
+    days: &str,
+) -> Result<(), Memory> {
+    if place == at {
+        return put_period(text, part);
+    }
+    let is_days = place == at.saturating_add(1);
+    text.push_str(if is_days { days } else { part })?;
+    Ok(())
 }
 
-/// The day before a day of June.
-fn put_day(alloc: Global, text: &mut String, day: u64) -> Result<(), Memory> {
-    let earlier = day.saturating_sub(1);
-    let name = if earlier == 0 {
-        format!(in alloc; "31MAY")?
+/// Appends a period of June, one date earlier.
+fn put_period(text: &mut String, period: &str) -> Result<(), Memory> {
+    let (first, last) = days_of(period);
+    put_day(text, first.saturating_sub(1))?;
+    put_day(text, last.saturating_sub(1))
+}
+
+/// Appends a day of June; day 0 is the one before it.
+fn put_day(text: &mut String, day: u64) -> Result<(), Memory> {
+    if day == 0 {
+        text.push_str("31MAY")?;
     } else {
-        format!(in alloc; "{earlier:02}JUN")?
-    };
-    text.push_str(&name)?;
+        write!(text, "{day:02}JUN")?;
+    }
     Ok(())
 }

@@ -2,8 +2,8 @@
 
 use crate::plain::{declared, first_line};
 use crate::records::answers_to;
-use drawn_worlds::{HEAD, file_text, number, text_of};
-use memory_desk::{Given, RunEnd, RunFault};
+use drawn_worlds::{HEAD, number};
+use memory_desk::{Given, RunFault};
 use slot_text::Memory;
 use std::alloc::Global;
 use std::sync::Wait;
@@ -11,35 +11,33 @@ use std::thread::Threads;
 
 /// What the reply to each message has to be: one of its header; one that names its season, which is
 /// another one; or any, where messages are damaged.
-#[derive(Clone, Copy, Debug, PartialEq, Eq)]
+#[derive(Clone, Copy)]
 pub enum Due {
     Good,
     OtherSeason,
     Either,
 }
 
-/// What replies have to be by the season that was declared.
-pub fn reply_due(alloc: Global, given: &Given, is_damaged: bool) -> Result<Due, Memory> {
-    let capacity = file_text(alloc, given.file("CAP"))?;
-    Ok(if is_damaged {
+/// What replies have to be by the season that a capacity file declares.
+pub fn reply_due(capacity: &str, is_damaged: bool) -> Due {
+    if is_damaged {
         Due::Either
-    } else if declared(&capacity, "SEASON") == "S25" {
+    } else if declared(capacity, "SEASON") == "S25" {
         Due::Good
     } else {
         Due::OtherSeason
-    })
+    }
 }
 
 /// Whether each ask of whole messages was counted, a pair once; none of another season.
-pub fn is_count_of(alloc: Global, ran: &RunEnd, asks: &str, due: Due) -> Result<bool, Memory> {
+pub fn is_count_of(alloc: Global, said: &str, asks: &str, due: Due) -> Result<bool, Memory> {
     let count = match due {
         Due::Good => asks_in(asks),
         Due::OtherSeason => 0,
         Due::Either => return Ok(true),
     };
-    let said = text_of(alloc, ran.sink.bytes())?;
     let line = format!(in alloc; "ENTRIES {count}\n")?;
-    Ok(said.as_str() == line.as_str())
+    Ok(said == line.as_str())
 }
 
 /// How many asks messages have: no line of a header has six characters.
@@ -73,8 +71,22 @@ pub fn are_by_their_places<R: Threads + Wait + Sync>(
         asks: String::new(alloc),
         replies: String::new(alloc),
     };
+    are_in_place(rt, alloc, given, &mut front, asks, answers, due)
+}
+
+fn are_in_place<R: Threads + Wait + Sync>(
+    rt: &R,
+    alloc: Global,
+    given: &Given,
+    front: &mut Front,
+    asks: &str,
+    answers: &str,
+    due: Due,
+) -> Result<bool, RunFault> {
     for message in asks.split("\n\n") {
-        let is_reply = is_in_place(rt, alloc, given, &mut front, message, due)?;
+        front.asks.push_str(message)?;
+        front.asks.push_str("\n\n")?;
+        let is_reply = is_in_place(rt, alloc, given, front, message, due)?;
         if !is_reply || !answers.starts_with(front.replies.as_str()) {
             return Ok(false);
         }
@@ -91,8 +103,6 @@ fn is_in_place<R: Threads + Wait + Sync>(
     message: &str,
     due: Due,
 ) -> Result<bool, RunFault> {
-    front.asks.push_str(message)?;
-    front.asks.push_str("\n\n")?;
     let replies = answers_to(rt, alloc, given, &front.asks)?;
     let is_reply = match replies.strip_prefix(front.replies.as_str()) {
         Some(reply) => is_reply_to(message, reply, due),
@@ -119,9 +129,8 @@ fn is_some_reply(message: &str, reply: &str) -> bool {
     if !reply.ends_with("\n\n") || !reply.starts_with("BAD ") {
         return reply.ends_with("\n\n") && reply.starts_with("SCR\n");
     }
-    let first = first_line(reply);
     let last = (message.lines().count() as u64).saturating_add(1);
-    match number(first, 1) {
+    match number(first_line(reply), 1) {
         Some(place) => 1 <= place && place <= last,
         None => false,
     }

@@ -12,7 +12,7 @@ const DATES: u64 = 210;
 const DIGITS: [&str; 7] = ["7", "1", "2", "3", "4", "5", "6"];
 
 /// A movement: whether it arrives, its date, and its minute of the day.
-#[derive(Clone, Copy, Debug, PartialEq, Eq)]
+#[derive(Clone, Copy)]
 pub struct Movement {
     pub arrives: bool,
     pub date: u64,
@@ -46,13 +46,17 @@ fn date_of(text: &str) -> Option<u64> {
     }
 }
 
+/// The months of the season behind its first one.
+const MONTHS: [&str; 7] = ["APR", "MAY", "JUN", "JUL", "AUG", "SEP", "OCT"];
+
+/// How many dates come before each of them, less one.
+const DAYS_BEFORE: [u64; 7] = [1, 31, 62, 92, 123, 154, 184];
+
 /// How many dates come before a month, less one.
 fn months_before(text: &str) -> Option<u64> {
-    let names = ["APR", "MAY", "JUN", "JUL", "AUG", "SEP", "OCT"];
-    let counts: [u64; 7] = [1, 31, 62, 92, 123, 154, 184];
-    for (name, count) in names.iter().zip(counts.iter()) {
-        if text.ends_with(*name) {
-            return Some(*count);
+    for place in 0..7_usize {
+        if text.ends_with(MONTHS[place]) {
+            return Some(DAYS_BEFORE[place]);
         }
     }
     None
@@ -60,40 +64,44 @@ fn months_before(text: &str) -> Option<u64> {
 
 /// The number that stands at some places of a text.
 fn digits_of(text: &str, from: usize, count: usize) -> Option<u64> {
-    let mut value: u64 = 0;
-    let mut left = count;
-    for byte in text.as_bytes().iter().skip(from).take(count) {
-        let digit = u64::from(*byte)
-            .checked_sub(48)
-            .filter(|digit| *digit < 10)?;
-        value = value.checked_mul(10)?.checked_add(digit)?;
-        left = left.saturating_sub(1);
+    let bytes = text.as_bytes();
+    let mut value = 0_u64;
+    for place in 0..count {
+        let digit = digit_at(bytes, from.saturating_add(place))?;
+        value = value.saturating_mul(10).saturating_add(digit);
     }
-    if left == 0 { Some(value) } else { None }
+    Some(value)
+}
+
+fn digit_at(bytes: &[u8], place: usize) -> Option<u64> {
+    match bytes.get(place) {
+        Some(byte) if byte.is_ascii_digit() => Some(u64::from(*byte).saturating_sub(48)),
+        _ => None,
+    }
 }
 
 /// The minute of a time that stands at a place of a text.
 fn minute_of(text: &str, from: usize) -> Option<u64> {
     let hours = digits_of(text, from, 2)?;
-    let minutes = digits_of(text, from.checked_add(2)?, 2)?;
-    hours.checked_mul(60)?.checked_add(minutes)
+    let minutes = digits_of(text, from.saturating_add(2), 2)?;
+    Some(hours.saturating_mul(60).saturating_add(minutes))
 }
 
 /// What a line says, with its code or without; None where it is no printed line.
 pub fn read_plain(line: &str) -> Option<Plain<'_>> {
     let count = line.split(' ').count();
-    let at = if count == 6 { 1 } else { 2 };
-    let period = word(line, at);
-    let (first, last) = period.split_once("JUN")?;
-    let stop = word(line, at.checked_add(3)?);
-    let next = word(line, at.checked_add(4)?);
-    let arrives = count != 7;
-    let leaves = if count == 7 { stop } else { next };
+    let at: usize = if count == 6 { 1 } else { 2 };
+    let (first, last) = dates_in_june(word(line, at))?;
+    let stop = word(line, at.saturating_add(3));
+    let leaves = match count {
+        7 => stop,
+        _ => word(line, at.saturating_add(4)),
+    };
     Some(Plain {
-        first: date_of_june(first)?,
-        last: date_of(last)?,
-        days: word(line, at.checked_add(1)?),
-        arrival: if arrives { minute_of(stop, 3) } else { None },
+        first,
+        last,
+        days: word(line, at.saturating_add(1)),
+        arrival: if count == 7 { None } else { minute_of(stop, 3) },
         departure: if count == 6 {
             None
         } else {
@@ -101,6 +109,15 @@ pub fn read_plain(line: &str) -> Option<Plain<'_>> {
         },
         nights: digits_of(leaves, 4, 1).unwrap_or(0),
     })
+}
+
+/// The first and the last date of a period that begins in June.
+fn dates_in_june(period: &str) -> Option<(u64, u64)> {
+    let (first, last) = period.split_once("JUN")?;
+    match (date_of_june(first), date_of(last)) {
+        (Some(first), Some(last)) => Some((first, last)),
+        _ => None,
+    }
 }
 
 /// The number of a date of June, by its day.
@@ -115,12 +132,17 @@ fn date_of_june(day: &str) -> Option<u64> {
 /// The movements of all lines of a text that are printed lines of June.
 pub fn movements_of(alloc: Global, lines: &str) -> Result<Vec<Movement>, Memory> {
     let mut list = Vec::new(alloc);
+    put_lines(&mut list, lines)?;
+    Ok(list)
+}
+
+fn put_lines(list: &mut Vec<Movement>, lines: &str) -> Result<(), Memory> {
     for line in lines.lines() {
         if let Some(plain) = read_plain(line) {
-            put_movements(&mut list, &plain)?;
+            put_movements(list, &plain)?;
         }
     }
-    Ok(list)
+    Ok(())
 }
 
 fn put_movements(list: &mut Vec<Movement>, plain: &Plain<'_>) -> Result<(), Memory> {
@@ -272,12 +294,17 @@ fn is_start_within(line: &str, start: u64, list: &[Movement]) -> bool {
 fn is_window_within(line: &str, start: u64, date: u64, list: &[Movement]) -> bool {
     let begin = date.saturating_mul(1440).saturating_add(start);
     let end = begin.saturating_add(value(line, 2).unwrap_or(0));
-    let kind = field(line, 1);
-    let count = list
-        .iter()
-        .filter(|moved| is_held(kind, begin, end, *moved))
-        .count();
-    !is_on(field(line, 5), date) || count as u64 <= value(line, 6).unwrap_or(0)
+    let count = held_in(field(line, 1), begin, end, list);
+    !is_on(field(line, 5), date) || count <= value(line, 6).unwrap_or(0)
+}
+
+/// How many movements of a kind a window holds.
+fn held_in(kind: &str, begin: u64, end: u64, list: &[Movement]) -> u64 {
+    let mut count = 0_u64;
+    for moved in list {
+        count = count.saturating_add(u64::from(is_held(kind, begin, end, moved)));
+    }
+    count
 }
 
 fn is_held(kind: &str, begin: u64, end: u64, moved: &Movement) -> bool {
@@ -294,11 +321,11 @@ fn is_held(kind: &str, begin: u64, end: u64, moved: &Movement) -> bool {
 fn is_quiet(line: &str, list: &[Movement]) -> bool {
     let from = minute_of(field(line, 1), 0).unwrap_or(0);
     let to = minute_of(field(line, 2), 0).unwrap_or(0);
-    let count = list
-        .iter()
-        .filter(|moved| is_at_night(from, to, moved.minute))
-        .count();
-    count as u64 <= value(line, 3).unwrap_or(0)
+    let mut count = 0_u64;
+    for moved in list {
+        count = count.saturating_add(u64::from(is_at_night(from, to, moved.minute)));
+    }
+    count <= value(line, 3).unwrap_or(0)
 }
 
 fn is_at_night(from: u64, to: u64, minute: u64) -> bool {

@@ -19,14 +19,19 @@ struct Stage<'a> {
 /// What is printed of the stages that a certificate has, or a stage of a waiting list.
 pub fn stage_lines(alloc: Global, certificate: &str) -> Result<String, Memory> {
     let mut text = String::new(alloc);
+    put_stages(&mut text, certificate)?;
+    Ok(text)
+}
+
+fn put_stages(text: &mut String, certificate: &str) -> Result<(), Memory> {
     let mut stage = begun("");
     for line in certificate.lines() {
         if line.starts_with("STAGE ") || line == "END" {
-            put_stage(alloc, &mut text, stage)?;
+            put_stage(text, stage)?;
         }
         stage = with_line(stage, line);
     }
-    Ok(text)
+    Ok(())
 }
 
 /// A stage of which no more than its line was read.
@@ -54,17 +59,14 @@ fn with_line<'a>(stage: Stage<'a>, line: &'a str) -> Stage<'a> {
     }
 }
 
-fn put_stage(alloc: Global, text: &mut String, stage: Stage<'_>) -> Result<(), Memory> {
+fn put_stage(text: &mut String, stage: Stage<'_>) -> Result<(), Memory> {
     let (line, cost, bound) = (stage.line, stage.cost, stage.bound);
-    if line.is_empty() {
-        return Ok(());
+    match word(line, 2) {
+        _ if line.is_empty() => {}
+        "OPTIMAL" => write!(text, "{line} {cost}\n")?,
+        "OPEN" => write!(text, "{line} {cost} BOUND {bound}\n")?,
+        _ => write!(text, "{line}\n")?,
     }
-    let whole = match word(line, 2) {
-        "OPTIMAL" => format!(in alloc; "{line} {cost}\n")?,
-        "OPEN" => format!(in alloc; "{line} {cost} BOUND {bound}\n")?,
-        _ => format!(in alloc; "{line}\n")?,
-    };
-    text.push_str(&whole)?;
     Ok(())
 }
 

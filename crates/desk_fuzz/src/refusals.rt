@@ -2,6 +2,7 @@
 //! given.
 
 use crate::plain::{declared, lines_with, windows_of};
+use crate::seen::Seen;
 use drawn_worlds::{Command, field, file_text, has_name, number, word};
 use memory_desk::Given;
 use slot_text::Memory;
@@ -20,19 +21,22 @@ pub fn is_named(
     alloc: Global,
     command: Command,
     given: &Given,
-    status: u8,
-    said: &str,
+    seen: &Seen,
 ) -> Result<bool, Memory> {
-    let line = line_at(said, 1);
-    let name = word(line, 1);
-    Ok(match status {
+    let line = line_at(&seen.said, 1);
+    Ok(match seen.status {
         1 => is_verdict(alloc, command, given, line)?,
-        3 => has_name(command.reads(), name) && is_line_of(given, name, number(line, 2)),
-        4 => is_limit(alloc, command, given, line)?,
+        3 => is_form_line(command, given, line),
+        4 => is_limit(command, seen.before("CAP"), line),
         5 => is_cabinet_line(command, given, line),
         13 => is_journal_line(given, line),
         _ => true,
     })
+}
+
+fn is_form_line(command: Command, given: &Given, line: &str) -> bool {
+    let name = word(line, 1);
+    has_name(command.reads(), name) && is_line_of(given, name, number(line, 2))
 }
 
 /// A line of a text, by its number from 1; empty where there is none.
@@ -51,11 +55,22 @@ fn line_at(text: &str, place: u64) -> &str {
 /// a line of this kind can have.
 fn is_verdict(alloc: Global, command: Command, given: &Given, line: &str) -> Result<bool, Memory> {
     if word(line, 1) != "EXTRA" {
-        let text = file_text(alloc, given.file("CERT"))?;
-        return Ok(is_reason(&text, number(line, 1), word(line, 2)));
+        return is_reason_in(alloc, given.file("CERT"), number(line, 1), word(line, 2));
     }
-    let text = file_text(alloc, given.file("EXTRA"))?;
-    Ok(command == Command::Recheck && is_reason(&text, number(line, 2), word(line, 3)))
+    if command != Command::Recheck {
+        return Ok(false);
+    }
+    is_reason_in(alloc, given.file("EXTRA"), number(line, 2), word(line, 3))
+}
+
+fn is_reason_in(
+    alloc: Global,
+    bytes: Option<&[u8]>,
+    place: Option<u64>,
+    reason: &str,
+) -> Result<bool, Memory> {
+    let text = file_text(alloc, bytes)?;
+    Ok(is_reason(&text, place, reason))
 }
 
 fn is_reason(text: &str, place: Option<u64>, reason: &str) -> bool {
@@ -81,7 +96,10 @@ fn is_reason(text: &str, place: Option<u64>, reason: &str) -> bool {
 /// Whether a number is that of a line of the file, or of one behind its last.
 fn is_line_of(given: &Given, name: &str, place: Option<u64>) -> bool {
     let bytes = given.file(name).unwrap_or(b"");
-    let ends = bytes.iter().filter(|byte| **byte == b'\n').count() as u64;
+    let mut ends = 0_u64;
+    for byte in bytes {
+        ends = ends.saturating_add(u64::from(*byte == b'\n'));
+    }
     match place {
         Some(line) => 1 <= line && line <= ends.saturating_add(2),
         None => false,
@@ -89,18 +107,16 @@ fn is_line_of(given: &Given, name: &str, place: Option<u64>) -> bool {
 }
 
 /// Whether a limit is passed by its number, and the number is that of the files where it is plain.
-fn is_limit(alloc: Global, command: Command, given: &Given, line: &str) -> Result<bool, Memory> {
-    let capacity = file_text(alloc, given.file("CAP"))?;
-    let count = word(line, 2);
+fn is_limit(command: Command, capacity: &str, line: &str) -> bool {
     let value = number(line, 2).unwrap_or(0);
-    Ok(match word(line, 1) {
-        "FLEX" => value > 120 && declared(&capacity, "FLEX") == count,
-        "CAPS" => value > 64 && lines_with(&capacity, "CAP") == value,
-        "WINDOWS" => value > 1_000_000 && windows_of(&capacity) == value,
+    match word(line, 1) {
+        "FLEX" => value > 120 && declared(capacity, "FLEX") == word(line, 2),
+        "CAPS" => value > 64 && lines_with(capacity, "CAP") == value,
+        "WINDOWS" => value > 1_000_000 && windows_of(capacity) == value,
         "UNITS" => value > 4096,
         "WAITING" => value > 4096 && (command == Command::Reclear || command == Command::Recheck),
         _ => false,
-    })
+    }
 }
 
 fn is_cabinet_line(command: Command, given: &Given, line: &str) -> bool {
@@ -160,19 +176,20 @@ pub fn open_slots(journal: &[u8]) -> u64 {
 }
 
 /// Whether the second line of a refused season can be the cause of the first one.
-pub fn is_cause(alloc: Global, given: &Given, said: &str) -> Result<bool, Memory> {
-    let first = line_at(said, 1);
-    let cause = line_at(said, 2);
+pub fn is_cause(seen: &Seen) -> bool {
+    let first = line_at(&seen.said, 1);
+    let cause = line_at(&seen.said, 2);
+    let name = word(first, 1);
     if word(first, 0) == "LIMIT" {
-        return Ok(is_most(word(first, 1), cause));
+        return is_most(name, cause);
     }
-    let text = file_text(alloc, given.file(word(first, 1)))?;
-    let line = line_at(&text, number(first, 2).unwrap_or(0));
-    Ok(match word(first, 1) {
-        "CAP" => is_cause_of_rules(&text, line, cause),
+    let text = seen.before(name);
+    let line = line_at(text, number(first, 2).unwrap_or(0));
+    match name {
+        "CAP" => is_cause_of_rules(text, line, cause),
         "SCR" => is_cause_of_requests(line, cause),
         _ => false,
-    })
+    }
 }
 
 fn is_most(limit: &str, cause: &str) -> bool {

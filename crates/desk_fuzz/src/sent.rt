@@ -1,10 +1,10 @@
 //! What links were sent, beside the record of the run and beside a file of the same asks.
 
 use crate::laws::law;
-use crate::records::{answers_to, own_lines, reply_lines};
+use crate::records::{answers_to, own_lines, put_replies};
 use desk_links::MemoryDoor;
-use drawn_worlds::{begins, text_of};
-use memory_desk::{Given, RunEnd, RunFault};
+use drawn_worlds::{begins, put_text};
+use memory_desk::{Clients, Given, RunEnd, RunFault};
 use slot_text::Memory;
 use std::alloc::Global;
 use std::sync::Wait;
@@ -18,71 +18,87 @@ pub fn are_sent(
     ran: &RunEnd,
     record: &str,
 ) -> Result<&'static str, Memory> {
+    let is_cut = given.fails.link.is_some();
     for (place, door) in ran.doors.iter().enumerate() {
         let own = own_lines(alloc, record, place as u64)?;
-        let is_sent = if ran.status == 14 {
-            is_front_sent(alloc, &own, door)?
-        } else if place == 0 && given.fails.link.is_some() {
-            is_rest_sent(alloc, &own, door)?
-        } else {
-            is_all_sent(alloc, &own, door)?
-        };
-        if !is_sent {
+        if !is_sent(alloc, &own, door, ran.status == 14, is_cut && place == 0)? {
             return Ok("what was sent");
         }
     }
     Ok("")
 }
 
-/// Whether the links of a door were sent these answers.
-fn is_all_sent(alloc: Global, own: &str, door: &MemoryDoor) -> Result<bool, Memory> {
-    let lines = lines_behind(alloc, door, 0)?;
-    Ok(lines.as_str() == own)
+/// Whether the links of a door were sent these answers: all of them; a front of them where the disk
+/// failed; or where its first link failed, the last of them behind a front of the rest.
+fn is_sent(
+    alloc: Global,
+    own: &str,
+    door: &MemoryDoor,
+    is_ended: bool,
+    is_cut: bool,
+) -> Result<bool, Memory> {
+    let from = if is_cut && !is_ended { 1 } else { 0 };
+    let mut lines = String::new(alloc);
+    put_lines(alloc, &mut lines, door, from)?;
+    if is_ended {
+        Ok(own.starts_with(lines.as_str()))
+    } else if is_cut {
+        is_rest_sent(alloc, own, &lines, door)
+    } else {
+        Ok(lines.as_str() == own)
+    }
 }
 
-/// Whether they were sent a front of these.
-fn is_front_sent(alloc: Global, own: &str, door: &MemoryDoor) -> Result<bool, Memory> {
-    let lines = lines_behind(alloc, door, 0)?;
-    Ok(own.starts_with(lines.as_str()))
-}
-
-/// Whether the links behind the first one were sent the last of these, and it a front of the rest.
-fn is_rest_sent(alloc: Global, own: &str, door: &MemoryDoor) -> Result<bool, Memory> {
-    let last = lines_behind(alloc, door, 1)?;
-    let first = first_lines(alloc, door)?;
-    match own.strip_suffix(last.as_str()) {
-        Some(rest) => Ok(rest.starts_with(first.as_str())),
+/// Whether these lines are the last answers, and the first link was sent a front of the rest.
+fn is_rest_sent(alloc: Global, own: &str, last: &str, door: &MemoryDoor) -> Result<bool, Memory> {
+    match own.strip_suffix(last) {
+        Some(rest) => is_front_sent(alloc, rest, door),
         None => Ok(false),
     }
 }
 
-/// The answer lines that the links of a door were sent, from one of them on.
-fn lines_behind(alloc: Global, door: &MemoryDoor, from: usize) -> Result<String, Memory> {
-    let mut text = String::new(alloc);
+/// Whether the first link of a door was sent a front of these answers.
+fn is_front_sent(alloc: Global, own: &str, door: &MemoryDoor) -> Result<bool, Memory> {
+    let mut sent = String::new(alloc);
+    if let Some(link) = door.kept().first() {
+        put_text(&mut sent, link.sent())?;
+    }
+    is_front(alloc, own, &sent)
+}
+
+/// Whether the answer lines of what was sent are a front of these.
+fn is_front(alloc: Global, own: &str, sent: &str) -> Result<bool, Memory> {
+    let mut lines = String::new(alloc);
+    put_whole(&mut lines, sent)?;
+    Ok(own.starts_with(lines.as_str()))
+}
+
+/// Appends the answer lines that the links of a door were sent, from one of them on.
+fn put_lines(
+    alloc: Global,
+    lines: &mut String,
+    door: &MemoryDoor,
+    from: usize,
+) -> Result<(), Memory> {
+    let mut sent = String::new(alloc);
+    put_sent(&mut sent, door, from)?;
+    put_whole(lines, &sent)
+}
+
+/// Appends the answer lines of what was sent, without a last line that is cut.
+fn put_whole(lines: &mut String, sent: &str) -> Result<(), Memory> {
+    match sent.rsplit_once('\n') {
+        Some((whole, _)) => put_replies(lines, whole),
+        None => Ok(()),
+    }
+}
+
+/// Appends what the links of a door were sent, from one of them on.
+fn put_sent(text: &mut String, door: &MemoryDoor, from: usize) -> Result<(), Memory> {
     for link in door.kept().iter().skip(from) {
-        let sent = text_of(alloc, link.sent())?;
-        text.push_str(&sent)?;
+        put_text(text, link.sent())?;
     }
-    whole_lines(alloc, &text)
-}
-
-/// The answer lines that the first link of a door was sent.
-fn first_lines(alloc: Global, door: &MemoryDoor) -> Result<String, Memory> {
-    match door.kept().first() {
-        Some(link) => {
-            let text = text_of(alloc, link.sent())?;
-            whole_lines(alloc, &text)
-        }
-        None => Ok(String::new(alloc)),
-    }
-}
-
-/// The answer lines of what was sent, without a last line that is cut.
-fn whole_lines(alloc: Global, text: &str) -> Result<String, Memory> {
-    match text.rsplit_once('\n') {
-        Some((whole, _)) => reply_lines(alloc, whole),
-        None => Ok(String::new(alloc)),
-    }
+    Ok(())
 }
 
 /// Whether the clients of one door were sent, one after the other, what a file of all they say is
@@ -93,36 +109,50 @@ pub fn broken_door<R: Threads + Wait + Sync>(
     given: &Given,
     ran: &RunEnd,
 ) -> Result<&'static str, RunFault> {
-    let [door] = ran.doors.as_slice() else {
-        return Ok("");
-    };
-    let asks = inputs_of(alloc, given, door.kept().len())?;
-    let due = answers_to(rt, alloc, given, &asks)?;
-    let sent = sent_text(alloc, door)?;
-    Ok(law(sent.as_str() == due.as_str(), "clients beside a file"))
+    match ran.doors.as_slice() {
+        [door] => broken_sent(rt, alloc, given, door),
+        _ => Ok(""),
+    }
 }
 
-/// What so many clients of the first door say.
-fn inputs_of(alloc: Global, given: &Given, count: usize) -> Result<String, Memory> {
-    let mut text = String::new(alloc);
-    let Some(clients) = given.clients.first() else {
-        return Ok(text);
-    };
+fn broken_sent<R: Threads + Wait + Sync>(
+    rt: &R,
+    alloc: Global,
+    given: &Given,
+    door: &MemoryDoor,
+) -> Result<&'static str, RunFault> {
+    let due = due_text(rt, alloc, given, door.kept().len())?;
+    let is_due = is_text_sent(alloc, door, &due)?;
+    Ok(law(is_due, "clients beside a file"))
+}
+
+/// What a file of all that so many clients of the first door say is answered.
+fn due_text<R: Threads + Wait + Sync>(
+    rt: &R,
+    alloc: Global,
+    given: &Given,
+    count: usize,
+) -> Result<String, RunFault> {
+    let mut asks = String::new(alloc);
+    if let Some(clients) = given.clients.first() {
+        put_inputs(&mut asks, clients, count)?;
+    }
+    answers_to(rt, alloc, given, &asks)
+}
+
+/// Appends what so many clients of a door say.
+fn put_inputs(text: &mut String, clients: &Clients, count: usize) -> Result<(), Memory> {
     for input in clients.inputs.iter().take(count) {
-        let input = text_of(alloc, input)?;
-        text.push_str(&input)?;
+        put_text(text, input)?;
     }
-    Ok(text)
+    Ok(())
 }
 
-/// What all links of a door were sent.
-fn sent_text(alloc: Global, door: &MemoryDoor) -> Result<String, Memory> {
-    let mut text = String::new(alloc);
-    for link in door.kept() {
-        let sent = text_of(alloc, link.sent())?;
-        text.push_str(&sent)?;
-    }
-    Ok(text)
+/// Whether all links of a door were sent a text.
+fn is_text_sent(alloc: Global, door: &MemoryDoor, due: &str) -> Result<bool, Memory> {
+    let mut sent = String::new(alloc);
+    put_sent(&mut sent, door, 0)?;
+    Ok(sent.as_str() == due)
 }
 
 /// Whether the first link of a single door was sent a front of what the other run sent it, where it

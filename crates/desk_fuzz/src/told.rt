@@ -1,75 +1,72 @@
 //! What `inspect` tells of a season, counted anew from its files.
 
 use crate::laws::{first_of, law};
-use crate::plain::{dates_of_all, declared, fits, lines_with, movements_of, windows_of};
-use drawn_worlds::{count_of, file_text, word};
-use memory_desk::Given;
+use crate::plain::{Movement, dates_of_all, declared, fits, lines_with, movements_of, windows_of};
+use crate::records::push_line;
+use crate::seen::Seen;
+use drawn_worlds::{count_of, word};
 use slot_text::Memory;
 use std::alloc::Global;
 
 /// The name of the first law that the lines of a season break, or nothing. What depends on how the
 /// lines are spelled is counted where no file is damaged.
-pub fn broken_lines(
-    alloc: Global,
-    given: &Given,
-    said: &str,
-    is_whole: bool,
-) -> Result<&'static str, Memory> {
-    let capacity = file_text(alloc, given.file("CAP"))?;
-    let requests = file_text(alloc, given.file("SCR"))?;
-    let numbers = are_numbers_of(alloc, &capacity, &requests, said)?;
+pub fn broken_lines(alloc: Global, seen: &Seen, is_whole: bool) -> Result<&'static str, Memory> {
+    let capacity = seen.before("CAP");
+    let requests = seen.before("SCR");
+    let said = seen.said.as_str();
+    let are_front = is_front(alloc, capacity, requests, said)?;
+    let are_numbers = are_front && is_fifth(alloc, capacity, said)?;
     let first = first_of(
-        law(numbers, "numbers of a season"),
+        law(are_numbers, "numbers of a season"),
         law(are_passed(said), "limits that are passed"),
     );
-    if !is_whole || declared(&capacity, "SEASON") != "S25" {
+    if !is_whole || declared(capacity, "SEASON") != "S25" {
         return Ok(first);
     }
-    Ok(first_of(first, broken_demand(alloc, &capacity, &requests, said)?))
+    Ok(first_of(first, broken_demand(alloc, capacity, requests, said)?))
 }
 
-/// Whether the first three lines, and the fifth, are those of the files.
-fn are_numbers_of(
-    alloc: Global,
-    capacity: &str,
-    requests: &str,
-    said: &str,
-) -> Result<bool, Memory> {
-    let front = front_lines(alloc, capacity, requests)?;
+/// Whether the first three lines are those of the files.
+fn is_front(alloc: Global, capacity: &str, requests: &str, said: &str) -> Result<bool, Memory> {
+    let mut front = String::new(alloc);
+    put_front(&mut front, capacity, requests)?;
+    Ok(said.starts_with(front.as_str()))
+}
+
+/// Whether the fifth line is that of the files.
+fn is_fifth(alloc: Global, capacity: &str, said: &str) -> Result<bool, Memory> {
     let rules = lines_with(capacity, "CAP");
     let windows = windows_of(capacity);
-    let back = format!(in alloc; "CAPS {rules} WINDOWS {windows}")?;
     let fifth = said.lines().nth(4).unwrap_or("");
-    Ok(said.starts_with(front.as_str()) && fifth == back.as_str())
+    let due = format!(in alloc; "CAPS {rules} WINDOWS {windows}")?;
+    Ok(fifth == due.as_str())
 }
 
-fn front_lines(alloc: Global, capacity: &str, requests: &str) -> Result<String, Memory> {
+fn put_front(text: &mut String, capacity: &str, requests: &str) -> Result<(), Memory> {
     let airport = declared(capacity, "AIRPORT");
     let season = declared(capacity, "SEASON");
     let messages = lines_with(requests, "SCR");
-    let units = units_line(alloc, requests)?;
-    let text = format!(in alloc;
-        "AIRPORT {airport} SEASON {season}\nMESSAGES {messages}\n{units}"
+    write!(
+        text,
+        "AIRPORT {airport} SEASON {season}\nMESSAGES {messages}\n"
     )?;
-    Ok(text)
+    put_units(text, requests)
 }
 
-/// How many units there are, and how many of each group.
-fn units_line(alloc: Global, requests: &str) -> Result<String, Memory> {
+/// Appends how many units there are, and how many of each group.
+fn put_units(text: &mut String, requests: &str) -> Result<(), Memory> {
     let historic = coded(requests, "F", "F");
     let retimed = coded(requests, "R", "I");
     let shifted = coded(requests, "L", "L");
     let entrant = coded(requests, "B", "V");
     let new = coded(requests, "N", "Y");
-    let sum = historic
-        .saturating_add(retimed)
-        .saturating_add(shifted)
-        .saturating_add(entrant)
-        .saturating_add(new);
-    let text = format!(in alloc;
+    let changed = historic.saturating_add(retimed).saturating_add(shifted);
+    let sum = changed.saturating_add(entrant).saturating_add(new);
+    write!(
+        text,
         "UNITS {sum} F {historic} R {retimed} L {shifted} B {entrant} N {new}\n"
     )?;
-    Ok(text)
+    Ok(())
 }
 
 /// How many lines begin with one of two codes.
@@ -85,17 +82,20 @@ fn coded(requests: &str, code: &str, other: &str) -> u64 {
 /// Whether in each line that tells of a limit that is passed it is passed.
 fn are_passed(said: &str) -> bool {
     for line in said.lines() {
-        let limit = behind(line, "LIMIT");
-        let holds = match word(line, 0) {
-            "OVER" => limit < behind(line, "EARLIER").saturating_add(behind(line, "LEAST")),
-            "DEMAND" => limit < behind(line, "LOAD"),
-            _ => true,
-        };
-        if !holds {
+        if !is_passed(line) {
             return false;
         }
     }
     true
+}
+
+fn is_passed(line: &str) -> bool {
+    let limit = behind(line, "LIMIT");
+    match word(line, 0) {
+        "OVER" => limit < behind(line, "EARLIER").saturating_add(behind(line, "LEAST")),
+        "DEMAND" => limit < behind(line, "LOAD"),
+        _ => true,
+    }
 }
 
 /// The number behind a word of a line; 0 where there is none.
@@ -117,27 +117,44 @@ fn broken_demand(
     requests: &str,
     said: &str,
 ) -> Result<&'static str, Memory> {
-    let asked = requested_lines(alloc, requests)?;
-    let list = movements_of(alloc, &asked)?;
-    let dates = dates_of_all(&asked);
+    let mut asked = String::new(alloc);
+    put_requested(&mut asked, requests)?;
+    broken_asked(alloc, capacity, &asked, said)
+}
+
+fn broken_asked(
+    alloc: Global,
+    capacity: &str,
+    asked: &str,
+    said: &str,
+) -> Result<&'static str, Memory> {
+    let list = movements_of(alloc, asked)?;
+    broken_movements(alloc, capacity, dates_of_all(asked), &list, said)
+}
+
+fn broken_movements(
+    alloc: Global,
+    capacity: &str,
+    dates: u64,
+    list: &[Movement],
+    said: &str,
+) -> Result<&'static str, Memory> {
     let moved = list.len();
-    let due = format!(in alloc; "DATES {dates} MOVEMENTS {moved}")?;
     let fourth = said.lines().nth(3).unwrap_or("");
-    let is_asked = (count_of(said, "DEMAND ") == 0) == fits(capacity, &list);
+    let is_asked = (count_of(said, "DEMAND ") == 0) == fits(capacity, list);
+    let due = format!(in alloc; "DATES {dates} MOVEMENTS {moved}")?;
     Ok(first_of(
         law(fourth == due.as_str(), "dates and movements"),
         law(is_asked, "what is asked for"),
     ))
 }
 
-/// The lines of requests but for the historic ones of pairs.
-fn requested_lines(alloc: Global, requests: &str) -> Result<String, Memory> {
-    let mut text = String::new(alloc);
+/// Appends the lines of requests but for the historic ones of pairs.
+fn put_requested(text: &mut String, requests: &str) -> Result<(), Memory> {
     for line in requests.lines() {
         if !line.starts_with('C') {
-            text.push_str(line)?;
-            text.push('\n')?;
+            push_line(text, line)?;
         }
     }
-    Ok(text)
+    Ok(())
 }

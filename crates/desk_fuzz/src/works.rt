@@ -4,20 +4,19 @@
 
 use crate::laws::{first_of, law};
 use crate::made::{made_capacity, made_requests};
-use crate::plain::{fits, movements_of};
-use crate::printed::{nodes_of, stage_lines};
-use crate::records::answers_to;
+use crate::plain::{first_line, fits, movements_of};
+use crate::printed::stage_lines;
+use crate::records::{Wanted, answers_to, push_line, text_of_run};
+use crate::seen::Seen;
 use crate::told::broken_lines;
 use drawn_worlds::{
-    Command, copied, count_of, file_text, held_lines, keep_writes, number, queries_text, text_of,
-    word,
+    Command, copied, count_of, held_lines, keep_writes, number, queries_text, word,
 };
-use memory_desk::{Given, RunEnd, RunFault, run_desk};
+use memory_desk::{Given, RunEnd, RunFault};
 use slot_text::Memory;
 use std::alloc::Global;
 use std::sync::Wait;
 use std::thread::Threads;
-use worker_gate::RealGate;
 
 /// The status of a run, a blank, and what it printed.
 pub fn said_of<R: Threads + Wait + Sync>(
@@ -26,23 +25,18 @@ pub fn said_of<R: Threads + Wait + Sync>(
     words: &str,
     given: &Given,
 ) -> Result<String, RunFault> {
-    let ran = run_desk(rt, alloc, words, given, &RealGate)?;
-    Ok(said_text(alloc, &ran)?)
+    text_of_run(rt, alloc, words, given, Wanted::Said)
 }
 
-fn said_text(alloc: Global, ran: &RunEnd) -> Result<String, Memory> {
-    let printed = text_of(alloc, ran.sink.bytes())?;
-    let status = ran.status;
-    let text = format!(in alloc; "{status} {printed}")?;
-    Ok(text)
-}
-
-/// Whether the lines of replies are within the limits of the capacity file that is given.
-pub fn fit_replies(alloc: Global, given: &Given, replies: &str) -> Result<bool, Memory> {
-    let capacity = file_text(alloc, given.file("CAP"))?;
+/// Whether the lines of replies are within the limits of a capacity file.
+pub fn fit_replies(alloc: Global, capacity: &str, replies: &str) -> Result<bool, Memory> {
     let held = held_lines(alloc, replies)?;
-    let list = movements_of(alloc, &held)?;
-    Ok(fits(&capacity, &list))
+    fit_lines(alloc, capacity, &held)
+}
+
+fn fit_lines(alloc: Global, capacity: &str, held: &str) -> Result<bool, Memory> {
+    let list = movements_of(alloc, held)?;
+    Ok(fits(capacity, &list))
 }
 
 /// Stages were allotted: the status is that of their lines, which are those of the certificate, it
@@ -52,28 +46,29 @@ pub fn allotted<R: Threads + Wait + Sync>(
     alloc: Global,
     given: &Given,
     ran: &RunEnd,
+    seen: &Seen,
 ) -> Result<&'static str, RunFault> {
-    let said = text_of(alloc, ran.sink.bytes())?;
-    let replies = file_text(alloc, ran.cabinet.file("REPLIES"))?;
-    let fit = fit_replies(alloc, given, &replies)?;
+    let replies = seen.after("REPLIES");
+    let fit = fit_replies(alloc, seen.before("CAP"), replies)?;
     let is_valid = is_found_valid(rt, alloc, given, ran, Command::Allocate, Command::Check)?;
-    let is_whole = has_each_reply(rt, alloc, given, &replies)?;
+    let is_whole = has_each_reply(rt, alloc, given, replies)?;
+    let are_told = are_stages(alloc, seen.after("CERT"), &seen.said)?;
     let first = first_of(
-        law(ran.status == marked_status(&said), "marks"),
+        law(seen.status == marked_status(&seen.said), "marks"),
         law(fit, "loads"),
     );
     let second = first_of(
         law(is_valid, "a certificate that was written"),
         law(is_whole, "replies"),
     );
-    let stages = law(are_stages(alloc, ran, &said)?, "costs and bounds");
-    Ok(first_of(first, first_of(second, stages)))
+    let third = law(are_told, "costs and bounds");
+    Ok(first_of(first, first_of(second, third)))
 }
 
-/// Whether what was printed is the marks, the costs and the bounds of the certificate.
-fn are_stages(alloc: Global, ran: &RunEnd, said: &str) -> Result<bool, Memory> {
-    let certificate = file_text(alloc, ran.cabinet.file("CERT"))?;
-    Ok(stage_lines(alloc, &certificate)?.as_str() == said)
+/// Whether a text is the marks, the costs and the bounds of a certificate.
+fn are_stages(alloc: Global, certificate: &str, told: &str) -> Result<bool, Memory> {
+    let lines = stage_lines(alloc, certificate)?;
+    Ok(lines.as_str() == told)
 }
 
 /// The status that the lines of stages give.
@@ -97,7 +92,16 @@ pub fn is_found_valid<R: Threads + Wait + Sync>(
     checker: Command,
 ) -> Result<bool, RunFault> {
     let after = after_run(alloc, given, ran, command)?;
-    let verdict = said_of(rt, alloc, checker.words(), &after)?;
+    is_valid(rt, alloc, &after, checker)
+}
+
+fn is_valid<R: Threads + Wait + Sync>(
+    rt: &R,
+    alloc: Global,
+    given: &Given,
+    checker: Command,
+) -> Result<bool, RunFault> {
+    let verdict = said_of(rt, alloc, checker.words(), given)?;
     Ok(verdict.as_str() == "0 YES\n")
 }
 
@@ -121,9 +125,22 @@ fn has_each_reply<R: Threads + Wait + Sync>(
     replies: &str,
 ) -> Result<bool, RunFault> {
     let told = said_of(rt, alloc, Command::Inspect.words(), given)?;
-    let units = told.lines().find(|line| line.starts_with("UNITS "));
-    let replied = count_of(replies, "K").saturating_add(count_of(replies, "U")) as u64;
-    Ok(number(units.unwrap_or(""), 1) == Some(replied))
+    Ok(units_told(&told) == Some(replied(replies)))
+}
+
+/// How many units `inspect` counts.
+fn units_told(told: &str) -> Option<u64> {
+    for line in told.lines() {
+        if line.starts_with("UNITS ") {
+            return number(line, 1);
+        }
+    }
+    None
+}
+
+/// How many replies are K or U.
+pub fn replied(replies: &str) -> u64 {
+    count_of(replies, "K").saturating_add(count_of(replies, "U")) as u64
 }
 
 /// A certificate was found valid: the book with its slots is within the limits.
@@ -131,9 +148,11 @@ pub fn checked<R: Threads + Wait + Sync>(
     rt: &R,
     alloc: Global,
     given: &Given,
+    seen: &Seen,
 ) -> Result<&'static str, RunFault> {
     let held = held_slots(rt, alloc, given)?;
-    Ok(law(fit_replies(alloc, given, &held)?, "loads of a book"))
+    let fit = fit_replies(alloc, seen.before("CAP"), &held)?;
+    Ok(law(fit, "loads of a book"))
 }
 
 /// What all flights hold in the book of the certificate that is given.
@@ -151,33 +170,37 @@ pub fn inspected<R: Threads + Wait + Sync>(
     rt: &R,
     alloc: Global,
     given: &Given,
-    ran: &RunEnd,
+    seen: &Seen,
     is_whole: bool,
 ) -> Result<&'static str, RunFault> {
-    let said = text_of(alloc, ran.sink.bytes())?;
     let allotted = said_of(rt, alloc, Command::Allocate.words(), given)?;
-    if ran.status == 0 {
-        return Ok(broken_told(alloc, given, &said, &allotted, is_whole)?);
+    Ok(broken_inspection(alloc, seen, &allotted, is_whole)?)
+}
+
+fn broken_inspection(
+    alloc: Global,
+    seen: &Seen,
+    allotted: &str,
+    is_whole: bool,
+) -> Result<&'static str, Memory> {
+    if seen.status == 0 {
+        return broken_told(alloc, seen, allotted, is_whole);
     }
-    let status = ran.status;
-    let line = said.lines().next().unwrap_or("");
+    let (status, line) = (seen.status, first_line(&seen.said));
     let due = format!(in alloc; "{status} {line}\n")?;
-    Ok(law(
-        allotted.as_str() == due.as_str(),
-        "a refusal beside allocate",
-    ))
+    Ok(law(allotted == due.as_str(), "a refusal beside allocate"))
 }
 
 /// The first law that what is told of a season breaks, beside what `allocate` says.
 fn broken_told(
     alloc: Global,
-    given: &Given,
-    said: &str,
+    seen: &Seen,
     allotted: &str,
     is_whole: bool,
 ) -> Result<&'static str, Memory> {
+    let lines = broken_lines(alloc, seen, is_whole)?;
     let is_done = matches!(word(allotted, 0), "0" | "8" | "9");
-    let is_over = count_of(said, "OVER ") > 0;
+    let is_over = count_of(&seen.said, "OVER ") > 0;
     let first = first_of(
         law(is_done, "inspect beside allocate"),
         law(
@@ -185,39 +208,53 @@ fn broken_told(
             "what is over the limits",
         ),
     );
-    Ok(first_of(first, broken_lines(alloc, given, said, is_whole)?))
+    Ok(first_of(first, lines))
 }
 
 /// A certificate was reported on: the numbers that are printed are those of the units of the
 /// report, its stages are those of the certificate, and in a stage that is settled nothing cheaper
 /// fits.
-pub fn reported(alloc: Global, given: &Given, ran: &RunEnd) -> Result<&'static str, RunFault> {
-    let said = text_of(alloc, ran.sink.bytes())?;
-    let report = file_text(alloc, ran.cabinet.file("REPORT"))?;
-    let page = file_text(alloc, ran.cabinet.file("PAGE"))?;
+pub fn reported(alloc: Global, seen: &Seen) -> Result<&'static str, RunFault> {
+    let report = seen.after("REPORT");
+    let are_told = are_stages_of(alloc, seen.before("CERT"), report)?;
     let first = first_of(
-        law(are_numbers_of(&said, &report), "numbers of a report"),
-        law(!has_cheaper(&report), "what fits in a settled stage"),
+        law(are_numbers_of(&seen.said, report), "numbers of a report"),
+        law(!has_cheaper(report), "what fits in a settled stage"),
     );
-    let is_page = page.starts_with("<!DOCTYPE html>") && page.ends_with("</html>\n");
-    let is_report = report.starts_with("REPORT 1\n") && report.ends_with("\nEND\n");
     let second = first_of(
-        law(is_page && is_report, "forms of a report"),
-        law(are_stages_of(alloc, given, &report)?, "stages of a report"),
+        law(
+            is_page(seen.after("PAGE")) && is_report(report),
+            "forms of a report",
+        ),
+        law(are_told, "stages of a report"),
     );
     Ok(first_of(first, second))
 }
 
+fn is_page(page: &str) -> bool {
+    page.starts_with("<!DOCTYPE html>") && page.ends_with("</html>\n")
+}
+
+fn is_report(report: &str) -> bool {
+    report.starts_with("REPORT 1\n") && report.ends_with("\nEND\n")
+}
+
 /// Whether the stages of a report are those of the certificate.
-fn are_stages_of(alloc: Global, given: &Given, report: &str) -> Result<bool, Memory> {
-    let certificate = file_text(alloc, given.file("CERT"))?;
-    let mut text = String::new(alloc);
-    for line in report.lines().filter(|line| line.starts_with("STAGE ")) {
-        let (stage, _) = line.split_once(" UNITS ").unwrap_or((line, ""));
-        text.push_str(stage)?;
-        text.push('\n')?;
+fn are_stages_of(alloc: Global, certificate: &str, report: &str) -> Result<bool, Memory> {
+    let mut told = String::new(alloc);
+    put_stages(&mut told, report)?;
+    are_stages(alloc, certificate, &told)
+}
+
+/// Appends the marks, the costs and the bounds that a report tells.
+fn put_stages(text: &mut String, report: &str) -> Result<(), Memory> {
+    for line in report.lines() {
+        if line.starts_with("STAGE ") {
+            let (stage, _) = line.split_once(" UNITS ").unwrap_or((line, ""));
+            push_line(text, stage)?;
+        }
     }
-    Ok(stage_lines(alloc, &certificate)?.as_str() == text.as_str())
+    Ok(())
 }
 
 /// The words of outcomes, in the order in which they are printed.
@@ -226,12 +263,12 @@ const OUTCOMES: [&str; 5] = ["KEPT", "HISTORIC", "MOVED", "REFUSED", "NONE"];
 /// Whether the numbers of outcomes are those of the units, and they add up, as do their minutes.
 fn are_numbers_of(said: &str, report: &str) -> bool {
     let mut sum = 0_u64;
-    for (place, outcome) in OUTCOMES.iter().enumerate() {
-        let told = number(said, place.saturating_mul(2).saturating_add(3));
-        if told != Some(units_with(report, *outcome)) {
+    for place in 0..OUTCOMES.len() {
+        let count = units_with(report, OUTCOMES[place]);
+        if number(said, place.saturating_mul(2).saturating_add(3)) != Some(count) {
             return false;
         }
-        sum = sum.saturating_add(told.unwrap_or(0));
+        sum = sum.saturating_add(count);
     }
     number(said, 1) == Some(sum) && minutes_told(said) == minutes_of(report)
 }
@@ -246,24 +283,32 @@ fn minutes_told(said: &str) -> Option<u64> {
 /// change on each of its dates.
 fn minutes_of(report: &str) -> Option<u64> {
     let mut sum = 0_u64;
-    for line in report.lines().filter(|line| line.starts_with("UNIT ")) {
-        if matches!(word(line, 4), "KEPT" | "HISTORIC" | "MOVED") {
-            let due = number(line, 6)?.checked_mul(number(line, 8)?)?;
-            if number(line, 10) != Some(due) {
-                return None;
-            }
-            sum = sum.checked_add(due)?;
-        }
+    for line in report.lines() {
+        sum = sum.checked_add(minutes_in(line)?)?;
     }
     Some(sum)
 }
 
+/// What a unit costs, if a line tells of one that has slots.
+fn minutes_in(line: &str) -> Option<u64> {
+    if !line.starts_with("UNIT ") || !matches!(word(line, 4), "KEPT" | "HISTORIC" | "MOVED") {
+        return Some(0);
+    }
+    let due = number(line, 6)?.checked_mul(number(line, 8)?)?;
+    if number(line, 10) == Some(due) {
+        Some(due)
+    } else {
+        None
+    }
+}
+
 fn units_with(report: &str, outcome: &str) -> u64 {
-    let count = report
-        .lines()
-        .filter(|line| line.starts_with("UNIT ") && word(*line, 4) == outcome)
-        .count();
-    count as u64
+    let mut count = 0_u64;
+    for line in report.lines() {
+        let is_of = line.starts_with("UNIT ") && word(line, 4) == outcome;
+        count = count.saturating_add(u64::from(is_of));
+    }
+    count
 }
 
 /// Whether a line says that something cheaper fits in a stage that is settled.
@@ -279,15 +324,28 @@ fn has_cheaper_in(report: &str, stage: &str, line: &str) -> bool {
 }
 
 /// A season was made: its files are those of the rule.
-pub fn made(alloc: Global, words: &str, ran: &RunEnd) -> Result<&'static str, RunFault> {
+pub fn made(alloc: Global, words: &str, seen: &Seen) -> Result<&'static str, RunFault> {
+    let units = number(words, 2).unwrap_or(0);
+    let is_capacity = is_made_capacity(alloc, units, seen.after("CAP"))?;
+    let are_requests = are_made_requests(alloc, words, seen.after("SCR"))?;
+    Ok(law(is_capacity && are_requests, "a made season"))
+}
+
+fn is_made_capacity(alloc: Global, units: u64, found: &str) -> Result<bool, Memory> {
+    let capacity = made_capacity(alloc, units)?;
+    Ok(capacity.as_str() == found)
+}
+
+fn are_made_requests(alloc: Global, words: &str, found: &str) -> Result<bool, Memory> {
+    let requests = requests_of(alloc, words)?;
+    Ok(requests.as_str() == found)
+}
+
+/// The requests of the season that words name.
+fn requests_of(alloc: Global, words: &str) -> Result<String, Memory> {
     let seed = number(words, 1).unwrap_or(0);
     let units = number(words, 2).unwrap_or(0);
-    let capacity = made_capacity(alloc, units)?;
-    let requests = made_requests(alloc, seed, units)?;
-    let found = file_text(alloc, ran.cabinet.file("CAP"))?;
-    let written = file_text(alloc, ran.cabinet.file("SCR"))?;
-    let is_made = found.as_str() == capacity.as_str() && written.as_str() == requests.as_str();
-    Ok(law(is_made, "a made season"))
+    made_requests(alloc, seed, units)
 }
 
 /// A season was tried: what was printed of its stages is what `allocate` prints of its files, and
@@ -296,35 +354,36 @@ pub fn tried<R: Threads + Wait + Sync>(
     rt: &R,
     alloc: Global,
     words: &str,
-    ran: &RunEnd,
+    seen: &Seen,
 ) -> Result<&'static str, RunFault> {
-    let given = made_world(alloc, words)?;
-    let allotted = run_desk(rt, alloc, TRIED, &given, &RealGate)?;
-    Ok(law(is_trial(alloc, ran, &allotted)?, "a trial"))
+    let mut given = Given::new(alloc, 400_000);
+    put_made(alloc, words, &mut given)?;
+    tried_on(rt, alloc, &given, seen)
 }
 
-fn is_trial(alloc: Global, ran: &RunEnd, allotted: &RunEnd) -> Result<bool, Memory> {
-    let said = text_of(alloc, ran.sink.bytes())?;
-    let stages = text_of(alloc, allotted.sink.bytes())?;
-    let certificate = file_text(alloc, allotted.cabinet.file("CERT"))?;
-    let nodes = nodes_of(&certificate);
-    let due = format!(in alloc; "{stages}NODES {nodes}\nCHECK YES\n")?;
-    Ok(said.as_str() == due.as_str() && ran.status == allotted.status)
+fn tried_on<R: Threads + Wait + Sync>(
+    rt: &R,
+    alloc: Global,
+    given: &Given,
+    seen: &Seen,
+) -> Result<&'static str, RunFault> {
+    let due = text_of_run(rt, alloc, TRIED, given, Wanted::Trial)?;
+    Ok(law(is_trial(alloc, seen, &due)?, "a trial"))
+}
+
+/// Whether a trial ended with a status and printed what it is due to.
+fn is_trial(alloc: Global, seen: &Seen, due: &str) -> Result<bool, Memory> {
+    let (status, said) = (seen.status, seen.said.as_str());
+    let found = format!(in alloc; "{status} {said}")?;
+    Ok(found.as_str() == due)
 }
 
 /// The words of `allocate` with the budget of a trial.
 const TRIED: &str = "allocate CAP SCR CERT REPLIES --workers 1 --nodes 10000";
 
-/// The files of the season that words name.
-fn made_world(alloc: Global, words: &str) -> Result<Given, Memory> {
-    let mut given = Given::new(alloc, 400_000);
-    let seed = number(words, 1).unwrap_or(0);
+/// Puts the files of the season that words name.
+fn put_made(alloc: Global, words: &str, given: &mut Given) -> Result<(), Memory> {
     let units = number(words, 2).unwrap_or(0);
     given.put(alloc, "CAP", made_capacity(alloc, units)?.into_bytes())?;
-    given.put(
-        alloc,
-        "SCR",
-        made_requests(alloc, seed, units)?.into_bytes(),
-    )?;
-    Ok(given)
+    given.put(alloc, "SCR", requests_of(alloc, words)?.into_bytes())
 }
