@@ -8,18 +8,17 @@ use Rattle.wasg_stages.specs.Valid.{IsValid, MarksHold}
 use Rattle.series_model.specs.Submissions.{SubmissionView}
 use Rattle.cert_format.specs.declared.cert.Certificate.{Certificate}
 use Rattle.command_words.specs.Words.{Word}
-use Rattle.slot_program.specs.Reports.{Report, Refusal, no_command, refused, unread, unwritten, finished, status_of, text_of, refusal_status, missing, large, out_of_form, over_limit, not_valid, JournalRefusal, no_journal, other_journal, bad_slot, journal_fault, journal_status, unopened, no_next, extra_fails, bad_form, past_limit}
-use Rattle.slot_program.specs.Judgements.{NamedBytes}
-use Rattle.slot_program.specs.Steps.{Step, reads, judges, names_read, PassFrom, AllPass}
-use Rattle.slot_program.specs.Writing.{read_of, written_of}
-use Rattle.slot_program.specs.Jobs.{AreFilesOf, name_at, check_steps, steps_of, names_written, searched_statuses, recleared_statuses, served_statuses, resumed_statuses, finished_statuses, calm_statuses, finishing_of, FileWorks, ServiceWorks, ResumeWorks, Works, IsWithoutJournal, JournalDue, JournalStands, HeadlineHolds}
-use Rattle.slot_program.specs.Outside.{OutsideChange, IsStill, door_faults, disk_faults, SomeRose, DiskRose}
-use Rattle.slot_program.specs.Desk.{World, IsFinished, EndsUnopened, JobEnds, Ends, IsStatus}
-use Rattle.slot_program.specs.Answers.{IsThrough, ToldExact, IsExact}
+use Rattle.desk_commands.specs.Reports.{Report, Refusal, no_command, refused, unread, unwritten, finished, status_of, text_of, refusal_status, missing, large, out_of_form, over_limit, not_valid, JournalRefusal, no_journal, other_journal, bad_slot, journal_fault, journal_status, unopened, no_next, extra_fails, bad_form, past_limit}
+use Rattle.desk_commands.specs.Judgements.{NamedBytes}
+use Rattle.desk_commands.specs.Steps.{Step, reads, judges, names_read, PassFrom, AllPass}
+use Rattle.desk_commands.specs.Writing.{read_of, written_of}
+use Rattle.desk_commands.specs.Jobs.{AreFilesOf, name_at, check_steps, steps_of, names_written, searched_statuses, recleared_statuses, served_statuses, resumed_statuses, finished_statuses, calm_statuses, finishing_of, FileWorks, ServiceWorks, ResumeWorks, Works, IsWithoutJournal, JournalDue, JournalStands, HeadlineHolds}
+use Rattle.desk_commands.specs.Outside.{OutsideChange, IsStill, door_faults, disk_faults, SomeRose, DiskRose}
+use Rattle.desk_commands.specs.Desk.{World, IsFinished, EndsUnopened, JobEnds, Ends, IsStatus}
+use Rattle.desk_commands.specs.Answers.{IsThrough, ToldExact, IsExact}
 use Rattle.wait_list.specs.Claims.{IsWaitingProof}
-use Rattle.slot_program.specs.Reclearing.{last_book, left_waiting}
-use Rattle.slot_program.proofs.EndLemmas.{works_finishing}
-use Rattle.slot_program.proofs.WaitingLemmas.{WaitingMarks, AllottedFit, stage_proved}
+use Rattle.desk_commands.specs.Reclearing.{last_book, left_waiting}
+use Rattle.slot_program.proofs.StageProofs.{WaitingMarks, AllottedFit, stage_proved}
 use Rattle.slot_program.proofs.ServiceLemmas.{works_calm, works_risen}
 use Rattle.slot_program.proofs.JournalLemmas.{Standings, works_disk_calm, works_disk_risen, without_calm, without_risen, pass_one, work_due, without_due, without_stands, stands_finishing}
 use Rattle.command_words.specs.declared.job.Job.{Job}
@@ -207,33 +206,37 @@ journal_finishing why one =
 
 -- ---- the end of a job
 
+-- the law of the statuses of work that is done
+abbrev pub Finishing : Type 0
+Finishing = (job : Job) (inputs writes : List NamedBytes) (change : OutsideChange) (status : ℕ) (text : List ℕ) → Works job inputs writes change status text → Contains (finishing_of job) status
+
 module _ (job : Job) (w : World) (change : OutsideChange) (v : World) where
-  finished_among : (status : ℕ) (text : List ℕ) → IsFinished job w change status text v → Contains finished_statuses status
-  finished_among status text done = finishing_among job status (works_finishing job done.inputs done.writes change status text done.work)
+  finished_among : Finishing → (status : ℕ) (text : List ℕ) → IsFinished job w change status text v → Contains finished_statuses status
+  finished_among law status text done = finishing_among job status (law job done.inputs done.writes change status text done.work)
 
-  job_is_status : (report : Report) → JobEnds job w change report v → IsStatus (status_of report)
-  job_is_status no_command ends = absurd ends
-  job_is_status (refused refusal) ends = refusal_is_status refusal
-  job_is_status (unopened why) ends = journal_is_status why
-  job_is_status (unread name) ends = (5, omega arith, refl)
-  job_is_status (unwritten name) ends = (5, omega arith, refl)
-  job_is_status (finished status text) ends = finished_is_status status (finished_among status text ends)
+  job_is_status : Finishing → (report : Report) → JobEnds job w change report v → IsStatus (status_of report)
+  job_is_status law no_command ends = absurd ends
+  job_is_status law (refused refusal) ends = refusal_is_status refusal
+  job_is_status law (unopened why) ends = journal_is_status why
+  job_is_status law (unread name) ends = (5, omega arith, refl)
+  job_is_status law (unwritten name) ends = (5, omega arith, refl)
+  job_is_status law (finished status text) ends = finished_is_status status (finished_among law status text ends)
 
-  job_not_two : (report : Report) → status_of report ≡ 2 → JobEnds job w change report v → ⊥
-  job_not_two no_command e ends = ends
-  job_not_two (refused refusal) e ends = refusal_not_two refusal e
-  job_not_two (unopened why) e ends = omega (arith, e, (journal_range why).0)
-  job_not_two (unread name) e ends = omega (arith, e)
-  job_not_two (unwritten name) e ends = omega (arith, e)
-  job_not_two (finished status text) e ends = not_finished status (omega (arith, e)) (omega (arith, e)) (finished_among status text ends)
+  job_not_two : Finishing → (report : Report) → status_of report ≡ 2 → JobEnds job w change report v → ⊥
+  job_not_two law no_command e ends = ends
+  job_not_two law (refused refusal) e ends = refusal_not_two refusal e
+  job_not_two law (unopened why) e ends = omega (arith, e, (journal_range why).0)
+  job_not_two law (unread name) e ends = omega (arith, e)
+  job_not_two law (unwritten name) e ends = omega (arith, e)
+  job_not_two law (finished status text) e ends = not_finished status (omega (arith, e)) (omega (arith, e)) (finished_among law status text ends)
 
-  job_not_six : (report : Report) → status_of report ≡ 6 → JobEnds job w change report v → ⊥
-  job_not_six no_command e ends = ends
-  job_not_six (refused refusal) e ends = (refusal_range refusal).1 e
-  job_not_six (unopened why) e ends = omega (arith, e, (journal_range why).0)
-  job_not_six (unread name) e ends = omega (arith, e)
-  job_not_six (unwritten name) e ends = omega (arith, e)
-  job_not_six (finished status text) e ends = not_finished status (omega (arith, e)) (omega (arith, e)) (finished_among status text ends)
+  job_not_six : Finishing → (report : Report) → status_of report ≡ 6 → JobEnds job w change report v → ⊥
+  job_not_six law no_command e ends = ends
+  job_not_six law (refused refusal) e ends = (refusal_range refusal).1 e
+  job_not_six law (unopened why) e ends = omega (arith, e, (journal_range why).0)
+  job_not_six law (unread name) e ends = omega (arith, e)
+  job_not_six law (unwritten name) e ends = omega (arith, e)
+  job_not_six law (finished status text) e ends = not_finished status (omega (arith, e)) (omega (arith, e)) (finished_among law status text ends)
 
   pub ended_finished : (report : Report) → Contains finished_statuses (status_of report) → (status_of report ≡ 14 → ⊥) → JobEnds job w change report v → IsFinished job w change (status_of report) (text_of report) v
   ended_finished no_command one not ends = absurd ends
@@ -263,30 +266,30 @@ module _ (job : Job) (w : World) (change : OutsideChange) (v : World) where
   job_disk_calm (finished status text) five not ends = works_disk_calm job ends.inputs ends.writes change status text not ends.work
 
   -- and failed at 14: the journal was not opened, or a put failed
-  job_disk_risen : (report : Report) → status_of report ≡ 14 → JobEnds job w change report v → DiskRose change.before.disk change.after.disk
+  job_disk_risen : Finishing → (report : Report) → status_of report ≡ 14 → JobEnds job w change report v → DiskRose change.before.disk change.after.disk
       × (((why : JournalRefusal) × (report ≡ unopened why) × EndsUnopened job w change why v) ⊎ IsFinished job w change 14 (text_of report) v)
-  job_disk_risen no_command is ends = absurd ends
-  job_disk_risen (refused refusal) is ends = absurd (refusal_not_fourteen refusal is)
-  job_disk_risen (unopened why) is ends = (without_risen job ends.inputs change why is ends.refused, inl (why, refl, ends))
-  job_disk_risen (unread name) is ends = absurd (omega (arith, is))
-  job_disk_risen (unwritten name) is ends = absurd (omega (arith, is))
-  job_disk_risen (finished status text) is ends =
+  job_disk_risen law no_command is ends = absurd ends
+  job_disk_risen law (refused refusal) is ends = absurd (refusal_not_fourteen refusal is)
+  job_disk_risen law (unopened why) is ends = (without_risen job ends.inputs change why is ends.refused, inl (why, refl, ends))
+  job_disk_risen law (unread name) is ends = absurd (omega (arith, is))
+  job_disk_risen law (unwritten name) is ends = absurd (omega (arith, is))
+  job_disk_risen law (finished status text) is ends =
       let done = subst (λ (n : ℕ). IsFinished job w change n text v) is ends in
-      (works_disk_risen job done.inputs done.writes change text done.work (works_finishing job done.inputs done.writes change 14 text done.work), inr done)
+      (works_disk_risen job done.inputs done.writes change text done.work (law job done.inputs done.writes change 14 text done.work), inr done)
 
 -- ---- any words
 
-pub is_status : (job : Option Job) (w : World) (change : OutsideChange) (report : Report) (v : World) → Ends job w change report v → IsStatus (status_of report)
-is_status None w change report v ends = subst (λ (n : ℕ). IsStatus n) (sym (ap status_of ends.0)) (2, omega arith, refl)
-is_status (Some job) w change report v ends = job_is_status job w change v report ends
+pub is_status : Finishing → (job : Option Job) (w : World) (change : OutsideChange) (report : Report) (v : World) → Ends job w change report v → IsStatus (status_of report)
+is_status law None w change report v ends = subst (λ (n : ℕ). IsStatus n) (sym (ap status_of ends.0)) (2, omega arith, refl)
+is_status law (Some job) w change report v ends = job_is_status job w change v law report ends
 
-pub two_is_none : (job : Option Job) (w : World) (change : OutsideChange) (report : Report) (v : World) → status_of report ≡ 2 → Ends job w change report v → job ≡ None
-two_is_none None w change report v e ends = refl
-two_is_none (Some job) w change report v e ends = absurd (job_not_two job w change v report e ends)
+pub two_is_none : Finishing → (job : Option Job) (w : World) (change : OutsideChange) (report : Report) (v : World) → status_of report ≡ 2 → Ends job w change report v → job ≡ None
+two_is_none law None w change report v e ends = refl
+two_is_none law (Some job) w change report v e ends = absurd (job_not_two job w change v law report e ends)
 
-pub not_six : (job : Option Job) (w : World) (change : OutsideChange) (report : Report) (v : World) → status_of report ≡ 6 → Ends job w change report v → ⊥
-not_six None w change report v e ends = omega (arith, e, ap status_of ends.0)
-not_six (Some job) w change report v e ends = job_not_six job w change v report e ends
+pub not_six : Finishing → (job : Option Job) (w : World) (change : OutsideChange) (report : Report) (v : World) → status_of report ≡ 6 → Ends job w change report v → ⊥
+not_six law None w change report v e ends = omega (arith, e, ap status_of ends.0)
+not_six law (Some job) w change report v e ends = job_not_six job w change v law report e ends
 
 pub is_calm : (job : Option Job) (w : World) (change : OutsideChange) (report : Report) (v : World) → Contains calm_statuses (status_of report) → Ends job w change report v → v.faults ≡ w.faults
 is_calm None w change report v one ends = absurd (not_calm 2 (omega arith) (omega arith) (subst (λ (n : ℕ). Contains calm_statuses n) (ap status_of ends.0) one))
@@ -296,11 +299,11 @@ pub disk_is_calm : (job : Option Job) (w : World) (change : OutsideChange) (repo
 disk_is_calm None w change report v five not ends = ap disk_faults ends.2
 disk_is_calm (Some job) w change report v five not ends = job_disk_calm job w change v report five not ends
 
-pub disk_has_risen : (o : Option Job) (w : World) (change : OutsideChange) (report : Report) (v : World) → status_of report ≡ 14 → Ends o w change report v
+pub disk_has_risen : Finishing → (o : Option Job) (w : World) (change : OutsideChange) (report : Report) (v : World) → status_of report ≡ 14 → Ends o w change report v
     → (job : Job) × (o ≡ Some job) × DiskRose change.before.disk change.after.disk
     × (((why : JournalRefusal) × (report ≡ unopened why) × EndsUnopened job w change why v) ⊎ IsFinished job w change 14 (text_of report) v)
-disk_has_risen None w change report v is ends = absurd (omega (arith, is, ap status_of ends.0))
-disk_has_risen (Some job) w change report v is ends = let r = job_disk_risen job w change v report is ends in (job, refl, r.0, r.1)
+disk_has_risen law None w change report v is ends = absurd (omega (arith, is, ap status_of ends.0))
+disk_has_risen law (Some job) w change report v is ends = let r = job_disk_risen job w change v law report is ends in (job, refl, r.0, r.1)
 
 -- what is reported of a journal that was not opened
 pub ends_unopened : (o : Option Job) (job : Job) (w : World) (change : OutsideChange) (report : Report) (v : World) (why : JournalRefusal) → o ≡ Some job → report ≡ unopened why → Ends o w change report v → EndsUnopened job w change why v
@@ -334,12 +337,12 @@ doors_calm (Some job) w change report v one ends =
     let done = ended_finished job w change v report among (λ bad. elim one [ inl is ↦ omega (arith, is, bad) | inr is ↦ omega (arith, is, bad) ]) ends in
     works_calm job done.inputs done.writes change (status_of report) (text_of report) done.work one
 
-pub door_risen : (o : Option Job) (w : World) (change : OutsideChange) (report : Report) (v : World) → status_of report ≡ 10 → Ends o w change report v → SomeRose change.before.doors change.after.doors
-door_risen None w change report v ten ends = absurd (omega (arith, ten, ap status_of ends.0))
-door_risen (Some job) w change report v ten ends =
+pub door_risen : Finishing → (o : Option Job) (w : World) (change : OutsideChange) (report : Report) (v : World) → status_of report ≡ 10 → Ends o w change report v → SomeRose change.before.doors change.after.doors
+door_risen law None w change report v ten ends = absurd (omega (arith, ten, ap status_of ends.0))
+door_risen law (Some job) w change report v ten ends =
     let done = ended_finished job w change v report (3, omega arith, sym ten) (λ bad. omega (arith, ten, bad)) ends in
     let work = subst (λ (n : ℕ). Works job done.inputs done.writes change n (text_of report)) ten done.work in
-    works_risen job done.inputs done.writes change (text_of report) work (works_finishing job done.inputs done.writes change 10 (text_of report) work)
+    works_risen job done.inputs done.writes change (text_of report) work (law job done.inputs done.writes change 10 (text_of report) work)
 
 -- ---- what was due, where files are told
 
@@ -387,16 +390,16 @@ module _ (job : Job) (w : World) (change : OutsideChange) (v : World) where
               (subst (λ (l : List NamedBytes). Works job l done.writes change (status_of report) (text_of report)) (same_inputs done.inputs done.passed) done.work) due)
         ]
 
-    pub job_serves : (report : Report) → IsThrough job report → JobEnds job w change report v → JournalStands job inputs change.before.disk → (DiskRose change.before.disk change.after.disk → ⊥) → Contains served_statuses (status_of report)
-    job_serves report through ends stands calm =
+    pub job_serves : Finishing → (report : Report) → IsThrough job report → JobEnds job w change report v → JournalStands job inputs change.before.disk → (DiskRose change.before.disk change.after.disk → ⊥) → Contains served_statuses (status_of report)
+    job_serves finishing report through ends stands calm =
         elim (through_ends report through ends) [
           | inl un ↦
               let refused_as = subst (λ (l : List NamedBytes). IsWithoutJournal job l change un.0) (same_inputs un.2.inputs un.2.passed) un.2.refused in
               absurd (calm (without_risen job inputs change un.0 (without_stands law job inputs change un.0 refused_as stands) refused_as))
           | inr done ↦
-              stands_finishing job inputs change.before.disk (status_of report) stands (works_finishing job done.inputs done.writes change (status_of report) (text_of report) done.work)
+              stands_finishing job inputs change.before.disk (status_of report) stands (finishing job done.inputs done.writes change (status_of report) (text_of report) done.work)
               (λ is. let work = subst (λ (n : ℕ). Works job done.inputs done.writes change n (text_of report)) is done.work in
-              calm (works_disk_risen job done.inputs done.writes change (text_of report) work (works_finishing job done.inputs done.writes change 14 (text_of report) work)))
+              calm (works_disk_risen job done.inputs done.writes change (text_of report) work (finishing job done.inputs done.writes change 14 (text_of report) work)))
         ]
 
 -- ---- the headline

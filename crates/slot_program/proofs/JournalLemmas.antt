@@ -15,14 +15,14 @@ use Rattle.session_desk.specs.declared.worker.DoorWork.{DoorWork}
 use Rattle.command_words.specs.Words.{Word}
 use Rattle.command_words.specs.declared.job.Job.{Job}
 use Rattle.command_words.specs.declared.job.Job.TheVariants.{Allocate, Check, Amend, Serve, Resume, Usage, Reclear, Recheck, Report, Inspect, Make, Trial}
-use Rattle.slot_program.specs.Reports.{JournalRefusal, no_journal, other_journal, bad_slot, journal_fault, journal_status}
-use Rattle.slot_program.specs.Judgements.{NamedBytes}
-use Rattle.slot_program.specs.Steps.{Step, reads, judges, PassFrom}
-use Rattle.slot_program.specs.Outside.{OutsideChange, disk_faults, DiskRose}
-use Rattle.slot_program.specs.Services.{some_ended, is_door_end, is_full_end, served_status}
-use Rattle.slot_program.specs.Journals.{IsUnopened, IsLeftWith, TellsFile, IsDueJournal, TellsPairs}
-use Rattle.slot_program.specs.Resumed.{resumed_status}
-use Rattle.slot_program.specs.Jobs.{searched_statuses, recleared_statuses, served_statuses, finishing_of, ServiceWorks, ResumeWorks, Works, IsSeasonTerm, IsJournalless, IsWithoutJournal, JournalDue, JournalStands}
+use Rattle.desk_commands.specs.Reports.{JournalRefusal, no_journal, other_journal, bad_slot, journal_fault, journal_status}
+use Rattle.desk_commands.specs.Judgements.{NamedBytes}
+use Rattle.desk_commands.specs.Steps.{Step, reads, judges, PassFrom}
+use Rattle.desk_commands.specs.Outside.{OutsideChange, disk_faults, DiskRose}
+use Rattle.desk_commands.specs.Services.{some_ended, is_door_end, is_full_end, served_status}
+use Rattle.desk_commands.specs.Journals.{IsUnopened, IsLeftWith, TellsFile, IsDueJournal, TellsPairs}
+use Rattle.desk_commands.specs.Resumed.{resumed_status}
+use Rattle.desk_commands.specs.Jobs.{searched_statuses, recleared_statuses, served_statuses, finishing_of, ServiceWorks, ResumeWorks, Works, IsSeasonTerm, IsJournalless, IsWithoutJournal, JournalDue, JournalStands}
 
 -- ---- the count of the disk, by how a job ended
 

@@ -1,27 +1,15 @@
--- What holds whatever is outside holds of what is there.
-use Rattle.std.proofs.Common.{[], ℕ, Option, None, Result, Ok, Err}
+-- What holds of any world, of each port, number of workers and disk, holds of what is there.
+use Rattle.std.proofs.Common.{ℕ, Option, Result, Ok, Err}
 use Rattle.std.specs.Prelude.{IfOk, IfErr}
 use Rattle.desk_disk.specs.Disks.{DiskView}
-use Rattle.slot_program.specs.Outside.{Outside}
-use Rattle.slot_program.specs.Desk.{World}
+use Rattle.desk_commands.specs.Outside.{Outside}
+use Rattle.desk_commands.specs.Desk.{World}
 
-pub nowhere : Outside
-nowhere = record { doors = []; disk = None }
-
-pub ok_at : {A E : Type 0} (P : A → Outside → Type 0) (o : Outside) (r : Result A E) → IfOk r (λ a. (p : Outside) → P a p) → IfOk r (λ a. P a o)
-ok_at P o (Ok a) h = h o
-ok_at P o (Err e) h = tt
-
-pub err_at : {A E : Type 0} (P : E → Outside → Type 0) (o : Outside) (r : Result A E) → IfErr r (λ e. (p : Outside) → P e p) → IfErr r (λ e. P e o)
-err_at P o (Ok a) h = tt
-err_at P o (Err e) h = h o
-
--- the same of what holds in any world
 pub ok_tried : {A E : Type 0} (P : A → World → Outside → Type 0) (o : Outside) (w : World) (r : Result A E) → IfOk r (λ a. (u : World) (p : Outside) → P a u p) → IfOk r (λ a. P a w o)
 ok_tried P o w (Ok a) h = h w o
 ok_tried P o w (Err e) h = tt
 
--- and the same for each port and number of workers
+-- the same for each port and number of workers
 pub ok_numbered : {A E : Type 0} (P : A → ℕ → ℕ → Type 0) (port workers : ℕ) (r : Result A E) → IfOk r (λ a. (p k : ℕ) → P a p k) → IfOk r (λ a. P a port workers)
 ok_numbered P port workers (Ok a) h = h port workers
 ok_numbered P port workers (Err e) h = tt

@@ -28,24 +28,23 @@ use Rattle.amend_journal.specs.declared.asked.Asked.{Asked}
 use Rattle.amend_journal.specs.declared.told.Told.{Told}
 use Rattle.amend_journal.specs.declared.told.Told.TheVariants.{Broke}
 use Rattle.amend_journal.specs.declared.told.Failure.{Failure}
-use Rattle.slot_program.specs.Amendments.{IsOneHistory}
-use Rattle.slot_program.specs.Resumed.{answered_anew}
-use Rattle.slot_program.specs.Journals.{ForFile, IsLeftWith, KeepsInTurn, KeepsAsks}
+use Rattle.desk_commands.specs.Amendments.{IsOneHistory}
+use Rattle.desk_commands.specs.Resumed.{answered_anew}
+use Rattle.desk_commands.specs.Journals.{ForFile, IsLeftWith, KeepsInTurn, KeepsAsks}
 use Rattle.series_model.specs.Submissions.{SubmissionView}
 use Rattle.command_words.specs.Words.{Word}
 use Rattle.command_words.specs.declared.job.Job.TheVariants.{Resume}
-use Rattle.slot_program.specs.Judgements.{NamedBytes, IsSeasonOf}
-use Rattle.slot_program.specs.Jobs.{serve_steps}
-use Rattle.slot_program.specs.Outside.{OutsideChange}
-use Rattle.slot_program.specs.Desk.{World}
-use Rattle.slot_program.specs.Leads.{Leads}
-use Rattle.slot_program.specs.Stops.{journal_refusal}
-use Rattle.slot_program.specs.Opened.{IsOpened, DiskStops, JournalStops, open_stop}
-use Rattle.slot_program.specs.Ends.{JobStopsBy}
-use Rattle.slot_program.specs.declared.stop.Stop.{Stop}
-use Rattle.slot_program.specs.declared.stop.Stop.TheVariants as stops
-use Rattle.slot_program.proofs.LeadLemmas.{memory_read}
-use Rattle.slot_program.proofs.EndLemmas.{unopened_stops}
+use Rattle.desk_commands.specs.Reports.{JournalRefusal}
+use Rattle.desk_commands.specs.Judgements.{NamedBytes, IsSeasonOf}
+use Rattle.desk_commands.specs.Jobs.{serve_steps, IsWithoutJournal}
+use Rattle.desk_commands.specs.Outside.{OutsideChange}
+use Rattle.desk_commands.specs.Desk.{World}
+use Rattle.desk_commands.specs.Leads.{MemoryLead}
+use Rattle.desk_commands.specs.Stops.{journal_refusal}
+use Rattle.desk_commands.specs.Opened.{IsOpened, DiskStops, JournalStops, open_stop}
+use Rattle.desk_commands.specs.Ends.{StopsUnopened, JobStopsBy}
+use Rattle.desk_commands.specs.declared.stop.Stop.{Stop}
+use Rattle.desk_commands.specs.declared.stop.Stop.TheVariants as stops
 use Rattle.slot_program.proofs.ServiceLemmas.{CanAskEntry, ReplayKeeps, ReplayIsBook, fits_throughout}
 
 -- ---- pairs answered anew
@@ -145,30 +144,32 @@ module _ (season : Term) (pairs : List Asked) (d : DiskView) (k : KeptView) (ope
 
 -- ---- where a job with a journal stops behind its steps
 
-pub stop_resumed : (names : List Word) (links port workers : ℕ) (w v : World) (capacity requests certificate : NamedBytes) → Leads w (serve_steps names) (capacity ∷ requests ∷ certificate ∷ []) [] v
-    → (change : OutsideChange) (season : SubmissionView) → IsSeasonOf capacity.bytes requests.bytes season → season.declaration.season.year < 100
+pub stop_resumed : (names : List Word) (links port workers : ℕ) (w v : World) (capacity requests certificate : NamedBytes) (change : OutsideChange)
+    → ((why : JournalRefusal) → IsWithoutJournal (Resume names links port workers) (capacity ∷ requests ∷ certificate ∷ []) change why → StopsUnopened (Resume names links port workers) w change why v)
+    → MemoryLead w (serve_steps names) v
+    → (season : SubmissionView) → IsSeasonOf capacity.bytes requests.bytes season → season.declaration.season.year < 100
     → (stop : Stop) → JournalStops season.declaration.season change stop → JobStopsBy names (Resume names links port workers) w change stop v
-stop_resumed names links port workers w v capacity requests certificate lead change season made year (stops.Unopened why) h =
-    unopened_stops (Resume names links port workers) w v (capacity ∷ requests ∷ certificate ∷ []) lead change (journal_refusal why) (record {
+stop_resumed names links port workers w v capacity requests certificate change refused memory season made year (stops.Unopened why) h =
+    refused (journal_refusal why) (record {
       season = season.declaration.season;
       is = record { submission = season; made = made; term = refl };
       year = year;
       doors = h.0;
       refused = h.1;
     })
-stop_resumed names links port workers w v capacity requests certificate lead change season made year stops.Memory h =
-    memory_read w v v (serve_steps names) (capacity ∷ requests ∷ certificate ∷ []) [] lead refl
-stop_resumed names links port workers w v capacity requests certificate lead change season made year (stops.Missing place) h = absurd h
-stop_resumed names links port workers w v capacity requests certificate lead change season made year (stops.Large place) h = absurd h
-stop_resumed names links port workers w v capacity requests certificate lead change season made year (stops.Unread place) h = absurd h
-stop_resumed names links port workers w v capacity requests certificate lead change season made year (stops.Unwritten place) h = absurd h
-stop_resumed names links port workers w v capacity requests certificate lead change season made year (stops.OutOfForm place line) h = absurd h
-stop_resumed names links port workers w v capacity requests certificate lead change season made year (stops.OverLimit limit number) h = absurd h
-stop_resumed names links port workers w v capacity requests certificate lead change season made year (stops.NotValid line reason) h = absurd h
-stop_resumed names links port workers w v capacity requests certificate lead change season made year stops.NoNext h = absurd h
-stop_resumed names links port workers w v capacity requests certificate lead change season made year (stops.ExtraFails line reason) h = absurd h
-stop_resumed names links port workers w v capacity requests certificate lead change season made year (stops.BadForm place line cause) h = absurd h
-stop_resumed names links port workers w v capacity requests certificate lead change season made year (stops.PastLimit limit number cause) h = absurd h
+stop_resumed names links port workers w v capacity requests certificate change refused memory season made year stops.Memory h =
+    memory
+stop_resumed names links port workers w v capacity requests certificate change refused memory season made year (stops.Missing place) h = absurd h
+stop_resumed names links port workers w v capacity requests certificate change refused memory season made year (stops.Large place) h = absurd h
+stop_resumed names links port workers w v capacity requests certificate change refused memory season made year (stops.Unread place) h = absurd h
+stop_resumed names links port workers w v capacity requests certificate change refused memory season made year (stops.Unwritten place) h = absurd h
+stop_resumed names links port workers w v capacity requests certificate change refused memory season made year (stops.OutOfForm place line) h = absurd h
+stop_resumed names links port workers w v capacity requests certificate change refused memory season made year (stops.OverLimit limit number) h = absurd h
+stop_resumed names links port workers w v capacity requests certificate change refused memory season made year (stops.NotValid line reason) h = absurd h
+stop_resumed names links port workers w v capacity requests certificate change refused memory season made year stops.NoNext h = absurd h
+stop_resumed names links port workers w v capacity requests certificate change refused memory season made year (stops.ExtraFails line reason) h = absurd h
+stop_resumed names links port workers w v capacity requests certificate change refused memory season made year (stops.BadForm place line cause) h = absurd h
+stop_resumed names links port workers w v capacity requests certificate change refused memory season made year (stops.PastLimit limit number cause) h = absurd h
 
 -- no client was served yet
 pub no_client : (season : Term) (change : OutsideChange) (stop : Stop) → change.after.doors ≡ change.before.doors → DiskStops season change.before.disk change.after.disk stop → JournalStops season change stop

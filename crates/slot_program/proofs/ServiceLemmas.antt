@@ -21,11 +21,11 @@ use Rattle.session_desk.specs.Served.{Session, EndsWorker}
 use Rattle.command_words.specs.Words.{Word}
 use Rattle.command_words.specs.declared.job.Job.{Job}
 use Rattle.command_words.specs.declared.job.Job.TheVariants.{Allocate, Check, Amend, Serve, Resume, Usage, Reclear, Recheck, Report, Inspect, Make, Trial}
-use Rattle.slot_program.specs.Judgements.{NamedBytes}
-use Rattle.slot_program.specs.Jobs.{searched_statuses, recleared_statuses, finishing_of, ServiceWorks, ResumeWorks, Works}
-use Rattle.slot_program.specs.Resumed.{resumed_status}
-use Rattle.slot_program.specs.Outside.{OutsideChange, door_faults, SomeRose}
-use Rattle.slot_program.specs.Services.{IsWorker, AreWorkers, never_breaks, is_door_end, is_full_end, is_broken_end, some_ended, served_status}
+use Rattle.desk_commands.specs.Judgements.{NamedBytes}
+use Rattle.desk_commands.specs.Jobs.{searched_statuses, recleared_statuses, finishing_of, ServiceWorks, ResumeWorks, Works}
+use Rattle.desk_commands.specs.Resumed.{resumed_status}
+use Rattle.desk_commands.specs.Outside.{OutsideChange, door_faults, SomeRose}
+use Rattle.desk_commands.specs.Services.{IsWorker, AreWorkers, never_breaks, is_door_end, is_full_end, is_broken_end, some_ended, served_status}
 
 -- ---- door by door
 

@@ -1,16 +1,15 @@
 //! Checking the certificate of a season.
 
-ghost use Rattle.std.specs.Prelude.{◌≡◌, IfOk, IfErr, codes};
-ghost use Rattle.std.specs.String.{string_bytes};
+ghost use Rattle.std.specs.Prelude.{◌≡◌, IfOk, IfErr};
 ghost use Rattle.command_words.specs.declared.job.Job.TheVariants.{Check as CheckJob};
-ghost use Rattle.slot_program.specs.Desk.{world_of};
-ghost use Rattle.slot_program.specs.Ends.{IsDone, JobStops};
+ghost use Rattle.desk_commands.specs.Desk.{world_of};
+ghost use Rattle.desk_commands.specs.Outside.{Outside, still};
+ghost use Rattle.desk_commands.specs.Ends.{IsDoneBy, JobStopsBy};
 
-use crate::season::{read_certificate, read_season};
-use crate::stop::{Answer, Stop};
 use command_words::NameList;
+use desk_commands::laws::ended_jobs;
+use desk_commands::{Answer, Stop, read_certificate, read_season, yes};
 use desk_outside::Cabinet;
-use slot_text::Memory;
 use std::alloc::Global;
 
 /// Reads a season and a certificate of it, which is valid; or else says why not.
@@ -19,14 +18,15 @@ pub(crate) fn check<C: Cabinet>(
     names: &NameList,
     cabinet: &mut C,
 ) -> Result<Answer, Stop>
-    ensures done { IfOk result (λ a. IsDone (CheckJob names.now)
-        (world_of C.files C.fault_count C.log cabinet.old) a.status a.text.items
+    ensures done { (o : Outside) → IfOk result (λ a. IsDoneBy (CheckJob names.now)
+        (world_of C.files C.fault_count C.log cabinet.old) (still o) a.status a.text.items
         (world_of C.files C.fault_count C.log cabinet.new)) }
-    ensures stop { IfErr result (λ stop. JobStops names.now (CheckJob names.now)
-        (world_of C.files C.fault_count C.log cabinet.old) stop
+    ensures stop { (o : Outside) → IfErr result (λ stop. JobStopsBy names.now (CheckJob names.now)
+        (world_of C.files C.fault_count C.log cabinet.old) (still o) stop
         (world_of C.files C.fault_count C.log cabinet.new)) }
     ensures unchanged { C.files cabinet.new ≡ C.files cabinet.old }
 {
+    ended_jobs();
     let submission = read_season(alloc, names, cabinet)?;
     read_certificate(alloc, names, &submission, cabinet)?;
     let text = yes(alloc)?;
@@ -34,11 +34,4 @@ pub(crate) fn check<C: Cabinet>(
         status: 0,
         text: text.into_bytes(),
     })
-}
-
-/// What is said of a valid certificate, and of a valid stage.
-pub(crate) fn yes(alloc: Global) -> Result<String, Memory>
-    ensures { IfOk result (λ text. string_bytes text ≡ codes "YES\n") }
-{
-    Ok(String::from_str(alloc, "YES\n")?)
 }

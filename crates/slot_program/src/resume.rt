@@ -2,41 +2,34 @@
 //! answered.
 
 ghost use Rattle.std.specs.Prelude.{◌≡◌, ◌≤◌, ◌<◌, ◌∷◌, [], ℕ, Some, IfOk, IfErr, length};
-ghost use Rattle.std.specs.Prelude.{option_map, All, false};
+ghost use Rattle.std.specs.Prelude.{option_map};
 ghost use Rattle.desk_disk.specs.Disks.{DiskView};
 ghost use Rattle.desk_outside.specs.Files.{ChangesOnly};
 ghost use Rattle.wasg_stages.specs.Valid.{IsValid};
 ghost use Rattle.holding_book.specs.Starts.{start_book};
-ghost use Rattle.scr_replies.specs.History.{HasEntryLines, history_text};
 ghost use Rattle.session_desk.specs.declared.doors.TheConstants.{MOST_DOORS};
 ghost use Rattle.command_words.specs.declared.job.Job.TheVariants.{Resume as ResumeJob};
-ghost use Rattle.slot_program.specs.Jobs.{name_at};
-ghost use Rattle.slot_program.specs.Outside.{outside_change};
-ghost use Rattle.slot_program.specs.Services.{some_ended, is_memory_end, links_total};
-ghost use Rattle.slot_program.specs.Resumed.{ResumesLegally, resumed_status, resumed_lines};
-ghost use Rattle.slot_program.specs.Opened.{IsOpened, DiskStops, JournalStops, open_stop};
-ghost use Rattle.slot_program.specs.Desk.{world_of};
-ghost use Rattle.slot_program.specs.Ends.{IsDoneBy, JobStopsBy};
+ghost use Rattle.desk_commands.specs.Jobs.{name_at};
+ghost use Rattle.desk_commands.specs.Outside.{outside_change};
+ghost use Rattle.desk_commands.specs.Resumed.{ResumesLegally};
+ghost use Rattle.desk_commands.specs.Opened.{IsOpened, DiskStops, JournalStops, open_stop};
+ghost use Rattle.desk_commands.specs.Desk.{world_of};
+ghost use Rattle.desk_commands.specs.Ends.{IsDoneBy, JobStopsBy};
 
-use crate::season::read_proved;
-use crate::serve::{ServiceOutput, served};
-use crate::service_lines::{links_total, resumed_lines, resumption_status};
-use crate::stop::{Answer, NoJournal, Stop};
-use crate::writes::write_one;
+use crate::serve::served;
 use amend_journal::{Asked, Journal, JournalKept, MOST_PAIRS, OpenFault, replayed};
 use cert_format::Certificate;
 use command_words::NameList;
+use desk_commands::laws::{ended_jobs, few_holdings};
+use desk_commands::{Answer, NoJournal, ServiceOutput, Stop, read_proved, tell_resumed, write_one};
 use desk_disk::Disk;
 use desk_links::Door;
 use desk_outside::Cabinet;
 use desk_outside::laws::file_changes;
+use holding_book::Book;
 use holding_book::laws::{answer_lines, next_books, replays_fit};
-use holding_book::{Book, Entry};
-use scr_replies::history_text;
 use season_days::Season;
 use series_model::Submission;
-use session_desk::DoorWork;
-use slot_text::Memory;
 use std::alloc::Global;
 use std::sync::Wait;
 use std::thread::Threads;
@@ -75,6 +68,7 @@ pub(crate) fn resume<R: Threads + Wait + Sync, C: Cabinet, D: Door + Drop, G: Ga
     ensures doors { length doors.new.items ≡ length doors.old.items }
 {
     file_changes();
+    ended_jobs();
     let proved = read_proved(alloc, names, cabinet)?;
     let output = resumed_output(
         rt,
@@ -118,6 +112,7 @@ fn resumed_output<R: Threads + Wait + Sync, D: Door + Drop, G: Gate, K: Disk>(
     answer_lines();
     next_books();
     replays_fit();
+    few_holdings();
     let _units = submission.units();
     let season = submission.declaration().season;
     let _year = season.year();
@@ -134,38 +129,6 @@ fn resumed_output<R: Threads + Wait + Sync, D: Door + Drop, G: Gate, K: Disk>(
     *disk = Some(kept.into_disk());
     let output = tell_resumed(alloc, failed, pairs.len(), &season, &history, &works)?;
     Ok(output)
-}
-
-/// What is recorded and said of clients that were served by the history behind so many pairs of a
-/// journal, which may have failed.
-fn tell_resumed(
-    alloc: Global,
-    failed: bool,
-    found: usize,
-    season: &Season,
-    history: &[Entry],
-    works: &[DoorWork],
-) -> Result<ServiceOutput, Memory>
-    requires lines { All (HasEntryLines season.now) history.now }
-    requires few { length works.now ≤ MOST_DOORS }
-    ensures recorded { IfOk result (λ output.
-        output.recorded.items ≡ history_text season.now history.now) }
-    ensures status { IfOk result (λ output.
-        output.answer.status ≡ resumed_status failed works.now) }
-    ensures memory { IfOk result (λ _. some_ended is_memory_end works.now ≡ false) }
-    ensures printed { IfOk result (λ output. output.answer.text.items
-        ≡ resumed_lines found (length history.now) (links_total works.now)) }
-{
-    let status = resumption_status(failed, works)?;
-    let recorded = history_text(alloc, season, history)?;
-    let text = resumed_lines(alloc, found, history.len(), links_total(works))?;
-    Ok(ServiceOutput {
-        recorded,
-        answer: Answer {
-            status,
-            text: text.into_bytes(),
-        },
-    })
 }
 
 /// Opens the journal of the disk, which is taken out, and gives the pairs that it has. Where it is

@@ -11,31 +11,27 @@ ghost use Rattle.wasg_stages.specs.Valid.{IsValid};
 ghost use Rattle.holding_book.specs.Starts.{start_book};
 ghost use Rattle.holding_book.specs.Asks.{CanAsk};
 ghost use Rattle.holding_book.specs.Histories.{IsLegal};
-ghost use Rattle.scr_replies.specs.History.{HasEntryLines, history_text};
 ghost use Rattle.session_desk.specs.declared.doors.TheConstants.{MOST_DOORS};
 ghost use Rattle.command_words.specs.declared.job.Job.TheVariants.{Serve as ServeJob};
-ghost use Rattle.slot_program.specs.Jobs.{name_at};
-ghost use Rattle.slot_program.specs.Outside.{doors_change};
-ghost use Rattle.slot_program.specs.Services.{ServesLegally, IsWorker, AreWorkers};
-ghost use Rattle.slot_program.specs.Services.{is_full_end, is_broken_end, is_memory_end};
-ghost use Rattle.slot_program.specs.Services.{some_ended, served_status, served_lines};
-ghost use Rattle.slot_program.specs.Services.{links_total};
-ghost use Rattle.slot_program.specs.Desk.{world_of};
-ghost use Rattle.slot_program.specs.Ends.{IsDoneBy, JobStopsBy};
+ghost use Rattle.desk_commands.specs.Jobs.{name_at};
+ghost use Rattle.desk_commands.specs.Outside.{doors_change};
+ghost use Rattle.desk_commands.specs.Services.{ServesLegally, IsWorker, AreWorkers};
+ghost use Rattle.desk_commands.specs.Services.{is_full_end, is_broken_end, some_ended};
+ghost use Rattle.desk_commands.specs.declared.service_lines.TheConstants.{MOST_ENTRIES};
+ghost use Rattle.desk_commands.specs.Desk.{world_of};
+ghost use Rattle.desk_commands.specs.Ends.{IsDoneBy, JobStopsBy};
 
-use crate::season::read_proved;
-use crate::service_lines::{links_total, served_lines, service_status};
-use crate::stop::{Answer, Stop};
-use crate::writes::write_one;
 use cert_format::Certificate;
 use command_words::NameList;
+use desk_commands::laws::{ended_jobs, few_holdings};
+use desk_commands::{
+    Answer, MOST_ENTRIES, ServiceOutput, Stop, read_proved, tell_served, write_one,
+};
 use desk_links::Door;
 use desk_outside::Cabinet;
 use desk_outside::laws::file_changes;
 use holding_book::laws::{answer_lines, replays_fit};
 use holding_book::{Book, Entry};
-use scr_replies::history_text;
-use season_days::Season;
 use series_model::Submission;
 use session_desk::{DoorWork, serve_doors};
 use slot_ledger::{Beside, Nothing};
@@ -45,16 +41,6 @@ use std::sync::Wait;
 use std::thread::Threads;
 use wasg_stages::laws::valid_choices;
 use worker_gate::Gate;
-
-/// The most entries that a history has.
-pub(crate) const MOST_ENTRIES: u32 = 100_000;
-
-/// What is recorded of clients that were served, and said.
-#[derive(Drop)]
-pub(crate) struct ServiceOutput {
-    pub recorded: Vec<u8>,
-    pub answer: Answer,
-}
 
 /// Reads a season and a certificate of it, which is valid; serves the clients of the doors, each
 /// door by a worker, at most so many links of each; and then writes the text of the one history.
@@ -85,6 +71,7 @@ pub(crate) fn serve<R: Threads + Wait + Sync, C: Cabinet, D: Door + Drop, G: Gat
     ensures doors { length doors.new.items ≡ length doors.old.items }
 {
     file_changes();
+    ended_jobs();
     let proved = read_proved(alloc, names, cabinet)?;
     let output = service_output(
         rt,
@@ -120,6 +107,7 @@ fn service_output<R: Threads + Wait + Sync, D: Door + Drop, G: Gate>(
     valid_choices();
     answer_lines();
     replays_fit();
+    few_holdings();
     let _units = submission.units();
     let season = submission.declaration().season;
     let book = Book::of(alloc, submission, certificate)?;
@@ -127,34 +115,6 @@ fn service_output<R: Threads + Wait + Sync, D: Door + Drop, G: Gate>(
     let (history, works, _) = served(rt, alloc, book, Nothing, links, MOST_ENTRIES, doors, gate)?;
     let output = tell_served(alloc, &season, &history, &works)?;
     Ok(output)
-}
-
-/// What is recorded and said of clients that were served by one history.
-fn tell_served(
-    alloc: Global,
-    season: &Season,
-    history: &[Entry],
-    works: &[DoorWork],
-) -> Result<ServiceOutput, Memory>
-    requires lines { All (HasEntryLines season.now) history.now }
-    requires few { length works.now ≤ MOST_DOORS }
-    ensures recorded { IfOk result (λ output.
-        output.recorded.items ≡ history_text season.now history.now) }
-    ensures status { IfOk result (λ output. output.answer.status ≡ served_status works.now) }
-    ensures memory { IfOk result (λ _. some_ended is_memory_end works.now ≡ false) }
-    ensures printed { IfOk result (λ output. output.answer.text.items
-        ≡ served_lines (length history.now) (links_total works.now)) }
-{
-    let status = service_status(works)?;
-    let recorded = history_text(alloc, season, history)?;
-    let text = served_lines(alloc, history.len(), links_total(works))?;
-    Ok(ServiceOutput {
-        recorded,
-        answer: Answer {
-            status,
-            text: text.into_bytes(),
-        },
-    })
 }
 
 /// The history from a book, what each worker did, and what was kept beside it. Without doors it is

@@ -2,59 +2,44 @@
 
 ghost use Rattle.std.specs.Prelude.{◌≡◌, ◌≢◌, ◌⊎◌, ◌++◌, ◌∷◌, [], ◌≤◌, ℕ, List, Option, Some, None};
 ghost use Rattle.std.specs.Prelude.{IfOk, Contains, map, length, option_map};
-ghost use Rattle.choice_problem.specs.declared.problems.TheConstants.{MOST_UNITS};
 ghost use Rattle.desk_outside.specs.Cause.{Rose};
 ghost use Rattle.desk_outside.specs.Files.{Files, ChangesOnly};
 ghost use Rattle.desk_outside.specs.Bytes.{Puts, PutsPart};
 ghost use Rattle.desk_outside.specs.Passages.{put, put_failed};
 ghost use Rattle.command_words.specs.Words.{words_of};
 ghost use Rattle.command_words.specs.Jobs.{job_of};
-ghost use Rattle.slot_program.specs.Reports.{Report, Refusal, JournalRefusal, refused, unopened};
-ghost use Rattle.slot_program.specs.Reports.{status_of, text_of};
-ghost use Rattle.slot_program.specs.Judgements.{NamedBytes};
-ghost use Rattle.slot_program.specs.Steps.{AllPass, FirstDue, form_steps};
-ghost use Rattle.slot_program.specs.Writing.{read_of, written_of};
-ghost use Rattle.slot_program.specs.Jobs.{AreFilesOf, name_at, steps_of, finishing_of};
-ghost use Rattle.slot_program.specs.Jobs.{HeadlineHolds};
-ghost use Rattle.slot_program.specs.Jobs.{calm_statuses, served_statuses, JournalDue, JournalStands};
-ghost use Rattle.slot_program.specs.Outside.{Outside, still, outside_of, outside_change};
-ghost use Rattle.slot_program.specs.Outside.{doors_change, door_faults, disk_faults, SomeRose};
-ghost use Rattle.slot_program.specs.Outside.{DiskRose};
+ghost use Rattle.desk_commands.specs.Reports.{Report, Refusal, JournalRefusal, refused, unopened};
+ghost use Rattle.desk_commands.specs.Reports.{status_of, text_of};
+ghost use Rattle.desk_commands.specs.Judgements.{NamedBytes};
+ghost use Rattle.desk_commands.specs.Steps.{AllPass, FirstDue, form_steps};
+ghost use Rattle.desk_commands.specs.Writing.{read_of, written_of};
+ghost use Rattle.desk_commands.specs.Jobs.{AreFilesOf, name_at, steps_of, finishing_of};
+ghost use Rattle.desk_commands.specs.Jobs.{HeadlineHolds};
+ghost use Rattle.desk_commands.specs.Jobs.{calm_statuses, served_statuses, JournalDue, JournalStands};
+ghost use Rattle.desk_commands.specs.Outside.{Outside, still, outside_of, outside_change};
+ghost use Rattle.desk_commands.specs.Outside.{doors_change, door_faults, disk_faults, SomeRose};
+ghost use Rattle.desk_commands.specs.Outside.{DiskRose};
 ghost use Rattle.desk_disk.specs.Disks.{DiskView};
 ghost use Rattle.session_desk.specs.declared.doors.TheConstants.{MOST_DOORS};
-ghost use Rattle.slot_program.specs.Desk.{World, LogGrew, OnlyOfJob, world_of, Ends, IsFinished};
-ghost use Rattle.slot_program.specs.Desk.{EndsUnopened, names_changed, IsStatus};
-ghost use Rattle.slot_program.specs.Answers.{IsAnswer};
+ghost use Rattle.desk_commands.specs.Desk.{World, LogGrew, OnlyOfJob, world_of, Ends, IsFinished};
+ghost use Rattle.desk_commands.specs.Desk.{EndsUnopened, names_changed, IsStatus};
+ghost use Rattle.desk_commands.specs.Answers.{IsAnswer};
 ghost use Rattle.command_words.specs.declared.job.Job.{Job as JobValue};
-ghost use Rattle.command_words.specs.declared.job.Job.TheVariants.{Allocate as AllocateJob};
 ghost use Rattle.command_words.specs.declared.job.Job.TheVariants.{Check as CheckJob};
-ghost use Rattle.command_words.specs.declared.job.Job.TheVariants.{Amend as AmendJob};
 ghost use Rattle.command_words.specs.declared.job.Job.TheVariants.{Serve as ServeJob};
 ghost use Rattle.command_words.specs.declared.job.Job.TheVariants.{Resume as ResumeJob};
-ghost use Rattle.command_words.specs.declared.job.Job.TheVariants.{Usage as UsageJob};
-ghost use Rattle.command_words.specs.declared.job.Job.TheVariants.{Reclear as ReclearJob};
-ghost use Rattle.command_words.specs.declared.job.Job.TheVariants.{Recheck as RecheckJob};
-ghost use Rattle.command_words.specs.declared.job.Job.TheVariants.{Report as ReportJob};
-ghost use Rattle.command_words.specs.declared.job.Job.TheVariants.{Inspect as InspectJob};
-ghost use Rattle.command_words.specs.declared.job.Job.TheVariants.{Make as MakeJob};
-ghost use Rattle.command_words.specs.declared.job.Job.TheVariants.{Trial as TrialJob};
 
-use crate::allocate::allocate;
-use crate::amend::amend;
 use crate::check::check;
-use crate::finish::finish;
-use crate::inspect::inspect;
-use crate::make::make;
-use crate::recheck::recheck;
-use crate::reclear::reclear;
-use crate::report::report;
 use crate::resume::resume;
 use crate::serve::serve;
-use crate::stop::Answer;
-use crate::trial::trial;
-use crate::usage::usage;
 use amend_journal::laws::one_standing;
 use command_words::{Job, NameList, WordFault, read_words};
+use desk_commands::laws::ended_jobs;
+use desk_commands::{
+    Answer, carry_out_allocate, carry_out_amend, carry_out_inspect, carry_out_make,
+    carry_out_recheck, carry_out_reclear, carry_out_report, carry_out_trial, carry_out_usage,
+    finish,
+};
 use desk_disk::Disk;
 use desk_links::Door;
 use desk_outside::{Cabinet, Sink};
@@ -83,7 +68,7 @@ use worker_gate::Gate;
 /// disk failed: when it was opened, or while clients were served, with the work done up to then.
 /// Where lines of the next season are to be written, 15 where there is none, and nothing is
 /// written. The clauses say the same of every command; what a command's steps, writes and work are
-/// stands in `specs/Jobs.antt`.
+/// stands in `Jobs.antt` of `desk_commands`.
 pub fn desk<R: Threads + Wait + Sync, C: Cabinet, S: Sink, D: Door + Drop, G: Gate, K: Disk>(
     rt: &R,
     alloc: Global,
@@ -262,6 +247,7 @@ pub fn desk<R: Threads + Wait + Sync, C: Cabinet, S: Sink, D: Door + Drop, G: Ga
     waiting_marks();
     allotted_fit();
     one_standing();
+    ended_jobs();
     match carry_out(rt, alloc, words, cabinet, doors, gate, disk) {
         Ok(answer) => match out.put(&answer.text) {
             Ok(()) => answer.status,
@@ -349,31 +335,6 @@ fn carry_out<R: Threads + Wait + Sync, C: Cabinet, D: Door + Drop, G: Gate, K: D
     }
 }
 
-/// Allots a season, and gives what is to be said.
-fn carry_out_allocate<R: Threads + Sync, C: Cabinet, G: Gate>(
-    rt: &R,
-    alloc: Global,
-    names: &NameList,
-    nodes: u32,
-    workers: u32,
-    cabinet: &mut C,
-    gate: &G,
-) -> Result<Answer, Memory>
-    requires nodes { (1 ≤ nodes) × (nodes ≤ 1000000) }
-    requires workers { (1 ≤ workers) × (workers ≤ 16) }
-    ensures answer { (o : Outside) → IfOk result (λ a.
-        IsAnswer (Some (AllocateJob names.now nodes workers))
-        (world_of C.files C.fault_count C.log cabinet.old) (still o) a.status a.text.items
-        (world_of C.files C.fault_count C.log cabinet.new)) }
-    ensures others { ChangesOnly (C.files cabinet.old)
-        (name_at names.now 2 ∷ name_at names.now 3 ∷ []) (C.files cabinet.new) }
-    ensures asked { LogGrew (C.log cabinet.old)
-        (OnlyOfJob (Some (AllocateJob names.now nodes workers))) (C.log cabinet.new) }
-{
-    let ended = allocate(rt, alloc, names, nodes, workers, cabinet, gate);
-    finish(alloc, names, ended)
-}
-
 /// Checks a certificate, and gives what is to be said.
 fn carry_out_check<C: Cabinet>(
     alloc: Global,
@@ -389,43 +350,6 @@ fn carry_out_check<C: Cabinet>(
         (C.log cabinet.new) }
 {
     let ended = check(alloc, names, cabinet);
-    finish(alloc, names, ended)
-}
-
-/// Says what a season is, or what is wrong in it, and gives what is to be said.
-fn carry_out_inspect<C: Cabinet>(
-    alloc: Global,
-    names: &NameList,
-    cabinet: &mut C,
-) -> Result<Answer, Memory>
-    ensures answer { (o : Outside) → IfOk result (λ a.
-        IsAnswer (Some (InspectJob names.now))
-        (world_of C.files C.fault_count C.log cabinet.old) (still o) a.status a.text.items
-        (world_of C.files C.fault_count C.log cabinet.new)) }
-    ensures unchanged { C.files cabinet.new ≡ C.files cabinet.old }
-    ensures asked { LogGrew (C.log cabinet.old) (OnlyOfJob (Some (InspectJob names.now)))
-        (C.log cabinet.new) }
-{
-    let ended = inspect(alloc, names, cabinet);
-    finish(alloc, names, ended)
-}
-
-/// Answers amendments, and gives what is to be said.
-fn carry_out_amend<C: Cabinet>(
-    alloc: Global,
-    names: &NameList,
-    cabinet: &mut C,
-) -> Result<Answer, Memory>
-    ensures answer { (o : Outside) → IfOk result (λ a.
-        IsAnswer (Some (AmendJob names.now))
-        (world_of C.files C.fault_count C.log cabinet.old) (still o) a.status a.text.items
-        (world_of C.files C.fault_count C.log cabinet.new)) }
-    ensures others { ChangesOnly (C.files cabinet.old) (name_at names.now 4 ∷ [])
-        (C.files cabinet.new) }
-    ensures asked { LogGrew (C.log cabinet.old) (OnlyOfJob (Some (AmendJob names.now)))
-        (C.log cabinet.new) }
-{
-    let ended = amend(alloc, names, cabinet);
     finish(alloc, names, ended)
 }
 
@@ -480,123 +404,4 @@ fn carry_out_resume<R: Threads + Wait + Sync, C: Cabinet, D: Door + Drop, G: Gat
 {
     let ended = resume(rt, alloc, names, links, cabinet, doors, gate, disk);
     finish(alloc, names, ended)
-}
-
-/// Watches what was operated, and gives what is to be said.
-fn carry_out_usage<C: Cabinet>(
-    alloc: Global,
-    names: &NameList,
-    cabinet: &mut C,
-) -> Result<Answer, Memory>
-    ensures answer { (o : Outside) → IfOk result (λ a.
-        IsAnswer (Some (UsageJob names.now))
-        (world_of C.files C.fault_count C.log cabinet.old) (still o) a.status a.text.items
-        (world_of C.files C.fault_count C.log cabinet.new)) }
-    ensures others { ChangesOnly (C.files cabinet.old) (name_at names.now 4 ∷ [])
-        (C.files cabinet.new) }
-    ensures asked { LogGrew (C.log cabinet.old) (OnlyOfJob (Some (UsageJob names.now)))
-        (C.log cabinet.new) }
-{
-    let ended = usage(alloc, names, cabinet);
-    finish(alloc, names, ended)
-}
-
-/// Clears a waiting list, and gives what is to be said.
-fn carry_out_reclear<R: Threads + Sync, C: Cabinet, G: Gate>(
-    rt: &R,
-    alloc: Global,
-    names: &NameList,
-    nodes: u32,
-    workers: u32,
-    cabinet: &mut C,
-    gate: &G,
-) -> Result<Answer, Memory>
-    requires nodes { (1 ≤ nodes) × (nodes ≤ 1000000) }
-    requires workers { (1 ≤ workers) × (workers ≤ 16) }
-    ensures answer { (o : Outside) → IfOk result (λ a.
-        IsAnswer (Some (ReclearJob names.now nodes workers))
-        (world_of C.files C.fault_count C.log cabinet.old) (still o) a.status a.text.items
-        (world_of C.files C.fault_count C.log cabinet.new)) }
-    ensures others { ChangesOnly (C.files cabinet.old)
-        (name_at names.now 4 ∷ name_at names.now 5 ∷ []) (C.files cabinet.new) }
-    ensures asked { LogGrew (C.log cabinet.old)
-        (OnlyOfJob (Some (ReclearJob names.now nodes workers))) (C.log cabinet.new) }
-{
-    let ended = reclear(rt, alloc, names, nodes, workers, cabinet, gate);
-    finish(alloc, names, ended)
-}
-
-/// Checks the stage of a waiting list, and gives what is to be said.
-fn carry_out_recheck<C: Cabinet>(
-    alloc: Global,
-    names: &NameList,
-    cabinet: &mut C,
-) -> Result<Answer, Memory>
-    ensures answer { (o : Outside) → IfOk result (λ a.
-        IsAnswer (Some (RecheckJob names.now))
-        (world_of C.files C.fault_count C.log cabinet.old) (still o) a.status a.text.items
-        (world_of C.files C.fault_count C.log cabinet.new)) }
-    ensures unchanged { C.files cabinet.new ≡ C.files cabinet.old }
-    ensures asked { LogGrew (C.log cabinet.old) (OnlyOfJob (Some (RecheckJob names.now)))
-        (C.log cabinet.new) }
-{
-    let ended = recheck(alloc, names, cabinet);
-    finish(alloc, names, ended)
-}
-
-/// Tells why each series was given what it was given, and gives what is to be said.
-fn carry_out_report<C: Cabinet>(
-    alloc: Global,
-    names: &NameList,
-    cabinet: &mut C,
-) -> Result<Answer, Memory>
-    ensures answer { (o : Outside) → IfOk result (λ a.
-        IsAnswer (Some (ReportJob names.now))
-        (world_of C.files C.fault_count C.log cabinet.old) (still o) a.status a.text.items
-        (world_of C.files C.fault_count C.log cabinet.new)) }
-    ensures others { ChangesOnly (C.files cabinet.old)
-        (name_at names.now 3 ∷ name_at names.now 4 ∷ []) (C.files cabinet.new) }
-    ensures asked { LogGrew (C.log cabinet.old) (OnlyOfJob (Some (ReportJob names.now)))
-        (C.log cabinet.new) }
-{
-    let ended = report(alloc, names, cabinet);
-    finish(alloc, names, ended)
-}
-
-/// Writes a generated season, and gives what is to be said.
-fn carry_out_make<C: Cabinet>(
-    alloc: Global,
-    number: u32,
-    units: u32,
-    names: &NameList,
-    cabinet: &mut C,
-) -> Result<Answer, Memory>
-    requires { units ≤ MOST_UNITS }
-    ensures answer { (o : Outside) → IfOk result (λ a.
-        IsAnswer (Some (MakeJob number units names.now))
-        (world_of C.files C.fault_count C.log cabinet.old) (still o) a.status a.text.items
-        (world_of C.files C.fault_count C.log cabinet.new)) }
-    ensures others { ChangesOnly (C.files cabinet.old)
-        (name_at names.now 0 ∷ name_at names.now 1 ∷ []) (C.files cabinet.new) }
-    ensures asked { LogGrew (C.log cabinet.old)
-        (OnlyOfJob (Some (MakeJob number units names.now))) (C.log cabinet.new) }
-{
-    let ended = make(alloc, number, units, names, cabinet);
-    finish(alloc, names, ended)
-}
-
-/// Tries a generated season, and gives what is to be said. No file is read or written.
-fn carry_out_trial<R: Threads + Sync, G: Gate>(
-    rt: &R,
-    alloc: Global,
-    number: u32,
-    units: u32,
-    gate: &G,
-) -> Result<Answer, Memory>
-    requires { units ≤ MOST_UNITS }
-    ensures { IfOk result (λ a. (w : World) (o : Outside) →
-        IsAnswer (Some (TrialJob number units)) w (still o) a.status a.text.items w) }
-{
-    let answer = trial(rt, alloc, number, units, gate)?;
-    Ok(answer)
 }

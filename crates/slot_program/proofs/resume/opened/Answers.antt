@@ -1,7 +1,7 @@
 use Rattle.std.proofs.Common.{◌≡◌, Option, Some, sym, ap, ◌∙◌, subst, arith}
 use Rattle.std.specs.Prelude.{option_map}
 use Rattle.desk_disk.specs.Disks.{DiskView}
-use Rattle.slot_program.specs.Opened.{DiskStops, open_stop}
+use Rattle.desk_commands.specs.Opened.{DiskStops, open_stop}
 use Rattle.slot_program.proofs.ResumeLemmas.{open_stops}
 use Rattle.slot_program.proofs.resume.opened.Goals as goal
 

@@ -2,10 +2,9 @@ use Rattle.std.proofs.Common.{[], ◌∷◌, ℕ, List, refl, ap}
 use Rattle.std.proofs.lemmas.Result.{err_from_is_err_and}
 use Rattle.command_words.specs.Words.{Word}
 use Rattle.command_words.specs.declared.job.Job.TheVariants.{Resume}
-use Rattle.slot_program.specs.Jobs.{name_at, one_file, IsResumption}
-use Rattle.slot_program.specs.Outside.{OutsideChange, outside_change}
-use Rattle.slot_program.specs.Desk.{World, world_of}
-use Rattle.slot_program.proofs.EndLemmas.{stop_job_by}
+use Rattle.desk_commands.specs.Jobs.{name_at, serve_steps, one_file, IsResumption}
+use Rattle.desk_commands.specs.Outside.{OutsideChange, outside_change}
+use Rattle.desk_commands.specs.Desk.{World, world_of}
 use Rattle.slot_program.proofs.ResumeLemmas.{stop_resumed}
 use Rattle.slot_program.proofs.resume.resume.Goals as goal
 
@@ -15,7 +14,7 @@ returns-in_err-proved-clause-stop g c =
     let v : World = world_of g.C.Cabinet.files g.C.Cabinet.fault_count g.C.Cabinet.log c.read_proved.new.cabinet in
     let names = c.args.names.now in
     let p = err_from_is_err_and c.from_residual.result c.from_residual.ensures.1 in
-    rw (p.1, p.2) (λ port workers. stop_job_by names (Resume names c.args.links port workers) w (outside_change g.D.Door.view g.K.Disk.view c.args.doors.now.items c.args.disk.now c.args.doors.now.items c.args.disk.now) v c.in_err-proved.field-0.0 refl
+    rw (p.1, p.2) (λ port workers. c.ended_jobs.ensures.stopped names (Resume names c.args.links port workers) w v (outside_change g.D.Door.view g.K.Disk.view c.args.doors.now.items c.args.disk.now c.args.doors.now.items c.args.disk.now) c.in_err-proved.field-0.0 refl
     (c.in_err-proved.ensures.stop []))
 
 pub returns-in_err-output-clause-stop : goal.returns-in_err-output-clause-stop
@@ -26,7 +25,9 @@ returns-in_err-output-clause-stop g c =
     let names = c.args.names.now in
     let p = err_from_is_err_and c.from_residual-in_err-output.result c.from_residual-in_err-output.ensures.1 in
     let s = c.in_ok-proved.ensures.found in
-    rw (p.1, p.2) (λ port workers. stop_resumed names c.args.links port workers w v s.0 s.1 s.2 (s.6 []) change c.in_ok-proved.proved.submission s.3 c.resumed_output.ensures.year c.in_err-output.field-0.0 c.in_err-output.ensures.stop)
+    rw (p.1, p.2) (λ port workers. stop_resumed names c.args.links port workers w v s.0 s.1 s.2 change
+    (λ why. c.ended_jobs.ensures.unopened (Resume names c.args.links port workers) w v (s.0 ∷ s.1 ∷ s.2 ∷ []) change why (s.6 [])) (c.ended_jobs.ensures.memory w v (serve_steps names) [] (s.0 ∷ s.1 ∷ s.2 ∷ []) (s.6 []))
+    c.in_ok-proved.proved.submission s.3 c.resumed_output.ensures.year c.in_err-output.field-0.0 c.in_err-output.ensures.stop)
 
 -- the work, by what was served
 pub returns-in_err-write_one-clause-stop : goal.returns-in_err-write_one-clause-stop

@@ -20,14 +20,13 @@ use Rattle.amend_journal.specs.Told.{EndsBroken}
 use Rattle.amend_journal.specs.Kept.{asks_of, book_after, KeptView, IsKept}
 use Rattle.amend_journal.specs.declared.asked.Asked.{Asked}
 use Rattle.amend_journal.specs.declared.asked.TheConstants.{MOST_PAIRS}
-use Rattle.slot_program.specs.declared.serve.TheConstants.{MOST_ENTRIES}
-use Rattle.slot_program.specs.Outside.{outside_change}
+use Rattle.desk_commands.specs.declared.service_lines.TheConstants.{MOST_ENTRIES}
+use Rattle.desk_commands.specs.Outside.{outside_change}
 use Rattle.session_desk.specs.declared.worker.DoorWork.{DoorWork}
-use Rattle.slot_program.specs.Journals.{KeepsAsks}
-use Rattle.slot_program.specs.Opened.{IsOpened, DiskStops}
-use Rattle.slot_program.specs.Services.{IsWorker, AreWorkers, some_ended, is_memory_end, links_total}
-use Rattle.slot_program.specs.Resumed.{resumed_status, resumed_lines}
-use Rattle.slot_program.proofs.AmendLemmas.{start_few}
+use Rattle.desk_commands.specs.Journals.{KeepsAsks}
+use Rattle.desk_commands.specs.Opened.{IsOpened, DiskStops}
+use Rattle.desk_commands.specs.Services.{IsWorker, AreWorkers, some_ended, is_memory_end, links_total}
+use Rattle.desk_commands.specs.Resumed.{resumed_status, resumed_lines}
 use Rattle.slot_program.proofs.ServiceLemmas.{CanAskEntry, fits_throughout}
 use Rattle.slot_program.proofs.ResumeLemmas.{one_whole, broken_failed, failed_ask, is_failed, keeps_asks, no_client}
 use Rattle.slot_program.proofs.resume.resumed_output.Goals as goal
@@ -52,7 +51,7 @@ pub replayed-requires-clause-few : goal.replayed-requires-clause-few
 replayed-requires-clause-few g c =
     let s = c.args.submission.now in
     let held : length c.in_ok-start.start.book.holdings ≡ length (start_book s c.args.certificate.now).holdings = ap (λ (b : SlotBook). length b.holdings) c.in_ok-start.ensures in
-    let few : length (start_book s c.args.certificate.now).holdings ≤ length s.units = start_few s c.args.certificate.now in
+    let few : length (start_book s c.args.certificate.now).holdings ≤ length s.units = c.few_holdings.ensures s c.args.certificate.now in
     let units : length c.units-units.result.now ≡ length s.units = ap (λ (l : List SlotUnit). length l) c.units-units.ensures.value in
     let most : MOST_UNITS ≡ 4096 = refl in
     omega (arith, held, few, units, most, c.units-units.ensures.few)
@@ -61,7 +60,7 @@ pub served-requires-clause-holdings : goal.served-requires-clause-holdings
 served-requires-clause-holdings g c =
     let s = c.args.submission.now in
     let held : length c.in_ok-start.start.book.holdings ≡ length (start_book s c.args.certificate.now).holdings = ap (λ (b : SlotBook). length b.holdings) c.in_ok-start.ensures in
-    let few : length (start_book s c.args.certificate.now).holdings ≤ length s.units = start_few s c.args.certificate.now in
+    let few : length (start_book s c.args.certificate.now).holdings ≤ length s.units = c.few_holdings.ensures s c.args.certificate.now in
     let units : length c.units-units.result.now ≡ length s.units = ap (λ (l : List SlotUnit). length l) c.units-units.ensures.value in
     let given : length c.deref.result.now ≡ length c.in_ok-journal.pairs.items = ap (λ (l : List Asked). length l) c.deref.ensures.value in
     let most : MOST_UNITS ≡ 4096 = refl in

@@ -3,11 +3,9 @@ use Rattle.desk_disk.specs.Disks.{DiskView}
 use Rattle.std.proofs.lemmas.Result.{err_from_is_err_and}
 use Rattle.command_words.specs.Words.{Word}
 use Rattle.command_words.specs.declared.job.Job.TheVariants.{Serve}
-use Rattle.slot_program.specs.Jobs.{name_at, serve_steps, one_file, IsService}
-use Rattle.slot_program.specs.Outside.{doors_change}
-use Rattle.slot_program.specs.Desk.{World, world_of}
-use Rattle.slot_program.proofs.LeadLemmas.{memory_read}
-use Rattle.slot_program.proofs.EndLemmas.{stop_job_by}
+use Rattle.desk_commands.specs.Jobs.{name_at, serve_steps, one_file, IsService}
+use Rattle.desk_commands.specs.Outside.{doors_change}
+use Rattle.desk_commands.specs.Desk.{World, world_of}
 use Rattle.slot_program.proofs.serve.serve.Goals as goal
 
 pub returns-in_err-proved-clause-stop : goal.returns-in_err-proved-clause-stop
@@ -16,7 +14,7 @@ returns-in_err-proved-clause-stop g c =
     let v : World = world_of g.C.Cabinet.files g.C.Cabinet.fault_count g.C.Cabinet.log c.read_proved.new.cabinet in
     let names = c.args.names.now in
     let p = err_from_is_err_and c.from_residual.result c.from_residual.ensures.1 in
-    rw (p.1, p.2) (λ port workers disk. stop_job_by names (Serve names c.args.links port workers) w (doors_change g.D.Door.view c.args.doors.now.items c.args.doors.now.items disk) v c.in_err-proved.field-0.0 refl
+    rw (p.1, p.2) (λ port workers disk. c.ended_jobs.ensures.stopped names (Serve names c.args.links port workers) w v (doors_change g.D.Door.view c.args.doors.now.items c.args.doors.now.items disk) c.in_err-proved.field-0.0 refl
     (c.in_err-proved.ensures.stop []))
 
 pub returns-in_err-output-clause-stop : goal.returns-in_err-output-clause-stop
@@ -26,7 +24,7 @@ returns-in_err-output-clause-stop g c =
     let names = c.args.names.now in
     let p = err_from_is_err_and c.from_residual-in_err-output.result c.from_residual-in_err-output.ensures.1 in
     let s = c.in_ok-proved.ensures.found in
-    rw (p.1, p.2) (λ port workers disk. memory_read w v v (serve_steps names) (s.0 ∷ s.1 ∷ s.2 ∷ []) [] (s.6 []) refl)
+    rw (p.1, p.2) (λ port workers disk. c.ended_jobs.ensures.memory w v (serve_steps names) [] (s.0 ∷ s.1 ∷ s.2 ∷ []) (s.6 []))
 
 -- the work, by what was served
 pub returns-in_err-write_one-clause-stop : goal.returns-in_err-write_one-clause-stop

@@ -3,8 +3,8 @@ use Rattle.turn_lock.specs.History.{own}
 use Rattle.slot_ledger.specs.Starts.{entry_caller}
 use Rattle.session_desk.specs.Served.{HasServed}
 use Rattle.session_desk.specs.Begun.{desk_caller, HasBroken, IsAnsweredBy, IsBegunBy}
-use Rattle.slot_program.specs.Services.{IsWorker}
-use Rattle.slot_program.specs.declared.serve.TheConstants.{MOST_ENTRIES}
+use Rattle.desk_commands.specs.Services.{IsWorker}
+use Rattle.desk_commands.specs.declared.service_lines.TheConstants.{MOST_ENTRIES}
 use Rattle.slot_program.proofs.ServiceLemmas.{all_workers, no_workers, full_at, broken_at}
 use Rattle.slot_program.proofs.serve.served.Goals as goal
 

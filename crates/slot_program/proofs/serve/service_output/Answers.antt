@@ -12,8 +12,7 @@ use Rattle.holding_book.specs.Starts.{start_book}
 use Rattle.scr_replies.specs.History.{history_text, HasEntryLines}
 use Rattle.amend_run.specs.Amended.{FitsThroughout}
 use Rattle.session_desk.specs.declared.worker.DoorWork.{DoorWork}
-use Rattle.slot_program.specs.Services.{IsWorker, AreWorkers, never_breaks, is_memory_end, some_ended, served_status, links_total, served_lines}
-use Rattle.slot_program.proofs.AmendLemmas.{start_few}
+use Rattle.desk_commands.specs.Services.{IsWorker, AreWorkers, never_breaks, is_memory_end, some_ended, served_status, links_total, served_lines}
 use Rattle.slot_program.proofs.ServiceLemmas.{fits_throughout}
 use Rattle.slot_program.proofs.serve.service_output.Goals as goal
 
@@ -22,7 +21,7 @@ served-requires-clause-holdings g c =
     let s = c.args.submission.now in
     let start : SlotBook = start_book s c.args.certificate.now in
     let held : length c.in_ok-book.book.book.holdings ≡ length start.holdings = ap (λ (b : SlotBook). length b.holdings) c.in_ok-book.ensures in
-    let few : length start.holdings ≤ length s.units = start_few s c.args.certificate.now in
+    let few : length start.holdings ≤ length s.units = c.few_holdings.ensures s c.args.certificate.now in
     let units : length c.units-units.result.now ≡ length s.units = ap (λ (l : List SlotUnit). length l) c.units-units.ensures.value in
     let most : MOST_UNITS ≡ 4096 = refl in
     omega (arith, held, few, units, most, c.units-units.ensures.few)

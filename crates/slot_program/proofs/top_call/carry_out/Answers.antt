@@ -1,13 +1,13 @@
 use Rattle.std.proofs.Common.{sym, ap, ◌∙◌, subst, Option, Some, rules}
 use Rattle.std.specs.Prelude.{IfOk}
-use Rattle.slot_program.specs.Outside.{Outside, still, outside_of, outside_change}
-use Rattle.slot_program.specs.Answers.{IsAnswer}
-use Rattle.slot_program.specs.Desk.{World, world_of, LogGrew, OnlyOfJob}
+use Rattle.desk_commands.specs.Outside.{Outside, still, outside_of, outside_change}
+use Rattle.desk_commands.specs.Answers.{IsAnswer}
+use Rattle.desk_commands.specs.Desk.{World, world_of, LogGrew, OnlyOfJob}
 use Rattle.command_words.specs.declared.job.Job.{Job}
 use Rattle.command_words.specs.Words.{words_of}
 use Rattle.command_words.specs.Jobs.{job_of}
 use Rattle.slot_program.proofs.OutsideLemmas.{ok_tried}
-use Rattle.slot_program.proofs.AnswerLemmas.{nothing_asked, no_words, words_answer}
+use Rattle.slot_program.proofs.WordLemmas.{nothing_asked, no_words, words_answer}
 use Rattle.slot_program.proofs.top_call.carry_out.Goals as goal
 
 pub returns-in-Ok-Allocate-clause-asked : goal.returns-in-Ok-Allocate-clause-asked

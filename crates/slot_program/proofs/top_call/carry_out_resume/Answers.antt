@@ -1,6 +1,6 @@
 use Rattle.command_words.specs.declared.job.Job.TheVariants.{Resume}
-use Rattle.slot_program.specs.Outside.{OutsideChange, outside_change}
-use Rattle.slot_program.specs.Desk.{World, world_of}
+use Rattle.desk_commands.specs.Outside.{OutsideChange, outside_change}
+use Rattle.desk_commands.specs.Desk.{World, world_of}
 use Rattle.slot_program.proofs.OutsideLemmas.{ok_numbered, err_numbered}
 use Rattle.slot_program.proofs.top_call.carry_out_resume.Goals as goal
 

@@ -1,7 +1,7 @@
 use Rattle.std.proofs.Common.{None}
 use Rattle.command_words.specs.declared.job.Job.TheVariants.{Serve}
-use Rattle.slot_program.specs.Outside.{OutsideChange, doors_change}
-use Rattle.slot_program.specs.Desk.{World, world_of}
+use Rattle.desk_commands.specs.Outside.{OutsideChange, doors_change}
+use Rattle.desk_commands.specs.Desk.{World, world_of}
 use Rattle.slot_program.proofs.OutsideLemmas.{ok_served, err_served}
 use Rattle.slot_program.proofs.top_call.carry_out_serve.Goals as goal
 

@@ -4,18 +4,18 @@ use Rattle.desk_outside.specs.Bytes.{Puts}
 use Rattle.desk_outside.specs.Passages.{put}
 use Rattle.command_words.specs.Words.{words_of}
 use Rattle.command_words.specs.Jobs.{job_of}
-use Rattle.slot_program.specs.Reports.{Report, status_of, text_of}
+use Rattle.desk_commands.specs.Reports.{Report, status_of, text_of}
 use Rattle.slot_program.proofs.JournalLemmas.{Standings}
-use Rattle.slot_program.specs.Jobs.{calm_statuses, served_statuses, finishing_of, HeadlineHolds}
-use Rattle.slot_program.specs.Outside.{OutsideChange, outside_change}
-use Rattle.slot_program.specs.Desk.{World, world_of, IsFinished, IsStatus}
+use Rattle.desk_commands.specs.Jobs.{calm_statuses, served_statuses, finishing_of, HeadlineHolds}
+use Rattle.desk_commands.specs.Outside.{OutsideChange, outside_change}
+use Rattle.desk_commands.specs.Desk.{World, world_of, IsFinished, IsStatus}
 use Rattle.slot_program.proofs.DeskLemmas.{is_status, not_six, is_finished, marks_true, told_exact, finishing_not, is_calm, not_calm, two_is_none, disk_is_calm, disk_has_risen, ends_unopened, job_ends, job_said, job_serves, doors_calm, door_risen, none_ends}
 use Rattle.slot_program.proofs.top_call.desk.Goals as goal
 
 pub returns-in-Ok-put-clause-statuses : goal.returns-in-Ok-put-clause-statuses
 returns-in-Ok-put-clause-statuses g c =
     let a = c.in-Ok.ensures.answer in
-    subst (λ (n : ℕ). IsStatus n) (sym a.status_is) (is_status (job_of (words_of c.args.words.now)) _ _ a.report _ a.ends)
+    subst (λ (n : ℕ). IsStatus n) (sym a.status_is) (is_status c.ended_jobs.ensures.finishing (job_of (words_of c.args.words.now)) _ _ a.report _ a.ends)
 
 pub returns-in-Ok-put-clause-headline : goal.returns-in-Ok-put-clause-headline
 returns-in-Ok-put-clause-headline g c = λ job e one not.
@@ -55,7 +55,7 @@ returns-clause-done g c = λ one. absurd (not_calm 7 (omega arith) (omega arith)
 pub returns-in-Ok-put-clause-words : goal.returns-in-Ok-put-clause-words
 returns-in-Ok-put-clause-words g c = λ e.
     let a = c.in-Ok.ensures.answer in
-    two_is_none (job_of (words_of c.args.words.now)) _ _ a.report _ (sym a.status_is ∙ e) a.ends
+    two_is_none c.ended_jobs.ensures.finishing (job_of (words_of c.args.words.now)) _ _ a.report _ (sym a.status_is ∙ e) a.ends
 
 pub returns-in-Ok-put-clause-due : goal.returns-in-Ok-put-clause-due
 returns-in-Ok-put-clause-due g c = λ job held refusal e told is.
@@ -123,7 +123,7 @@ returns-clause-statuses g c = (7, omega arith, refl)
 pub returns-in-Ok-put-clause-cut : goal.returns-in-Ok-put-clause-cut
 returns-in-Ok-put-clause-cut g c = λ e.
     let a = c.in-Ok.ensures.answer in
-    absurd (not_six (job_of (words_of c.args.words.now)) _ _ a.report _ (sym a.status_is ∙ e) a.ends)
+    absurd (not_six c.ended_jobs.ensures.finishing (job_of (words_of c.args.words.now)) _ _ a.report _ (sym a.status_is ∙ e) a.ends)
 
 pub returns-in-Ok-put-clause-calm : goal.returns-in-Ok-put-clause-calm
 returns-in-Ok-put-clause-calm g c = λ one.
@@ -133,7 +133,7 @@ returns-in-Ok-put-clause-calm g c = λ one.
 pub returns-in-Ok-put-clause-risen : goal.returns-in-Ok-put-clause-risen
 returns-in-Ok-put-clause-risen g c = λ ten.
     let a = c.in-Ok.ensures.answer in
-    door_risen (job_of (words_of c.args.words.now)) _ _ a.report _ (sym a.status_is ∙ ten) a.ends
+    door_risen c.ended_jobs.ensures.finishing (job_of (words_of c.args.words.now)) _ _ a.report _ (sym a.status_is ∙ ten) a.ends
 
 pub returns-in-Ok-clause-calm : goal.returns-in-Ok-clause-calm
 returns-in-Ok-clause-calm g c = λ one. elim one [ inl bad ↦ absurd (omega (arith, bad)) | inr bad ↦ absurd (omega (arith, bad)) ]
@@ -180,7 +180,7 @@ returns-in-Ok-put-clause-disk_risen g c = λ fourteen.
     let v : World = world_of g.C.Cabinet.files g.C.Cabinet.fault_count g.C.Cabinet.log c.carry_out.new.cabinet in
     let change : OutsideChange = outside_change g.D.Door.view g.K.Disk.view c.args.doors.now.items c.args.disk.now c.carry_out.new.doors.items c.carry_out.new.disk in
     let a = c.in-Ok.ensures.answer in
-    let r = disk_has_risen (job_of (words_of c.args.words.now)) w change a.report v (sym a.status_is ∙ fourteen) a.ends in
+    let r = disk_has_risen c.ended_jobs.ensures.finishing (job_of (words_of c.args.words.now)) w change a.report v (sym a.status_is ∙ fourteen) a.ends in
     let logs : g.S.Sink.log c.put.new.self ≡ g.S.Sink.log c.args.out.now ++ put (text_of a.report) ∷ [] = search rules in (
       r.2,
       (
@@ -231,6 +231,6 @@ returns-in-Ok-put-clause-resumes g c = λ job held inputs e told pass calm quiet
     let exact = told_exact (job_of (words_of c.args.words.now)) job w a.report v held e told a.exact in
     elim (exact.whole inputs pass) [
       | inl through ↦ inl (subst (λ (n : ℕ). Contains served_statuses n) (sym a.status_is)
-          (job_serves job w change v law held inputs told pass a.report through (job_ends (job_of (words_of c.args.words.now)) job w change a.report v e a.ends) stands still))
+          (job_serves job w change v law held inputs told pass c.ended_jobs.ensures.finishing a.report through (job_ends (job_of (words_of c.args.words.now)) job w change a.report v e a.ends) stands still))
       | inr rose ↦ absurd (calm rose)
     ]

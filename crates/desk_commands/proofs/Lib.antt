@@ -1,0 +1,16 @@
+mod TextLemmas
+mod OutsideLemmas
+mod StageLemmas
+mod LeadLemmas
+mod JudgementLemmas
+mod EndLemmas
+mod AnswerLemmas
+mod CauseLemmas
+mod InspectionLemmas
+mod CheckLemmas
+mod AmendLemmas
+mod UsageLemmas
+mod WaitingLemmas
+mod AllottedLemmas
+mod ReportsLemmas
+mod RecheckLemmas

@@ -1,0 +1,6 @@
+use Rattle.std.proofs.Common.{◌≡◌, drop}
+use Rattle.desk_commands.specs.StageLines.{is_open, some_mark}
+use Rattle.desk_commands.proofs.stage_lines.some_open.Given as goal
+
+abbrev pub invariant-loop-stage : goal.invariant-loop-stage
+invariant-loop-stage l = some_mark is_open (drop l.stage-index l.stages) ≡ some_mark is_open l.stages

@@ -1,6 +1,0 @@
-use Rattle.std.proofs.Common.{refl}
-use Rattle.slot_program.proofs.JudgementLemmas.{all_counted}
-use Rattle.slot_program.proofs.season.count_lines.Goals as goal
-
-pub returns-clause-counted : goal.returns-clause-counted
-returns-clause-counted c = all_counted c.loop-count.count _ c.loop-count.lines (c.in_default.ensures.none.0 refl) c.loop-count.invariant.counted

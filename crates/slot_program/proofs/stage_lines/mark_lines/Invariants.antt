@@ -1,7 +1,0 @@
-use Rattle.std.proofs.Common.{◌≡◌, ◌+◌, ◌++◌, drop}
-use Rattle.std.specs.String.{string_bytes}
-use Rattle.slot_program.specs.StageLines.{mark_lines}
-use Rattle.slot_program.proofs.stage_lines.mark_lines.Given as goal
-
-abbrev pub invariant-loop-i : goal.invariant-loop-i
-invariant-loop-i l = string_bytes l.text ++ mark_lines (l.i + 1) (drop l.i l.stages) ≡ mark_lines 1 l.stages

@@ -1,6 +1,0 @@
-use Rattle.std.proofs.Common.{◌≡◌, drop}
-use Rattle.slot_program.specs.StageLines.{is_infeasible, some_mark}
-use Rattle.slot_program.proofs.stage_lines.some_infeasible.Given as goal
-
-abbrev pub invariant-loop-stage : goal.invariant-loop-stage
-invariant-loop-stage l = some_mark is_infeasible (drop l.stage-index l.stages) ≡ some_mark is_infeasible l.stages

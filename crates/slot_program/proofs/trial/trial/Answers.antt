@@ -1,4 +1,0 @@
-use Rattle.slot_program.proofs.trial.trial.Goals as goal
-
-pub returns : goal.returns
-returns g c = c.in_ok-answer.ensures c.args.number c.args.units c.in_ok-submission.ensures
