@@ -2,7 +2,7 @@
 ghost use Rattle.std.specs.Prelude.{◌≡◌, ◌≤◌, true};
 ghost use Rattle.desk_disk.specs.Disks.{shown_length};
 
-use crate::rows::{Case, Finding, check_bytes, cut, number, path_in, walk};
+use crate::rows::{Case, Finding, ascii, check_bytes, cut, number, path_in, walk};
 use desk_disk::laws::joined_calls;
 use desk_disk::{Disk, MemoryDisk, RealDisk};
 use desk_outside::Failure;
@@ -40,12 +40,12 @@ fn call<K: Disk>(rt: &impl Abort, disk: &mut K, given: &[u8], out: &mut Finding)
 
 /// Makes the call of a name and what stands behind it.
 fn answer<K: Disk>(rt: &impl Abort, disk: &mut K, name: &[u8], rest: &[u8], out: &mut Finding) {
-    match name {
-        b"length" => length(disk, out),
-        b"read" => read(rt, disk, rest, out),
-        b"write" => done(out, writes(rt, disk, rest)),
-        b"cut" => done(out, cuts(disk, number(rt, rest, 1))),
-        b"sync" => done(out, disk.sync().is_ok()),
+    match ascii(name) {
+        "length" => length(disk, out),
+        "read" => read(rt, disk, rest, out),
+        "write" => done(out, writes(rt, disk, rest)),
+        "cut" => done(out, cuts(disk, number(rt, rest, 1))),
+        "sync" => done(out, disk.sync().is_ok()),
         _ => out.put(b"no such call"),
     }
 }

@@ -2,7 +2,7 @@
 ghost use Rattle.std.specs.Prelude.{All};
 ghost use Rattle.desk_links.specs.LinksInMemory.{IsUnused};
 
-use crate::rows::{Case, Finding, check_bytes, cut, number, walk};
+use crate::rows::{Case, Finding, ascii, check_bytes, cut, number, walk};
 use desk_links::{Door, DoorFault, Link, MemoryDoor, MemoryLink, RealDoor, RealLink};
 use desk_outside::Failure;
 use std::alloc::Global;
@@ -33,9 +33,9 @@ impl Case for LinkCalls<RealLink<TcpStream>> {
 /// Makes the call of a row, and says the count of faults then, and whether the input has ended.
 fn call<L: Link>(rt: &impl Abort, link: &mut L, given: &[u8], out: &mut Finding) {
     let (call, rest) = cut(given, b' ');
-    match call {
-        b"take" => take(rt, link, rest, out),
-        b"put" => put(link, rest, out),
+    match ascii(call) {
+        "take" => take(rt, link, rest, out),
+        "put" => put(link, rest, out),
         _ => out.put(b"no such call"),
     }
     let (faults, ended) = (link.faults(), link.ended());

@@ -1,6 +1,6 @@
 //! A cabinet and a sink in memory, whose listed calls fail, and those of the real system.
 
-use crate::rows::{Case, Finding, cut, number, path_in, walk};
+use crate::rows::{Case, Finding, ascii, cut, number, path_in, walk};
 use desk_outside::{Cabinet, Failure, MemoryCabinet, MemorySink, RealCabinet, RealSink, Sink};
 use std::alloc::Global;
 use std::fmt::Display;
@@ -21,26 +21,29 @@ impl Case for CabinetCalls {
         let (call, rest) = cut(given, b' ');
         let (name, bytes) = cut(rest, b' ');
         let name = str::from_utf8(name).expect(rt, "a name of text");
-        answer(rt, &mut self.cabinet, call, name, bytes, out);
+        if call == b"load".as_slice() {
+            out.show(self.cabinet.load(name, bytes));
+        } else {
+            answer(rt, &mut self.cabinet, call, name, bytes, out);
+        }
         out.say(format_args!(" {} ", self.cabinet.faults()));
         let file = self.cabinet.file(name).unwrap_or(b"-");
         out.put(file);
     }
 }
 
-/// Makes the call of this word on a cabinet in memory.
-fn answer(
+/// Makes the call of this word, a write or a read.
+fn answer<C: Cabinet>(
     rt: &impl Abort,
-    cabinet: &mut MemoryCabinet,
+    cabinet: &mut C,
     call: &[u8],
     name: &str,
     bytes: &[u8],
     out: &mut Finding,
 ) {
-    match call {
-        b"load" => out.show(cabinet.load(name, bytes)),
-        b"write" => out.show(cabinet.write(name, bytes)),
-        b"read" => read(rt, out, cabinet, name, bytes),
+    match ascii(call) {
+        "write" => out.show(cabinet.write(name, bytes)),
+        "read" => read(rt, out, cabinet, name, bytes),
         _ => out.put(b"no such call"),
     }
 }
@@ -144,11 +147,7 @@ struct RealCalls<'a, C: Cabinet + Drop> {
 impl<C: Cabinet + Drop> Case for RealCalls<'_, C> {
     fn find(&mut self, rt: &impl Abort, given: &[u8], out: &mut Finding) {
         let (call, bytes) = cut(given, b' ');
-        match call {
-            b"write" => out.show(self.cabinet.write(self.name, bytes)),
-            b"read" => read(rt, out, &mut self.cabinet, self.name, bytes),
-            _ => out.put(b"no such call"),
-        }
+        answer(rt, &mut self.cabinet, call, self.name, bytes, out);
         out.say(format_args!(" {}", self.cabinet.faults()))
     }
 }

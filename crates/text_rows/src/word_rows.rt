@@ -13,11 +13,15 @@ struct CommandWords;
 impl Case for CommandWords {
     fn find(&mut self, rt: &impl Abort, given: &[u8], out: &mut Finding) {
         let words = words_in(rt, out.alloc, given);
-        match read_words(out.alloc, &words) {
-            Ok(job) => say_job(out, &job),
-            Err(WordFault::Words) => out.say("no"),
-            Err(WordFault::Memory) => out.put(b"memory ran out"),
-        }
+        say_words(out, &words)
+    }
+}
+
+fn say_words(out: &mut Finding, words: &[String]) {
+    match read_words(out.alloc, words) {
+        Ok(job) => say_job(out, &job),
+        Err(WordFault::Words) => out.put(b"no"),
+        Err(WordFault::Memory) => out.put(b"memory ran out"),
     }
 }
 
