@@ -246,21 +246,25 @@ fn worked_rows(rt: HostRuntime) {
         ("three", 1, 16, true, "SPENT 40 1 S 0 1 40 U U"),
         ("three", 15, 1, false, "OPTIMAL 40"),
     ] {
-        let text = searched_by_name(&rt, rt.alloc(), name, budget, workers, tree);
-        assert_eq!(rt; text.as_str(), want);
+        check_named(&rt, rt.alloc(), name, budget, workers, tree, want);
     }
 }
 
-fn searched_by_name<R: Abort + Threads + Sync>(
+fn check_named<R: Abort + Threads + Sync>(
     rt: &R,
     alloc: Global,
     name: &str,
     budget: u32,
     workers: u32,
     tree: bool,
-) -> String {
+    want: &str,
+) {
     let problem = named(rt, alloc, name);
-    searched(rt, alloc, &problem, budget, workers, tree)
+    let text = searched(rt, alloc, &problem, budget, workers, tree);
+    assert!(rt;
+        text.as_str() == want,
+        "{name}, {budget}: {text}, not {want}"
+    );
 }
 
 // What is found by several workers is what one finds: the least costs are those of all choices,
@@ -343,12 +347,28 @@ fn check_budget<R: Abort + Threads + Sync>(
     want: &str,
 ) {
     let outcome = found(rt, alloc, problem, budget, 1, &RealGate);
-    let visits = visits(&outcome);
+    check_spent(rt, alloc, problem, &outcome, budget, count, want);
+}
+
+fn check_spent(
+    rt: &impl Abort,
+    alloc: Global,
+    problem: &Problem,
+    outcome: &Outcome,
+    budget: u32,
+    count: u32,
+    want: &str,
+) {
+    let visits = visits(outcome);
     assert!(rt;
         visits == count,
         "a budget of {budget} has {visits} visits, not {count}"
     );
-    check_text(rt, alloc, problem, &outcome, want);
+    let text = outcome_text(rt, alloc, problem, outcome, false);
+    assert!(rt;
+        text.as_str() == want,
+        "a budget of {budget} has {text}, not {want}"
+    );
 }
 
 // How many visits a problem needs.
@@ -522,9 +542,19 @@ impl Gate for Meeting {
 fn two_workers_meet(rt: HostRuntime) {
     let problem = ring(&rt, rt.alloc(), 12);
     let gate = Meeting::of(1, 1);
-    let outcome = found(&rt, rt.alloc(), &problem, 100_000, 2, &gate);
-    check_text(&rt, rt.alloc(), &problem, &outcome, "OPTIMAL 172");
-    assert_eq!(rt; gate.met.load(Ordering::SeqCst), 2);
+    check_meeting(&rt, rt.alloc(), &problem, &gate);
+}
+
+fn check_meeting<R: Abort + Threads + Sync>(
+    rt: &R,
+    alloc: Global,
+    problem: &Problem,
+    gate: &Meeting,
+) {
+    let outcome = found(rt, alloc, problem, 100_000, 2, gate);
+    check_text(rt, alloc, problem, &outcome, "OPTIMAL 172");
+    let met = gate.met.load(Ordering::SeqCst);
+    assert!(rt; met == 2, "{met} workers met, not 2");
 }
 
 // Four units, each of which takes one of four places at a cost of its own.
@@ -583,7 +613,8 @@ fn a_worker_reads_what_another_posted(rt: HostRuntime) {
     let problem = seated(&rt, rt.alloc());
     let gate = Meeting::of(1, 6);
     let outcome = found(&rt, rt.alloc(), &problem, 1_000, 2, &gate);
-    assert_eq!(rt; gate.met.load(Ordering::SeqCst), 2);
+    let met = gate.met.load(Ordering::SeqCst);
+    assert!(rt; met == 2, "{met} workers met, not 2");
     check_with_opening(&rt, rt.alloc(), &problem, &outcome);
 }
 

@@ -114,16 +114,26 @@ fn lines_of_each_caller_stand_in_its_order(rt: HostRuntime) {
 
 // 1,000 lines of each of eight callers, those of each in its order.
 fn check_lines(rt: &impl Abort, lines: &[Line]) {
-    assert_eq!(rt; lines.len(), 8000);
+    assert!(rt; lines.len() == 8000, "not 8000 lines");
     let mut places = [0u32; 8];
     for line in lines {
-        let Some(place) = places.get_mut(line.caller as usize) else {
-            panic!(rt; "no caller has this number")
-        };
-        assert_eq!(rt; line.place, *place);
-        *place = place.wrapping_add(1);
+        check_line(rt, &mut places, line);
     }
-    assert_eq!(rt; places, [1000; 8]);
+    assert!(rt; places == [1000; 8], "not 1000 lines of each caller");
+}
+
+// A line is the next one of its caller.
+fn check_line(rt: &impl Abort, places: &mut [u32], line: &Line) {
+    let Line { caller, place } = *line;
+    let Some(next) = places.get_mut(caller as usize) else {
+        panic!(rt; "no caller has the number {caller}")
+    };
+    let wanted = *next;
+    assert!(rt;
+        place == wanted,
+        "caller {caller} has line {place}, not {wanted}"
+    );
+    *next = wanted.wrapping_add(1);
 }
 
 #[test]
@@ -153,9 +163,14 @@ fn write_and_look<R: Abort + Wait>(
     requires { IsAtRest turn.now first.old × IsAtRest turn.now second.old }
     ensures { IsAtRest turn.now first.new × IsAtRest turn.now second.new }
 {
-    assert_eq!(rt; (first.number(), second.number()), (0, 1));
+    let (one, other) = (first.number(), second.number());
+    assert!(rt;
+        one == 0 && other == 1,
+        "seats {one} and {other}, not 0 and 1"
+    );
     write_line(rt, turn, second, 7);
     let log = turn.take(rt, first);
-    assert_eq!(rt; log.length(), 1);
+    let length = log.length();
+    assert!(rt; length == 1, "{length} lines are seen, not 1");
     turn.give(rt, first, log);
 }
