@@ -14,6 +14,7 @@ use Rattle.desk_commands.specs.Writing.{read_of, written_of, AreWritten, StopsAt
 use Rattle.desk_commands.specs.Jobs.{steps_of, names_written, Works, IsWithoutJournal}
 use Rattle.desk_commands.specs.Outside.{OutsideChange, IsStill}
 use Rattle.command_words.specs.declared.job.Job.{Job}
+use Rattle.command_words.specs.declared.job.Job.TheVariants.{Serve, Resume}
 
 -- what contracts see of a cabinet: its files, where they are told, the count of its faults, and
 -- what passed so far
@@ -120,6 +121,16 @@ OnlyOfJob (Some job) passed = All (IsOfFiles (names_read (steps_of job)) (names_
 abbrev pub names_changed : Option Job → List Word
 names_changed None = []
 names_changed (Some job) = names_written job
+
+-- the words have no journal kept
+abbrev pub KeepsNone : Option Job → Type 0
+KeepsNone job = (names : List Word) (links port workers : ℕ)
+    → job ≢ Some (Resume names links port workers)
+
+-- the words have no clients served
+abbrev pub ServesNone : Option Job → Type 0
+ServesNone job = KeepsNone job × ((names : List Word) (links port workers : ℕ)
+    → job ≢ Some (Serve names links port workers))
 
 abbrev pub IsStatus : ℕ → Type 0
 IsStatus status =

@@ -118,16 +118,16 @@ not_fifteen one =
 
 -- ---- the status of a refusal
 
-refusal_range : (refusal : Refusal) → (1 ≤ refusal_status refusal) × (refusal_status refusal ≢ 6)
-refusal_range (missing name) = (omega arith, λ e. omega (arith, e))
-refusal_range (large name) = (omega arith, λ e. omega (arith, e))
-refusal_range (out_of_form name line) = (omega arith, λ e. omega (arith, e))
-refusal_range (over_limit name number) = (omega arith, λ e. omega (arith, e))
-refusal_range (not_valid line reason) = (omega arith, λ e. omega (arith, e))
-refusal_range no_next = (omega arith, λ e. omega (arith, e))
-refusal_range (extra_fails line reason) = (omega arith, λ e. omega (arith, e))
-refusal_range (bad_form name line cause) = (omega arith, λ e. omega (arith, e))
-refusal_range (past_limit name number cause) = (omega arith, λ e. omega (arith, e))
+refusal_range : (refusal : Refusal) → (1 ≤ refusal_status refusal) × (refusal_status refusal ≢ 6) × (refusal_status refusal ≢ 7)
+refusal_range (missing name) = (omega arith, λ e. omega (arith, e), λ e. omega (arith, e))
+refusal_range (large name) = (omega arith, λ e. omega (arith, e), λ e. omega (arith, e))
+refusal_range (out_of_form name line) = (omega arith, λ e. omega (arith, e), λ e. omega (arith, e))
+refusal_range (over_limit name number) = (omega arith, λ e. omega (arith, e), λ e. omega (arith, e))
+refusal_range (not_valid line reason) = (omega arith, λ e. omega (arith, e), λ e. omega (arith, e))
+refusal_range no_next = (omega arith, λ e. omega (arith, e), λ e. omega (arith, e))
+refusal_range (extra_fails line reason) = (omega arith, λ e. omega (arith, e), λ e. omega (arith, e))
+refusal_range (bad_form name line cause) = (omega arith, λ e. omega (arith, e), λ e. omega (arith, e))
+refusal_range (past_limit name number cause) = (omega arith, λ e. omega (arith, e), λ e. omega (arith, e))
 
 refusal_not_finished : (refusal : Refusal) → Contains finished_statuses (refusal_status refusal) → ⊥
 refusal_not_finished (missing name) one = not_finished 5 (omega arith) (omega arith) one
@@ -238,6 +238,14 @@ module _ (job : Job) (w : World) (change : OutsideChange) (v : World) where
   job_not_six law (unwritten name) e ends = omega (arith, e)
   job_not_six law (finished status text) e ends = not_finished status (omega (arith, e)) (omega (arith, e)) (finished_among law status text ends)
 
+  job_not_seven : Finishing → (report : Report) → status_of report ≡ 7 → JobEnds job w change report v → ⊥
+  job_not_seven law no_command e ends = ends
+  job_not_seven law (refused refusal) e ends = (refusal_range refusal).2 e
+  job_not_seven law (unopened why) e ends = omega (arith, e, (journal_range why).0)
+  job_not_seven law (unread name) e ends = omega (arith, e)
+  job_not_seven law (unwritten name) e ends = omega (arith, e)
+  job_not_seven law (finished status text) e ends = not_finished status (omega (arith, e)) (omega (arith, e)) (finished_among law status text ends)
+
   pub ended_finished : (report : Report) → Contains finished_statuses (status_of report) → (status_of report ≡ 14 → ⊥) → JobEnds job w change report v → IsFinished job w change (status_of report) (text_of report) v
   ended_finished no_command one not ends = absurd ends
   ended_finished (refused refusal) one not ends = absurd (refusal_not_finished refusal one)
@@ -290,6 +298,10 @@ two_is_none law (Some job) w change report v e ends = absurd (job_not_two job w 
 pub not_six : Finishing → (job : Option Job) (w : World) (change : OutsideChange) (report : Report) (v : World) → status_of report ≡ 6 → Ends job w change report v → ⊥
 not_six law None w change report v e ends = omega (arith, e, ap status_of ends.0)
 not_six law (Some job) w change report v e ends = job_not_six job w change v law report e ends
+
+pub not_seven : Finishing → (job : Option Job) (w : World) (change : OutsideChange) (report : Report) (v : World) → status_of report ≡ 7 → Ends job w change report v → ⊥
+not_seven law None w change report v e ends = omega (arith, e, ap status_of ends.0)
+not_seven law (Some job) w change report v e ends = job_not_seven job w change v law report e ends
 
 pub is_calm : (job : Option Job) (w : World) (change : OutsideChange) (report : Report) (v : World) → Contains calm_statuses (status_of report) → Ends job w change report v → v.faults ≡ w.faults
 is_calm None w change report v one ends = absurd (not_calm 2 (omega arith) (omega arith) (subst (λ (n : ℕ). Contains calm_statuses n) (ap status_of ends.0) one))

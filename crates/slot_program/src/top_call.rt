@@ -23,6 +23,7 @@ ghost use Rattle.desk_disk.specs.Disks.{DiskView};
 ghost use Rattle.session_desk.specs.declared.doors.TheConstants.{MOST_DOORS};
 ghost use Rattle.desk_commands.specs.Desk.{World, LogGrew, OnlyOfJob, world_of, Ends, IsFinished};
 ghost use Rattle.desk_commands.specs.Desk.{EndsUnopened, names_changed, IsStatus};
+ghost use Rattle.desk_commands.specs.Desk.{ServesNone, KeepsNone};
 ghost use Rattle.desk_commands.specs.Answers.{IsAnswer};
 ghost use Rattle.command_words.specs.declared.job.Job.{Job as JobValue};
 ghost use Rattle.command_words.specs.declared.job.Job.TheVariants.{Check as CheckJob};
@@ -189,8 +190,14 @@ pub fn desk<R: Threads + Wait + Sync, C: Cabinet, S: Sink, D: Door + Drop, G: Ga
     ensures asked { LogGrew (C.log cabinet.old) (OnlyOfJob (job_of (words_of words.now)))
         (C.log cabinet.new) }
 
-    // Each door is where it was.
+    // Each door is where it was. Only the commands that serve clients ask the doors, and only the
+    // one that keeps a journal asks the disk.
     ensures kept { length doors.new.items ≡ length doors.old.items }
+    ensures unasked { ServesNone (job_of (words_of words.now)) → doors.new.items ≡ doors.old.items }
+    ensures dry { KeepsNone (job_of (words_of words.now)) → disk.new ≡ disk.old }
+
+    // For want of memory nothing is put.
+    ensures unsaid { result ≡ 7 → out.new ≡ out.old }
 
     // With a command's words, where each of its steps passes in the files and no count of the
     // cabinet and the sink rises, the work is done, or the journal was not opened, or memory ran
@@ -281,6 +288,8 @@ fn carry_out<R: Threads + Wait + Sync, C: Cabinet, D: Door + Drop, G: Gate, K: D
         ≡ world_of C.files C.fault_count C.log cabinet.old)
         × (doors.new.items ≡ doors.old.items) × (disk.new ≡ disk.old) }
     ensures kept { length doors.new.items ≡ length doors.old.items }
+    ensures unasked { ServesNone (job_of (words_of words.now)) → doors.new.items ≡ doors.old.items }
+    ensures dry { KeepsNone (job_of (words_of words.now)) → disk.new ≡ disk.old }
 {
     match read_words(alloc, words) {
         Ok(

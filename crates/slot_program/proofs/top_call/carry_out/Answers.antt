@@ -174,3 +174,12 @@ returns-in-Ok-Recheck-clause-answer g c =
     let o : Outside = outside_of g.D.Door.view g.K.Disk.view c.args.doors.now.items c.args.disk.now in
     subst (λ (p : Option Job). IfOk c.carry_out_recheck.result (λ a. IsAnswer p w (still o) a.status a.text.items v)) (sym (c.in-Ok-Recheck.ensures.found ∙ ap Some c.in-Ok-Recheck.field-0-is))
     (c.carry_out_recheck.ensures.answer o)
+
+pub returns-in-Ok-Serve-clause-unasked : goal.returns-in-Ok-Serve-clause-unasked
+returns-in-Ok-Serve-clause-unasked g c = λ none. absurd (none.1 _ _ _ _ (c.in-Ok-Serve.ensures.found ∙ ap Some c.in-Ok-Serve.field-0-is))
+
+pub returns-in-Ok-Resume-clause-unasked : goal.returns-in-Ok-Resume-clause-unasked
+returns-in-Ok-Resume-clause-unasked g c = λ none. absurd (none.0 _ _ _ _ (c.in-Ok-Resume.ensures.found ∙ ap Some c.in-Ok-Resume.field-0-is))
+
+pub returns-in-Ok-Resume-clause-dry : goal.returns-in-Ok-Resume-clause-dry
+returns-in-Ok-Resume-clause-dry g c = λ none. absurd (none _ _ _ _ (c.in-Ok-Resume.ensures.found ∙ ap Some c.in-Ok-Resume.field-0-is))

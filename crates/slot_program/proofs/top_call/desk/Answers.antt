@@ -9,7 +9,7 @@ use Rattle.slot_program.proofs.JournalLemmas.{Standings}
 use Rattle.desk_commands.specs.Jobs.{calm_statuses, served_statuses, finishing_of, HeadlineHolds}
 use Rattle.desk_commands.specs.Outside.{OutsideChange, outside_change}
 use Rattle.desk_commands.specs.Desk.{World, world_of, IsFinished, IsStatus}
-use Rattle.slot_program.proofs.DeskLemmas.{is_status, not_six, is_finished, marks_true, told_exact, finishing_not, is_calm, not_calm, two_is_none, disk_is_calm, disk_has_risen, ends_unopened, job_ends, job_said, job_serves, doors_calm, door_risen, none_ends}
+use Rattle.slot_program.proofs.DeskLemmas.{is_status, not_six, not_seven, is_finished, marks_true, told_exact, finishing_not, is_calm, not_calm, two_is_none, disk_is_calm, disk_has_risen, ends_unopened, job_ends, job_said, job_serves, doors_calm, door_risen, none_ends}
 use Rattle.slot_program.proofs.top_call.desk.Goals as goal
 
 pub returns-in-Ok-put-clause-statuses : goal.returns-in-Ok-put-clause-statuses
@@ -234,3 +234,11 @@ returns-in-Ok-put-clause-resumes g c = λ job held inputs e told pass calm quiet
           (job_serves job w change v law held inputs told pass c.ended_jobs.ensures.finishing a.report through (job_ends (job_of (words_of c.args.words.now)) job w change a.report v e a.ends) stands still))
       | inr rose ↦ absurd (calm rose)
     ]
+
+pub returns-in-Ok-put-clause-unsaid : goal.returns-in-Ok-put-clause-unsaid
+returns-in-Ok-put-clause-unsaid g c = λ e.
+    let a = c.in-Ok.ensures.answer in
+    absurd (not_seven c.ended_jobs.ensures.finishing (job_of (words_of c.args.words.now)) _ _ a.report _ (sym a.status_is ∙ e) a.ends)
+
+pub returns-in-Ok-clause-unsaid : goal.returns-in-Ok-clause-unsaid
+returns-in-Ok-clause-unsaid g c = λ bad. absurd (omega (arith, bad))
