@@ -18,7 +18,7 @@ use slot_text::Memory;
 use std::alloc::Global;
 
 /// A limit that a season's files may pass.
-#[derive(Clone, Copy, Debug, PartialEq, Eq)]
+#[derive(Clone, Copy)]
 pub enum Limit {
     /// A limit of the declaration.
     Capacity(CapLimit),
@@ -29,7 +29,7 @@ pub enum Limit {
 }
 
 /// Why a journal was not opened.
-#[derive(Clone, Copy, Debug, PartialEq, Eq)]
+#[derive(Clone, Copy)]
 pub enum NoJournal {
     /// There is no disk.
     Missing,
@@ -42,7 +42,7 @@ pub enum NoJournal {
 }
 
 /// Why a job stopped. A file is given by the place of its name among the names of the job, from 0.
-#[derive(Clone, Copy, Debug, PartialEq, Eq)]
+#[derive(Clone, Copy)]
 pub enum Stop {
     /// The file is not there.
     Missing(usize),
