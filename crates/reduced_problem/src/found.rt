@@ -2,14 +2,14 @@
 
 use crate::classes::is_marked;
 use crate::covered::Compared;
-use crate::edges::{Edge, edges_of};
+use crate::edges::{Edges, KeptHits};
 use crate::grids::{Grids, counts_below};
 use crate::hits::{Hit, by_column, hits_of};
 use crate::numbers::number_at;
 use crate::outline::Outline;
 use crate::part_uses::Ground;
 use crate::rows::Rows;
-use crate::same_parts::same_parts;
+use crate::same_lists::{listed_parts, same_lists};
 use crate::settled::{settled, unsettled};
 use crate::sweeps::Sweeps;
 use crate::user_runs::UserRuns;
@@ -103,29 +103,33 @@ impl Found {
     ) -> Result<Kept, Memory> {
         let flags = kept_flags(alloc, self.classes.items(), marks)?;
         let numbers = counts_below(alloc, &flags, 0)?;
-        let edges = self.edges(alloc, &flags, outline.parts.len())?;
+        let order = kept_order(alloc, &self.grids.order, &flags, &numbers)?;
+        let places = self.grids.places_below(alloc, &flags)?;
+        let hits = KeptHits {
+            hits: &self.hits,
+            runs: &self.runs,
+            places: &places,
+        };
+        let parts = outline.parts.len();
+        let same = same_lists(alloc, &hits.part_keys(alloc, &order, parts)?)?;
+        let listed = listed_parts(alloc, &outline.units, &same)?;
+        let edges = hits.edges(alloc, &listed, parts)?;
         Ok(Kept {
-            order: kept_order(alloc, &self.grids.order, &flags, &numbers)?,
+            order,
             edges,
-            same: same_parts(alloc, &outline.parts)?,
+            same,
             classes: number_at(&numbers, flags.len()) as usize,
         })
-    }
-
-    // For each part the edges of the classes with a flag.
-    fn edges(&self, alloc: Global, flags: &[bool], parts: usize) -> Result<Rows<Edge>, Memory> {
-        let places = self.grids.places_below(alloc, flags)?;
-        edges_of(alloc, &self.hits, &self.runs, &places, parts)
     }
 }
 
 // Where uses of the classes that are kept begin and end: the classes in order of their places, the
-// edges of each part, for each part the first one with the same strips, and how many classes there
-// are.
+// edges of the parts of units with a new list, for each part the first one with the same list, and
+// how many classes there are.
 #[derive(Drop)]
 pub(crate) struct Kept {
     order: Vec<u32>,
-    edges: Rows<Edge>,
+    edges: Edges,
     same: Vec<u32>,
     classes: usize,
 }

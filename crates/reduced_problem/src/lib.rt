@@ -25,7 +25,7 @@ mod outline;
 mod part_uses;
 mod reduce;
 mod rows;
-mod same_parts;
+mod same_lists;
 mod settled;
 mod sums;
 mod sweeps;

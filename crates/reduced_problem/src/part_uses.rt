@@ -1,18 +1,18 @@
 //! The classes that each part uses.
 
 use crate::classes::ClassUse;
-use crate::edges::Edge;
+use crate::edges::{Edge, Edges};
 use crate::numbers::{as_number, number_at};
 use crate::rows::{Rows, Span};
 use crate::tally::Tally;
 use slot_text::Memory;
 use std::alloc::Global;
 
-// What lists are made of: the edges of each part, whose places are in `order`, for each part the
-// first one with the same strips, and how many classes there are.
+// What lists are made of: the edges of parts, whose places are in `order`, for each part the first
+// one with the same list, and how many classes there are.
 #[derive(Clone, Copy)]
 pub(crate) struct Ground<'a> {
-    pub(crate) edges: &'a Rows<Edge>,
+    pub(crate) edges: &'a Edges,
     pub(crate) order: &'a [u32],
     pub(crate) same: &'a [u32],
     pub(crate) classes: usize,
@@ -38,8 +38,8 @@ pub(crate) fn list_pieces(
     Ok(found)
 }
 
-// The lists of parts from one number to another, one for each that is the first one with its
-// strips. The first one begins a unit.
+// The lists of parts from one number to another, one for each that is the first one with its list.
+// The first one begins a unit.
 #[derive(Drop)]
 pub(crate) struct ListPiece {
     first: u32,
@@ -73,8 +73,10 @@ impl ListPiece {
         self.items = Vec::with_capacity(alloc, self.use_count(ground))?;
         let mut tally = Tally::new(alloc, ground.classes)?;
         for part in self.first..self.end {
-            let edges = ground.edges.row(part);
-            tally.change_all(ground.order, edges, part == self.first);
+            if part > self.first {
+                tally.lessen(ground.order, ground.edges.ends(part));
+            }
+            tally.add_all(ground.order, ground.edges.begins(part));
             if number_at(ground.same, part as usize) == part {
                 let span = tally.add_uses(&mut self.items)?;
                 self.spans.push(span)?;
@@ -88,7 +90,10 @@ impl ListPiece {
         let mut uses: usize = 0;
         let mut count: usize = 0;
         for part in self.first..self.end {
-            uses = changed_uses(uses, ground.edges.row(part), part == self.first);
+            if part > self.first {
+                uses = uses.saturating_sub(class_count(ground.edges.ends(part)));
+            }
+            uses = uses.saturating_add(class_count(ground.edges.begins(part)));
             if number_at(ground.same, part as usize) == part {
                 count = count.saturating_add(uses);
             }
@@ -97,19 +102,13 @@ impl ListPiece {
     }
 }
 
-// How many uses there are after edges, where no class has several: after those alone where uses
-// begin, if only they count.
-fn changed_uses(uses: usize, edges: &[Edge], only_begins: bool) -> usize {
-    let mut changed = uses;
+// How many classes edges have together.
+fn class_count(edges: &[Edge]) -> usize {
+    let mut count: usize = 0;
     for edge in edges {
-        let count = edge.to.saturating_sub(edge.from) as usize;
-        if !edge.is_end {
-            changed = changed.saturating_add(count);
-        } else if !only_begins {
-            changed = changed.saturating_sub(count);
-        }
+        count = count.saturating_add(edge.to.saturating_sub(edge.from) as usize);
     }
-    changed
+    count
 }
 
 // Where the list of a part stands: in which piece, and where in it.

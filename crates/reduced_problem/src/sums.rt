@@ -45,7 +45,7 @@ fn add_runs(sums: &mut [u64], strip: &Strip, amount: u64) {
 }
 
 // Puts at each place the sum of the amounts up to it.
-fn add_up_amounts(amounts: &mut [u64]) {
+pub(crate) fn add_up_amounts(amounts: &mut [u64]) {
     let mut total: u64 = 0;
     for at in 0..amounts.len() {
         total = total.wrapping_add(amounts[at]);

@@ -32,23 +32,22 @@ impl Tally {
         })
     }
 
-    // Changes the uses of the classes of edges: of those alone where uses begin, if they alone
-    // count.
-    pub(crate) fn change_all(&mut self, order: &[u32], edges: &[Edge], only_begins: bool) {
+    // Adds the uses of the classes of edges.
+    pub(crate) fn add_all(&mut self, order: &[u32], edges: &[Edge]) {
         for edge in edges {
-            if !(only_begins && edge.is_end) {
-                self.change(order, edge);
-            }
+            self.change(order, edge, edge.uses);
         }
     }
 
-    // Changes the uses of an edge's classes.
-    fn change(&mut self, order: &[u32], edge: &Edge) {
-        let by = if edge.is_end {
-            edge.uses.wrapping_neg()
-        } else {
-            edge.uses
-        };
+    // Takes the uses of the classes of edges away.
+    pub(crate) fn lessen(&mut self, order: &[u32], edges: &[Edge]) {
+        for edge in edges {
+            self.change(order, edge, edge.uses.wrapping_neg());
+        }
+    }
+
+    // Changes the uses of an edge's classes by a number, modulo 2^32.
+    fn change(&mut self, order: &[u32], edge: &Edge, by: u32) {
         let span = Span {
             start: edge.from as usize,
             end: edge.to as usize,
