@@ -13,7 +13,7 @@ use crate::same_lists::{listed_parts, same_lists};
 use crate::settled::{settled, unsettled};
 use crate::sweeps::Sweeps;
 use crate::user_runs::UserRuns;
-use crate::users::Users;
+use crate::users::{KeptUsers, Users};
 use choice_problem::Problem;
 use resource_classes::{Class, ClassList, marked_classes};
 use slot_text::Memory;
@@ -31,37 +31,42 @@ pub(crate) struct Found {
     pub(crate) runs: UserRuns,
 }
 
+// The sweeps of a problem, and the runs of users that they make.
+#[derive(Drop)]
+pub(crate) struct Swept {
+    sweeps: Sweeps,
+    runs: UserRuns,
+}
+
+impl Swept {
+    // Those of a problem.
+    pub(crate) fn of(alloc: Global, problem: &Problem, outline: &Outline) -> Result<Swept, Memory> {
+        let sweeps = Sweeps::of(alloc, problem, outline)?;
+        let runs = UserRuns::of(alloc, &sweeps)?;
+        Ok(Swept { sweeps, runs })
+    }
+}
+
 impl Found {
-    // What is found by an outline.
+    // What is found of marked resources.
     pub(crate) fn of(
         alloc: Global,
         problem: &Problem,
-        outline: &Outline,
+        swept: Swept,
         marks: &[bool],
     ) -> Result<Found, Memory> {
         let classes = marked_classes(alloc, problem, marks)?;
-        let sweeps = Sweeps::of(alloc, outline)?;
-        let mut found = Found::by(alloc, problem.resources(), &sweeps, classes)?;
-        found.find(alloc, &sweeps)?;
-        Ok(found)
-    }
-
-    // The runs and the grids of sweeps, without hits.
-    fn by(
-        alloc: Global,
-        resources: u32,
-        sweeps: &Sweeps,
-        classes: ClassList,
-    ) -> Result<Found, Memory> {
-        let grids = Grids::of(alloc, &sweeps.gaps, resources, classes.items())?;
-        let runs = UserRuns::of(alloc, sweeps)?;
-        Ok(Found {
+        let gaps = &swept.sweeps.gaps;
+        let grids = Grids::of(alloc, gaps, problem.resources(), classes.items())?;
+        let mut found = Found {
             classes,
             grids,
             hits: Vec::new(alloc),
             columns: Rows::new(alloc)?,
-            runs,
-        })
+            runs: swept.runs,
+        };
+        found.find(alloc, &swept.sweeps)?;
+        Ok(found)
     }
 
     // Finds the hits of sweeps.
@@ -83,14 +88,23 @@ impl Found {
         Ok(())
     }
 
-    // What is compared, once the users of the classes are known.
-    pub(crate) fn compared<'a>(&'a self, users: &'a Users) -> Compared<'a> {
+    // What is compared.
+    pub(crate) fn compared(&self) -> Compared<'_> {
         Compared {
             classes: self.classes.items(),
             order: &self.grids.order,
             hits: &self.columns.items,
             runs: &self.runs,
+        }
+    }
+
+    // The users of classes that are kept, by the marks of their resources.
+    pub(crate) fn kept_users<'a>(&'a self, users: &'a Users, marks: &'a [bool]) -> KeptUsers<'a> {
+        KeptUsers {
             users,
+            runs: &self.runs,
+            classes: self.classes.items(),
+            marks,
         }
     }
 
@@ -110,7 +124,7 @@ impl Found {
             runs: &self.runs,
             places: &places,
         };
-        let parts = outline.parts.len();
+        let parts = outline.parts();
         let same = same_lists(alloc, &hits.part_keys(alloc, &order, parts)?)?;
         let listed = listed_parts(alloc, &outline.units, &same)?;
         let edges = hits.edges(alloc, &listed, parts)?;

@@ -18,6 +18,7 @@ mod grids;
 mod hits;
 mod left_parts;
 mod left_uses;
+mod lists;
 mod marks;
 mod narrowed;
 mod numbers;
