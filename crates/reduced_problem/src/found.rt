@@ -2,18 +2,18 @@
 
 use crate::classes::is_marked;
 use crate::covered::Compared;
-use crate::edges::{Edge, edges_of};
+use crate::edges::{Edges, KeptHits};
 use crate::grids::{Grids, counts_below};
 use crate::hits::{Hit, by_column, hits_of};
 use crate::numbers::number_at;
 use crate::outline::Outline;
 use crate::part_uses::Ground;
 use crate::rows::Rows;
-use crate::same_parts::same_parts;
+use crate::same_lists::{listed_parts, same_lists};
 use crate::settled::{settled, unsettled};
 use crate::sweeps::Sweeps;
 use crate::user_runs::UserRuns;
-use crate::users::Users;
+use crate::users::{KeptUsers, Users};
 use choice_problem::Problem;
 use resource_classes::{Class, ClassList, marked_classes};
 use slot_text::Memory;
@@ -31,37 +31,42 @@ pub(crate) struct Found {
     pub(crate) runs: UserRuns,
 }
 
+// The sweeps of a problem, and the runs of users that they make.
+#[derive(Drop)]
+pub(crate) struct Swept {
+    sweeps: Sweeps,
+    runs: UserRuns,
+}
+
+impl Swept {
+    // Those of a problem.
+    pub(crate) fn of(alloc: Global, problem: &Problem, outline: &Outline) -> Result<Swept, Memory> {
+        let sweeps = Sweeps::of(alloc, problem, outline)?;
+        let runs = UserRuns::of(alloc, &sweeps)?;
+        Ok(Swept { sweeps, runs })
+    }
+}
+
 impl Found {
-    // What is found by an outline.
+    // What is found of marked resources.
     pub(crate) fn of(
         alloc: Global,
         problem: &Problem,
-        outline: &Outline,
+        swept: Swept,
         marks: &[bool],
     ) -> Result<Found, Memory> {
         let classes = marked_classes(alloc, problem, marks)?;
-        let sweeps = Sweeps::of(alloc, outline)?;
-        let mut found = Found::by(alloc, problem.resources(), &sweeps, classes)?;
-        found.find(alloc, &sweeps)?;
-        Ok(found)
-    }
-
-    // The runs and the grids of sweeps, without hits.
-    fn by(
-        alloc: Global,
-        resources: u32,
-        sweeps: &Sweeps,
-        classes: ClassList,
-    ) -> Result<Found, Memory> {
-        let grids = Grids::of(alloc, &sweeps.gaps, resources, classes.items())?;
-        let runs = UserRuns::of(alloc, sweeps)?;
-        Ok(Found {
+        let gaps = &swept.sweeps.gaps;
+        let grids = Grids::of(alloc, gaps, problem.resources(), classes.items())?;
+        let mut found = Found {
             classes,
             grids,
             hits: Vec::new(alloc),
             columns: Rows::new(alloc)?,
-            runs,
-        })
+            runs: swept.runs,
+        };
+        found.find(alloc, &swept.sweeps)?;
+        Ok(found)
     }
 
     // Finds the hits of sweeps.
@@ -83,14 +88,23 @@ impl Found {
         Ok(())
     }
 
-    // What is compared, once the users of the classes are known.
-    pub(crate) fn compared<'a>(&'a self, users: &'a Users) -> Compared<'a> {
+    // What is compared.
+    pub(crate) fn compared(&self) -> Compared<'_> {
         Compared {
             classes: self.classes.items(),
             order: &self.grids.order,
             hits: &self.columns.items,
             runs: &self.runs,
+        }
+    }
+
+    // The users of classes that are kept, by the marks of their resources.
+    pub(crate) fn kept_users<'a>(&'a self, users: &'a Users, marks: &'a [bool]) -> KeptUsers<'a> {
+        KeptUsers {
             users,
+            runs: &self.runs,
+            classes: self.classes.items(),
+            marks,
         }
     }
 
@@ -103,29 +117,33 @@ impl Found {
     ) -> Result<Kept, Memory> {
         let flags = kept_flags(alloc, self.classes.items(), marks)?;
         let numbers = counts_below(alloc, &flags, 0)?;
-        let edges = self.edges(alloc, &flags, outline.parts.len())?;
+        let order = kept_order(alloc, &self.grids.order, &flags, &numbers)?;
+        let places = self.grids.places_below(alloc, &flags)?;
+        let hits = KeptHits {
+            hits: &self.hits,
+            runs: &self.runs,
+            places: &places,
+        };
+        let parts = outline.parts();
+        let same = same_lists(alloc, &hits.part_keys(alloc, &order, parts)?)?;
+        let listed = listed_parts(alloc, &outline.units, &same)?;
+        let edges = hits.edges(alloc, &listed, parts)?;
         Ok(Kept {
-            order: kept_order(alloc, &self.grids.order, &flags, &numbers)?,
+            order,
             edges,
-            same: same_parts(alloc, &outline.parts)?,
+            same,
             classes: number_at(&numbers, flags.len()) as usize,
         })
-    }
-
-    // For each part the edges of the classes with a flag.
-    fn edges(&self, alloc: Global, flags: &[bool], parts: usize) -> Result<Rows<Edge>, Memory> {
-        let places = self.grids.places_below(alloc, flags)?;
-        edges_of(alloc, &self.hits, &self.runs, &places, parts)
     }
 }
 
 // Where uses of the classes that are kept begin and end: the classes in order of their places, the
-// edges of each part, for each part the first one with the same strips, and how many classes there
-// are.
+// edges of the parts of units with a new list, for each part the first one with the same list, and
+// how many classes there are.
 #[derive(Drop)]
 pub(crate) struct Kept {
     order: Vec<u32>,
-    edges: Rows<Edge>,
+    edges: Edges,
     same: Vec<u32>,
     classes: usize,
 }

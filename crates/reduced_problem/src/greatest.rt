@@ -1,10 +1,9 @@
 //! How often the units together can use each resource.
 
 use crate::classes::is_marked;
-use crate::numbers::{add_at, as_number};
-use crate::outline::{StripTable, mark_part};
-use crate::sums::strip_sums;
-use choice_problem::{Alt, Part, Problem, Strip};
+use crate::outline::{Outline, UnitParts};
+use crate::sums::Sums;
+use choice_problem::{Problem, Strip};
 use slot_text::Memory;
 use std::alloc::Global;
 
@@ -28,6 +27,17 @@ impl Placed {
             first: 0,
             width: 0,
             part: 0,
+        }
+    }
+
+    // A strip of a part.
+    fn of(strip: &Strip, part: u32) -> Placed {
+        Placed {
+            gap: strip.gap,
+            times: strip.times,
+            first: strip.first,
+            width: strip.width,
+            part,
         }
     }
 
@@ -63,105 +73,79 @@ impl Placed {
     }
 }
 
-// Strips, and how often each was added.
-#[derive(Drop)]
-struct Tally {
-    table: StripTable,
-    counts: Vec<u64>,
-}
-
-impl Tally {
-    fn add(&mut self, strip: &Strip) -> Result<(), Memory> {
-        let number = self.table.number(strip)?;
-        if number as usize == self.counts.len() {
-            self.counts.push(0)?;
-        }
-        add_at(&mut self.counts, u64::from(number), 1);
-        Ok(())
-    }
-}
-
 // For each resource at least as many uses as the units together can have: for each unit the strips
 // of the first parts of its alternatives, joined, and those of the second parts. One step a strip
-// of each part, and one a run of the joined strips.
-pub(crate) fn joined_uses(alloc: Global, problem: &Problem) -> Result<Vec<u64>, Memory> {
-    let mut tally = Tally {
-        table: StripTable::new(alloc)?,
-        counts: Vec::new(alloc),
+// of each part, and a few a joined strip.
+pub(crate) fn joined_uses(
+    alloc: Global,
+    problem: &Problem,
+    outline: &Outline,
+) -> Result<Vec<u64>, Memory> {
+    let mut joined = Joined {
+        sums: Sums::new(alloc, problem.resources())?,
+        placed: Vec::new(alloc),
+        last: Vec::new(alloc),
     };
     for unit in 0..problem.units() {
-        let (parts, alts) = (problem.unit_parts(unit), problem.unit_alts(unit));
-        let first = first_parts(alloc, alts, parts.len())?;
-        add_joined(alloc, &mut tally, parts, &first)?;
-        let second = second_parts(alloc, alts, parts.len())?;
-        add_joined(alloc, &mut tally, parts, &second)?;
+        let parts = outline.of_unit(unit, problem.unit_parts(unit));
+        joined.add_parts(alloc, &parts, parts.firsts)?;
+        joined.add_parts(alloc, &parts, parts.seconds)?;
     }
-    strip_sums(
-        alloc,
-        &tally.table.strips,
-        &tally.counts,
-        problem.resources(),
-    )
+    Ok(joined.sums.total())
 }
 
-// For each part whether it is the first part of an alternative.
-fn first_parts(alloc: Global, alts: &[Alt], parts: usize) -> Result<Vec<bool>, Memory> {
-    let mut named = vec![in alloc; false; parts]?;
-    for alt in alts {
-        mark_part(&mut named, alt.one);
-    }
-    Ok(named)
+// The uses of strips, joined where they can be. `last` keeps the last strip of each part.
+#[derive(Drop)]
+struct Joined {
+    sums: Sums,
+    placed: Vec<Placed>,
+    last: Vec<Placed>,
 }
 
-// For each part whether it is the second part of an alternative.
-fn second_parts(alloc: Global, alts: &[Alt], parts: usize) -> Result<Vec<bool>, Memory> {
-    let mut named = vec![in alloc; false; parts]?;
-    for alt in alts {
-        mark_part(&mut named, alt.two);
+impl Joined {
+    // Adds the strips of the marked ones of a unit's parts.
+    fn add_parts(
+        &mut self,
+        alloc: Global,
+        parts: &UnitParts<'_>,
+        marks: &[bool],
+    ) -> Result<(), Memory> {
+        self.placed.truncate(0);
+        for place in 0..parts.most_strips() {
+            add_placed(&mut self.placed, parts, marks, place)?;
+        }
+        self.placed.sort()?;
+        self.last.truncate(0);
+        self.last.resize(parts.len() as usize, Placed::none())?;
+        self.join(alloc)
     }
-    Ok(named)
+
+    // Adds the strips of all places of a list, joined where they can be.
+    fn join(&mut self, alloc: Global) -> Result<(), Memory> {
+        let mut open = Placed::none();
+        for next in &self.placed {
+            let again = is_again(&mut self.last, next);
+            open = join_next(alloc, &mut self.sums, &open, next, again)?;
+        }
+        self.sums.add(alloc, &open.strip(), 1)
+    }
 }
 
-// Adds the named parts' strips, joined.
-fn add_joined(
-    alloc: Global,
-    tally: &mut Tally,
-    parts: &[Part],
-    named: &[bool],
+// Adds the strips of marked parts that stand at a place of their lists.
+fn add_placed(
+    placed: &mut Vec<Placed>,
+    parts: &UnitParts<'_>,
+    marks: &[bool],
+    place: usize,
 ) -> Result<(), Memory> {
-    let mut placed = Vec::new(alloc);
-    for (number, part) in parts.iter().enumerate() {
-        let number = as_number(number);
-        if is_marked(named, number) {
-            add_placed(&mut placed, part.strips(), number)?;
+    for part in 0..parts.len() {
+        if is_marked(marks, part) {
+            if let Some(strip) = parts.strips(part).get(place) {
+                placed.push(Placed::of(strip, part))?;
+            }
         }
     }
-    placed.sort_unstable();
-    let mut last = vec![in alloc; Placed::none(); parts.len()]?;
-    join_placed(tally, &placed, &mut last)
-}
-
-fn add_placed(placed: &mut Vec<Placed>, strips: &[Strip], part: u32) -> Result<(), Memory> {
-    for strip in strips {
-        placed.push(Placed {
-            gap: strip.gap,
-            times: strip.times,
-            first: strip.first,
-            width: strip.width,
-            part,
-        })?;
-    }
     Ok(())
-}
-
-// Adds strips, joined where they can be. `last` keeps the last strip of each part.
-fn join_placed(tally: &mut Tally, placed: &[Placed], last: &mut [Placed]) -> Result<(), Memory> {
-    let mut open = Placed::none();
-    for next in placed {
-        let again = is_again(last, next);
-        open = join_next(tally, &open, next, again)?;
-    }
-    tally.add(&open.strip())
 }
 
 // Whether a strip has resources of the part's last one, and so must not be joined with it. It
@@ -178,7 +162,8 @@ fn is_again(last: &mut [Placed], next: &Placed) -> bool {
 
 // What is open after one strip more: both joined, or the strip alone, where the open one is added.
 fn join_next(
-    tally: &mut Tally,
+    alloc: Global,
+    sums: &mut Sums,
     open: &Placed,
     next: &Placed,
     again: bool,
@@ -186,7 +171,7 @@ fn join_next(
     match open.joined(next) {
         Some(joined) if !again => Ok(joined),
         _ => {
-            tally.add(&open.strip())?;
+            sums.add(alloc, &open.strip(), 1)?;
             Ok(*next)
         }
     }

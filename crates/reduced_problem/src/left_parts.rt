@@ -168,8 +168,8 @@ fn named_by(alloc: Global, alts: &[Alt], parts: usize) -> Result<(Vec<bool>, Vec
     let mut ones = vec![in alloc; false; parts]?;
     let mut twos = vec![in alloc; false; parts]?;
     for alt in alts {
-        mark_part(&mut ones, alt.one);
-        mark_part(&mut twos, alt.two);
+        mark_part(&mut ones, 0, alt.one);
+        mark_part(&mut twos, 0, alt.two);
     }
     Ok((ones, twos))
 }

@@ -1,125 +1,113 @@
-//! The strips of a problem, each kept once: the strips of many parts are the same, so that what is
-//! done strip by strip is done once for all of them.
+//! The parts of a problem's units, and which of them alternatives name.
 
-use crate::classes::set_mark;
+use crate::classes::is_marked;
 use crate::numbers::{as_number, number_at};
-use crate::rows::Rows;
+use crate::rows::Span;
 use choice_problem::{Alt, Part, Problem, Strip};
 use slot_text::Memory;
 use std::alloc::Global;
 
-// How many places there are for strips that were seen.
-const PLACES: usize = 65_536;
-
-// Strips that differ. A strip may come twice, where another one took its place in between.
-#[derive(Drop)]
-pub(crate) struct StripTable {
-    pub(crate) strips: Vec<Strip>,
-    places: Vec<u32>,
-}
-
-impl StripTable {
-    // No strips.
-    pub(crate) fn new(alloc: Global) -> Result<StripTable, Memory> {
-        Ok(StripTable {
-            strips: Vec::new(alloc),
-            places: vec![in alloc; 0; PLACES]?,
-        })
-    }
-
-    // The number of a strip, from 0, which is added if it is new.
-    pub(crate) fn number(&mut self, strip: &Strip) -> Result<u32, Memory> {
-        let place = place_of(strip);
-        let known = number_at(&self.places, place);
-        if (known as usize) < self.strips.len() && self.strips[known as usize] == *strip {
-            return Ok(known);
-        }
-        let number = as_number(self.strips.len());
-        self.strips.push(*strip)?;
-        if place < self.places.len() {
-            self.places[place] = number;
-        }
-        Ok(number)
-    }
-}
-
-// Where a strip is looked for: the high bits of its hash code.
-fn place_of(strip: &Strip) -> usize {
-    (strip.hash_code() >> 16) as usize
-}
-
-// The strips of a problem's named parts, for each part of all units a row of their numbers, and the
-// number of each unit's first part. A part that no alternative names has an empty row.
+// The number of each unit's first part, and that of all parts, and for each part whether it is the
+// first part of an alternative, and whether it is the second one.
 #[derive(Drop)]
 pub(crate) struct Outline {
-    pub(crate) strips: Vec<Strip>,
-    pub(crate) parts: Rows<u32>,
     pub(crate) units: Vec<u32>,
+    firsts: Vec<bool>,
+    seconds: Vec<bool>,
 }
 
 impl Outline {
-    // The outline of a problem: one step a strip of a named part, and one an alternative.
+    // The outline of a problem: one step a part, and one an alternative.
     pub(crate) fn of(alloc: Global, problem: &Problem) -> Result<Outline, Memory> {
-        let mut table = StripTable::new(alloc)?;
-        let mut parts = Rows::new(alloc)?;
-        let mut units = Vec::new(alloc);
+        let mut outline = Outline {
+            units: Vec::with_capacity(alloc, problem.units() as usize + 1)?,
+            firsts: Vec::new(alloc),
+            seconds: Vec::new(alloc),
+        };
         for unit in 0..problem.units() {
-            units.push(as_number(parts.len()))?;
-            let of_unit = problem.unit_parts(unit);
-            let named = named_parts(alloc, problem.unit_alts(unit), of_unit.len())?;
-            add_parts(&mut table, &mut parts, of_unit, &named)?;
+            let parts = problem.unit_parts(unit).len();
+            outline.add_unit(parts, problem.unit_alts(unit))?;
         }
-        units.push(as_number(parts.len()))?;
-        Ok(Outline {
-            strips: table.strips,
+        outline.units.push(as_number(outline.firsts.len()))?;
+        Ok(outline)
+    }
+
+    // Adds a unit with so many parts.
+    fn add_unit(&mut self, parts: usize, alts: &[Alt]) -> Result<(), Memory> {
+        let first = self.firsts.len();
+        let end = first.saturating_add(parts);
+        self.units.push(as_number(first))?;
+        self.firsts.resize(end, false)?;
+        self.seconds.resize(end, false)?;
+        for alt in alts {
+            mark_part(&mut self.firsts, first, alt.one);
+            mark_part(&mut self.seconds, first, alt.two);
+        }
+        Ok(())
+    }
+
+    // How many parts all units have.
+    pub(crate) fn parts(&self) -> usize {
+        self.firsts.len()
+    }
+
+    // The parts of a unit with these parts.
+    pub(crate) fn of_unit<'a>(&'a self, unit: u32, parts: &'a [Part]) -> UnitParts<'a> {
+        let first = number_at(&self.units, unit as usize);
+        let span = Span {
+            start: first as usize,
+            end: (first as usize).saturating_add(parts.len()),
+        };
+        UnitParts {
+            first,
             parts,
-            units,
-        })
-    }
-}
-
-// For each part of a unit whether an alternative names it.
-fn named_parts(alloc: Global, alts: &[Alt], parts: usize) -> Result<Vec<bool>, Memory> {
-    let mut named = vec![in alloc; false; parts]?;
-    for alt in alts {
-        mark_part(&mut named, alt.one);
-        mark_part(&mut named, alt.two);
-    }
-    Ok(named)
-}
-
-// Marks a part, if there is one.
-pub(crate) fn mark_part(named: &mut [bool], part: Option<u32>) {
-    if let Some(part) = part {
-        set_mark(named, part, true);
-    }
-}
-
-// Adds a row for each part of a unit.
-fn add_parts(
-    table: &mut StripTable,
-    rows: &mut Rows<u32>,
-    parts: &[Part],
-    named: &[bool],
-) -> Result<(), Memory> {
-    for (part, is_named) in parts.iter().zip(named) {
-        if *is_named {
-            add_strips(table, rows, part.strips())?;
+            firsts: span.of(&self.firsts),
+            seconds: span.of(&self.seconds),
         }
-        rows.end_row()?;
     }
-    Ok(())
 }
 
-// Adds the numbers of a part's strips.
-fn add_strips(
-    table: &mut StripTable,
-    rows: &mut Rows<u32>,
-    strips: &[Strip],
-) -> Result<(), Memory> {
-    for strip in strips {
-        let number = table.number(strip)?;
-        rows.items.push(number)?;
+// Marks a part, if there is one, where the first one is at this place.
+pub(crate) fn mark_part(marks: &mut [bool], first: usize, part: Option<u32>) {
+    if let Some(part) = part {
+        let at = first.saturating_add(part as usize);
+        if at < marks.len() {
+            marks[at] = true;
+        }
     }
-    Ok(())
+}
+
+// The parts of a unit: the number of the first one among those of all units, and for each whether
+// it is the first or the second part of an alternative.
+#[derive(Clone, Copy)]
+pub(crate) struct UnitParts<'a> {
+    pub(crate) first: u32,
+    parts: &'a [Part],
+    pub(crate) firsts: &'a [bool],
+    pub(crate) seconds: &'a [bool],
+}
+
+impl<'a> UnitParts<'a> {
+    // How many there are.
+    pub(crate) fn len(&self) -> u32 {
+        as_number(self.parts.len())
+    }
+
+    // The strips of a part, or none where no alternative names it.
+    pub(crate) fn strips(&self, part: u32) -> &'a [Strip] {
+        let is_named = is_marked(self.firsts, part) || is_marked(self.seconds, part);
+        match self.parts.get(part as usize) {
+            Some(found) if is_named => found.strips(),
+            _ => &[],
+        }
+    }
+
+    // The most strips that a part has.
+    pub(crate) fn most_strips(&self) -> usize {
+        let mut most = 0;
+        for part in 0..self.len() {
+            most = self.strips(part).len().max(most);
+        }
+        most
+    }
 }

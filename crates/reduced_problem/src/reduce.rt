@@ -4,17 +4,18 @@ ghost use Rattle.std.specs.Prelude.{IfOk};
 ghost use Rattle.resource_classes.specs.Classes.{ArePicked};
 
 use crate::classes::{ClassUse, UserRun};
-use crate::covered::{Compared, Near, judged_pieces, unmark_covered};
-use crate::found::Found;
+use crate::covered::{Near, judged_pieces, unmark_covered};
+use crate::found::{Found, Swept};
 use crate::greatest::joined_uses;
+use crate::lists::Lists;
 use crate::marks::least_limits;
 use crate::numbers::as_number;
 use crate::outline::Outline;
-use crate::part_uses::{PartUses, list_pieces};
+use crate::part_uses::{all_lists, list_pieces};
 use crate::rows::Rows;
 use crate::sums::resource_keys;
 use crate::team::Team;
-use crate::users::{Users, kept_users, row_pieces};
+use crate::users::{Users, kept_lists, kept_pieces, row_pieces};
 use choice_problem::Problem;
 use resource_classes::{Class, ClassList, marked_classes};
 use slot_text::Memory;
@@ -27,14 +28,14 @@ const LEAST_PARTS: usize = 4_096;
 
 /// The classes of a problem's resources that are kept, by rising resource, the classes that each
 /// part uses, and the parts that use each class. Contracts see the classes. Parts are numbered
-/// through all units, from 0. 8 bytes a class that a part uses, once for parts with the same
-/// strips, 24 bytes a part, and 12 bytes a run of a class's users.
+/// through all units, from 0. 8 bytes a class that a part uses, once for parts with the same uses,
+/// 24 bytes a part and a class, and 12 bytes a run of a class's users.
 #[derive(Drop)]
 pub struct Reduced {
     classes: ClassList,
     units: Vec<u32>,
-    uses: PartUses,
-    users: Rows<UserRun>,
+    uses: Lists<ClassUse>,
+    users: Lists<UserRun>,
 }
 
 impl Model for Reduced {
@@ -56,22 +57,24 @@ impl Reduced {
     /// that has no greater limit, as far as that was found. So a choice that keeps the limits of
     /// all classes keeps those of all resources; this is tested, and no clause says it.
     ///
-    /// Time and memory of some steps a resource, a strip of each part, a run of the strips that
-    /// differ, a run of users of a class, and a class that a part uses, and for each part one step
-    /// for 64 classes: 500 daily turnarounds under 16 capacity lines take less than a tenth of a
-    /// second.
+    /// Time and memory of some steps a resource, a strip of each part, a run of users of a class,
+    /// and a class that a part uses, once for parts with the same uses, and for each part with other
+    /// uses than those before one step for 64 classes: 500 daily turnarounds under 16 capacity lines
+    /// take less than a tenth of a second.
     pub fn of(alloc: Global, problem: &Problem) -> Result<Reduced, Memory>
         ensures { IfOk result (λ kept. ArePicked problem.now kept) }
     {
         let outline = Outline::of(alloc, problem)?;
         let mut marks = least_marks(alloc, problem, &outline)?;
-        let found = Found::of(alloc, problem, &outline, &marks)?;
+        let swept = Swept::of(alloc, problem, &outline)?;
+        let found = Found::of(alloc, problem, swept, &marks)?;
         finish(alloc, problem, &outline, &found, &mut marks)
     }
 
     /// The same reduction as that of `of`, for each number of workers. Of a problem of 4,096 parts
     /// or more, so many of them list the users of classes, compare classes, and list what parts
-    /// use, side by side; each takes up to eight bytes a class more than one alone.
+    /// use, side by side; three more threads run while the resources' keys, their greatest uses and
+    /// the sweeps of strips are found, and one while the users of classes are.
     pub fn by_workers<R: Threads + Sync>(
         rt: &R,
         alloc: Global,
@@ -84,12 +87,12 @@ impl Reduced {
             return Reduced::of(alloc, problem);
         }
         let outline = Outline::of(alloc, problem)?;
-        let mut marks = least_marks(alloc, problem, &outline)?;
-        let found = Found::of(alloc, problem, &outline, &marks)?;
         let team = Team {
             rt,
             workers: workers as usize,
         };
+        let (mut marks, swept) = team.marks_and_sweeps(alloc, problem, &outline)?;
+        let found = Found::of(alloc, problem, swept, &marks)?;
         finish_by(&team, alloc, problem, &outline, &found, &mut marks)
     }
 
@@ -106,8 +109,8 @@ impl Reduced {
         Ok(Reduced {
             classes,
             units: Vec::from_slice(alloc, &self.units)?,
-            uses: PartUses::of_rows(alloc, uses)?,
-            users,
+            uses: Lists::of(alloc, uses)?,
+            users: Lists::of(alloc, users)?,
         })
     }
 
@@ -154,9 +157,13 @@ fn part_count(problem: &Problem) -> usize {
 }
 
 // Marks of one resource for each set of users, where it can be passed.
-fn least_marks(alloc: Global, problem: &Problem, outline: &Outline) -> Result<Vec<bool>, Memory> {
-    let keys = resource_keys(alloc, outline, problem.resources())?;
-    let uses = joined_uses(alloc, problem)?;
+pub(crate) fn least_marks(
+    alloc: Global,
+    problem: &Problem,
+    outline: &Outline,
+) -> Result<Vec<bool>, Memory> {
+    let keys = resource_keys(alloc, problem, outline)?;
+    let uses = joined_uses(alloc, problem, outline)?;
     least_limits(alloc, problem, &uses, &keys)
 }
 
@@ -203,10 +210,19 @@ fn finish_by<R: Threads + Sync>(
 }
 
 // Takes the marks of classes away that are contained in others, and gives the users of the others.
-fn kept_classes(alloc: Global, found: &Found, marks: &mut [bool]) -> Result<Rows<UserRun>, Memory> {
+fn kept_classes(
+    alloc: Global,
+    found: &Found,
+    marks: &mut [bool],
+) -> Result<Lists<UserRun>, Memory> {
     let users = class_users(alloc, found)?;
-    judge(alloc, found.compared(&users), marks)?;
-    kept_users(alloc, &users, &found.runs, found.classes.items(), marks)
+    judge(alloc, found, &users, marks)?;
+    let kept = found.kept_users(&users, marks);
+    let mut pieces = kept_pieces(alloc, found.classes.items().len())?;
+    for piece in pieces.iter_mut() {
+        piece.make(alloc, kept);
+    }
+    kept_lists(alloc, pieces)
 }
 
 // The users of all classes.
@@ -224,11 +240,12 @@ fn class_users(alloc: Global, found: &Found) -> Result<Users, Memory> {
 }
 
 // Takes the marks of classes away whose users are among those of others.
-fn judge(alloc: Global, compared: Compared<'_>, marks: &mut [bool]) -> Result<(), Memory> {
+fn judge(alloc: Global, found: &Found, users: &Users, marks: &mut [bool]) -> Result<(), Memory> {
+    let compared = found.compared();
     let near = Near::of(alloc, compared)?;
     let mut pieces = judged_pieces(alloc, compared.classes.len(), 1)?;
     for piece in pieces.iter_mut() {
-        piece.make(compared, &near);
+        piece.make(compared, &near, users);
     }
     unmark_covered(compared.classes, &pieces, marks)
 }
@@ -239,12 +256,12 @@ fn part_lists(
     outline: &Outline,
     found: &Found,
     marks: &[bool],
-) -> Result<PartUses, Memory> {
+) -> Result<Lists<ClassUse>, Memory> {
     let kept = found.kept(alloc, outline, marks)?;
     let ground = kept.ground();
-    let mut pieces = list_pieces(alloc, &outline.units, outline.parts.len(), 1)?;
+    let mut pieces = list_pieces(alloc, &outline.units, outline.parts())?;
     for piece in pieces.iter_mut() {
         piece.make(alloc, ground);
     }
-    PartUses::of(alloc, pieces, ground.same)
+    all_lists(alloc, pieces, ground.same)
 }

@@ -1,8 +1,7 @@
 //! Strips that parts of a unit, one after another, have further and further on.
 
-use crate::numbers::number_at;
-use crate::outline::Outline;
-use choice_problem::Strip;
+use crate::outline::{Outline, UnitParts};
+use choice_problem::{Problem, Strip};
 use slot_text::Memory;
 use std::alloc::Global;
 
@@ -93,18 +92,21 @@ pub(crate) struct Sweeps {
 }
 
 impl Sweeps {
-    // The sweeps of an outline: one step a strip of a part, or of those that it is cut into.
-    pub(crate) fn of(alloc: Global, outline: &Outline) -> Result<Sweeps, Memory> {
+    // The sweeps of a problem: one step a strip of a part, or of those that it is cut into.
+    pub(crate) fn of(
+        alloc: Global,
+        problem: &Problem,
+        outline: &Outline,
+    ) -> Result<Sweeps, Memory> {
         let mut sweeps = Sweeps {
             items: Vec::new(alloc),
             gaps: Vec::new(alloc),
             moves: Vec::new(alloc),
-            greatest: greatest_gap(&outline.strips),
+            greatest: greatest_gap(problem, outline),
         };
         sweeps.gaps.push(0)?;
-        for (unit, start) in outline.units.iter().enumerate() {
-            let end = number_at(&outline.units, unit.saturating_add(1));
-            sweeps.add_unit(outline, *start, end)?;
+        for unit in 0..problem.units() {
+            sweeps.add_unit(&outline.of_unit(unit, problem.unit_parts(unit)))?;
         }
         Ok(sweeps)
     }
@@ -120,11 +122,10 @@ impl Sweeps {
     }
 
     // Adds the sweeps of a unit's parts, for one place of their lists after another.
-    fn add_unit(&mut self, outline: &Outline, start: u32, end: u32) -> Result<(), Memory> {
-        for place in 0..most_strips(outline, start, end) {
-            let most = most_cuts(outline, place, (start, end), self.greatest);
-            for number in 0..most {
-                self.add_place(outline, (place, number), start, end)?;
+    fn add_unit(&mut self, parts: &UnitParts<'_>) -> Result<(), Memory> {
+        for place in 0..parts.most_strips() {
+            for number in 0..most_cuts(parts, place, self.greatest) {
+                self.add_place(parts, place, number)?;
             }
         }
         Ok(())
@@ -134,16 +135,14 @@ impl Sweeps {
     // into.
     fn add_place(
         &mut self,
-        outline: &Outline,
-        place: (usize, u32),
-        start: u32,
-        end: u32,
+        parts: &UnitParts<'_>,
+        place: usize,
+        number: u32,
     ) -> Result<(), Memory> {
-        let (place, number) = place;
         let mut is_open = false;
-        for part in start..end {
-            is_open = match cut_at(outline, part, place, self.greatest, number) {
-                Some(strip) => self.add_strip(&strip, start, part, is_open)?,
+        for (at, part) in (0..parts.len()).zip(parts.first..) {
+            is_open = match cut_at(parts, at, place, self.greatest, number) {
+                Some(strip) => self.add_strip(&strip, parts.first, part, is_open)?,
                 None => false,
             };
         }
@@ -238,17 +237,20 @@ impl Sweeps {
     }
 }
 
-// The most strips that a part from one number to another has.
-fn most_strips(outline: &Outline, start: u32, end: u32) -> usize {
-    let mut most = 0;
-    for part in start..end {
-        most = outline.parts.row(part).len().max(most);
+// The greatest gap of strips of several runs.
+fn greatest_gap(problem: &Problem, outline: &Outline) -> u32 {
+    let mut greatest = 0;
+    for unit in 0..problem.units() {
+        let parts = outline.of_unit(unit, problem.unit_parts(unit));
+        for part in 0..parts.len() {
+            greatest = greatest_of(parts.strips(part)).max(greatest);
+        }
     }
-    most
+    greatest
 }
 
-// The greatest gap of strips of several runs.
-fn greatest_gap(strips: &[Strip]) -> u32 {
+// The greatest gap of those strips that have several runs.
+fn greatest_of(strips: &[Strip]) -> u32 {
     let mut greatest = 0;
     for strip in strips {
         if strip.times > 1 {
@@ -260,6 +262,9 @@ fn greatest_gap(strips: &[Strip]) -> u32 {
 
 // In how many strips of the greatest gap a strip is cut.
 fn cuts_of(strip: &Strip, greatest: u32) -> u32 {
+    if strip.gap == greatest {
+        return 1;
+    }
     let cuts = greatest.checked_div(strip.gap).unwrap_or(1).max(1);
     if cuts > MOST_CUTS || cuts.saturating_mul(strip.gap) != greatest {
         1
@@ -268,12 +273,11 @@ fn cuts_of(strip: &Strip, greatest: u32) -> u32 {
     }
 }
 
-// In how many strips those at a place of the lists of parts from one number to another are cut, at
-// most.
-fn most_cuts(outline: &Outline, place: usize, parts: (u32, u32), greatest: u32) -> u32 {
+// In how many strips those at a place of the lists of parts are cut, at most.
+fn most_cuts(parts: &UnitParts<'_>, place: usize, greatest: u32) -> u32 {
     let mut most = 1;
-    for part in parts.0..parts.1 {
-        if let Some(strip) = strip_at(outline, part, place) {
+    for part in 0..parts.len() {
+        if let Some(strip) = parts.strips(part).get(place) {
             most = cuts_of(strip, greatest).max(most);
         }
     }
@@ -282,13 +286,23 @@ fn most_cuts(outline: &Outline, place: usize, parts: (u32, u32), greatest: u32) 
 
 // Of the strips that the one at a place of a part's list is cut into, the one with a number, if
 // there is one: with gap 0 where it has one run alone.
-fn cut_at(outline: &Outline, part: u32, place: usize, greatest: u32, number: u32) -> Option<Strip> {
-    let strip = strip_at(outline, part, place)?;
+fn cut_at(
+    parts: &UnitParts<'_>,
+    part: u32,
+    place: usize,
+    greatest: u32,
+    number: u32,
+) -> Option<Strip> {
+    let strip = parts.strips(part).get(place)?;
     let cuts = cuts_of(strip, greatest);
     if number >= cuts || strip.times <= number || strip.width == 0 {
         return None;
     }
-    let times = (strip.times - number).div_ceil(cuts.max(1));
+    let times = if cuts == 1 {
+        strip.times
+    } else {
+        (strip.times - number).div_ceil(cuts)
+    };
     Some(Strip {
         first: strip.first.saturating_add(strip.gap.saturating_mul(number)),
         gap: if times == 1 {
@@ -299,10 +313,4 @@ fn cut_at(outline: &Outline, part: u32, place: usize, greatest: u32, number: u32
         times,
         ..*strip
     })
-}
-
-// The strip at a place of a part's list, if there is one.
-fn strip_at(outline: &Outline, part: u32, place: usize) -> Option<&Strip> {
-    let number = outline.parts.row(part).get(place)?;
-    outline.strips.get(*number as usize)
 }

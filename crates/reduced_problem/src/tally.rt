@@ -2,14 +2,10 @@
 
 use crate::classes::ClassUse;
 use crate::edges::Edge;
-use crate::numbers::number_at;
+use crate::numbers::{amount_at, number_at};
 use crate::rows::Span;
 use slot_text::Memory;
 use std::alloc::Global;
-
-// So many numbers of classes are written for each word of flags, whether it has as many or not, so
-// that the processor guesses right how many.
-const LEAST_WRITTEN: usize = 4;
 
 // For each class how often it is used, and flags of those that are: one bit a class, in words of
 // 64.
@@ -17,7 +13,7 @@ const LEAST_WRITTEN: usize = 4;
 pub(crate) struct Tally {
     counts: Vec<u32>,
     words: Vec<u64>,
-    // The numbers of the classes that are used, as they are collected, and room behind them.
+    // The numbers of the words with flags, as they are collected.
     used: Vec<u32>,
 }
 
@@ -28,27 +24,26 @@ impl Tally {
         Ok(Tally {
             counts: vec![in alloc; 0; classes]?,
             words: vec![in alloc; 0; words]?,
-            used: vec![in alloc; 0; classes.saturating_add(64)]?,
+            used: vec![in alloc; 0; words]?,
         })
     }
 
-    // Changes the uses of the classes of edges: of those alone where uses begin, if they alone
-    // count.
-    pub(crate) fn change_all(&mut self, order: &[u32], edges: &[Edge], only_begins: bool) {
+    // Adds the uses of the classes of edges.
+    pub(crate) fn add_all(&mut self, order: &[u32], edges: &[Edge]) {
         for edge in edges {
-            if !(only_begins && edge.is_end) {
-                self.change(order, edge);
-            }
+            self.change(order, edge, edge.uses);
         }
     }
 
-    // Changes the uses of an edge's classes.
-    fn change(&mut self, order: &[u32], edge: &Edge) {
-        let by = if edge.is_end {
-            edge.uses.wrapping_neg()
-        } else {
-            edge.uses
-        };
+    // Takes the uses of the classes of edges away.
+    pub(crate) fn lessen(&mut self, order: &[u32], edges: &[Edge]) {
+        for edge in edges {
+            self.change(order, edge, edge.uses.wrapping_neg());
+        }
+    }
+
+    // Changes the uses of an edge's classes by a number, modulo 2^32.
+    fn change(&mut self, order: &[u32], edge: &Edge, by: u32) {
         let span = Span {
             start: edge.from as usize,
             end: edge.to as usize,
@@ -77,46 +72,42 @@ impl Tally {
     // Adds the classes that are used, by rising number. Answers where they stand.
     pub(crate) fn add_uses(&mut self, items: &mut Vec<ClassUse>) -> Result<Span, Memory> {
         let start = items.len();
-        let mut count: usize = 0;
-        let mut first: u32 = 0;
-        for word in &self.words {
-            write_flags(&mut self.used, count, first, *word);
-            count = count.saturating_add(word.count_ones() as usize);
-            first = first.saturating_add(64);
+        let count = write_used(&mut self.used, &self.words);
+        for number in &self.used[..count.min(self.used.len())] {
+            let word = amount_at(&self.words, *number as usize);
+            add_flags(items, &self.counts, number.saturating_mul(64), word)?;
         }
-        add_counts(
-            items,
-            &self.counts,
-            &self.used[..count.min(self.used.len())],
-        )?;
         let end = items.len();
         Ok(Span { start, end })
     }
 }
 
-// Writes the numbers of a word's flags from a place on, the first of which has this number, and
-// others behind them where there are few.
-fn write_flags(used: &mut [u32], place: usize, first: u32, word: u64) {
-    let count = word.count_ones() as usize;
-    let end = place.saturating_add(count.max(LEAST_WRITTEN));
-    if place > end || end > used.len() {
-        return;
+// Writes the numbers of the words with flags one after another, each of the others being written
+// over by the next. Answers how many there are.
+fn write_used(used: &mut [u32], words: &[u64]) -> usize {
+    let mut count: usize = 0;
+    for (number, word) in (0..).zip(words) {
+        if count < used.len() {
+            used[count] = number;
+        }
+        count = count.wrapping_add(usize::from(*word != 0));
     }
-    let mut rest = word;
-    for at in used[place..end].iter_mut() {
-        *at = first.wrapping_add(rest.trailing_zeros());
-        rest &= rest.wrapping_sub(1);
-    }
+    count
 }
 
-// Adds uses of classes, as often as they are counted.
-fn add_counts(items: &mut Vec<ClassUse>, counts: &[u32], classes: &[u32]) -> Result<(), Memory> {
-    for class in classes {
-        let uses = number_at(counts, *class as usize);
-        items.push(ClassUse {
-            class: *class,
-            uses,
-        })?;
+// Adds the uses of the classes with flags in a word, the first of which has this number.
+fn add_flags(
+    items: &mut Vec<ClassUse>,
+    counts: &[u32],
+    first: u32,
+    word: u64,
+) -> Result<(), Memory> {
+    let mut rest = word;
+    for _ in 0..word.count_ones() {
+        let class = first.saturating_add(rest.trailing_zeros());
+        let uses = number_at(counts, class as usize);
+        items.push(ClassUse { class, uses })?;
+        rest &= rest.wrapping_sub(1);
     }
     Ok(())
 }

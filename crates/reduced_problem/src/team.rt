@@ -1,13 +1,19 @@
 //! Steps of a reduction that workers make side by side. What each makes does not depend on how many
 //! there are.
 
-use crate::classes::UserRun;
-use crate::covered::{Compared, Near, judged_pieces, unmark_covered};
-use crate::found::Found;
+ghost use Rattle.std.specs.Thread.{IsSync};
+
+use crate::classes::{ClassUse, UserRun};
+use crate::covered::{Near, judged_pieces, unmark_covered};
+use crate::found::{Found, Swept};
+use crate::greatest::joined_uses;
+use crate::lists::Lists;
+use crate::marks::least_limits;
 use crate::outline::Outline;
-use crate::part_uses::{PartUses, list_pieces};
-use crate::rows::Rows;
-use crate::users::{Users, kept_users, row_pieces};
+use crate::part_uses::{all_lists, list_pieces};
+use crate::sums::resource_keys;
+use crate::users::{Users, kept_lists, kept_pieces, row_pieces};
+use choice_problem::Problem;
 use slot_text::Memory;
 use std::alloc::Global;
 use std::thread;
@@ -21,6 +27,38 @@ pub(crate) struct Team<'a, R> {
 }
 
 impl<R: Threads + Sync> Team<'_, R> {
+    // Marks of one resource for each set of users, where it can be passed, and the sweeps.
+    pub(crate) fn marks_and_sweeps(
+        &self,
+        alloc: Global,
+        problem: &Problem,
+        outline: &Outline,
+    ) -> Result<(Vec<bool>, Swept), Memory> {
+        let (marks, swept) = thread::join(
+            self.rt,
+            || -> Result<Vec<bool>, Memory>
+                requires { IsSync R.row }
+            { self.least_marks(alloc, problem, outline) },
+            || -> Result<Swept, Memory> { Swept::of(alloc, problem, outline) },
+        );
+        Ok((marks?, swept?))
+    }
+
+    // Marks of one resource for each set of users, where it can be passed.
+    fn least_marks(
+        &self,
+        alloc: Global,
+        problem: &Problem,
+        outline: &Outline,
+    ) -> Result<Vec<bool>, Memory> {
+        let (keys, uses) = thread::join(
+            self.rt,
+            || -> Result<Vec<u64>, Memory> { resource_keys(alloc, problem, outline) },
+            || -> Result<Vec<u64>, Memory> { joined_uses(alloc, problem, outline) },
+        );
+        least_limits(alloc, problem, &uses?, &keys?)
+    }
+
     // Takes the marks of classes away that are contained in others, and gives the users of the
     // others.
     pub(crate) fn kept_classes(
@@ -28,10 +66,17 @@ impl<R: Threads + Sync> Team<'_, R> {
         alloc: Global,
         found: &Found,
         marks: &mut [bool],
-    ) -> Result<Rows<UserRun>, Memory> {
-        let users = self.class_users(alloc, found)?;
-        self.judge(alloc, found.compared(&users), marks)?;
-        kept_users(alloc, &users, &found.runs, found.classes.items(), marks)
+    ) -> Result<Lists<UserRun>, Memory> {
+        let (users, near) = thread::join(
+            self.rt,
+            || -> Result<Users, Memory>
+                requires { IsSync R.row }
+            { self.class_users(alloc, found) },
+            || -> Result<Near, Memory> { Near::of(alloc, found.compared()) },
+        );
+        let users = users?;
+        self.judge(alloc, found, &near?, &users, marks)?;
+        self.kept_users(alloc, found, &users, marks)
     }
 
     // The users of all classes.
@@ -55,19 +100,39 @@ impl<R: Threads + Sync> Team<'_, R> {
     fn judge(
         &self,
         alloc: Global,
-        compared: Compared<'_>,
+        found: &Found,
+        near: &Near,
+        users: &Users,
         marks: &mut [bool],
     ) -> Result<(), Memory> {
-        let near = Near::of(alloc, compared)?;
-        let classes = compared.classes.len();
-        let mut pieces = judged_pieces(alloc, classes, self.workers)?;
+        let compared = found.compared();
+        let mut pieces = judged_pieces(alloc, compared.classes.len(), self.workers)?;
         thread::for_each_mut(
             self.rt,
             &mut pieces,
             self.workers.max(1),
-            &|_, piece| piece.make(compared, &near),
+            &|_, piece| piece.make(compared, near, users),
         );
         unmark_covered(compared.classes, &pieces, marks)
+    }
+
+    // The users of the classes whose resource is marked.
+    fn kept_users(
+        &self,
+        alloc: Global,
+        found: &Found,
+        users: &Users,
+        marks: &[bool],
+    ) -> Result<Lists<UserRun>, Memory> {
+        let kept = found.kept_users(users, marks);
+        let mut pieces = kept_pieces(alloc, kept.classes.len())?;
+        thread::for_each_mut(
+            self.rt,
+            &mut pieces,
+            self.workers.max(1),
+            &|_, piece| piece.make(alloc, kept),
+        );
+        kept_lists(alloc, pieces)
     }
 
     // What all parts use of the marked resources.
@@ -77,17 +142,16 @@ impl<R: Threads + Sync> Team<'_, R> {
         outline: &Outline,
         found: &Found,
         marks: &[bool],
-    ) -> Result<PartUses, Memory> {
+    ) -> Result<Lists<ClassUse>, Memory> {
         let kept = found.kept(alloc, outline, marks)?;
         let ground = kept.ground();
-        let parts = outline.parts.len();
-        let mut pieces = list_pieces(alloc, &outline.units, parts, self.workers)?;
+        let mut pieces = list_pieces(alloc, &outline.units, outline.parts())?;
         thread::for_each_mut(
             self.rt,
             &mut pieces,
             self.workers.max(1),
             &|_, piece| piece.make(alloc, ground),
         );
-        PartUses::of(alloc, pieces, ground.same)
+        all_lists(alloc, pieces, ground.same)
     }
 }
