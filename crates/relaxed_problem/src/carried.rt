@@ -49,6 +49,7 @@ impl Relaxation {
                 return Ok(false);
             };
             self.keys.push(place)?;
+            self.heads.push(to.near(place))?;
             to.add_uses(&to.column(place), 1.0, &mut self.loads);
         }
         Ok(true)

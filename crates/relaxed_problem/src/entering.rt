@@ -112,6 +112,7 @@ impl Relaxation {
         direction: &[f64],
         violation: f64,
     ) -> Result<Entering, Memory> {
+        work.list_touched(program)?;
         self.find_falling(program, work)?;
         self.list_due(program, work)?;
         for _ in 0..MOST_LISTINGS {
@@ -127,14 +128,24 @@ impl Relaxation {
     // parts at most, each of at least the lowest number.
     fn find_falling(&self, program: &Program<'_>, work: &mut Work) -> Result<(), Memory> {
         work.falling.clear();
-        for unit in 0..program.units() {
-            let least = least_or_zero(part_of(&work.parts, program.part_span(unit)));
-            put(&mut work.leasts, unit as usize, least);
-            let key = self.key_place(unit);
-            if work.at(program.pair(key)) - (least + least) > LEAST_PIVOT {
-                let base = self.base_at(program, work, key);
-                work.falling.push(Falling { unit, base })?;
-            }
+        for number in 0..work.touched.len() {
+            let unit = number_or_max(&work.touched, number);
+            self.add_falling(program, work, unit)?;
+        }
+        Ok(())
+    }
+
+    // Notes the least step of a unit's parts, and the unit where some alternatives may become
+    // cheaper beside its key.
+    fn add_falling(&self, program: &Program<'_>, work: &mut Work, unit: u32) -> Result<(), Memory> {
+        let least = least_or_zero(part_of(&work.parts, program.part_span(unit)));
+        put(&mut work.leasts, unit as usize, least);
+        let key = self.head(unit);
+        let step = work.at(key.pair);
+        if step - (least + least) > LEAST_PIVOT {
+            let cost = self.near_cost(key);
+            let base = Base { cost, step };
+            work.falling.push(Falling { unit, base })?;
         }
         Ok(())
     }
@@ -252,9 +263,7 @@ impl Relaxation {
 
     // The changed cost of a listed alternative with what its parts cost.
     fn near_cost(&self, near: Near) -> f64 {
-        let parts = value_at(&self.parts, near.pair.one as usize)
-            + value_at(&self.parts, near.pair.two as usize);
-        near.changed + parts
+        near.changed + self.parts_cost(near.pair)
     }
 
     // What enters, where this comes to its bound at the latest. The breakpoints before it are taken

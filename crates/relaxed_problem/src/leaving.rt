@@ -7,14 +7,20 @@ use crate::nearby::Nearby;
 use crate::programs::Program;
 use crate::relaxations::Relaxation;
 use crate::slots::{
-    NOTHING, PASSED, add, fill, number_or_max, place_after, product, put, put_number,
+    NOTHING, PASSED, add, fill, number_or_max, part_of, place_after, product, put, put_number,
     size_of_number, value_at,
 };
 use slot_text::Memory;
 use std::alloc::Global;
 
-/// How many of the most passed classes are looked at.
-pub(crate) const LOOKED_AT: usize = 8;
+// How many of the most passed classes of a program of very many alternatives are looked at.
+pub(crate) const LOOKED_AT: usize = 16;
+
+// And of one of fewer.
+const FEWER_LOOKED_AT: usize = 8;
+
+// So many alternatives are very many.
+const VERY_MANY_COLUMNS: usize = 100_000;
 
 // In how many pivots after all were counted the same ones are, while some are passed still.
 const LOOKED_AT_AGAIN: u32 = 4;
@@ -53,16 +59,18 @@ impl Leaving {
         }
     }
 
-    // Takes what has a greater ratio.
-    fn offer(&mut self, place: Place, violation: f64, square: f64) {
+    // Takes what has a greater ratio. Answers whether it does.
+    fn offer(&mut self, place: Place, violation: f64, square: f64) -> bool {
         let ratio = violation * violation / square;
-        if ratio > self.ratio {
+        let is_greater = ratio > self.ratio;
+        if is_greater {
             *self = Leaving {
                 place,
                 violation,
                 ratio,
             };
         }
+        is_greater
     }
 }
 
@@ -71,7 +79,11 @@ impl Leaving {
 pub struct Work {
     // A number for each named part: uses of a class, or a price. All are 0 between two uses.
     pub(crate) parts: Vec<f64>,
-    // For each unit the least of these, or 0.
+    // For each unit whether prices of its parts move; none between two uses.
+    pub(crate) marks: Vec<bool>,
+    // The units of which prices of parts move, by rising number, and for each unit the least of
+    // these, or 0.
+    pub(crate) touched: Vec<u32>,
     pub(crate) leasts: Vec<f64>,
     // The units of which some alternatives may become cheaper beside their keys.
     pub(crate) falling: Vec<Falling>,
@@ -93,6 +105,8 @@ pub struct Work {
     // The alternatives that become keys in this pivot, in the order in which they come to their
     // bounds.
     pub(crate) new_keys: Vec<u32>,
+    // How the prices change while that of the class without one rises by 1 that leaves.
+    pub(crate) direction: Vec<f64>,
     // The alternatives that may come to their bounds soon.
     pub(crate) nearby: Nearby,
 }
@@ -116,6 +130,8 @@ impl Work {
     fn empty(alloc: Global) -> Work {
         Work {
             parts: Vec::new(alloc),
+            marks: Vec::new(alloc),
+            touched: Vec::new(alloc),
             leasts: Vec::new(alloc),
             falling: Vec::new(alloc),
             targets: Vec::new(alloc),
@@ -126,6 +142,7 @@ impl Work {
             units: Vec::new(alloc),
             pairs: Vec::new(alloc),
             new_keys: Vec::new(alloc),
+            direction: Vec::new(alloc),
             nearby: Nearby::empty(alloc),
         }
     }
@@ -134,6 +151,7 @@ impl Work {
     fn make_room(&mut self, alloc: Global, program: &Program<'_>) -> Result<(), Memory> {
         let units = program.units() as usize;
         self.parts = vec![in alloc; 0.0; program.parts()]?;
+        self.marks = vec![in alloc; false; units]?;
         self.leasts = vec![in alloc; 0.0; units]?;
         self.targets = vec![in alloc; 0.0; program.parts()]?;
         self.loads = vec![in alloc; 0.0; program.limits().len()]?;
@@ -197,7 +215,7 @@ impl Relaxation {
     fn take_pairs(&self, program: &Program<'_>, work: &mut Work) -> Result<(), Memory> {
         work.pairs.clear();
         for (at, unit) in work.units.iter().enumerate() {
-            let key = program.pair(self.key_place(*unit));
+            let key = self.head(*unit).pair;
             work.pairs.push((program.pair(self.basic(at)), key))?;
         }
         Ok(())
@@ -211,7 +229,7 @@ impl Relaxation {
             let violation = self.violation(self.basic(at), value);
             if violation > 0.0 {
                 let square = self.inverse.square(at) + NOTHING;
-                leaving.offer(Place::Basic(at, value > 0.0), violation, square);
+                let _is_taken = leaving.offer(Place::Basic(at, value > 0.0), violation, square);
             }
         }
     }
@@ -230,7 +248,8 @@ impl Relaxation {
                 let violation = self.violation(self.key_place(unit), 1.0 - sum);
                 if violation > 0.0 {
                     let row = self.unit_row(alloc, &work.units, unit)?;
-                    leaving.offer(Place::Key(unit), violation, product(&row, &row) + NOTHING);
+                    let square = product(&row, &row) + NOTHING;
+                    let _is_taken = leaving.offer(Place::Key(unit), violation, square);
                 }
             }
         }
@@ -253,6 +272,7 @@ impl Relaxation {
         let mut tops = Tops {
             classes: [u32::MAX; LOOKED_AT],
             passed: [0.0; LOOKED_AT],
+            count: looked_at(program),
             least: PASSED,
         };
         for (class, (load, limit)) in loads.iter().zip(program.limits()).enumerate() {
@@ -297,9 +317,14 @@ impl Relaxation {
         if violation <= PASSED {
             return Ok(false);
         }
+        if violation * violation <= leaving.ratio {
+            return Ok(true);
+        }
         let direction = self.inverse.weighted(alloc, &weights)?;
         let square = 1.0 + product(&direction, &direction);
-        leaving.offer(Place::Class(class), violation, square);
+        if leaving.offer(Place::Class(class), violation, square) {
+            work.direction = direction;
+        }
         Ok(true)
     }
 
@@ -311,18 +336,6 @@ impl Relaxation {
             load -= *weight * self.basic_value(at);
         }
         load
-    }
-
-    // How the prices change while that of a class without one rises by 1.
-    pub(crate) fn class_direction(
-        &self,
-        alloc: Global,
-        program: &Program<'_>,
-        work: &mut Work,
-        class: u32,
-    ) -> Result<Vec<f64>, Memory> {
-        let weights = self.class_weights(alloc, program, work, class)?;
-        self.inverse.weighted(alloc, &weights)
     }
 
     // How often the keys of the basic alternatives use a class more than these. Where the class has
@@ -378,21 +391,33 @@ impl Relaxation {
     }
 }
 
-// The classes that are passed most, how far, and how far one must be passed to be among them.
+// How many of the most passed classes of a program are looked at.
+fn looked_at(program: &Program<'_>) -> usize {
+    if program.columns().len() < VERY_MANY_COLUMNS {
+        FEWER_LOOKED_AT
+    } else {
+        LOOKED_AT
+    }
+}
+
+// The classes that are passed most, how far, how many they are at most, and how far one must be
+// passed to be among them.
 #[derive(Clone, Copy)]
 struct Tops {
     classes: [u32; LOOKED_AT],
     passed: [f64; LOOKED_AT],
+    count: usize,
     least: f64,
 }
 
 impl Tops {
     // Takes in a class in place of the least one.
     fn offer(&mut self, class: u32, passed: f64) {
-        let at = least_place(&self.passed);
+        let at = least_place(part_of(&self.passed, (0, self.count)));
         put_number(&mut self.classes, at, class);
         put(&mut self.passed, at, passed);
-        let least = value_at(&self.passed, least_place(&self.passed));
+        let next = least_place(part_of(&self.passed, (0, self.count)));
+        let least = value_at(&self.passed, next);
         if least > PASSED {
             self.least = least;
         }

@@ -20,6 +20,7 @@ mod relaxations;
 mod slots;
 mod steps;
 mod totals;
+mod touched;
 mod vectors;
 
 pub use leaving::Work;

@@ -10,10 +10,10 @@
 use crate::entering::{Entering, Entry, Falling};
 use crate::leaving::Work;
 use crate::named::Pair;
-use crate::programs::Program;
+use crate::programs::{NO_PART, Program};
 use crate::relaxations::Relaxation;
 use crate::slots::{
-    add_multiple, copy_span, number_or_max, part_of, place_after, put, put_number, value_at,
+    add, copy_span, number_or_max, part_of, place_after, put, put_number, value_at,
 };
 use slot_text::Memory;
 use std::alloc::Global;
@@ -41,6 +41,20 @@ pub(crate) struct Near {
     pub(crate) place: u32,
     pub(crate) pair: Pair,
     pub(crate) changed: f64,
+}
+
+impl Near {
+    // No alternative.
+    pub(crate) fn nothing() -> Near {
+        Near {
+            place: u32::MAX,
+            pair: Pair {
+                one: NO_PART,
+                two: NO_PART,
+            },
+            changed: 0.0,
+        }
+    }
 }
 
 // The lists of the units.
@@ -129,9 +143,9 @@ impl Nearby {
         others >= NEVER || others + slip + slip > cost + APART
     }
 
-    // Moves the parts of the units along a direction of which these are the least steps.
-    pub(crate) fn slip(&mut self, leasts: &[f64], length: f64) {
-        add_multiple(&mut self.slips, leasts, length);
+    // Moves the parts of a unit along a direction by so much at least.
+    pub(crate) fn slip(&mut self, unit: u32, least: f64) {
+        add(&mut self.slips, unit as usize, least);
     }
 
     // Computes how much less the parts of a unit cost now than when its list was made.
@@ -258,11 +272,11 @@ impl Relaxation {
 
     // The mean cost of the alternatives of a unit.
     fn mean_cost(&self, program: &Program<'_>, unit: u32) -> f64 {
-        let first = program.first_column(unit);
         let mut total = 0.0;
         let mut count = 0.0;
-        for (number, _) in program.unit_pairs(unit).iter().enumerate() {
-            total += self.cost_at(program, place_after(first, number));
+        let pairs = program.unit_pairs(unit);
+        for (pair, changed) in pairs.iter().zip(program.unit_costs(unit)) {
+            total += *changed + self.parts_cost(*pair);
             count += 1.0;
         }
         if count > 0.5 { total / count } else { 0.0 }
@@ -278,15 +292,15 @@ impl Relaxation {
     ) -> Result<f64, Memory> {
         nearby.clear(unit);
         let mut others = NEVER;
+        let pairs = program.unit_pairs(unit);
         let first = program.first_column(unit);
-        for (number, pair) in program.unit_pairs(unit).iter().enumerate() {
-            let place = place_after(first, number);
-            let cost = self.cost_at(program, place);
+        for (place, (pair, changed)) in (first..).zip(pairs.iter().zip(program.unit_costs(unit))) {
+            let cost = *changed + self.parts_cost(*pair);
             if cost <= most {
                 let near = Near {
                     place,
                     pair: *pair,
-                    changed: program.changed_cost(place),
+                    changed: *changed,
                 };
                 nearby.push(unit, near)?;
             } else if cost < others {

@@ -1,7 +1,10 @@
 //! The alternatives that take part in a relaxation.
 
 use crate::named::{NamedParts, NamedRun, Pair};
-use crate::slots::{add, add_each, fill, is_set, number_or_max, place_after, value_at};
+use crate::nearby::Near;
+use crate::slots::{
+    add, add_each, fill, is_set, number_or_max, part_of, place_after, put_flag, value_at,
+};
 use choice_problem::{Alt, Problem};
 use reduced_problem::{ClassUse, Reduced};
 use slot_text::Memory;
@@ -267,6 +270,11 @@ impl<'a> Program<'a> {
         }
     }
 
+    // The changed costs of a unit's alternatives that take part.
+    pub(crate) fn unit_costs(&self, unit: u32) -> &[f64] {
+        part_of(&self.changed, self.span(unit))
+    }
+
     // The parts of an alternative by its place.
     pub(crate) fn pair(&self, place: u32) -> Pair {
         match self.named.pairs().get(place as usize) {
@@ -275,6 +283,15 @@ impl<'a> Program<'a> {
                 one: NO_PART,
                 two: NO_PART,
             },
+        }
+    }
+
+    // An alternative by its place, with its parts and changed cost.
+    pub(crate) fn near(&self, place: u32) -> Near {
+        Near {
+            place,
+            pair: self.pair(place),
+            changed: self.changed_cost(place),
         }
     }
 
@@ -330,7 +347,7 @@ impl<'a> Program<'a> {
     }
 
     // Adds so many times the uses of a part.
-    fn add_part(&self, part: u32, by: f64, loads: &mut [f64]) {
+    pub(crate) fn add_part(&self, part: u32, by: f64, loads: &mut [f64]) {
         let (blocks, rest) = self.reduced.part_uses(part).as_chunks::<AT_ONCE>();
         for block in blocks {
             add_use(&block[0], by, loads);
@@ -353,6 +370,17 @@ impl<'a> Program<'a> {
         fill(&mut steps[..WIDE], price);
         for run in self.users(class) {
             add_run(parts, run, price, &steps);
+        }
+    }
+
+    // Adds the price of a class, so often as a part uses it, to numbers of the named parts, and
+    // marks the units of these.
+    pub(crate) fn move_price(&self, class: u32, price: f64, parts: &mut [f64], units: &mut [bool]) {
+        let mut steps = [0.0; STEPS];
+        fill(&mut steps[..WIDE], price);
+        for run in self.users(class) {
+            add_run(parts, run, price, &steps);
+            put_flag(units, run.unit as usize, true);
         }
     }
 

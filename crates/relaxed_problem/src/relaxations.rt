@@ -3,7 +3,8 @@
 
 use crate::inverses::Inverse;
 use crate::leaving::LOOKED_AT;
-use crate::nearby::MANY_COLUMNS;
+use crate::named::Pair;
+use crate::nearby::{MANY_COLUMNS, Near};
 use crate::programs::Program;
 use crate::slots::{
     NOTHING, PASSED, add, add_multiple, has_bit, is_among, number_or_max, place_after, put_bit,
@@ -32,6 +33,8 @@ pub struct Relaxation {
     shut: Vec<u64>,
     // The place of each unit's key alternative.
     pub(crate) keys: Vec<u32>,
+    // These alternatives, with their parts and changed costs.
+    pub(crate) heads: Vec<Near>,
     // The places of the basic alternatives.
     pub(crate) basics: Vec<u32>,
     // The classes with a price.
@@ -84,6 +87,7 @@ impl Relaxation {
         Relaxation {
             shut: Vec::new(alloc),
             keys: Vec::new(alloc),
+            heads: Vec::new(alloc),
             basics: Vec::new(alloc),
             priced: Vec::new(alloc),
             places: Vec::new(alloc),
@@ -122,6 +126,7 @@ impl Relaxation {
     fn start_unit(&mut self, program: &Program<'_>, unit: u32) -> Result<(), Memory> {
         let (place, least) = cheapest(program, unit).unwrap_or((u32::MAX, 0.0));
         self.keys.push(place)?;
+        self.heads.push(program.near(place))?;
         self.value += least;
         program.add_uses(&program.column(place), 1.0, &mut self.loads);
         Ok(())
@@ -132,6 +137,7 @@ impl Relaxation {
         Ok(Relaxation {
             shut: Vec::from_slice(alloc, &self.shut)?,
             keys: Vec::from_slice(alloc, &self.keys)?,
+            heads: Vec::from_slice(alloc, &self.heads)?,
             basics: Vec::from_slice(alloc, &self.basics)?,
             priced: Vec::from_slice(alloc, &self.priced)?,
             places: Vec::from_slice(alloc, &self.places)?,
@@ -154,6 +160,7 @@ impl Relaxation {
     pub fn copy_from(&mut self, other: &Relaxation) -> Result<(), Memory> {
         refill(&mut self.shut, &other.shut)?;
         refill(&mut self.keys, &other.keys)?;
+        refill(&mut self.heads, &other.heads)?;
         refill(&mut self.basics, &other.basics)?;
         refill(&mut self.priced, &other.priced)?;
         refill(&mut self.places, &other.places)?;
@@ -224,10 +231,12 @@ impl Relaxation {
 
     // The changed cost of an alternative with what its parts cost.
     pub(crate) fn cost_at(&self, program: &Program<'_>, place: u32) -> f64 {
-        let pair = program.pair(place);
-        let parts = value_at(&self.parts, pair.one as usize)
-            + value_at(&self.parts, pair.two as usize);
-        program.changed_cost(place) + parts
+        program.changed_cost(place) + self.parts_cost(program.pair(place))
+    }
+
+    // What both parts of an alternative cost.
+    pub(crate) fn parts_cost(&self, pair: Pair) -> f64 {
+        value_at(&self.parts, pair.one as usize) + value_at(&self.parts, pair.two as usize)
     }
 
     /// Whether a class has a place in the basis: only such have prices.
@@ -287,6 +296,14 @@ impl Relaxation {
         number_or_max(&self.keys, unit as usize)
     }
 
+    // A unit's key.
+    pub(crate) fn head(&self, unit: u32) -> Near {
+        match self.heads.get(unit as usize) {
+            Some(head) => *head,
+            None => Near::nothing(),
+        }
+    }
+
     // Whether an alternative may not be taken. A place past the last may not either.
     pub(crate) fn is_shut(&self, place: u32) -> bool {
         has_bit(&self.shut, place)
@@ -295,9 +312,19 @@ impl Relaxation {
     // Makes an alternative the key of its unit.
     fn set_key(&mut self, program: &Program<'_>, unit: u32, place: u32) {
         let old = program.column(self.key_place(unit));
-        program.add_uses(&old, -1.0, &mut self.loads);
-        program.add_uses(&program.column(place), 1.0, &mut self.loads);
+        let new = program.column(place);
+        if old.one != new.one {
+            program.add_part(old.one, -1.0, &mut self.loads);
+            program.add_part(new.one, 1.0, &mut self.loads);
+        }
+        if old.two != new.two {
+            program.add_part(old.two, -1.0, &mut self.loads);
+            program.add_part(new.two, 1.0, &mut self.loads);
+        }
         put_number(&mut self.keys, unit as usize, place);
+        if let Some(head) = self.heads.get_mut(unit as usize) {
+            *head = program.near(place);
+        }
     }
 
     // Makes a basic alternative the key of its unit; the key takes its place. These are the units

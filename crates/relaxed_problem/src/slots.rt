@@ -202,6 +202,22 @@ pub(crate) fn add_multiple(values: &mut [f64], other: &[f64], by: f64) {
     }
 }
 
+// Adds a multiple of one list of numbers to another, from one place to another.
+pub(crate) fn add_span(values: &mut [f64], other: &[f64], span: (usize, usize), by: f64) {
+    let (first, end) = span;
+    if first <= end && end <= values.len() {
+        add_multiple(&mut values[first..end], part_of(other, span), by);
+    }
+}
+
+// Makes the numbers from one place to another 0.
+pub(crate) fn clear_span(values: &mut [f64], span: (usize, usize)) {
+    let (first, end) = span;
+    if first <= end && end <= values.len() {
+        fill(&mut values[first..end], 0.0);
+    }
+}
+
 // The sum of the products of two lists of numbers.
 pub(crate) fn product(one: &[f64], other: &[f64]) -> f64 {
     let mut total = 0.0;

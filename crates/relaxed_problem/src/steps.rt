@@ -39,14 +39,15 @@ pub struct Ended {
 impl Relaxation {
     /// Goes on from the basis that there is, until the relaxation is solved or its value, with
     /// changed costs, is above `stop_above`, by at most so many pivots. A pivot takes some steps
-    /// for each part that the alternatives name, one for each listed alternative of the units of
-    /// which some may become cheaper beside their keys, each use of the parts of which more or less
-    /// is taken, and some ten for each entry of the inverse; and for each change of a key in it, a
-    /// step for each unit with a breakpoint, and for each use and listed alternative of the unit
-    /// that changes. Where the program has fewer than 8,000 alternatives all are listed, and all
-    /// uses of the basic alternatives are counted; else those are listed that may come to their
-    /// bounds soon. The uses are counted once none of the eight classes that were passed most
-    /// before is passed any more, or in the fifth pivot from there.
+    /// for each unit and for each named part of the units of which prices of parts move, one for
+    /// each listed alternative of the units of which some may become cheaper beside their keys,
+    /// each use of the parts of which more or less is taken, and some ten for each entry of the
+    /// inverse; and for each change of a key in it, a step for each unit with a breakpoint, and for
+    /// each use and listed alternative of the unit that changes. Where the program has fewer than
+    /// 8,000 alternatives all are listed, and all uses of the basic alternatives are counted; else
+    /// those are listed that may come to their bounds soon. The uses are counted once none of the
+    /// eight classes that were passed most before is passed any more, or of the sixteen where the
+    /// program has 100,000 alternatives or more, or in the fifth pivot from there.
     pub fn solve(
         &mut self,
         alloc: Global,
@@ -219,7 +220,7 @@ impl Relaxation {
         work: &mut Work,
         leaving: Leaving,
     ) -> Result<Option<End>, Memory> {
-        let direction = self.direction(alloc, program, work, leaving.place)?;
+        let direction = self.direction(alloc, work, leaving.place)?;
         self.price_parts(program, work, &direction, leaving.place);
         let entering = self.entering(program, work, &direction, leaving.violation)?;
         let end = match entering.entry {
@@ -230,25 +231,18 @@ impl Relaxation {
             _ => {
                 self.value += entering.length * leaving.violation;
                 self.move_prices(&direction, leaving.place, entering.length);
-                add_multiple(&mut self.parts, &work.parts, entering.length);
-                work.nearby.slip(&work.leasts, entering.length);
+                work.move_parts(program, &mut self.parts, entering.length);
                 self.take_new_keys(program, work);
                 None
             }
         };
-        fill(&mut work.parts, 0.0);
+        work.clear_touched(program);
         self.exchange(alloc, program, &direction, leaving.place, entering)?;
         Ok(end)
     }
 
     // How the prices of the classes move.
-    fn direction(
-        &self,
-        alloc: Global,
-        program: &Program<'_>,
-        work: &mut Work,
-        place: Place,
-    ) -> Result<Vec<f64>, Memory> {
+    fn direction(&self, alloc: Global, work: &Work, place: Place) -> Result<Vec<f64>, Memory> {
         match place {
             Place::Basic(at, is_high) => {
                 let mut sums = vec![in alloc; 0.0; self.priced.len()]?;
@@ -256,7 +250,7 @@ impl Relaxation {
                 self.inverse.add_row_to(&mut sums, at, sign);
                 Ok(sums)
             }
-            Place::Class(class) => self.class_direction(alloc, program, work, class),
+            Place::Class(_) => Ok(Vec::from_slice(alloc, &work.direction)?),
             _ => Ok(Vec::new(alloc)),
         }
     }
@@ -265,11 +259,11 @@ impl Relaxation {
     fn price_parts(&self, program: &Program<'_>, work: &mut Work, direction: &[f64], place: Place) {
         for (at, step) in direction.iter().enumerate() {
             if size_of_number(*step) > NOTHING {
-                program.add_price(number_or_max(&self.priced, at), *step, &mut work.parts);
+                work.move_price(program, number_or_max(&self.priced, at), *step);
             }
         }
         if let Place::Class(class) = place {
-            program.add_price(class, 1.0, &mut work.parts);
+            work.move_price(program, class, 1.0);
         }
     }
 

@@ -6,8 +6,8 @@ use crate::nearby::MANY_COLUMNS;
 use crate::programs::Program;
 use crate::relaxations::Relaxation;
 use crate::slots::{
-    NOTHING, add, copy_into, fill, number_or_max, part_of, place_after, put_number, size_of_number,
-    square_distance, value_at,
+    NOTHING, add, clear_span, copy_into, number_or_max, part_of, place_after, put_number,
+    size_of_number, square_distance, value_at,
 };
 
 // At most the square of a change of how much of a part is taken, by which it counts as the same.
@@ -108,14 +108,6 @@ impl Relaxation {
                 }
             }
         }
-    }
-}
-
-// Makes the numbers from one place to another 0.
-fn clear_span(values: &mut [f64], span: (usize, usize)) {
-    let (first, end) = span;
-    if first <= end && end <= values.len() {
-        fill(&mut values[first..end], 0.0);
     }
 }
 
