@@ -483,7 +483,8 @@ impl Guesses {
 
     // Notes what a tree of so many steps showed, which began with the best choice or not: whether
     // it ended, or was stopped since its bound did not rise. One that ended with a better choice
-    // and could not be listed is followed by one that looks at more splits.
+    // and could not be listed is followed by one that looks at more splits; and one by numbers that
+    // found one and did not end by another one by numbers, since the bound did not rise by uses.
     fn learn(
         &mut self,
         problem: &Problem,
@@ -501,7 +502,7 @@ impl Guesses {
         } else if is_better {
             self.is_best = is_ended;
             self.is_thorough = self.is_thorough || is_ended;
-            self.ways = 0;
+            self.ways = if is_ended { 0 } else { self.ways.min(1) };
             self.is_anew = false;
         } else if is_ended && is_known {
             self.is_best = true;

@@ -6,7 +6,7 @@ ghost use Rattle.std.specs.Thread.{IsSync};
 use crate::ahead::{Known, NODE_PIVOTS};
 use crate::allowed::Allowed;
 use crate::pricings::Pricing;
-use crate::splits::Candidate;
+use crate::splits::{Candidate, gain_of, is_no_better};
 use crate::states::{Open, Task};
 use relaxed_problem::{Ended, Relaxation, Work};
 use slot_text::Memory;
@@ -54,11 +54,33 @@ impl Look {
         self.number = Some(number);
         self.ended = None;
         if let Some(candidate) = candidates.get(number / 2) {
-            let is_high = number % 2 == 1;
+            let is_high = (number % 2 == 1) == candidate.split.is_low_first;
             self.ended = match self.looked(alloc, task, basis, candidate, is_high, work) {
                 Ok(ended) => Some(ended),
                 Err(Memory) => None,
             };
+        }
+    }
+
+    // Leaves the look of this number out.
+    fn leave_out(&mut self, number: usize) {
+        self.number = Some(number);
+        self.ended = None;
+    }
+
+    // The look that follows, which is not needed: where this one is at the first part of a split,
+    // and shows that the split is not better than the best one so far.
+    fn spared(&self, basis: Basis<'_>) -> Option<usize> {
+        match (self.number, self.ended) {
+            (Some(number), Some(ended)) if number % 2 == 0 => {
+                let gain = self.relaxation.value() - basis.relaxation.value();
+                if is_no_better(gain_of(ended, gain, basis.room), basis.room, basis.most) {
+                    Some(number.saturating_add(1))
+                } else {
+                    None
+                }
+            }
+            _ => None,
         }
     }
 
@@ -84,13 +106,16 @@ impl Look {
 }
 
 /// The node from which looks go on, the alternatives that the search may take, how many pivots each
-/// look makes, and the value at which it stops.
+/// look makes, the value at which it stops, how much a part can gain at most, and the product of
+/// gains that a better split must pass.
 #[derive(Clone, Copy)]
 pub(crate) struct Basis<'a> {
     pub(crate) relaxation: &'a Relaxation,
     pub(crate) base: &'a Allowed,
     pub(crate) pivots: u32,
     pub(crate) enough: f64,
+    pub(crate) room: f64,
+    pub(crate) most: f64,
 }
 
 // How many pivots of other nodes a thread makes before it sees whether it is still to wait.
@@ -228,7 +253,8 @@ impl Looker {
     }
 
     // Makes looks of a queue, those that must be made alone or further ones too, until none is to
-    // be made or its places are full.
+    // be made or its places are full. One is left out where that before it, if it was made here,
+    // shows that it is not needed.
     fn make_looks(
         &mut self,
         alloc: Global,
@@ -238,12 +264,18 @@ impl Looker {
         queue: &Queue,
         is_sure: bool,
     ) {
+        let mut spared = None;
         for look in self.looks.iter_mut() {
             if look.is_free(queue.taken) {
                 let Some(number) = queue.take(is_sure) else {
                     return;
                 };
-                look.make(alloc, task, basis, candidates, number, &mut self.work);
+                if spared == Some(number) {
+                    look.leave_out(number);
+                } else {
+                    look.make(alloc, task, basis, candidates, number, &mut self.work);
+                }
+                spared = look.spared(basis);
                 queue.note(number);
             }
         }
@@ -443,9 +475,10 @@ impl Places {
         Ok(())
     }
 
-    // Looks at both parts of the splits of a node from one to another, the low part first, as far
-    // as this was not done; and goes on with other nodes, and looks at further splits, while
-    // threads would wait for others. Looks at those before were taken.
+    // Looks at both parts of the splits of a node from one to another, as far as this was not done,
+    // and as the first part does not show that the other one is not needed; and goes on with other
+    // nodes, and looks at further splits, while threads would wait for others. Looks at those before
+    // were taken.
     pub(crate) fn look_at<R: Threads + Sync>(
         &mut self,
         rt: &R,
@@ -514,10 +547,11 @@ impl Places {
         None
     }
 
-    // Keeps the relaxations of the look of this number and of the next one.
-    pub(crate) fn keep_parts(&mut self, number: usize) {
-        self.keep_part(number, false);
-        self.keep_part(number.saturating_add(1), true);
+    // Keeps the relaxations of the look of this number and of the next one, the first of which is
+    // at the low part or not.
+    pub(crate) fn keep_parts(&mut self, number: usize, is_low_first: bool) {
+        self.keep_part(number, !is_low_first);
+        self.keep_part(number.saturating_add(1), is_low_first);
     }
 
     // Keeps the relaxation of the look of this number.

@@ -5,7 +5,7 @@ use crate::ahead::Known;
 use crate::looks::{Basis, MOST_BESIDE};
 use crate::rules::{Rule, uses_of_part};
 use crate::states::{NEVER, Open, State, Task};
-use relaxed_problem::{End, Relaxation, Share};
+use relaxed_problem::{End, Ended, Relaxation, Share};
 use slot_text::Memory;
 use std::alloc::Global;
 use std::num::saturating_f64_to_i64;
@@ -22,7 +22,7 @@ struct Looks {
 
 const FEW_LOOKS: Looks = Looks {
     most: 32,
-    idle: 8,
+    idle: 4,
     pivots: 8,
 };
 
@@ -41,10 +41,11 @@ fn looks_of(state: &State) -> Looks {
     }
 }
 
-// A share that counts as the whole.
-const WHOLE: f64 = 0.999999;
+/// A share that counts as the whole.
+pub(crate) const WHOLE: f64 = 0.999999;
 
-/// A split: the unit, what tells its parts apart, and whether the low part is searched first.
+/// A split: the unit, what tells its parts apart, and whether the low part is looked at first, and
+/// once the split is chosen, searched first.
 #[derive(Clone, Copy, Debug)]
 pub(crate) struct Split {
     pub(crate) unit: u32,
@@ -85,7 +86,7 @@ pub(crate) fn best_split<R: Threads + Sync>(
         if end <= first || pick.idle >= looks.idle {
             break;
         }
-        look_at_group(rt, alloc, task, state, field, (first, end))?;
+        look_at_group(rt, alloc, task, state, field, (first, end), pick.most)?;
         take_looks(task, state, field, (first, end), &mut pick)?;
         first = end;
     }
@@ -100,7 +101,7 @@ struct Field<'a> {
     looks: Looks,
 }
 
-// Looks at the splits from one to another.
+// Looks at the splits from one to another, of which a better one must pass this product of gains.
 fn look_at_group<R: Threads + Sync>(
     rt: &R,
     alloc: Global,
@@ -108,8 +109,10 @@ fn look_at_group<R: Threads + Sync>(
     state: &mut State,
     field: Field<'_>,
     span: (usize, usize),
+    most: f64,
 ) -> Result<(), Memory> {
     let enough = state.enough();
+    let room = room_below(enough, &field.open.relaxation);
     state.lend();
     let State {
         places,
@@ -128,12 +131,15 @@ fn look_at_group<R: Threads + Sync>(
         base,
         pivots: field.looks.pivots,
         enough,
+        room,
+        most,
     };
     places.look_at(rt, alloc, task, known, basis, field.candidates, span);
     state.take_back()
 }
 
-// The best split of those that were looked at, what its parts gain, and how many looks followed it.
+// The best split of those that were looked at, the product of its gains, and how many looks
+// followed it.
 #[derive(Clone, Copy)]
 struct Pick {
     best: Option<Split>,
@@ -182,7 +188,8 @@ fn take_looks(
 }
 
 // Takes a look at a split: notes what its parts gain, and keeps their relaxations where this is
-// best.
+// best. Where the part that was looked at first shows that it is not, the other one counts as if it
+// gained all that it can.
 fn take_look(
     task: &Task<'_>,
     state: &mut State,
@@ -192,18 +199,23 @@ fn take_look(
     pick: &mut Pick,
 ) -> Result<(), Memory> {
     let from = place.saturating_mul(2);
-    let low = part_gain(task, state, open, from)?;
-    let high = part_gain(task, state, open, from.saturating_add(1))?;
-    state.scores.note(split.unit, low, high);
+    let room = room_below(state.enough(), &open.relaxation);
+    let first = part_gain(task, state, open, from, room)?;
+    let second = if is_no_better(first, room, pick.most) {
+        room
+    } else {
+        part_gain(task, state, open, from.saturating_add(1), room)?
+    };
+    state.scores.note(split.unit, first, second);
     pick.idle = pick.idle.saturating_add(1);
-    if low * high > pick.most {
-        pick.most = low * high;
+    if first * second > pick.most {
+        pick.most = first * second;
         pick.best = Some(Split {
-            is_low_first: low <= high,
+            is_low_first: (first <= second) == split.is_low_first,
             ..split
         });
         pick.idle = 0;
-        state.places.keep_parts(from);
+        state.places.keep_parts(from, split.is_low_first);
     }
     Ok(())
 }
@@ -280,19 +292,20 @@ fn add_splits(
 }
 
 // The split of a unit by its uses of a class that comes nearest to halves of its shares, if these
-// use it differently.
+// use it differently. The part of the greater half, which mostly gains less, is looked at first.
 fn split_by_uses(task: &Task<'_>, group: &[Share], class: u32) -> Option<Split> {
     let mut found = None;
     let mut nearest = 0.5;
     for share in group {
         let least = share_uses(task, share, class);
-        let distance = size_of(part_below(task, group, class, least) - 0.5);
+        let below = part_below(task, group, class, least);
+        let distance = size_of(below - 0.5);
         if distance < nearest {
             nearest = distance;
             found = Some(Split {
                 unit: share.unit,
                 rule: Rule::Uses { class, least },
-                is_low_first: true,
+                is_low_first: below >= 0.5,
             });
         }
     }
@@ -366,7 +379,8 @@ fn rank_of(share: f64) -> u64 {
     u64::try_from(saturating_f64_to_i64(share * 1000000.0)).unwrap_or(0)
 }
 
-// The split of a unit that comes nearest to halves of its shares.
+// The split of a unit that comes nearest to halves of its shares. The part of the greater half,
+// which mostly gains less, is looked at first.
 fn split_by_number(task: &Task<'_>, relaxation: &Relaxation, group: &[Share]) -> Split {
     let mut split = Split {
         unit: unit_of(group),
@@ -380,6 +394,7 @@ fn split_by_number(task: &Task<'_>, relaxation: &Relaxation, group: &[Share]) ->
         let distance = size_of(sum - 0.5);
         if distance < nearest {
             nearest = distance;
+            split.is_low_first = sum >= 0.5;
             split.rule = Rule::From(cut_between(task, relaxation, one, next));
         }
     }
@@ -405,22 +420,42 @@ fn cut_between(task: &Task<'_>, relaxation: &Relaxation, from: &Share, to: &Shar
 }
 
 // What the value of the relaxation gains in a part of a split, as far as the look at this place
-// shows it: a thousandth at least.
-fn part_gain(task: &Task<'_>, state: &mut State, open: &Open, place: usize) -> Result<f64, Memory> {
-    let enough = state.enough();
-    let value = open.relaxation.value();
+// shows it.
+fn part_gain(
+    task: &Task<'_>,
+    state: &mut State,
+    open: &Open,
+    place: usize,
+    room: f64,
+) -> Result<f64, Memory> {
     let Some((ended, reached)) = state.places.end(place) else {
         return Err(Memory);
     };
     state.spend(task.program, ended);
-    let most = if enough < value + MOST_GAIN {
+    Ok(gain_of(ended, reached - open.relaxation.value(), room))
+}
+
+/// What counts as the gain of a part whose look ended so, with so much gained: a thousandth at
+/// least, and at most what it can gain.
+pub(crate) fn gain_of(ended: Ended, gain: f64, room: f64) -> f64 {
+    let is_closed = ended.end == End::Above || ended.end == End::Infeasible;
+    at_least(if is_closed || gain > room { room } else { gain })
+}
+
+/// Whether a split of which one part gains this, and the other one all that it can, is no better
+/// than the best one so far, of this product of gains.
+pub(crate) fn is_no_better(gain: f64, room: f64, most: f64) -> bool {
+    gain * room <= most
+}
+
+// How much a part of a node with this relaxation can gain at most.
+fn room_below(enough: f64, relaxation: &Relaxation) -> f64 {
+    let value = relaxation.value();
+    if enough < value + MOST_GAIN {
         enough - value
     } else {
         MOST_GAIN
-    };
-    let gain = reached - value;
-    let is_closed = ended.end == End::Above || ended.end == End::Infeasible;
-    Ok(at_least(if is_closed || gain > most { most } else { gain }))
+    }
 }
 
 // The most that a part can gain.

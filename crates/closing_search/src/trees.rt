@@ -4,9 +4,10 @@ use crate::growing::grow;
 use crate::improving::improve;
 use crate::leftovers::Ground;
 use crate::pieces::{bit_of, nodes_of};
+use crate::splits::WHOLE;
 use crate::states::{State, Task, copy_if_any};
 use choice_problem::{Choice, Node, Vector, VectorList};
-use relaxed_problem::{End, Relaxation};
+use relaxed_problem::{End, Relaxation, Share};
 use slot_text::Memory;
 use std::alloc::Global;
 use std::thread::Threads;
@@ -23,6 +24,9 @@ const FIRST_STEPS: u64 = 20_000_000;
 
 const MOST_TREES: u32 = 4;
 
+// With so many alternatives the steps of the first tree end with the looks at its first node.
+const MANY_COLUMNS: usize = 100_000;
+
 /// Looks for a small tree, and for a choice on the way, from a start, if there is one.
 pub(crate) fn first_tree<R: Threads + Sync>(
     rt: &R,
@@ -31,9 +35,33 @@ pub(crate) fn first_tree<R: Threads + Sync>(
     ground: Ground<'_>,
     start: &Option<Choice>,
 ) -> Result<(Option<Found>, Option<Choice>), Memory> {
+    if is_too_large(alloc, task, ground)? {
+        return Ok((None, copy_if_any(alloc, start)?));
+    }
     let mut state = State::of_all(alloc, task, ground.root, FIRST_STEPS, ground.workers)?;
     let found = found_from(rt, alloc, task, &mut state, start, ground.most)?;
     Ok((found, state.into_best()))
+}
+
+// Whether there are too many alternatives for a first tree, whose first node must be split. Where
+// nodes are few there are no trees of guesses after it, and it is grown in any case.
+fn is_too_large(alloc: Global, task: &Task<'_>, ground: Ground<'_>) -> Result<bool, Memory> {
+    let is_large = task.program.columns().len() >= MANY_COLUMNS;
+    if !is_large || ground.most <= FEW_VISITS || ground.ended.end != End::Solved {
+        return Ok(false);
+    }
+    let shares = ground.root.shares(alloc, task.program)?;
+    Ok(has_parts(&shares))
+}
+
+// Whether some share is not the whole.
+fn has_parts(shares: &[Share]) -> bool {
+    for share in shares {
+        if share.share < WHOLE {
+            return true;
+        }
+    }
+    false
 }
 
 // Grows a tree from a start, if there is one.
