@@ -77,28 +77,29 @@ fn closed_at_least<R: Abort + Threads + Sync>(
     outcome
 }
 
-// Six units, and 16 of each resource: of 27 that they use in the mean.
+// Seven units, and 19 of each resource: of 31 that they use in the mean.
 #[test]
 fn problems_of_many_vectors_are_closed(rt: HostRuntime) {
     let alloc = rt.alloc();
     let mut draws = Draws { last: 7 };
     let mut fixed: u32 = 0;
     for number in 0..100 {
-        if six_are_closed(&rt, alloc, &mut draws, number) {
+        if seven_are_closed(&rt, alloc, &mut draws, number) {
             fixed = fixed.saturating_add(1);
         }
     }
     assert!(rt; fixed >= FIXED, "{fixed}");
 }
 
-// Whether a fixing closes the next problem of six units, which has to be closed at its least cost.
-fn six_are_closed<R: Abort + Threads + Sync>(
+// Whether a fixing closes the next problem of seven units, which has to be closed at its least
+// cost.
+fn seven_are_closed<R: Abort + Threads + Sync>(
     rt: &R,
     alloc: Global,
     draws: &mut Draws,
     number: u64,
 ) -> bool {
-    let problem = drawn_tight(rt, alloc, draws, 6, 6, 16);
+    let problem = drawn_tight(rt, alloc, draws, 7, 6, 19);
     closed_at_least(rt, alloc, &problem, 1_000, number).has_fixing
 }
 
