@@ -47,8 +47,7 @@ pub(crate) fn recheck<C: Cabinet>(
     ensures unchanged { C.files cabinet.new ≡ C.files cabinet.old }
 {
     let left = read_waiting(alloc, names, cabinet)?;
-    let answer = recheck_left(alloc, names, &left, cabinet)?;
-    Ok(answer)
+    recheck_left(alloc, names, &left, cabinet)
 }
 
 /// Reads a stage of the lines that asks left waiting, which is valid; or else says why not.
@@ -59,14 +58,16 @@ fn recheck_left<C: Cabinet>(
     cabinet: &mut C,
 ) -> Result<Answer, Stop>
     requires { All (LineFits left.now.book.book.declaration.season) left.now.waiting }
-    ensures done { IfOk result (λ a. (w : World) → IsLeft w names.now left.now.submission
+    ensures done { (w : World) → IsLeft w names.now left.now.submission
         left.now.book.book left.now.waiting left.now.header
-        (world_of C.files C.fault_count C.log cabinet.old) → IsDone (RecheckJob names.now) w
-        a.status a.text.items (world_of C.files C.fault_count C.log cabinet.new)) }
-    ensures stop { IfErr result (λ stop. (w : World) → IsLeft w names.now left.now.submission
+        (world_of C.files C.fault_count C.log cabinet.old) →
+        IfOk result (λ a. IsDone (RecheckJob names.now) w a.status a.text.items
+        (world_of C.files C.fault_count C.log cabinet.new)) }
+    ensures stop { (w : World) → IsLeft w names.now left.now.submission
         left.now.book.book left.now.waiting left.now.header
-        (world_of C.files C.fault_count C.log cabinet.old) → JobStops names.now
-        (RecheckJob names.now) w stop (world_of C.files C.fault_count C.log cabinet.new)) }
+        (world_of C.files C.fault_count C.log cabinet.old) →
+        IfErr result (λ stop. JobStops names.now (RecheckJob names.now) w stop
+        (world_of C.files C.fault_count C.log cabinet.new)) }
     ensures unchanged { C.files cabinet.new ≡ C.files cabinet.old }
 {
     let bytes = read_file(alloc, names, 4, LONGEST_CERT_FILE, cabinet)?;

@@ -178,9 +178,28 @@ fn usage_output(
         (string_bytes output.text)) }
 {
     valid_choices();
+    let book = Book::of(alloc, submission, certificate)?;
+    watched_output(alloc, submission, certificate, &book, operated, next)
+}
+
+/// What a book keeps, and what is written and said of it.
+fn watched_output(
+    alloc: Global,
+    submission: &Submission,
+    _certificate: &Certificate,
+    book: &Book,
+    operated: &OperatedList,
+    next: Season,
+) -> Result<UsageOutput, Memory>
+    requires start { book.now.book ≡ start_book submission.now _certificate.now }
+    requires next { next ≡ same_season_next_year submission.now.declaration.season }
+    requires asked { All IsAirlineMessage submission.now.messages }
+    ensures { IfOk result (λ output. IsWatched submission.now
+        (start_book submission.now _certificate.now) operated.now output.next.items
+        (string_bytes output.text)) }
+{
     next_lines_fit();
     next_is_read();
-    let book = Book::of(alloc, submission, certificate)?;
     let _units = submission.units();
     let _year = next.year();
     let season = book.declaration().season;

@@ -2,11 +2,15 @@
 //! answered.
 
 ghost use Rattle.std.specs.Prelude.{◌≡◌, ◌≤◌, ◌<◌, ◌∷◌, [], ℕ, Some, IfOk, IfErr, length};
-ghost use Rattle.std.specs.Prelude.{option_map};
+ghost use Rattle.std.specs.Prelude.{◌^◌, All, option_map};
 ghost use Rattle.desk_disk.specs.Disks.{DiskView};
 ghost use Rattle.desk_outside.specs.Files.{ChangesOnly};
 ghost use Rattle.wasg_stages.specs.Valid.{IsValid};
+ghost use Rattle.holding_book.specs.Books.{IsBook};
 ghost use Rattle.holding_book.specs.Starts.{start_book};
+ghost use Rattle.amend_journal.specs.Format.{IsFit};
+ghost use Rattle.amend_journal.specs.Kept.{book_after};
+ghost use Rattle.amend_journal.specs.declared.asked.TheConstants.{MOST_PAIRS};
 ghost use Rattle.session_desk.specs.declared.doors.TheConstants.{MOST_DOORS};
 ghost use Rattle.command_words.specs.declared.job.Job.TheVariants.{Resume as ResumeJob};
 ghost use Rattle.desk_commands.specs.Jobs.{name_at};
@@ -30,6 +34,7 @@ use holding_book::Book;
 use holding_book::laws::{answer_lines, next_books, replays_fit};
 use season_days::Season;
 use series_model::Submission;
+use slot_text::Memory;
 use std::alloc::Global;
 use std::sync::Wait;
 use std::thread::Threads;
@@ -108,18 +113,13 @@ fn resumed_output<R: Threads + Wait + Sync, D: Door + Drop, G: Gate, K: Disk>(
     ensures year { submission.now.declaration.season.year < 100 }
     ensures doors { length doors.new.items ≡ length doors.old.items }
 {
-    valid_choices();
     answer_lines();
     next_books();
     replays_fit();
-    few_holdings();
-    let _units = submission.units();
     let season = submission.declaration().season;
     let _year = season.year();
-    let start = Book::of(alloc, submission, certificate)?;
-    let _declaration = start.declaration();
     let (journal, pairs) = opened(alloc, &season, disk)?;
-    let book = replayed(alloc, start, &pairs)?;
+    let book = book_behind(alloc, submission, certificate, &pairs)?;
     let _after = book.declaration();
     let beside = JournalKept::of(journal);
     let most = MOST_PAIRS - beside.found_pairs();
@@ -129,6 +129,31 @@ fn resumed_output<R: Threads + Wait + Sync, D: Door + Drop, G: Gate, K: Disk>(
     *disk = Some(kept.into_disk());
     let output = tell_resumed(alloc, failed, pairs.len(), &season, &history, &works)?;
     Ok(output)
+}
+
+/// The book of a certificate after the pairs of a journal.
+fn book_behind(
+    alloc: Global,
+    submission: &Submission,
+    certificate: &Certificate,
+    pairs: &[Asked],
+) -> Result<Book, Memory>
+    requires valid { IsValid submission.now certificate.now }
+    requires fit { All (IsFit submission.now.declaration.season) pairs.now }
+    requires many { length pairs.now ≤ MOST_PAIRS }
+    ensures book { IfOk result (λ b. b.book
+        ≡ book_after (start_book submission.now certificate.now) pairs.now) }
+    ensures declaration { IfOk result (λ b. b.book.declaration ≡ submission.now.declaration) }
+    ensures start { IfOk result (λ _. IsBook (start_book submission.now certificate.now)) }
+    ensures few { IfOk result (λ b. length b.book.holdings < 2 ^ 31) }
+{
+    valid_choices();
+    few_holdings();
+    let _units = submission.units();
+    let start = Book::of(alloc, submission, certificate)?;
+    let _declaration = start.declaration();
+    let book = replayed(alloc, start, pairs)?;
+    Ok(book)
 }
 
 /// Opens the journal of the disk, which is taken out, and gives the pairs that it has. Where it is

@@ -25,13 +25,12 @@ returns-in_err-left-clause-stop g c =
 pub recheck_left-requires : goal.recheck_left-requires
 recheck_left-requires g c = let is = c.in_ok-left.ensures.left in is.left.spelled
 
-pub returns-in_err-answer-clause-stop : goal.returns-in_err-answer-clause-stop
-returns-in_err-answer-clause-stop g c =
+pub returns-clause-stop : goal.returns-clause-stop
+returns-clause-stop g c =
     let w : World = world_of g.C.Cabinet.files g.C.Cabinet.fault_count g.C.Cabinet.log c.args.cabinet.now in
-    let p = err_from_is_err_and c.from_residual-in_err-answer.result c.from_residual-in_err-answer.ensures.1 in
-    rw (p.1, p.2) (c.in_err-answer.ensures.stop w c.in_ok-left.ensures.left)
+    c.recheck_left.ensures.stop w c.in_ok-left.ensures.left
 
 pub returns-clause-done : goal.returns-clause-done
 returns-clause-done g c =
     let w : World = world_of g.C.Cabinet.files g.C.Cabinet.fault_count g.C.Cabinet.log c.args.cabinet.now in
-    c.in_ok-answer.ensures.done w c.in_ok-left.ensures.left
+    c.recheck_left.ensures.done w c.in_ok-left.ensures.left

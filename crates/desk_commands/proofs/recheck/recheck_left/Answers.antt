@@ -27,7 +27,7 @@ returns-in_err-bytes-clause-stop g c =
     let u : World = world_of g.C.Cabinet.files g.C.Cabinet.fault_count g.C.Cabinet.log c.read_file.new.cabinet in
     let names = c.args.names.now in
     let p = err_from_is_err_and c.from_residual.result c.from_residual.ensures.1 in
-    rw (p.1, p.2) (λ w is.
+    λ w is. rw (p.1, p.2) (
     let four : List NamedBytes = is.capacity ∷ is.requests ∷ is.certificate ∷ is.asks ∷ [] in
     stop_job names (Recheck names) w u c.in_err-bytes.field-0.0 (c.in_err-bytes.ensures.stop w (recheck_steps names) four (judged names) (is.leads (last names))))
 
@@ -38,7 +38,7 @@ returns-in_err-stage-clause-stop g c =
     let name = name_at names 4 in
     let extra : NamedBytes = record { name = name; bytes = c.in_ok-bytes.bytes.items } in
     let p = err_from_is_err_and c.from_residual-in_err-stage.result c.from_residual-in_err-stage.ensures.1 in
-    rw (p.1, p.2) (λ w is.
+    λ w is. rw (p.1, p.2) (
     let four : List NamedBytes = is.capacity ∷ is.requests ∷ is.certificate ∷ is.asks ∷ [] in
     let five : List NamedBytes = is.capacity ∷ is.requests ∷ is.certificate ∷ is.asks ∷ extra ∷ [] in
     let one = c.in_ok-bytes.ensures.leads w (recheck_steps names) four (judged names) (is.leads (last names)) in
@@ -52,7 +52,7 @@ returns-in_err-judge_stage-clause-stop g c =
     let name = name_at names 4 in
     let extra : NamedBytes = record { name = name; bytes = c.in_ok-bytes.bytes.items } in
     let p = err_from_is_err_and c.from_residual-in_err-judge_stage.result c.from_residual-in_err-judge_stage.ensures.1 in
-    rw (p.1, p.2) (λ w is.
+    λ w is. rw (p.1, p.2) (
     let four : List NamedBytes = is.capacity ∷ is.requests ∷ is.certificate ∷ is.asks ∷ [] in
     let five : List NamedBytes = is.capacity ∷ is.requests ∷ is.certificate ∷ is.asks ∷ extra ∷ [] in
     let one = c.in_ok-bytes.ensures.leads w (recheck_steps names) four (judged names) (is.leads (last names)) in
@@ -70,7 +70,7 @@ returns-in_err-text-clause-stop g c =
     let name = name_at names 4 in
     let extra : NamedBytes = record { name = name; bytes = c.in_ok-bytes.bytes.items } in
     let p = err_from_is_err_and c.from_residual-in_err-text.result c.from_residual-in_err-text.ensures.1 in
-    rw (p.1, p.2) (λ w is.
+    λ w is. rw (p.1, p.2) (
     let four : List NamedBytes = is.capacity ∷ is.requests ∷ is.certificate ∷ is.asks ∷ [] in
     let five : List NamedBytes = is.capacity ∷ is.requests ∷ is.certificate ∷ is.asks ∷ extra ∷ [] in
     let one = c.in_ok-bytes.ensures.leads w (recheck_steps names) four (judged names) (is.leads (last names)) in

@@ -2,13 +2,11 @@ use Rattle.std.proofs.Common.{rules, ◌≡◌, ◌≤◌, ◌<◌, ◌+◌, ℕ
 use Rattle.std.specs.Prelude.{All, is_some, option_map}
 use Rattle.std.proofs.lemmas.List.{length-map}
 use Rattle.std.proofs.lemmas.Result.{err_from_is_err_and}
-use Rattle.choice_problem.specs.declared.problems.TheConstants.{MOST_UNITS}
 use Rattle.season_days.specs.Term.{Term}
 use Rattle.season_days.specs.declared.declaration.Declaration.{Declaration}
-use Rattle.series_model.specs.declared.unit.Unit.{Unit as SlotUnit}
 use Rattle.desk_disk.specs.Disks.{DiskView}
 use Rattle.holding_book.specs.declared.answer.Entry.{Entry}
-use Rattle.holding_book.specs.Books.{SlotBook, IsBook}
+use Rattle.holding_book.specs.Books.{SlotBook}
 use Rattle.holding_book.specs.Histories.{IsLegal}
 use Rattle.holding_book.specs.Starts.{start_book}
 use Rattle.scr_reader.specs.Again.{IsFitItem}
@@ -35,37 +33,15 @@ use Rattle.slot_program.proofs.resume.resumed_output.Goals as goal
 
 -- In these answers `term` ties the season that is handed on to that of the submission; derefs are those
 -- of the pairs, of the history, and of the works.
-pub replayed-requires-clause-fit : goal.replayed-requires-clause-fit
-unfolding start_book
-replayed-requires-clause-fit g c =
+pub book_behind-requires-clause-fit : goal.book_behind-requires-clause-fit
+book_behind-requires-clause-fit g c =
     let s = c.args.submission.now in
     let term : c.declaration.result.now.season ≡ s.declaration.season = ap (λ (d : Declaration). d.season) c.declaration.ensures.value in
-    let start : c.in_ok-start.start.book.declaration.season ≡ s.declaration.season = ap (λ (b : SlotBook). b.declaration.season) c.in_ok-start.ensures in
-    subst (λ (l : List Asked). All (IsFit c.in_ok-start.start.book.declaration.season) l) (sym c.deref.ensures.value)
-    (subst (λ (t : Term). All (IsFit t) c.in_ok-journal.pairs.items) (term ∙ sym start) c.in_ok-journal.ensures.opened.2.fit)
+    subst (λ (l : List Asked). All (IsFit s.declaration.season) l) (sym c.deref.ensures.value)
+    (subst (λ (t : Term). All (IsFit t) c.in_ok-journal.pairs.items) term c.in_ok-journal.ensures.opened.2.fit)
 
-pub replayed-requires-clause-many : goal.replayed-requires-clause-many
-replayed-requires-clause-many g c = subst (λ (l : List Asked). length l ≤ MOST_PAIRS) (sym c.deref.ensures.value) c.in_ok-journal.ensures.opened.2.few
-
-pub replayed-requires-clause-few : goal.replayed-requires-clause-few
-replayed-requires-clause-few g c =
-    let s = c.args.submission.now in
-    let held : length c.in_ok-start.start.book.holdings ≡ length (start_book s c.args.certificate.now).holdings = ap (λ (b : SlotBook). length b.holdings) c.in_ok-start.ensures in
-    let few : length (start_book s c.args.certificate.now).holdings ≤ length s.units = c.few_holdings.ensures s c.args.certificate.now in
-    let units : length c.units-units.result.now ≡ length s.units = ap (λ (l : List SlotUnit). length l) c.units-units.ensures.value in
-    let most : MOST_UNITS ≡ 4096 = refl in
-    omega (arith, held, few, units, most, c.units-units.ensures.few)
-
-pub served-requires-clause-holdings : goal.served-requires-clause-holdings
-served-requires-clause-holdings g c =
-    let s = c.args.submission.now in
-    let held : length c.in_ok-start.start.book.holdings ≡ length (start_book s c.args.certificate.now).holdings = ap (λ (b : SlotBook). length b.holdings) c.in_ok-start.ensures in
-    let few : length (start_book s c.args.certificate.now).holdings ≤ length s.units = c.few_holdings.ensures s c.args.certificate.now in
-    let units : length c.units-units.result.now ≡ length s.units = ap (λ (l : List SlotUnit). length l) c.units-units.ensures.value in
-    let given : length c.deref.result.now ≡ length c.in_ok-journal.pairs.items = ap (λ (l : List Asked). length l) c.deref.ensures.value in
-    let most : MOST_UNITS ≡ 4096 = refl in
-    let pairs : MOST_PAIRS ≡ 100000 = refl in
-    omega (arith, held, few, units, given, most, pairs, c.units-units.ensures.few, c.in_ok-book.ensures.few, c.in_ok-journal.ensures.opened.2.few)
+pub book_behind-requires-clause-many : goal.book_behind-requires-clause-many
+book_behind-requires-clause-many g c = subst (λ (l : List Asked). length l ≤ MOST_PAIRS) (sym c.deref.ensures.value) c.in_ok-journal.ensures.opened.2.few
 
 pub served-requires-clause-most : goal.served-requires-clause-most
 served-requires-clause-most g c =
@@ -81,14 +57,14 @@ served-requires-clause-takes g c = λ κs lives n ask lt fit.
     let s = c.args.submission.now in
     let term : c.declaration.result.now.season ≡ s.declaration.season = ap (λ (d : Declaration). d.season) c.declaration.ensures.value in
     let began : c.of-beside.result.began.season ≡ c.declaration.result.now.season = ap (λ (j : JournalView). j.season) c.of-beside.ensures.began ∙ c.in_ok-journal.ensures.opened.2.season_is in
-    let book : c.in_ok-book.book.book.declaration.season ≡ s.declaration.season = ap (λ (d : Declaration). d.season) c.in_ok-book.ensures.declaration ∙ ap (λ (b : SlotBook). b.declaration.season) c.in_ok-start.ensures in
+    let book : c.in_ok-book.book.book.declaration.season ≡ s.declaration.season = ap (λ (d : Declaration). d.season) c.in_ok-book.ensures.declaration in
     (omega (arith, lt, c.requires.few), subst (λ (t : Term). IsFitItem t ask) (book ∙ sym (began ∙ term)) fit)
 
 pub tell_resumed-requires-clause-lines : goal.tell_resumed-requires-clause-lines
 unfolding start_book
 tell_resumed-requires-clause-lines g c =
     let b = c.in_ok-book.book.book in
-    let given : b.declaration.season ≡ c.args.submission.now.declaration.season = ap (λ (d : Declaration). d.season) c.in_ok-book.ensures.declaration ∙ ap (λ (x : SlotBook). x.declaration.season) c.in_ok-start.ensures in
+    let given : b.declaration.season ≡ c.args.submission.now.declaration.season = ap (λ (d : Declaration). d.season) c.in_ok-book.ensures.declaration in
     let season : b.declaration.season ≡ c.declaration.result.now.season = given ∙ sym (ap (λ (d : Declaration). d.season) c.declaration.ensures.value) in
     let all : All (HasEntryLines c.declaration.result.now.season) c.in_ok-history.history.items =
     subst (λ (t : Term). All (HasEntryLines t) c.in_ok-history.history.items) season
@@ -100,7 +76,7 @@ tell_resumed-requires-clause-lines g c =
 pub returns-in_err-journal-clause-stop : goal.returns-in_err-journal-clause-stop
 returns-in_err-journal-clause-stop g c =
     let term : c.declaration.result.now.season ≡ c.args.submission.now.declaration.season = ap (λ (d : Declaration). d.season) c.declaration.ensures.value in
-    let p = err_from_is_err_and c.from_residual-in_err-journal.result c.from_residual-in_err-journal.ensures.1 in
+    let p = err_from_is_err_and c.from_residual.result c.from_residual.ensures.1 in
     rw (p.1, p.2) (no_client c.args.submission.now.declaration.season (outside_change g.D.Door.view g.K.Disk.view c.args.doors.now.items c.args.disk.now c.args.doors.now.items c.opened.new.disk) c.in_err-journal.field-0.0 refl
     (subst (λ (t : Term). DiskStops t (option_map g.K.Disk.view c.args.disk.now) (option_map g.K.Disk.view c.opened.new.disk) c.in_err-journal.field-0.0) term c.in_err-journal.ensures.stop))
 
@@ -112,11 +88,10 @@ returns-clause-served g c =
     let s = c.args.submission.now in
     let term : c.declaration.result.now.season ≡ s.declaration.season = ap (λ (d : Declaration). d.season) c.declaration.ensures.value in
     let start : SlotBook = start_book s c.args.certificate.now in
-    let same : c.in_ok-start.start.book ≡ start = c.in_ok-start.ensures in
     let pairs = c.in_ok-journal.pairs.items in
     let o = c.in_ok-journal.ensures.opened in
     let opened : IsOpened s.declaration.season pairs o.0 c.in_ok-journal.journal = subst (λ (t : Term). IsOpened t pairs o.0 c.in_ok-journal.journal) term o.2 in
-    let after : c.in_ok-book.book.book ≡ book_after start pairs = c.in_ok-book.ensures.book ∙ (ap (λ (l : List Asked). book_after c.in_ok-start.start.book l) c.deref.ensures.value ∙ ap (λ (b : SlotBook). book_after b pairs) same) in
+    let after : c.in_ok-book.book.book ≡ book_after start pairs = c.in_ok-book.ensures.book ∙ ap (λ (l : List Asked). book_after start l) c.deref.ensures.value in
     let h = c.in_ok-history.history.items in
     let works = c.in_ok-history.works.items in
     let k : KeptView = c.in_ok-history.kept in
@@ -127,7 +102,7 @@ returns-clause-served g c =
     let count : c.of-beside.result.began.count ≡ length pairs = ap (λ (j : JournalView). j.count) c.of-beside.ensures.began ∙ o.2.count in
     let failure : c.is_some-failed.result ≡ is_some k.failure = c.is_some-failed.ensures ∙ ap is_some c.failure-failure.ensures in
     let failed : is_some (failed_ask k (asks_of h) k.failure kept.disk) ≡ is_some k.failure = is_failed k (asks_of h) k.failure kept.disk in
-    let can : All (CanAskEntry start.declaration) h = subst (λ (d : Declaration). All (CanAskEntry d) h) (c.in_ok-book.ensures.declaration ∙ ap (λ (b : SlotBook). b.declaration) same) c.in_ok-history.ensures.asked in
+    let can : All (CanAskEntry start.declaration) h = subst (λ (d : Declaration). All (CanAskEntry d) h) c.in_ok-book.ensures.declaration c.in_ok-history.ensures.asked in
     let found : c.len.result ≡ length pairs = search rules in
     record {
       before = o.0;
@@ -140,7 +115,7 @@ returns-clause-served g c =
       given_back = refl {a = Some (g.K.Disk.view c.into_disk.result)};
       kept = subst (λ (e : DiskView). KeepsAsks s.declaration.season pairs (asks_of h) (failed_ask k (asks_of h) k.failure kept.disk) o.0 e) (sym c.into_disk.ensures)
           (keeps_asks s.declaration.season pairs o.0 k (subst (λ (j : JournalView). IsOpened s.declaration.season pairs o.0 j) (sym began) opened) kept.later (asks_of h) k.failure kept.disk);
-      whole = one_whole start pairs h c.replays_fit.ensures.declaration c.replays_fit.ensures.book (subst (λ (b : SlotBook). IsBook b) same c.declaration-declaration.ensures.book) opened.fit
+      whole = one_whole start pairs h c.replays_fit.ensures.declaration c.replays_fit.ensures.book c.in_ok-book.ensures.start opened.fit
           (subst (λ (b : SlotBook). IsLegal b h) after c.in_ok-history.ensures.legal) can;
       served = record {
         one = record {
