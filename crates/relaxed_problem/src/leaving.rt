@@ -22,7 +22,7 @@ const FEWER_LOOKED_AT: usize = 8;
 // So many alternatives are very many.
 const VERY_MANY_COLUMNS: usize = 100_000;
 
-// In how many pivots after all were counted the same ones are, while some are passed still.
+// In how many pivots after all were counted the same ones are, while something is passed still.
 const LOOKED_AT_AGAIN: u32 = 4;
 
 // How many users for each basic alternative are many.
@@ -200,7 +200,8 @@ impl Relaxation {
         self.offer_keys(alloc, program, work, &mut leaving)?;
         if self.again > 0 {
             self.again -= 1;
-            if self.offer_tops(alloc, program, work, &mut leaving)? {
+            let are_passed = self.offer_tops(alloc, program, work, &mut leaving)?;
+            if are_passed || leaving.violation > 0.0 {
                 return Ok(leaving);
             }
         }

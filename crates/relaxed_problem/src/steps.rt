@@ -45,9 +45,10 @@ impl Relaxation {
     /// inverse; and for each change of a key in it, a step for each unit with a breakpoint, and for
     /// each use and listed alternative of the unit that changes. Where the program has fewer than
     /// 8,000 alternatives all are listed, and all uses of the basic alternatives are counted; else
-    /// those are listed that may come to their bounds soon. The uses are counted once none of the
-    /// eight classes that were passed most before is passed any more, or of the sixteen where the
-    /// program has 100,000 alternatives or more, or in the fifth pivot from there.
+    /// those are listed that may come to their bounds soon. The uses are counted once nothing that
+    /// is basic passes its bounds and none of the eight classes that were passed most before is
+    /// passed any more, or of the sixteen where the program has 100,000 alternatives or more, or in
+    /// the fifth pivot from there.
     pub fn solve(
         &mut self,
         alloc: Global,
