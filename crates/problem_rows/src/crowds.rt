@@ -20,7 +20,7 @@ const RESOURCES: u32 = 80;
 const LIMIT: i64 = 4;
 
 pub(crate) fn crowd(rt: &impl Abort, alloc: Global) -> Problem {
-    let mut draws = Draws { last: 1 };
+    let mut draws = Draws { last: 5 };
     let mut units = Vec::new(alloc);
     for _ in 0..UNITS {
         units
@@ -88,7 +88,7 @@ fn several_workers_close_a_crowd_as_one_does(rt: HostRuntime) {
 
 fn several_close_as_one<R: Abort + Threads + Sync>(rt: &R, alloc: Global, problem: &Problem) {
     let want = tree_by(rt, alloc, problem, 1);
-    assert!(rt; want.len() > 9);
+    assert!(rt; want.len() > 20);
     for workers in [2, 4, 16] {
         let found = tree_by(rt, alloc, problem, workers);
         assert!(rt; found.as_slice() == want.as_slice(), "{workers}");
