@@ -1,7 +1,6 @@
 //! The bounds of a tree's vectors, and whether a leaf holds.
 
 ghost use Rattle.std.specs.Prelude.{◌≡◌, ◌<◌, ◌≤◌, ◌+◌, ◌∷◌, ℕ, All, IfOk, IfSome, None, Some, length, map, slice_index_or};
-ghost use Rattle.choice_problem.specs.Problems.{unit_count};
 ghost use Rattle.choice_problem.specs.Bounds.{IsVector};
 ghost use Rattle.choice_problem.specs.Trees.{vector_at};
 ghost use Rattle.price_table.specs.Tables.{IsTableFor};
@@ -43,7 +42,7 @@ impl Model for KeptBounds {
 impl KeptBounds {
     ghost use Rattle.std.specs.Prelude.{◌≡◌, ◌↔◌, ℕ, List, [], All, IsTrue, IfOk};
     ghost use Rattle.choice_problem.specs.Problems.{ProblemView};
-    ghost use Rattle.choice_problem.specs.Bounds.{AreRanges, IsVector, Closes};
+    ghost use Rattle.choice_problem.specs.Bounds.{AreRanges, IsVector};
     ghost use Rattle.choice_problem.specs.Trees.{LeafHolds};
     ghost use Rattle.price_table.specs.Tables.{IsTableFor, vectors_of};
     ghost use Rattle.kept_bounds.specs.Kept.{AreKept};
@@ -55,8 +54,8 @@ impl KeptBounds {
     {
         let count = vectors.items().len();
         Ok(KeptBounds {
-            tables: no_tables(alloc, count)?,
-            totals: no_totals(alloc, count)?,
+            tables: empty_places(alloc, count)?,
+            totals: empty_places(alloc, count)?,
         })
     }
 
@@ -69,7 +68,7 @@ impl KeptBounds {
         let count = tables.len();
         Ok(KeptBounds {
             tables: listed_tables(alloc, tables)?,
-            totals: no_totals(alloc, count)?,
+            totals: empty_places(alloc, count)?,
         })
     }
 
@@ -113,30 +112,17 @@ impl KeptBounds {
     }
 }
 
-// A place for the table of the zero vector and of each of so many, all empty.
-fn no_tables(alloc: Global, count: usize) -> Result<Vec<Option<PriceTable>>, Memory>
-    ensures count { IfOk result (λ tables. length tables.items ≡ count + 1) }
-    ensures none { IfOk result (λ tables. (i : ℕ) → slice_index_or tables.items i None ≡ None) }
+// A place for the zero vector and for each of so many, all empty.
+fn empty_places<T: Drop>(alloc: Global, count: usize) -> Result<Vec<Option<T>>, Memory>
+    ensures count { IfOk result (λ places. length places.items ≡ count + 1) }
+    ensures none { IfOk result (λ places. (i : ℕ) → slice_index_or places.items i None ≡ None) }
 {
-    let mut tables = Vec::new(alloc);
-    tables.push(None)?;
+    let mut places = Vec::new(alloc);
+    places.push(None)?;
     for _ in 0..count {
-        tables.push(None)?;
+        places.push(None)?;
     }
-    Ok(tables)
-}
-
-// A place for the totals of the zero vector and of each of so many, all empty.
-fn no_totals(alloc: Global, count: usize) -> Result<Vec<Option<KeptTotals>>, Memory>
-    ensures count { IfOk result (λ totals. length totals.items ≡ count + 1) }
-    ensures none { IfOk result (λ totals. (i : ℕ) → slice_index_or totals.items i None ≡ None) }
-{
-    let mut totals = Vec::new(alloc);
-    totals.push(None)?;
-    for _ in 0..count {
-        totals.push(None)?;
-    }
-    Ok(totals)
+    Ok(places)
 }
 
 // An empty place for the table of the zero vector, and these tables.
