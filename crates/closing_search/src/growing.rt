@@ -165,8 +165,8 @@ fn close_or_split(
     }
 }
 
-// Solves a node, or takes the solution of its study, if that was made for this cost. What it took is
-// counted from the node that was split.
+// Solves a node, or takes the solution of its study, if that was made for this cost. What it took
+// is counted from the node that was split.
 fn first_end(
     alloc: Global,
     task: &Task<'_>,

@@ -74,8 +74,8 @@ pub(crate) struct Study {
 }
 
 impl Study {
-    // Looks at the splits of the relaxation, if it is solved, and makes the prices, where they may be
-    // needed.
+    // Looks at the splits of the relaxation, if it is solved, and makes the prices, where they may
+    // be needed.
     fn look(
         &mut self,
         alloc: Global,
@@ -100,8 +100,8 @@ impl Study {
     }
 }
 
-// The relaxations of the parts of the best split of a solved relaxation, if it has splits. Adds what
-// was seen.
+// The relaxations of the parts of the best split of a solved relaxation, if it has splits. Adds
+// what was seen.
 fn parts_of(
     alloc: Global,
     task: &Task<'_>,
@@ -271,8 +271,8 @@ struct Lent {
     open: Open,
 }
 
-/// What a thread studies nodes with, and the nodes that are lent to it, those of the greatest places
-/// first.
+/// What a thread studies nodes with, and the nodes that are lent to it, those of the greatest
+/// places first.
 #[derive(Drop)]
 pub(crate) struct Helper {
     looker: Looker,
@@ -337,7 +337,8 @@ pub(crate) fn study_nodes<R: Threads + Sync>(
     take_back(helpers, nodes, end)
 }
 
-// Lends nodes that are not studied to helpers, the last one to the last. Answers how many there are.
+// Lends nodes that are not studied to helpers, the last one to the last. Answers how many there
+// are.
 fn lend(cost: Option<u64>, helpers: &mut [Helper], nodes: &mut Vec<Open>) -> Result<usize, Memory> {
     let end = nodes.len();
     let most = most_lent(cost, helpers.len(), nodes);
