@@ -1,6 +1,6 @@
 -- Least loads of resources that are kept while the ranges change.
-use Rattle.std.proofs.Common.{◌≡◌, ◌⊎◌, ℕ, ◌+◌, ◌*◌, ◌<◌, ◌≤◌, sym, ◌∙◌, ap, subst, arith, List, length, get_or, set, inl, inr}
-use Rattle.std.specs.Prelude.{Option, Some, None, IfSome, slice_set}
+use Rattle.std.proofs.Common.{◌≡◌, ◌⊎◌, ℕ, ◌+◌, ◌-◌, ◌*◌, ◌<◌, ◌≤◌, refl, sym, ◌∙◌, ap, subst, arith, List, [], ◌∷◌, length, length-drop, get_or, set, inl, inr}
+use Rattle.std.specs.Prelude.{drop, take, Option, Some, None, IfSome, slice_set}
 use Rattle.std.specs.List.{Contains}
 use Rattle.std.proofs.lemmas.Bool.{cases_lt}
 use Rattle.std.proofs.lemmas.List.{get_or-set_same, get_or-set_other, length-set}
@@ -11,9 +11,8 @@ use Rattle.choice_problem.specs.Problems.{ProblemView, unit_count, alt_uses}
 use Rattle.choice_problem.specs.Bounds.{AreRanges, low_of, high_of, least_load}
 use Rattle.choice_problem.specs.Walks.{AreChanges}
 use Rattle.cert_checker.specs.declared.kept_loads.KeptLoad.{KeptLoad}
-use Rattle.cert_checker.specs.Kept.{AgreeBut}
-use Rattle.cert_checker.specs.KeptLoads.{least_at, IsKeptLoad, HasSeenLoad, AreKeptLoads}
-use Rattle.cert_checker.proofs.KeptLemmas.{others-more}
+use Rattle.kept_bounds.specs.Changes.{AgreeBut, HasSeen}
+use Rattle.cert_checker.specs.KeptLoads.{least_at, IsKeptLoad, AreKeptLoads}
 
 -- one unit's uses
 pub part-within : (p : ProblemView) (k : KeptLoad) (unit : ℕ) → IsKeptLoad p k → unit < unit_count p → get_or k.uses.items unit 0 ≤ k.load
@@ -75,21 +74,24 @@ unit-moved p old new ranges unit uses is lt uses_is few resource moved stored lo
       ]
     ]
 
+-- what has seen all changes but the last ones has so after more of them
+abbrev pub SeenMore : Type 0
+SeenMore = (at old new : List (ℕ × ℕ)) (before after : List ℕ) (seen : ℕ) → AreChanges old new before after → HasSeen at old before seen → HasSeen at new after seen
+
 -- ---- places
 
 abbrev IsInPlace : ProblemView → List (ℕ × ℕ) → List (ℕ × ℕ) → List ℕ → List ℕ → KeptLoad → Type 0
-IsInPlace p ranges whole changes marked k = IsKeptLoad p k × HasSeenLoad ranges changes k × AgreeBut marked whole k.ranges
+IsInPlace p ranges whole changes marked k = IsKeptLoad p k × HasSeen k.ranges ranges changes k.seen × AgreeBut marked whole k.ranges
 
-place-more : (p : ProblemView) (old new whole : List (ℕ × ℕ)) (before after marked more : List ℕ) (o : Option KeptLoad) → AreChanges old new before after → ((u : ℕ) → Contains marked u → Contains more u)
+place-more : SeenMore → (p : ProblemView) (old new whole : List (ℕ × ℕ)) (before after marked more : List ℕ) (o : Option KeptLoad) → AreChanges old new before after → ((u : ℕ) → Contains marked u → Contains more u)
     → IfSome o (IsInPlace p old whole before marked) → IfSome o (IsInPlace p new whole after more)
-place-more p old new whole before after marked more None changed stay h = tt
-place-more p old new whole before after marked more (Some k) changed stay h =
-    let seen = others-more old new k.ranges before after k.seen changed h.1.seen h.1.others in
-    (h.0, record { seen = seen.0; others = seen.1 }, λ u out. h.2 u (λ there. out (stay u there)))
+place-more law p old new whole before after marked more None changed stay h = tt
+place-more law p old new whole before after marked more (Some k) changed stay h =
+    (h.0, law k.ranges old new before after k.seen changed h.1, λ u out. h.2 u (λ there. out (stay u there)))
 
-pub places-more : (p : ProblemView) (old new whole : List (ℕ × ℕ)) (before after marked more : List ℕ) (kept : List (Option KeptLoad)) → AreChanges old new before after → ((u : ℕ) → Contains marked u → Contains more u)
+pub places-more : SeenMore → (p : ProblemView) (old new whole : List (ℕ × ℕ)) (before after marked more : List ℕ) (kept : List (Option KeptLoad)) → AreChanges old new before after → ((u : ℕ) → Contains marked u → Contains more u)
     → AreKeptLoads p old whole before marked kept → AreKeptLoads p new whole after more kept
-places-more p old new whole before after marked more kept changed stay are = λ i. place-more p old new whole before after marked more (get_or kept i None) changed stay (are i)
+places-more law p old new whole before after marked more kept changed stay are = λ i. place-more law p old new whole before after marked more (get_or kept i None) changed stay (are i)
 
 -- a place filled again
 pub places-again : (p : ProblemView) (ranges whole : List (ℕ × ℕ)) (changes marked : List ℕ) (old : List (Option KeptLoad)) (i : ℕ) (x : Option KeptLoad) (k : KeptLoad) → AreKeptLoads p ranges whole changes marked old → i < length old
@@ -101,7 +103,7 @@ places-again p ranges whole changes marked old i x k are lt is at all agree =
     let here : get_or new i None ≡ Some k = get_or-set_same one i (Some k) None (omega (arith, lt, count)) in
     let others : (j : ℕ) → (j ≡ i → ⊥) → get_or new j None ≡ get_or old j None = λ j other. get_or-set_other one i j (Some k) None other ∙ get_or-set_other old i j x None other in
     let full : IsInPlace p ranges whole changes marked k =
-    (is, record { seen = omega (arith, all); others = λ u out. ap (λ (xs : List (ℕ × ℕ)). get_or xs u (0, 0)) at }, λ u out. agree u out ∙ ap (λ (xs : List (ℕ × ℕ)). get_or xs u (0, 0)) (sym at)) in
+    (is, record { few = omega (arith, all); others = λ u out. ap (λ (xs : List (ℕ × ℕ)). get_or xs u (0, 0)) at }, λ u out. agree u out ∙ ap (λ (xs : List (ℕ × ℕ)). get_or xs u (0, 0)) (sym at)) in
     λ j. elim (cases_lt j i) [
       | inl below ↦ subst (λ (o : Option KeptLoad). IfSome o (IsInPlace p ranges whole changes marked)) (sym (others j (λ e. let no : ⊥ = omega (arith, below, e) in no))) (are j)
       | inr past ↦ elim (cases_lt i j) [
@@ -117,6 +119,14 @@ places-none p ranges whole changes marked kept none = λ i. subst (λ (o : Optio
 
 -- what a place asks of a node's ranges
 pub place-now : (p : ProblemView) (ranges whole : List (ℕ × ℕ)) (changes marked : List ℕ) (o : Option KeptLoad) → AgreeBut marked whole ranges → IfSome o (IsInPlace p ranges whole changes marked)
-    → IfSome o (λ (k : KeptLoad). IsKeptLoad p k × HasSeenLoad ranges changes k × AgreeBut marked k.ranges ranges)
+    → IfSome o (λ (k : KeptLoad). IsKeptLoad p k × HasSeen k.ranges ranges changes k.seen × AgreeBut marked k.ranges ranges)
 place-now p ranges whole changes marked None agree h = tt
 place-now p ranges whole changes marked (Some k) agree h = (h.0, h.1, λ u out. sym (h.2 u out) ∙ agree u out)
+
+-- the end of a list
+take-length : (xs : List ℕ) → take (length xs) xs ≡ xs
+take-length [] = refl
+take-length (x ∷ xs) = ap (λ (ys : List ℕ). x ∷ ys) (take-length xs)
+
+pub take-rest : (xs : List ℕ) (n : ℕ) → take (length xs - n) (drop n xs) ≡ drop n xs
+take-rest xs n = ap (λ (k : ℕ). take k (drop n xs)) (sym (length-drop n xs)) ∙ take-length (drop n xs)

@@ -5,7 +5,6 @@ mod ShapedLemmas
 mod NodeLemmas
 mod AlikeLemmas
 mod CertificateLemmas
-mod KeptLemmas
 mod UniqueLemmas
 mod MarkedLemmas
 mod KeptLoadLemmas

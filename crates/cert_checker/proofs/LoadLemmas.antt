@@ -1,6 +1,6 @@
 -- Least loads that are kept while the ranges change.
 use Rattle.std.proofs.Common.{◌≡◌, ℕ, zero, suc, ◌+◌, ◌<◌, ◌≤◌, refl, sym, ◌∙◌, ap, subst, arith, List, [], ◌∷◌, ◌++◌, length, get_or, set}
-use Rattle.std.specs.Prelude.{All, drop}
+use Rattle.std.specs.Prelude.{All, drop, slice_set}
 use Rattle.std.specs.List.{Contains}
 use Rattle.std.proofs.lemmas.List.{get_or-set_same, get_or-set_other, length-set, drop_more}
 use Rattle.finite_sums.specs.Sums.{least_within}
@@ -9,12 +9,11 @@ use Rattle.choice_problem.specs.Problems.{ProblemView, unit_count, alt_uses}
 use Rattle.choice_problem.specs.Bounds.{AreRanges, low_of, high_of, least_load}
 use Rattle.choice_problem.specs.Walks.{AreChanges}
 use Rattle.cert_checker.specs.declared.loads.Loads.{Loads}
-use Rattle.cert_checker.specs.Kept.{AgreeBut}
+use Rattle.kept_bounds.specs.Changes.{AgreeBut}
 use Rattle.cert_checker.specs.Marked.{AreOnce}
 use Rattle.cert_checker.specs.KeptLoads.{least_at, AreKeptLoads}
 use Rattle.cert_checker.specs.Loads.{IsLoadState, AreWholeLoads}
-use Rattle.cert_checker.proofs.KeptLoadLemmas.{places-more}
-use Rattle.cert_checker.proofs.KeptLemmas.{agree-next, agree-all}
+use Rattle.cert_checker.proofs.KeptLoadLemmas.{SeenMore, places-more}
 use Rattle.cert_checker.proofs.MarkedLemmas.{any-default}
 
 -- ranges that are those of now for some of the changed units, and have all alternatives of the
@@ -68,9 +67,17 @@ mixed-part p whole ranges r i units unit d load lt at there m =
     let part = term-le (unit_count p) unit (least_at p m.mixed r) there in
     omega (arith, same, part, m.load_is)
 
-pub mixed-next : (p : ProblemView) (whole ranges : List (ℕ × ℕ)) (r i : ℕ) (units : List ℕ) (unit d load next : ℕ) → i < length units → unit ≡ get_or units i d → unit < unit_count p → AreOnce units →
+-- one unit more is at its range, and the end of the units
+abbrev pub AgreeNext : Type 0
+AgreeNext = (old new ranges : List (ℕ × ℕ)) (units : List ℕ) (i unit d : ℕ) → i < length units → unit ≡ get_or units i d → unit < length old → new ≡ slice_set old unit (low_of ranges unit, high_of ranges unit) →
+    AgreeBut (drop i units) old ranges → AgreeBut (drop (i + 1) units) new ranges
+
+abbrev pub AgreeAll : Type 0
+AgreeAll = (one ranges : List (ℕ × ℕ)) (units : List ℕ) (i : ℕ) → length units ≤ i → length one ≡ length ranges → AgreeBut (drop i units) one ranges → one ≡ ranges
+
+pub mixed-next : AgreeNext → (p : ProblemView) (whole ranges : List (ℕ × ℕ)) (r i : ℕ) (units : List ℕ) (unit d load next : ℕ) → i < length units → unit ≡ get_or units i d → unit < unit_count p → AreOnce units →
     next + least_at p whole r unit ≡ load + least_at p ranges r unit → IsMixed p whole ranges r (drop i units) load → IsMixed p whole ranges r (drop (i + 1) units) next
-mixed-next p whole ranges r i units unit d load next lt at there once exchanged m =
+mixed-next law p whole ranges r i units unit d load next lt at there once exchanged m =
     let span : ℕ × ℕ = (low_of ranges unit, high_of ranges unit) in
     let new = set m.mixed unit span in
     let in_range : unit < length m.mixed = omega (arith, there, m.count) in
@@ -84,13 +91,13 @@ mixed-next p whole ranges r i units unit d load next lt at there once exchanged 
       mixed = new;
       count = length-set m.mixed unit span ∙ m.count;
       load_is = omega (arith, change, was, now, exchanged, m.load_is);
-      others = agree-next m.mixed new ranges units i unit d lt at in_range refl m.others;
+      others = law m.mixed new ranges units i unit d lt at in_range refl m.others;
       still = λ u h. away u (head-out units i unit d u lt at once h) ∙ m.still u (contains-tail units i unit d u lt at h);
     }
 
-pub mixed-end : (p : ProblemView) (whole ranges : List (ℕ × ℕ)) (r i : ℕ) (units : List ℕ) (load : ℕ) → length units ≤ i → length ranges ≡ unit_count p → IsMixed p whole ranges r (drop i units) load → load ≡ least_load p ranges r
-mixed-end p whole ranges r i units load past count m =
-    m.load_is ∙ ap (λ (rs : List (ℕ × ℕ)). least_load p rs r) (agree-all m.mixed ranges units i past (m.count ∙ sym count) m.others)
+pub mixed-end : AgreeAll → (p : ProblemView) (whole ranges : List (ℕ × ℕ)) (r i : ℕ) (units : List ℕ) (load : ℕ) → length units ≤ i → length ranges ≡ unit_count p → IsMixed p whole ranges r (drop i units) load → load ≡ least_load p ranges r
+mixed-end law p whole ranges r i units load past count m =
+    m.load_is ∙ ap (λ (rs : List (ℕ × ℕ)). least_load p rs r) (law m.mixed ranges units i past (m.count ∙ sym count) m.others)
 
 -- ---- some changes more
 
@@ -101,14 +108,14 @@ drop-front (x ∷ xs) ys = drop-front xs ys
 pub changes-more : (old new : List (ℕ × ℕ)) (before after : List ℕ) → (changed : AreChanges old new before after) → drop (length before) after ≡ changed.more
 changes-more old new before after changed = ap (λ (xs : List ℕ). drop (length before) xs) changed.after_is ∙ drop-front before changed.more
 
-pub loads-more : (p : ProblemView) (old new : List (ℕ × ℕ)) (before after : List ℕ) (l next : Loads) → AreChanges old new before after → next.whole ≡ l.whole → next.named ≡ l.named → next.known ≡ l.known → next.kept ≡ l.kept → next.changed.most ≡ l.changed.most →
+pub loads-more : SeenMore → (p : ProblemView) (old new : List (ℕ × ℕ)) (before after : List ℕ) (l next : Loads) → AreChanges old new before after → next.whole ≡ l.whole → next.named ≡ l.named → next.known ≡ l.known → next.kept ≡ l.kept → next.changed.most ≡ l.changed.most →
     ((u : ℕ) → Contains (drop (length before) after) u → Contains next.changed.units u) → ((u : ℕ) → Contains l.changed.units u → Contains next.changed.units u) → IsLoadState p old before l → IsLoadState p new after next
-loads-more p old new before after l next changed whole named known kept most all stay are =
+loads-more law p old new before after l next changed whole named known kept most all stay are =
     let more = changes-more old new before after changed in
     let first : AreWholeLoads p l.whole l.named.items next.known.items = subst (λ (k : _). AreWholeLoads p l.whole l.named.items k.items) (sym known) are.known in
     let one : AreWholeLoads p l.whole next.named.items next.known.items = subst (λ (k : _). AreWholeLoads p l.whole k.items next.known.items) (sym named) first in
     let places : AreKeptLoads p new l.whole after next.changed.units next.kept.items =
-    subst (λ (k : _). AreKeptLoads p new l.whole after next.changed.units k.items) (sym kept) (places-more p old new l.whole before after l.changed.units next.changed.units l.kept.items changed stay are.kept) in
+    subst (λ (k : _). AreKeptLoads p new l.whole after next.changed.units k.items) (sym kept) (places-more law p old new l.whole before after l.changed.units next.changed.units l.kept.items changed stay are.kept) in
     record {
       whole = whole ∙ are.whole;
       valid = subst (AreRanges p) (sym whole) are.valid;

@@ -1,11 +1,11 @@
 -- Least loads of resources that are kept while the ranges change. Contracts of private functions
 -- alone cite this.
-use Rattle.std.specs.Prelude.{◌≡◌, ℕ, ◌<◌, ◌≤◌, List, length, drop, Option, None, IfSome, slice_index, slice_index_or}
+use Rattle.std.specs.Prelude.{◌≡◌, ℕ, ◌<◌, ◌≤◌, List, length, Option, None, IfSome, slice_index, slice_index_or}
 use Rattle.choice_problem.specs.declared.problems.TheConstants.{MOST_UNITS, MOST_USES}
 use Rattle.finite_sums.specs.Sums.{least_within}
 use Rattle.choice_problem.specs.Problems.{ProblemView, unit_count, resource_count, alt_uses}
 use Rattle.choice_problem.specs.Bounds.{AreRanges, low_of, high_of, least_load}
-use Rattle.cert_checker.specs.Kept.{AgreeBut}
+use Rattle.kept_bounds.specs.Changes.{AgreeBut, HasSeen}
 use Rattle.cert_checker.specs.declared.kept_loads.KeptLoad.{KeptLoad}
 
 -- a unit's least number of uses of a resource in its range
@@ -23,15 +23,10 @@ pub record IsKeptLoad (p : ProblemView) (k : KeptLoad) : Type 0 where
   pub few : (u : ℕ) → u < unit_count p → least_at p k.ranges k.resource u ≤ MOST_USES
   pub load : k.load ≡ least_load p k.ranges k.resource
 
--- all changes have been seen but the last ones, and those name each unit whose range is another now
-pub record HasSeenLoad (ranges : List (ℕ × ℕ)) (changes : List ℕ) (k : KeptLoad) : Type 0 where
-  pub seen : k.seen ≤ length changes
-  pub others : AgreeBut (drop k.seen changes) k.ranges ranges
-
 -- places of resources; of a unit that is not marked the range is still its whole one
 abbrev pub AreKeptLoads : ProblemView → List (ℕ × ℕ) → List (ℕ × ℕ) → List ℕ → List ℕ →
     List (Option KeptLoad) → Type 0
 AreKeptLoads p ranges whole changes marked kept =
     (i : ℕ) → IfSome (slice_index_or kept i None)
-    (λ (k : KeptLoad). IsKeptLoad p k × HasSeenLoad ranges changes k
+    (λ (k : KeptLoad). IsKeptLoad p k × HasSeen k.ranges ranges changes k.seen
     × AgreeBut marked whole k.ranges)

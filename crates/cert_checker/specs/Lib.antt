@@ -4,7 +4,6 @@ pub mod Certificates
 pub mod Parts
 pub mod Blocks
 pub mod Shapes
-pub mod Kept
 pub mod Marked
 pub mod KeptLoads
 pub mod Loads

@@ -4,7 +4,7 @@ use Rattle.std.specs.Prelude.{◌≡◌, ℕ, ◌<◌, List, length, Option, Non
 use Rattle.choice_problem.specs.Problems.{ProblemView, unit_count}
 use Rattle.choice_problem.specs.Bounds.{AreRanges, least_load, whole_of}
 use Rattle.cert_checker.specs.declared.loads.Loads.{Loads}
-use Rattle.cert_checker.specs.Kept.{AgreeBut}
+use Rattle.kept_bounds.specs.Changes.{AgreeBut}
 use Rattle.cert_checker.specs.KeptLoads.{AreKeptLoads}
 
 -- for each of these resources its least load in these ranges, once that was found

@@ -3,10 +3,11 @@
 ghost use Rattle.std.specs.Prelude.{◌≡◌, ◌⊎◌, ◌<◌, ◌≤◌, List, ℕ, All, false, IfOk, IfSome, length, slice_set};
 ghost use Rattle.choice_problem.specs.Problems.{ProblemView, unit_count, resource_count};
 ghost use Rattle.choice_problem.specs.Bounds.{AreRanges, low_of, high_of, least_load};
-ghost use Rattle.cert_checker.specs.Kept.{AgreeBut};
-ghost use Rattle.cert_checker.specs.KeptLoads.{IsKeptLoad, HasSeenLoad, AreKeptLoads};
+ghost use Rattle.kept_bounds.specs.Changes.{AgreeBut, HasSeen};
+ghost use Rattle.cert_checker.specs.KeptLoads.{IsKeptLoad, AreKeptLoads};
 
 use choice_problem::{Problem, Ranges, least_uses};
+use kept_bounds::agreeing_ranges;
 use slot_text::Memory;
 use std::alloc::Global;
 
@@ -75,6 +76,7 @@ fn follow(problem: &Problem, kept: &mut KeptLoad, ranges: &Ranges, units: &[u32]
     ensures resource { kept.new.resource ≡ kept.old.resource }
     ensures ranges { kept.new.ranges ≡ ranges.now }
 {
+    agreeing_ranges();
     for unit in units {
         follow_unit(problem, kept, ranges, *unit);
     }
@@ -97,7 +99,7 @@ fn moved(
     marked: &[u32],
 ) -> KeptLoad
     requires kept { IsKeptLoad problem.now kept }
-    requires seen { HasSeenLoad ranges.now changes.now kept }
+    requires seen { HasSeen kept.ranges ranges.now changes.now kept.seen }
     requires marked { AgreeBut marked.now kept.ranges ranges.now }
     requires changes { All (λ u. u < unit_count problem.now) changes.now }
     requires there { All (λ u. u < unit_count problem.now) marked.now }
@@ -159,7 +161,8 @@ pub(crate) fn renewed(
     resource: u32,
 ) -> Result<KeptLoad, Memory>
     requires old { IfSome old (λ kept. IsKeptLoad problem.now kept
-        × HasSeenLoad ranges.now changes.now kept × AgreeBut marked.now kept.ranges ranges.now) }
+        × HasSeen kept.ranges ranges.now changes.now kept.seen
+        × AgreeBut marked.now kept.ranges ranges.now) }
     requires same { IfSome old (λ kept. kept.resource ≡ resource) }
     requires changes { All (λ u. u < unit_count problem.now) changes.now }
     requires there { All (λ u. u < unit_count problem.now) marked.now }

@@ -5,7 +5,6 @@
 #![tactic(auto)]
 
 mod checks;
-mod kept;
 mod kept_loads;
 mod laws;
 mod lines;

@@ -5,7 +5,7 @@ ghost use Rattle.choice_problem.specs.declared.problems.TheConstants.{MOST_UNITS
 ghost use Rattle.choice_problem.specs.Problems.{unit_count, resource_count};
 ghost use Rattle.choice_problem.specs.Bounds.{AreRanges, least_load, whole_of};
 ghost use Rattle.choice_problem.specs.Trees.{OverHolds};
-ghost use Rattle.cert_checker.specs.Kept.{AgreeBut};
+ghost use Rattle.kept_bounds.specs.Changes.{AgreeBut};
 ghost use Rattle.cert_checker.specs.KeptLoads.{least_at};
 ghost use Rattle.cert_checker.specs.Loads.{IsLoadState, AreWholeLoads};
 ghost use Rattle.cert_checker.specs.Marked.{AreOnce};
@@ -14,6 +14,7 @@ use crate::kept_loads::{KeptLoad, empty_places, has_other, renewed};
 use crate::marked::Marked;
 use crate::named::{named_resources, rank_of};
 use choice_problem::{Node, Problem, Ranges, least_uses};
+use kept_bounds::agreeing_ranges;
 use slot_text::Memory;
 use std::alloc::Global;
 
@@ -130,6 +131,7 @@ fn load_now(
     ensures load { result ≡ least_load problem.now ranges.now resource }
     ensures small { result < 2 ^ 100 }
 {
+    agreeing_ranges();
     let mut now = u128::from(load);
     for unit in changed {
         now = exchanged(problem, whole, ranges, *unit, now, resource);

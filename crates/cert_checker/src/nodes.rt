@@ -10,13 +10,13 @@ ghost use Rattle.cert_checker.specs.Tests.{MayBeUndone, Passes, undone_tests, no
 ghost use Rattle.cert_checker.specs.States.{IsState, IsStateFirst};
 ghost use Rattle.cert_checker.specs.Parts.{IsLineFault, GoesOnBy, IsPart, tree_part, unfixed};
 
-use crate::kept::Named;
 use crate::lines::Judged;
 use crate::states::{State, first_state, go_on, leaf_holds, resource_over};
 use crate::trees::{is_tree, is_whole};
 use crate::verdict::Reason;
 use cert_format::{Floor, Mark, StageCert};
 use choice_problem::{Node, Problem, RangeWalk, Ranges};
+use kept_bounds::NamedBound;
 use slot_text::Memory;
 use std::alloc::Global;
 
@@ -66,7 +66,7 @@ fn undone_fault(
     }
     match (floors, cert.bound) {
         ([floor, ..], Some(bound)) => {
-            let named = Named {
+            let named = NamedBound {
                 vector: floor.vector,
                 scale: floor.scale,
             };
@@ -103,7 +103,7 @@ fn node_fault(
             Reason::Split,
         )),
         Node::Leaf { vector, scale, .. } => {
-            let named = Named { vector, scale };
+            let named = NamedBound { vector, scale };
             let vectors = &cert.vectors;
             let cost = cert.cost;
             let holds = leaf_holds(alloc, problem, vectors, state, cost, ranges, named)?;

@@ -6,10 +6,10 @@ ghost use Rattle.choice_problem.specs.Trees.{LeafHolds, OverHolds};
 ghost use Rattle.choice_problem.specs.Walks.{CanStep, IsStep};
 ghost use Rattle.cert_checker.specs.States.{IsState, IsStateFirst};
 
-use crate::kept::{KeptBound, Named, empty_kept, renewed};
 use crate::loads::{Loads, first_loads, over_holds};
 use crate::marked::mark_all;
-use choice_problem::{Node, Problem, RangeWalk, Ranges, SCALE_BOUND, VectorList};
+use choice_problem::{Node, Problem, RangeWalk, Ranges, VectorList};
+use kept_bounds::{KeptBounds, NamedBound, agreeing_ranges, walked_bounds};
 use slot_text::Memory;
 use std::alloc::Global;
 
@@ -17,7 +17,7 @@ use std::alloc::Global;
 // ranges changed on the way to it.
 #[derive(Drop)]
 pub(crate) struct State {
-    pub(crate) bounds: Vec<Option<KeptBound>>,
+    pub(crate) bounds: KeptBounds,
     pub(crate) loads: Loads,
     pub(crate) changes: Vec<u32>,
 }
@@ -33,7 +33,7 @@ pub(crate) fn first_state(
         (λ state. IsState problem.now vectors.now (whole_of problem.now) state) }
 {
     Ok(State {
-        bounds: empty_kept(alloc, vectors)?,
+        bounds: KeptBounds::empty(alloc, vectors)?,
         loads: first_loads(alloc, problem, nodes)?,
         changes: Vec::new(alloc),
     })
@@ -72,7 +72,7 @@ pub(crate) fn leaf_holds(
     state: &mut State,
     cost: Option<u64>,
     ranges: &Ranges,
-    named: Named,
+    named: NamedBound,
 ) -> Result<bool, Memory>
     requires ranges { AreRanges problem.now ranges.now }
     requires vectors { All (IsVector problem.now) vectors.now }
@@ -82,14 +82,7 @@ pub(crate) fn leaf_holds(
         (λ holds. IsTrue holds
         ↔ LeafHolds problem.now vectors.now cost ranges.now named.vector named.scale) }
 {
-    if named.vector as usize > vectors.items().len() || named.scale >= SCALE_BOUND {
-        return Ok(false);
-    }
-    let old = state.bounds[named.vector as usize].take();
-    let bound = renewed(alloc, problem, vectors, old, ranges, &state.changes, named)?;
-    let holds = bound.totals.closes(cost);
-    state.bounds[named.vector as usize] = Some(bound);
-    Ok(holds)
+    state.bounds.leaf_holds(alloc, problem, vectors, ranges, &state.changes, cost, named)
 }
 
 /// Goes on by a node, where it may stand.
@@ -109,6 +102,8 @@ pub(crate) fn go_on(
     ensures state { IfOk result
         (λ yes. IsTrue yes → IsStateFirst problem.now vectors.now walk.new state.new) }
 {
+    walked_bounds();
+    agreeing_ranges();
     let before = state.changes.len();
     let goes_on = walk.advance(node, &mut state.changes)?;
     if goes_on && !walk.is_done() {

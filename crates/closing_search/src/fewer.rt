@@ -214,7 +214,8 @@ struct Remainder<'a> {
     spans: Spans,
     closers: &'a [u32],
     values: Vec<i64>,
-    // For each vector and unit, by how much the priced costs in the unit's range of the leaf differ.
+    // For each vector and unit, by how much the priced costs in the unit's range of the leaf
+    // differ.
     spreads: Vec<i64>,
     unit: u32,
 }

@@ -1,12 +1,12 @@
 //! The growth of a tree by free splits.
 
-use crate::ahead::{Ahead, Known, NODE_PIVOTS};
 use crate::allowed::Allowed;
 use crate::entries::Entry;
 use crate::pricings::{Pricing, closing};
 use crate::rounding::take_rounded;
-use crate::splits::{Split, best_split};
+use crate::splits::{Split, best_split, looks_of};
 use crate::states::{NEVER, Open, State, Task};
+use crate::studies::{Known, NODE_PIVOTS, study_nodes};
 use relaxed_problem::{End, Ended, Relaxation};
 use slot_text::Memory;
 use std::alloc::Global;
@@ -25,8 +25,8 @@ pub(crate) fn grow<R: Threads + Sync>(
         if state.steps == 0 {
             return Ok(false);
         }
-        solve_ahead(rt, alloc, task, state)?;
-        if !visit_next(rt, alloc, task, state)? {
+        study_ahead(rt, alloc, task, state)?;
+        if !visit_next(alloc, task, state)? {
             return Ok(false);
         }
     }
@@ -34,16 +34,11 @@ pub(crate) fn grow<R: Threads + Sync>(
 }
 
 // Visits the last open node, if there is one. Answers whether it did and this does not stay open.
-fn visit_next<R: Threads + Sync>(
-    rt: &R,
-    alloc: Global,
-    task: &Task<'_>,
-    state: &mut State,
-) -> Result<bool, Memory> {
+fn visit_next(alloc: Global, task: &Task<'_>, state: &mut State) -> Result<bool, Memory> {
     let Some(mut open) = state.open.pop() else {
         return Ok(false);
     };
-    match visit(rt, alloc, task, state, &mut open)? {
+    match visit(alloc, task, state, &mut open)? {
         Outcome::Waits => {
             open.made = None;
             state.add_open(open)?;
@@ -58,35 +53,43 @@ fn visit_next<R: Threads + Sync>(
     }
 }
 
-// Where there are several threads and the next node is not solved, solves it, and goes on with
-// those behind it side by side.
-fn solve_ahead<R: Threads + Sync>(
+// Where there are several threads and the next node was not studied, studies it and others that are
+// to come side by side.
+fn study_ahead<R: Threads + Sync>(
     rt: &R,
     alloc: Global,
     task: &Task<'_>,
     state: &mut State,
 ) -> Result<(), Memory> {
-    if state.threads() < 2 || state.open.len() < 2 || is_ready(task, state)? {
+    if state.helpers.is_empty() || state.open.len() < 2 || is_ready(task, state)? {
         return Ok(());
     }
-    let enough = state.enough();
-    state.lend();
+    let (enough, has_room) = (state.enough(), state.has_room());
     let State {
-        places,
+        open,
+        helpers,
         pricings,
         cost,
+        base,
+        scores,
+        is_by_quotas,
+        is_thorough,
         ..
     } = state;
     let known = Known {
         pricings,
+        has_room,
         cost: *cost,
         enough,
+        base,
+        scores,
+        is_by_quotas: *is_by_quotas,
+        looks: looks_of(*is_thorough),
     };
-    places.solve(rt, alloc, task, known);
-    state.take_back()
+    study_nodes(rt, alloc, task, known, helpers, open)
 }
 
-// Whether the last open node is solved, or a vector that there is closes it.
+// Whether the last open node was studied, or a vector that there is closes it.
 fn is_ready(task: &Task<'_>, state: &mut State) -> Result<bool, Memory> {
     let State {
         open,
@@ -97,7 +100,7 @@ fn is_ready(task: &Task<'_>, state: &mut State) -> Result<bool, Memory> {
     let Some(next) = open.last_mut() else {
         return Ok(true);
     };
-    if next.is_ahead(*cost) {
+    if next.is_studied(*cost) {
         return Ok(true);
     }
     next.complete_values(task, pricings)?;
@@ -122,8 +125,7 @@ fn outcome_of(is_done: bool) -> Outcome {
 }
 
 // Closes or splits a node, or lets it wait.
-fn visit<R: Threads + Sync>(
-    rt: &R,
+fn visit(
     alloc: Global,
     task: &Task<'_>,
     state: &mut State,
@@ -137,13 +139,12 @@ fn visit<R: Threads + Sync>(
     if end == End::Solved && state.is_behind(open.relaxation.value()) {
         return Ok(Outcome::Waits);
     }
-    let is_done = close_or_split(rt, alloc, task, state, open, end)?;
+    let is_done = close_or_split(alloc, task, state, open, end)?;
     Ok(outcome_of(is_done))
 }
 
 // Closes or splits a node whose relaxation ended so. Answers whether it did.
-fn close_or_split<R: Threads + Sync>(
-    rt: &R,
+fn close_or_split(
     alloc: Global,
     task: &Task<'_>,
     state: &mut State,
@@ -152,54 +153,36 @@ fn close_or_split<R: Threads + Sync>(
 ) -> Result<bool, Memory> {
     match end {
         End::Spent => Ok(false),
-        End::Solved => bound_or_split(rt, alloc, task, state, open),
+        End::Solved => bound_or_split(alloc, task, state, open),
         End::Infeasible => close_empty(alloc, task, state, open),
         End::Above => {
             let is_closed = close_by_prices(alloc, task, state, open)?;
             if is_closed {
                 return Ok(true);
             }
-            split_bounded(rt, alloc, task, state, open)
+            split_bounded(alloc, task, state, open)
         }
     }
 }
 
-// Solves a node, or ends the solution that was begun before its turn, if it is for this cost. What
-// it took is counted from the node that was split.
+// Solves a node, or takes the solution of its study, if that was made for this cost. What it took
+// is counted from the node that was split.
 fn first_end(
     alloc: Global,
     task: &Task<'_>,
     state: &mut State,
     open: &mut Open,
 ) -> Result<End, Memory> {
-    let ended = match open.ahead.take() {
-        Some(ahead) if ahead.cost == state.cost => ended_of(alloc, task, state, open, ahead)?,
-        _ => solved(alloc, task, state, &mut open.relaxation)?,
+    open.forget_others(state.cost);
+    let ended = match open.take_solved() {
+        Some(solved) => {
+            open.relaxation = solved.relaxation;
+            solved.ended
+        }
+        None => solved(alloc, task, state, &mut open.relaxation)?,
     };
     state.spend(task.program, open.whole(ended));
     Ok(ended.end)
-}
-
-// Ends a solution, and makes it the node's.
-fn ended_of(
-    alloc: Global,
-    task: &Task<'_>,
-    state: &mut State,
-    open: &mut Open,
-    ahead: Ahead,
-) -> Result<Ended, Memory> {
-    let enough = state.enough();
-    let mut ahead = ahead;
-    if !ahead.is_done(state.cost) {
-        ahead.advance(alloc, task, enough, &mut state.work, NODE_PIVOTS)?;
-    }
-    let Ahead {
-        relaxation,
-        ended,
-        ..
-    } = ahead;
-    open.relaxation = relaxation;
-    Ok(ended)
 }
 
 // Goes on with a relaxation, until it passes the cost.
@@ -216,15 +199,15 @@ fn solved(
 }
 
 // Splits a node whose relaxation is above the cost while no vector closes it.
-fn split_bounded<R: Threads + Sync>(
-    rt: &R,
+fn split_bounded(
     alloc: Global,
     task: &Task<'_>,
     state: &mut State,
     open: &mut Open,
 ) -> Result<bool, Memory> {
+    open.study = None;
     match solve_whole(alloc, task, state, &mut open.relaxation)? {
-        End::Solved => bound_or_split(rt, alloc, task, state, open),
+        End::Solved => bound_or_split(alloc, task, state, open),
         End::Infeasible => close_empty(alloc, task, state, open),
         End::Above | End::Spent => Ok(false),
     }
@@ -273,23 +256,25 @@ fn ray_of(
     Pricing::new(alloc, task, &state.base, vector, 0)
 }
 
-// The prices of a node's relaxation.
+// The prices of a node's relaxation, from its study, if that has them.
 fn prices_of(
     alloc: Global,
     task: &Task<'_>,
     state: &State,
-    open: &Open,
+    open: &mut Open,
 ) -> Result<Pricing, Memory> {
-    Pricing::of(alloc, task, &state.base, &open.relaxation)
+    match open.take_pricing() {
+        Some(pricing) => Ok(pricing),
+        None => Pricing::of(alloc, task, &state.base, &open.relaxation),
+    }
 }
 
 // Closes or splits a node whose relaxation is solved.
-fn bound_or_split<R: Threads + Sync>(
-    rt: &R,
+fn bound_or_split(
     alloc: Global,
     task: &Task<'_>,
     state: &mut State,
-    open: &Open,
+    open: &mut Open,
 ) -> Result<bool, Memory> {
     let mut pricing = None;
     if state.may_close(open.relaxation.value()) {
@@ -300,29 +285,25 @@ fn bound_or_split<R: Threads + Sync>(
         }
         pricing = Some(found);
     }
-    let makes = pricing.is_none() && state.has_room();
-    if let Some(split) = split_of(rt, alloc, task, state, open, makes)? {
-        if makes {
-            pricing = state.places.take_pricing();
-        }
-        state.take_pricing(pricing)?;
-        return divide(alloc, task, state, open, split);
+    let Some(split) = split_of(alloc, task, state, open)? else {
+        return close_by_prices(alloc, task, state, open);
+    };
+    if pricing.is_none() && state.has_room() {
+        pricing = Some(prices_of(alloc, task, state, open)?);
     }
-    close_by_prices(alloc, task, state, open)
+    state.take_pricing(pricing)?;
+    divide(alloc, task, state, open, split)
 }
 
-// The best split of a node whose relaxation is solved; where there is none, takes its choice. A
-// thread makes the prices of the node meanwhile, if they are to be made.
-fn split_of<R: Threads + Sync>(
-    rt: &R,
+// The best split of a node whose relaxation is solved; where there is none, takes its choice.
+fn split_of(
     alloc: Global,
     task: &Task<'_>,
     state: &mut State,
     open: &Open,
-    makes_prices: bool,
 ) -> Result<Option<Split>, Memory> {
     let shares = open.relaxation.shares(alloc, task.program)?;
-    let split = best_split(rt, alloc, task, state, open, &shares, makes_prices)?;
+    let split = best_split(alloc, task, state, open, &shares)?;
     if split.is_none() {
         take_rounded(alloc, task, state, &open.relaxation, &shares)?;
     }
@@ -334,7 +315,7 @@ fn close_by_prices(
     alloc: Global,
     task: &Task<'_>,
     state: &mut State,
-    open: &Open,
+    open: &mut Open,
 ) -> Result<bool, Memory> {
     let pricing = prices_of(alloc, task, state, open)?;
     let is_closed = state.is_closed_by(task, open, &pricing);
@@ -349,7 +330,7 @@ fn divide(
     alloc: Global,
     task: &Task<'_>,
     state: &mut State,
-    open: &Open,
+    open: &mut Open,
     split: Split,
 ) -> Result<bool, Memory> {
     let low = state.add_entry()?;
@@ -376,7 +357,7 @@ fn push_part(
     alloc: Global,
     task: &Task<'_>,
     state: &mut State,
-    open: &Open,
+    open: &mut Open,
     split: Split,
     part: (u32, bool),
 ) -> Result<(), Memory> {
@@ -384,14 +365,17 @@ fn push_part(
     let mut allowed = open.allowed.copy(alloc)?;
     allowed.keep(task.problem, task.reduced, split.unit, split.rule, is_high);
     let values = moved_values(alloc, task, state, open, split.unit, &allowed)?;
-    let (relaxation, made) = state.places.part(alloc, is_high)?;
+    let half = match open.take_part(split, is_high) {
+        Some(half) => half,
+        None => state.looker.part(alloc, is_high)?,
+    };
     state.add_open(Open {
         entry,
         allowed,
         values,
-        relaxation,
-        made,
-        ahead: None,
+        relaxation: half.relaxation,
+        made: half.ended,
+        study: None,
     })
 }
 

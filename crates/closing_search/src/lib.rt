@@ -3,7 +3,6 @@
 //! not proved and need not be: an answer is given only after the exact test of `tested_trees`.
 #![tactic(auto)]
 
-mod ahead;
 mod allowed;
 mod barred;
 mod costs;
@@ -31,6 +30,7 @@ mod sides;
 mod spans;
 mod splits;
 mod states;
+mod studies;
 mod trees;
 mod unpriced;
 

@@ -40,12 +40,14 @@ const ROOT_PIVOTS: u32 = 50_000;
 /// ordered sets of variables"). In the end a tree whose splits cut ranges is made of it, and where
 /// its leaves name too many vectors, those of some are split further, by what the others close. Its
 /// work is bounded by counts of nodes and pivots, and the same problem, start and budget give the
-/// same answer for each number of workers: these look at the splits of a node, and solve open ones,
-/// side by side, on at most so many threads, while the tree grows as with one. The test at its end
-/// takes one step an alternative for each leaf, and makes a price table of each vector, on up to
-/// four threads.
+/// same answer for each number of workers: these solve open nodes and look at their splits before
+/// their turn, side by side, on at most so many threads, while the tree grows as with one. The test
+/// at its end makes a price table of each vector, on up to four threads; a leaf takes a step for
+/// each change of a range since one last named its vector, and one an alternative of each range
+/// that differs.
 ///
-/// Memory: for each open node two relaxations; and up to some 75 more, 12 with one worker.
+/// Memory: for each open node a relaxation, and with several workers three more for each of at most
+/// 48 of them; and some 12 more, and with several workers four for each of these.
 pub fn closing_search<R: Threads + Sync>(
     rt: &R,
     alloc: Global,

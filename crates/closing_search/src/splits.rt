@@ -1,23 +1,22 @@
 //! Where a search splits a node: at a unit of whose alternatives the relaxation takes shares, so
 //! that both parts have a greater bound.
 
-use crate::ahead::Known;
-use crate::looks::{Basis, MOST_BESIDE};
+use crate::looks::{Field, Seen};
 use crate::rules::{Rule, uses_of_part};
+use crate::scores::Scores;
 use crate::states::{NEVER, Open, State, Task};
 use relaxed_problem::{End, Ended, Relaxation, Share};
 use slot_text::Memory;
 use std::alloc::Global;
 use std::num::saturating_f64_to_i64;
-use std::thread::Threads;
 
-// How many splits are looked at, after how many without a better one the rest is not, and by how
-// many pivots for each part.
+/// How many splits are looked at, after how many without a better one the rest is not, and by how
+/// many pivots for each part.
 #[derive(Clone, Copy)]
-struct Looks {
-    most: usize,
-    idle: u32,
-    pivots: u32,
+pub(crate) struct Looks {
+    pub(crate) most: usize,
+    pub(crate) idle: u32,
+    pub(crate) pivots: u32,
 }
 
 const FEW_LOOKS: Looks = Looks {
@@ -32,13 +31,9 @@ const MANY_LOOKS: Looks = Looks {
     pivots: 50,
 };
 
-// How the splits of a tree are looked at.
-fn looks_of(state: &State) -> Looks {
-    if state.is_thorough {
-        MANY_LOOKS
-    } else {
-        FEW_LOOKS
-    }
+/// How the splits of a tree are looked at: more of them, or not.
+pub(crate) fn looks_of(is_thorough: bool) -> Looks {
+    if is_thorough { MANY_LOOKS } else { FEW_LOOKS }
 }
 
 /// A share that counts as the whole.
@@ -56,111 +51,54 @@ pub(crate) struct Split {
 /// The split of a node whose relaxation is solved; none where it takes one alternative of each
 /// unit. Where the relaxation takes shares of alternatives that use a quota differently, the split
 /// is by their uses: the other alternatives of a unit make up for a split by numbers, but not for
-/// one by uses. The relaxations of its two parts, as far as they were looked at, are the state's
-/// then.
-pub(crate) fn best_split<R: Threads + Sync>(
-    rt: &R,
+/// one by uses. The relaxations of its two parts, as far as they were looked at, are those of the
+/// node's study then, or of the state.
+pub(crate) fn best_split(
     alloc: Global,
     task: &Task<'_>,
     state: &mut State,
     open: &Open,
     shares: &[Share],
-    makes_prices: bool,
 ) -> Result<Option<Split>, Memory> {
-    let found = candidates(alloc, task, state, &open.relaxation, shares)?;
-    let looks = looks_of(state);
+    let relaxation = &open.relaxation;
+    let found = candidates(
+        alloc,
+        task,
+        &state.scores,
+        state.is_by_quotas,
+        relaxation,
+        shares,
+    )?;
+    let looks = looks_of(state.is_thorough);
     let field = Field {
-        open,
+        relaxation,
         candidates: first_of(&found, looks.most),
         looks,
+        enough: state.enough(),
     };
-    let mut pick = Pick {
-        best: None,
-        most: -1.0,
-        idle: 0,
-    };
-    state.places.begin(makes_prices);
-    let mut first = 0;
-    for _ in 0..field.candidates.len() {
-        let end = group_end(state, &pick, field, first);
-        if end <= first || pick.idle >= looks.idle {
-            break;
-        }
-        look_at_group(rt, alloc, task, state, field, (first, end), pick.most)?;
-        take_looks(task, state, field, (first, end), &mut pick)?;
-        first = end;
+    let mut seen = Vec::new(alloc);
+    let pick = state
+        .looker
+        .pick(alloc, task, field, open.before(), &mut seen)?;
+    for one in &seen {
+        take_seen(task, state, one);
     }
     Ok(pick.best)
 }
 
-// A node, its splits that may be looked at, and how they are.
-#[derive(Clone, Copy)]
-struct Field<'a> {
-    open: &'a Open,
-    candidates: &'a [Candidate],
-    looks: Looks,
+// Counts the steps of looks at a split, and notes what its parts gain.
+fn take_seen(task: &Task<'_>, state: &mut State, seen: &Seen) {
+    state.spend(task.program, seen.first.ended);
+    if let Some(other) = seen.other {
+        state.spend(task.program, other.ended);
+    }
+    state
+        .scores
+        .note(seen.split.unit, seen.gain, seen.other_gain);
 }
 
-// Looks at the splits from one to another, of which a better one must pass this product of gains.
-fn look_at_group<R: Threads + Sync>(
-    rt: &R,
-    alloc: Global,
-    task: &Task<'_>,
-    state: &mut State,
-    field: Field<'_>,
-    span: (usize, usize),
-    most: f64,
-) -> Result<(), Memory> {
-    let enough = state.enough();
-    let room = room_below(enough, &field.open.relaxation);
-    state.lend();
-    let State {
-        places,
-        pricings,
-        cost,
-        base,
-        ..
-    } = state;
-    let known = Known {
-        pricings,
-        cost: *cost,
-        enough,
-    };
-    let basis = Basis {
-        relaxation: &field.open.relaxation,
-        base,
-        pivots: field.looks.pivots,
-        enough,
-        room,
-        most,
-    };
-    places.look_at(rt, alloc, task, known, basis, field.candidates, span);
-    state.take_back()
-}
-
-// The best split of those that were looked at, the product of its gains, and how many looks
-// followed it.
-#[derive(Clone, Copy)]
-struct Pick {
-    best: Option<Split>,
-    most: f64,
-    idle: u32,
-}
-
-// The end of the splits that are looked at side by side, from this one on: on several threads as
-// many as must be looked at in any case.
-fn group_end(state: &State, pick: &Pick, field: Field<'_>, first: usize) -> usize {
-    let sure = if state.threads() < 2 {
-        1
-    } else {
-        field.looks.idle.saturating_sub(pick.idle) as usize
-    };
-    let end = first.saturating_add(sure.max(1).min(MOST_BESIDE));
-    end.min(field.candidates.len())
-}
-
-// The first ones, at most so many.
-fn first_of(candidates: &[Candidate], most: usize) -> &[Candidate] {
+/// The first ones, at most so many.
+pub(crate) fn first_of(candidates: &[Candidate], most: usize) -> &[Candidate] {
     if most < candidates.len() {
         &candidates[..most]
     } else {
@@ -168,70 +106,19 @@ fn first_of(candidates: &[Candidate], most: usize) -> &[Candidate] {
     }
 }
 
-// Takes the looks at the splits from one to another in turn, until so many without a better one
-// followed a best one.
-fn take_looks(
-    task: &Task<'_>,
-    state: &mut State,
-    field: Field<'_>,
-    span: (usize, usize),
-    pick: &mut Pick,
-) -> Result<(), Memory> {
-    for place in span.0..span.1 {
-        if pick.idle < field.looks.idle {
-            if let Some(candidate) = field.candidates.get(place) {
-                take_look(task, state, field.open, place, candidate.split, pick)?;
-            }
-        }
-    }
-    Ok(())
-}
-
-// Takes a look at a split: notes what its parts gain, and keeps their relaxations where this is
-// best. Where the part that was looked at first shows that it is not, the other one counts as if it
-// gained all that it can.
-fn take_look(
-    task: &Task<'_>,
-    state: &mut State,
-    open: &Open,
-    place: usize,
-    split: Split,
-    pick: &mut Pick,
-) -> Result<(), Memory> {
-    let from = place.saturating_mul(2);
-    let room = room_below(state.enough(), &open.relaxation);
-    let first = part_gain(task, state, open, from, room)?;
-    let second = if is_no_better(first, room, pick.most) {
-        room
-    } else {
-        part_gain(task, state, open, from.saturating_add(1), room)?
-    };
-    state.scores.note(split.unit, first, second);
-    pick.idle = pick.idle.saturating_add(1);
-    if first * second > pick.most {
-        pick.most = first * second;
-        pick.best = Some(Split {
-            is_low_first: (first <= second) == split.is_low_first,
-            ..split
-        });
-        pick.idle = 0;
-        state.places.keep_parts(from, split.is_low_first);
-    }
-    Ok(())
-}
-
-// The splits by the uses of quotas that have prices, where there are some, else those by numbers;
-// those of the units of the greatest scores come first, and of these those of the smallest greatest
-// share.
-fn candidates(
+/// The splits of a solved relaxation, the first ones to be looked at first: those by the uses of
+/// quotas that have prices, where they come first and there are some, else those by numbers; those
+/// of the units of the greatest scores, and of these those of the smallest greatest share.
+pub(crate) fn candidates(
     alloc: Global,
     task: &Task<'_>,
-    state: &State,
+    scores: &Scores,
+    is_by_quotas: bool,
     relaxation: &Relaxation,
     shares: &[Share],
 ) -> Result<Vec<Candidate>, Memory> {
     let mut found = Vec::new(alloc);
-    if state.is_by_quotas {
+    if is_by_quotas {
         for class in task.quotas {
             if relaxation.is_priced(*class) {
                 add_splits(task, relaxation, shares, Some(*class), &mut found)?;
@@ -241,9 +128,9 @@ fn candidates(
     if found.is_empty() {
         add_splits(task, relaxation, shares, None, &mut found)?;
     }
-    let mean = state.scores.mean();
+    let mean = scores.mean();
     for candidate in found.iter_mut() {
-        candidate.order = state.scores.order(candidate.split.unit, mean);
+        candidate.order = scores.order(candidate.split.unit, mean);
     }
     found.sort_unstable_by_key(|candidate| (candidate.order, candidate.rank, candidate.place));
     Ok(found)
@@ -419,22 +306,6 @@ fn cut_between(task: &Task<'_>, relaxation: &Relaxation, from: &Share, to: &Shar
     cut
 }
 
-// What the value of the relaxation gains in a part of a split, as far as the look at this place
-// shows it.
-fn part_gain(
-    task: &Task<'_>,
-    state: &mut State,
-    open: &Open,
-    place: usize,
-    room: f64,
-) -> Result<f64, Memory> {
-    let Some((ended, reached)) = state.places.end(place) else {
-        return Err(Memory);
-    };
-    state.spend(task.program, ended);
-    Ok(gain_of(ended, reached - open.relaxation.value(), room))
-}
-
 /// What counts as the gain of a part whose look ended so, with so much gained: a thousandth at
 /// least, and at most what it can gain.
 pub(crate) fn gain_of(ended: Ended, gain: f64, room: f64) -> f64 {
@@ -448,8 +319,8 @@ pub(crate) fn is_no_better(gain: f64, room: f64, most: f64) -> bool {
     gain * room <= most
 }
 
-// How much a part of a node with this relaxation can gain at most.
-fn room_below(enough: f64, relaxation: &Relaxation) -> f64 {
+/// How much a part of a node with this relaxation can gain at most.
+pub(crate) fn room_below(enough: f64, relaxation: &Relaxation) -> f64 {
     let value = relaxation.value();
     if enough < value + MOST_GAIN {
         enough - value

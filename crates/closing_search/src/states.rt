@@ -1,13 +1,13 @@
 //! What a search knows while its tree grows.
 
-use crate::ahead::{Ahead, sum_of};
 use crate::allowed::Allowed;
 use crate::entries::{Entry, named_in};
-use crate::looks::Places;
+use crate::looks::Looker;
 use crate::pieces::bit_of;
 use crate::pricings::{Pricing, closing};
 use crate::rules::Rule;
 use crate::scores::Scores;
+use crate::studies::{Helper, MOST_HELPERS, Study, helpers_of};
 use choice_problem::{Choice, Problem, Vector, cost_of, fits};
 use reduced_problem::Reduced;
 use relaxed_problem::{Ended, Program, Relaxation, Work};
@@ -63,7 +63,8 @@ pub(crate) struct Open {
     pub(crate) relaxation: Relaxation,
     // What its relaxation took since it left that of the node that was split.
     pub(crate) made: Option<Ended>,
-    pub(crate) ahead: Option<Ahead>,
+    // What was made of it before its turn.
+    pub(crate) study: Option<Study>,
 }
 
 impl Open {
@@ -76,14 +77,18 @@ impl Open {
             values: Vec::new(alloc),
             relaxation,
             made: None,
-            ahead: None,
+            study: None,
         })
     }
 
     // What a solution took, with what was made before it.
     pub(crate) fn whole(&self, ended: Ended) -> Ended {
         match self.made {
-            Some(made) => sum_of(made, ended),
+            Some(made) => Ended {
+                pivots: ended.pivots.saturating_add(made.pivots),
+                changes: ended.changes.saturating_add(made.changes),
+                ..ended
+            },
             None => ended,
         }
     }
@@ -116,8 +121,10 @@ pub(crate) struct State {
     pub(crate) base: Allowed,
     // What splits gained so far.
     pub(crate) scores: Scores,
-    // Where splits are looked at, and how many threads there may be.
-    pub(crate) places: Places,
+    // What splits are looked at with, what several threads study nodes with, and how many threads
+    // there may be.
+    pub(crate) looker: Looker,
+    pub(crate) helpers: Vec<Helper>,
     pub(crate) workers: u32,
 }
 
@@ -158,11 +165,12 @@ impl State {
         workers: u32,
     ) -> Result<State, Memory> {
         let is_alone = workers < 2 || task.program.columns().len() < MANY_COLUMNS;
-        let threads = if is_alone { 1 } else { workers as usize };
+        let helpers = if is_alone { 0 } else { workers as usize };
         let base = allowed.copy(alloc)?;
         let work = Work::new(alloc, task.program)?;
         let scores = Scores::none(alloc, task.problem.units())?;
-        let places = Places::new(alloc, task, root, threads)?;
+        let looker = Looker::new(alloc, task, root)?;
+        let helpers = helpers_of(alloc, task, root, helpers.min(MOST_HELPERS))?;
         Ok(State {
             entries: Vec::new(alloc),
             open: Vec::new(alloc),
@@ -176,7 +184,8 @@ impl State {
             is_by_bounds: false,
             base,
             scores,
-            places,
+            looker,
+            helpers,
             workers,
         })
     }
@@ -254,15 +263,6 @@ impl State {
     pub(crate) fn into_best(self) -> Option<Choice> {
         let State { best, .. } = self;
         best
-    }
-
-    // On how many threads nodes are searched.
-    pub(crate) fn threads(&self) -> usize {
-        if self.places.threads() > 1 {
-            self.workers as usize
-        } else {
-            1
-        }
     }
 
     // Takes a choice, where it is feasible and cheaper than the best one.
@@ -423,16 +423,6 @@ impl State {
         let number = u32::try_from(self.entries.len()).unwrap_or(u32::MAX);
         self.entries.push(Entry::Open)?;
         Ok(number)
-    }
-
-    // Lends the last open nodes to the threads, the last one first.
-    pub(crate) fn lend(&mut self) {
-        self.places.lend(&mut self.open);
-    }
-
-    // Takes the open nodes back.
-    pub(crate) fn take_back(&mut self) -> Result<(), Memory> {
-        self.places.give_back(&mut self.open)
     }
 
     // The value above which a relaxation shows that no choice in its ranges is cheaper than the

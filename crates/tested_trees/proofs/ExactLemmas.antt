@@ -1,34 +1,11 @@
 -- The test of a tree.
-use Rattle.std.proofs.Common.{◌≡◌, ℕ, zero, suc, ◌+◌, ◌-◌, ◌<◌, ◌≤◌, sym, ◌∙◌, ap, refl, subst, arith, List, [], ◌∷◌, ◌++◌, length, get_or, drop, take, Option}
+use Rattle.std.proofs.Common.{◌≡◌, ℕ, zero, suc, ◌+◌, ◌<◌, ◌≤◌, sym, refl, subst, arith, List, [], ◌∷◌, length, get_or, drop, take, Option}
 use Rattle.std.specs.Prelude.{All}
-use Rattle.std.proofs.lemmas.List.{drop_more, get_or-map, length-map, map_push, take_all}
-use Rattle.choice_problem.specs.declared.closing.TheConstants.{SCALE_BOUND}
+use Rattle.std.proofs.lemmas.List.{drop_more, take_all}
 use Rattle.choice_problem.specs.declared.nodes.Node.{Node}
 use Rattle.choice_problem.specs.declared.vectors.Price.{Price}
 use Rattle.choice_problem.specs.Problems.{ProblemView}
-use Rattle.choice_problem.specs.Bounds.{Closes}
-use Rattle.choice_problem.specs.Trees.{AreSound, IsWhole, LeafHolds}
-use Rattle.price_table.specs.Tables.{TableView, vectors_of}
-
--- a leaf by a listed vector
-pub leaf-listed : (p : ProblemView) (tables : List TableView) (cost : Option ℕ) (ranges : List (ℕ × ℕ)) (vector scale : ℕ) (t : TableView) →
-    0 < vector → vector - 1 < length tables → t ≡ get_or tables (vector - 1) t → scale < SCALE_BOUND → Closes p ranges t.prices scale cost →
-    LeafHolds p (vectors_of tables) cost ranges vector scale
-leaf-listed p tables cost ranges zero scale t some lt at small closes = absurd (omega arith)
-leaf-listed p tables cost ranges (suc k) scale t some lt at small closes =
-    let e : suc k - 1 ≡ k = omega arith in
-    let there : k < length tables = omega (arith, lt, e) in
-    let here : t ≡ get_or tables k t = at ∙ ap (λ (n : ℕ). get_or tables n t) e in
-    let prices : get_or (vectors_of tables) k [] ≡ t.prices =
-    get_or-map {Y = List Price} (λ (u : TableView). u.prices) tables k t [] there ∙ ap (λ (u : TableView). u.prices) (sym here) in
-    record {
-      there = omega (arith, there, length-map {B = List Price} tables (λ (u : TableView). u.prices));
-      small = small;
-      closes = subst (λ (v : List Price). Closes p ranges v scale cost) (sym prices) closes;
-    }
-
-pub vectors-push : (tables : List TableView) (t : TableView) → vectors_of (tables ++ t ∷ []) ≡ vectors_of tables ++ t.prices ∷ []
-vectors-push tables t = map_push (λ (u : TableView). u.prices) tables t
+use Rattle.choice_problem.specs.Trees.{AreSound, IsWhole}
 
 nothing-left : (nodes : List Node) (i : ℕ) → length nodes ≤ i → drop i nodes ≡ []
 nothing-left [] zero past = refl

@@ -1,5 +1,5 @@
 -- What is answered after the test.
-use Rattle.std.proofs.Common.{ℕ, ◌≡◌, ◌≤◌, ◌∙◌, subst, List, length, drop, Bool, Some, None}
+use Rattle.std.proofs.Common.{ℕ, ◌≡◌, ◌≤◌, List, length, drop, Bool, Some, None}
 use Rattle.std.specs.Prelude.{◌↔◌, All, IsTrue, IfOk, IfSome, sum_by, Option, Result, Ok, Err}
 use Rattle.choice_problem.specs.declared.nodes.Node.{Node}
 use Rattle.choice_problem.specs.declared.vectors.Price.{Price}
@@ -12,8 +12,6 @@ use Rattle.cost_fixing.specs.declared.fixings.Fixing.{Fixing}
 use Rattle.choice_problem.specs.Trees.{vector_at}
 use Rattle.cost_fixing.specs.Fixings.{FixingHolds, left_problem, tree_problem}
 use Rattle.std.proofs.lemmas.List.Elements.{All-weaker}
-use Rattle.tested_trees.specs.declared.exact.Tables.{Tables}
-use Rattle.tested_trees.specs.Private.Tables.{listed_in}
 use Rattle.tested_trees.specs.Closed.{ClosesWhole, IsClosedAtMost}
 
 -- a cost within that of the start
@@ -39,16 +37,6 @@ closes-whole p budget cost fixing tree vectors (Ok passes) few listed prices eac
   few_prices = prices;
 }
 closes-whole p budget cost fixing tree vectors (Err e) few listed prices each holds sound whole = tt
-
--- what the tests of nodes show, of the tree and the vectors that they were made of
-pub sound-of : {E : Type 0} (p : ProblemView) (cost : Option ℕ) (tables : Tables) (items vectors : List (List Price)) (nodes tree : List Node) (result : Result Bool E) →
-    listed_in tables ≡ items → items ≡ vectors → nodes ≡ tree →
-    IfOk result (λ yes. IsTrue yes → IsSound p (listed_in tables) cost (whole_of p) nodes) →
-    IfOk result (λ yes. IsTrue yes → IsSound p vectors cost (whole_of p) tree)
-sound-of p cost tables items vectors nodes tree (Ok passes) tables-are items-are nodes-are sound = λ y.
-    subst (λ (v : List (List Price)). IsSound p v cost (whole_of p) tree) (tables-are ∙ items-are)
-    (subst (λ (n : List Node). IsSound p (listed_in tables) cost (whole_of p) n) nodes-are (sound y))
-sound-of p cost tables items vectors nodes tree (Err e) tables-are items-are nodes-are sound = tt
 
 -- a vector of the whole problem is one of what is left
 abbrev pub LeftVectors : Type 0

@@ -1,131 +1,126 @@
 //! The exact test of a tree: whether it is whole and each of its leaves is closed.
 
-ghost use Rattle.std.specs.Prelude.{◌≡◌, ◌∷◌, ◌++◌, List, All, IsTrue, IfOk};
+ghost use Rattle.std.specs.Prelude.{◌≡◌, ◌∷◌, ◌++◌, List, [], All, IsTrue, IfOk};
 ghost use denote.Param.Send.{IsSync};
 ghost use Rattle.choice_problem.specs.declared.nodes.Node.{Node};
 ghost use Rattle.choice_problem.specs.Bounds.{AreRanges, IsVector, whole_of};
-ghost use Rattle.choice_problem.specs.Trees.{AreSound, IsSound, IsWhole, LeafHolds, NodeHolds};
+ghost use Rattle.choice_problem.specs.Trees.{AreSound, IsSound, IsWhole, NodeHolds};
 ghost use Rattle.choice_problem.specs.Walks.{CanStand};
 ghost use Rattle.price_table.specs.Tables.{IsTableFor, vectors_of};
-ghost use Rattle.tested_trees.specs.Private.Tables.{AreLeafTables, listed_in};
+ghost use Rattle.kept_bounds.specs.Kept.{AreKept, AreKeptFirst};
 
-use choice_problem::{Node, Problem, RangeWalk, Ranges, SCALE_BOUND, Vector, over_closes};
-use price_table::{PriceTable, closes, price_table, tables_of};
+use choice_problem::{Node, Problem, RangeWalk, Ranges, Vector, VectorList, over_closes};
+use kept_bounds::{KeptBounds, NamedBound, walked_bounds};
+use price_table::{PriceTable, tables_of};
 use slot_text::Memory;
 use std::alloc::Global;
 use std::thread;
 use std::thread::Threads;
 
-// The table of the zero vector, and those of the listed vectors.
-#[derive(Drop)]
-pub(crate) struct Tables {
-    pub(crate) zero: PriceTable,
-    pub(crate) listed: Vec<PriceTable>,
-}
-
-// Whether the bound of a vector at a scale closes ranges for a cost, or for none. The vector may be
-// one that is not listed.
-fn leaf_holds(
-    problem: &Problem,
-    ranges: &Ranges,
-    tables: &Tables,
-    cost: Option<u64>,
-    vector: u32,
-    scale: u64,
-) -> bool
-    requires ranges { AreRanges problem.now ranges.now }
-    requires tables { AreLeafTables problem.now tables.now }
-    ensures { IsTrue result →
-        LeafHolds problem.now (listed_in tables.now) cost ranges.now vector scale }
-{
-    if scale >= SCALE_BOUND {
-        return false;
-    }
-    if vector == 0 {
-        return closes(problem, ranges, &tables.zero, scale, cost);
-    }
-    let place = vector as usize - 1;
-    if place >= tables.listed.len() {
-        return false;
-    }
-    closes(problem, ranges, &tables.listed[place], scale, cost)
-}
-
-// Whether a node that is no split is closed on ranges.
+// Whether a node that is no split is closed on ranges, after these changes of ranges.
 fn node_holds(
+    alloc: Global,
     problem: &Problem,
+    vectors: &VectorList,
+    bounds: &mut KeptBounds,
     ranges: &Ranges,
-    tables: &Tables,
+    changes: &[u32],
     cost: Option<u64>,
     node: Node,
-) -> bool
+) -> Result<bool, Memory>
+    requires vectors { All (IsVector problem.now) vectors.now }
     requires ranges { AreRanges problem.now ranges.now }
-    requires tables { AreLeafTables problem.now tables.now }
-    ensures holds { IsTrue result → CanStand ranges.now node →
-        NodeHolds problem.now (listed_in tables.now) cost ranges.now node }
-    ensures done { IsTrue result → (rest : List Node) → IsWhole rest → IsWhole (node ∷ rest) }
+    requires bounds { AreKept problem.now vectors.now ranges.now changes.now bounds.old }
+    ensures bounds { IfOk result
+        (λ yes. AreKept problem.now vectors.now ranges.now changes.now bounds.new) }
+    ensures holds { IfOk result (λ yes. IsTrue yes → CanStand ranges.now node →
+        NodeHolds problem.now vectors.now cost ranges.now node) }
+    ensures done { IfOk result (λ yes. IsTrue yes → (rest : List Node) → IsWhole rest →
+        IsWhole (node ∷ rest)) }
 {
     match node {
-        Node::Split { .. } => true,
+        Node::Split { .. } => Ok(true),
         Node::Leaf { vector, scale, .. } => {
-            leaf_holds(problem, ranges, tables, cost, vector, scale)
+            let named = NamedBound { vector, scale };
+            bounds.leaf_holds(alloc, problem, vectors, ranges, changes, cost, named)
         }
         Node::Over { resource } => {
-            resource < problem.resources() && over_closes(problem, ranges, resource)
+            Ok(resource < problem.resources() && over_closes(problem, ranges, resource))
         }
-        Node::Undone => false,
+        Node::Undone => Ok(false),
     }
 }
 
 // Tests a node on the first ranges of a walk, and goes on by it.
 fn passes(
+    alloc: Global,
     problem: &Problem,
+    vectors: &VectorList,
     walk: &mut RangeWalk,
-    tables: &Tables,
+    bounds: &mut KeptBounds,
+    changes: &mut Vec<u32>,
     cost: Option<u64>,
     node: Node,
-    changed: &mut Vec<u32>,
 ) -> Result<bool, Memory>
+    requires vectors { All (IsVector problem.now) vectors.now }
     requires ranges { All (AreRanges problem.now) walk.old }
-    requires tables { AreLeafTables problem.now tables.now }
+    requires bounds { AreKeptFirst problem.now vectors.now walk.old changes.old.items bounds.old }
     ensures ranges { IfOk result (λ yes. IsTrue yes → All (AreRanges problem.now) walk.new) }
+    ensures bounds { IfOk result (λ yes. IsTrue yes →
+        AreKeptFirst problem.now vectors.now walk.new changes.new.items bounds.new) }
     ensures sound { IfOk result (λ yes. IsTrue yes → (rest : List Node) →
-        AreSound problem.now (listed_in tables.now) cost walk.new rest →
-        AreSound problem.now (listed_in tables.now) cost walk.old (node ∷ rest)) }
+        AreSound problem.now vectors.now cost walk.new rest →
+        AreSound problem.now vectors.now cost walk.old (node ∷ rest)) }
     ensures whole { IfOk result (λ yes. IsTrue yes → (rest : List Node) → IsWhole rest →
         IsWhole (node ∷ rest)) }
 {
+    walked_bounds();
     if walk.is_done() {
         return Ok(false);
     }
-    if !node_holds(problem, walk.ranges(), tables, cost, node) {
+    let ranges = walk.ranges();
+    if !node_holds(alloc, problem, vectors, bounds, ranges, changes, cost, node)? {
         return Ok(false);
     }
-    changed.clear();
-    let goes_on = walk.advance(node, changed)?;
+    let goes_on = walk.advance(node, changes)?;
     Ok(goes_on)
 }
 
-/// Whether the nodes are one whole tree that is sound for the cost, or for none, with the tables'
-/// vectors: one step an alternative in range for each leaf.
+/// Whether the nodes are one whole tree that is sound for the cost, or for none, with these
+/// vectors. A leaf takes one step for each change of a range since a leaf last named its vector,
+/// and one an alternative of each range that differs; the first leaf that names a vector, and one
+/// that names another scale than the leaf before, takes one an alternative in range. The changes
+/// are listed: 4 bytes for each range that a step of the walk changes, which over the whole tree is
+/// three ranges a split.
 pub(crate) fn is_proof(
     alloc: Global,
     problem: &Problem,
-    tables: &Tables,
+    vectors: &VectorList,
+    bounds: KeptBounds,
     cost: Option<u64>,
     nodes: &[Node],
 ) -> Result<bool, Memory>
-    requires tables { AreLeafTables problem.now tables.now }
+    requires vectors { All (IsVector problem.now) vectors.now }
+    requires bounds { AreKept problem.now vectors.now (whole_of problem.now) [] bounds }
     ensures sound { IfOk result (λ yes. IsTrue yes →
-        IsSound problem.now (listed_in tables.now) cost (whole_of problem.now)
-        nodes.now) }
+        IsSound problem.now vectors.now cost (whole_of problem.now) nodes.now) }
     ensures whole { IfOk result (λ yes. IsTrue yes → IsWhole nodes.now) }
 {
     let whole = Ranges::whole(alloc, problem)?;
     let mut walk = RangeWalk::new(alloc, whole);
-    let mut changed = Vec::new(alloc);
+    let mut kept = bounds;
+    let mut changes = Vec::new(alloc);
     for node in nodes {
-        let goes_on = passes(problem, &mut walk, tables, cost, *node, &mut changed)?;
+        let goes_on = passes(
+            alloc,
+            problem,
+            vectors,
+            &mut walk,
+            &mut kept,
+            &mut changes,
+            cost,
+            *node,
+        )?;
         if !goes_on {
             return Ok(false);
         }
@@ -145,26 +140,8 @@ pub(crate) fn are_vectors(problem: &Problem, vectors: &[Vector]) -> bool
     true
 }
 
-/// The tables of the zero vector and of these, on up to four threads.
+/// The tables of vectors, on up to four threads.
 pub(crate) fn leaf_tables<R: Threads + Sync>(
-    rt: &R,
-    alloc: Global,
-    problem: &Problem,
-    vectors: &[Vector],
-    workers: u32,
-) -> Result<Tables, Memory>
-    requires { All (IsVector problem.now) vectors.now }
-    ensures tables { IfOk result (AreLeafTables problem.now) }
-    ensures vectors { IfOk result (λ tables. listed_in tables ≡ vectors.now) }
-{
-    let listed = listed_tables(rt, alloc, problem, vectors, workers)?;
-    let none = Vector::new(Vec::new(alloc));
-    let zero = price_table(alloc, problem, &none)?;
-    Ok(Tables { zero, listed })
-}
-
-// The tables of vectors, on up to four threads.
-fn listed_tables<R: Threads + Sync>(
     rt: &R,
     alloc: Global,
     problem: &Problem,

@@ -15,6 +15,7 @@ use choice_problem::{
     count_nodes, fits, sound_tree,
 };
 use cost_fixing::{Fixing, fixed_best, fixing_problem, left_problems};
+use kept_bounds::KeptBounds;
 use slot_text::Memory;
 use std::alloc::Global;
 use std::thread::Threads;
@@ -35,8 +36,12 @@ pub struct Found {
 /// the choice is feasible and no dearer than the start, where there is one. A start is a feasible
 /// choice. Who found it, and how, is not asked; and nothing is promised of what does not pass.
 ///
-/// The test takes one step an alternative for each leaf, and what a price table takes for each
-/// vector; the tables are made on up to four threads, and on no more than there are workers. Memory
+/// The test takes what a price table takes for each vector; the tables are made on up to four
+/// threads, and on no more than there are workers. Then a leaf takes one step for each change of a
+/// range since a leaf last named its vector, and one an alternative of each range that differs; the
+/// first leaf that names a vector, and one that names another scale than the one before, takes one
+/// an alternative in range. Beside the tables there are 24 bytes a unit for each vector that is
+/// named, and 4 bytes for each of these changes, of which there are at most three a split. Memory
 /// alone may run out.
 pub fn accepted<R: Threads + Sync>(
     rt: &R,
@@ -283,7 +288,8 @@ fn proves<R: Threads + Sync>(
     ensures whole { IfOk result (λ yes. IsTrue yes → IsWhole tree.now) }
 {
     let tables = leaf_tables(rt, alloc, problem, vectors.items(), workers)?;
-    is_proof(alloc, problem, &tables, cost, tree.items())
+    let bounds = KeptBounds::of_tables(alloc, tables)?;
+    is_proof(alloc, problem, vectors, bounds, cost, tree.items())
 }
 
 // Whether a tree has at most so many nodes.

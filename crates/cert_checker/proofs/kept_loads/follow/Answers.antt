@@ -1,5 +1,4 @@
 use Rattle.std.proofs.Common.{rules, ◌<◌, ◌≤◌, length, get_or, refl, sym, ◌∙◌, arith}
-use Rattle.cert_checker.proofs.KeptLemmas.{agree-next, agree-all}
 use Rattle.cert_checker.proofs.kept_loads.follow.Goals as goal
 
 pub loop-unit-preserved : goal.loop-unit-preserved
@@ -13,12 +12,12 @@ loop-unit-preserved c =
     record {
       is_kept = c.follow_unit.ensures.kept;
       same = c.follow_unit.ensures.resource ∙ c.loop-unit.invariant.same;
-      others = agree-next old c.follow_unit.new.kept.ranges c.args.ranges.now units i unit 0 lt refl
+      others = c.agreeing_ranges.ensures.next old c.follow_unit.new.kept.ranges c.args.ranges.now units i unit 0 lt refl
           (omega (arith, named, c.loop-unit.invariant.is_kept.valid.length)) c.follow_unit.ensures.ranges c.loop-unit.invariant.others;
     }
 
 pub returns-clause-ranges : goal.returns-clause-ranges
 returns-clause-ranges c =
     let past : length c.args.units.now ≤ c.loop-unit.unit-index = search rules in
-    agree-all c.loop-unit.kept.ranges c.args.ranges.now c.args.units.now c.loop-unit.unit-index past
+    c.agreeing_ranges.ensures.all c.loop-unit.kept.ranges c.args.ranges.now c.args.units.now c.loop-unit.unit-index past
     (c.loop-unit.invariant.is_kept.valid.length ∙ sym c.requires.ranges.length) c.loop-unit.invariant.others

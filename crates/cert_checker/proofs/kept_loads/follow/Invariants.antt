@@ -1,5 +1,5 @@
 use Rattle.std.proofs.Common.{◌≡◌, drop}
-use Rattle.cert_checker.specs.Kept.{AgreeBut}
+use Rattle.kept_bounds.specs.Changes.{AgreeBut}
 use Rattle.cert_checker.specs.KeptLoads.{IsKeptLoad}
 use Rattle.cert_checker.proofs.kept_loads.follow.Given as goal
 

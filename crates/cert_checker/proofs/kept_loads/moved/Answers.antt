@@ -1,6 +1,6 @@
 use Rattle.std.proofs.Common.{◌∙◌, sym, subst, List, ℕ, inl, inr}
-use Rattle.cert_checker.specs.Kept.{AgreeBut}
-use Rattle.cert_checker.proofs.KeptLemmas.{take-rest}
+use Rattle.kept_bounds.specs.Changes.{AgreeBut}
+use Rattle.cert_checker.proofs.KeptLoadLemmas.{take-rest}
 use Rattle.cert_checker.proofs.kept_loads.moved.Goals as goal
 
 pub follow-requires-clause-others : goal.follow-requires-clause-others

@@ -15,7 +15,7 @@ loop-unit-preserved c =
     let i = c.loop-unit.unit-index in
     let lt : i < length units = search rules in
     record {
-      mixed = mixed-next c.args.problem.now c.args.whole.now c.args.ranges.now c.args.resource i units (get_or units i 0) 0 c.loop-unit.now c.exchanged-now.result lt refl (c.requires.there i 0 lt)
+      mixed = mixed-next c.agreeing_ranges.ensures.next c.args.problem.now c.args.whole.now c.args.ranges.now c.args.resource i units (get_or units i 0) 0 c.loop-unit.now c.exchanged-now.result lt refl (c.requires.there i 0 lt)
           c.requires.once c.exchanged-now.ensures.load c.loop-unit.invariant.mixed;
       small = omega (arith, c.exchanged-now.ensures.small, c.loop-unit.invariant.small);
     }
@@ -24,4 +24,4 @@ pub returns-clause-load : goal.returns-clause-load
 returns-clause-load c =
     let units = c.args.changed.now in
     let past : length units ≤ c.loop-unit.unit-index = search rules in
-    mixed-end c.args.problem.now c.args.whole.now c.args.ranges.now c.args.resource c.loop-unit.unit-index units c.loop-unit.now past c.requires.ranges.length c.loop-unit.invariant.mixed
+    mixed-end c.agreeing_ranges.ensures.all c.args.problem.now c.args.whole.now c.args.ranges.now c.args.resource c.loop-unit.unit-index units c.loop-unit.now past c.requires.ranges.length c.loop-unit.invariant.mixed

@@ -1,7 +1,7 @@
 use Rattle.std.proofs.Common.{rules, ◌≡◌, ◌-◌, ◌<◌, ◌∙◌, ℕ, List, [], length, drop, refl, sym, ap, subst}
 use Rattle.std.specs.Prelude.{All, IsTrue, take}
 use Rattle.std.specs.List.{Contains}
-use Rattle.cert_checker.proofs.KeptLemmas.{take-rest}
+use Rattle.cert_checker.proofs.KeptLoadLemmas.{take-rest}
 use Rattle.cert_checker.proofs.StateLemmas.{step-there, step-more}
 use Rattle.cert_checker.proofs.states.go_on.Goals as goal
 
@@ -27,7 +27,7 @@ returns-in_ok-mark_all-clause-state c = λ yes.
     take-rest c.deref.result.now c.len-before.result
     ∙ ap (λ (n : ℕ). drop n c.deref.result.now) count
     ∙ ap (λ (xs : List ℕ). drop (length s.changes.items) xs) c.deref.ensures.value in
-    step-more c.args.problem.now c.args.vectors.now c.args.walk.now c.advance.new.self s
+    step-more c.walked_bounds.ensures.ranges c.agreeing_ranges.ensures.seen c.args.problem.now c.args.vectors.now c.args.walk.now c.advance.new.self s
     (record { bounds = s.bounds; loads = record { whole = s.loads.whole; changed = c.mark_all.new.marked; named = s.loads.named; known = s.loads.known; kept = s.loads.kept }; changes = c.advance.new.changed })
     c.requires.some c.requires.ranges c.requires.state on (c.in_ok-goes_on.ensures.changed yes) refl refl refl refl refl c.mark_all.ensures.most
     (λ u h. c.in_ok-mark_all.ensures.all u (subst (λ (xs : List ℕ). Contains xs u) (sym same) h)) c.mark_all.ensures.stay

@@ -1,7 +1,7 @@
 use Rattle.std.proofs.Common.{◌≡◌, drop}
 use Rattle.price_table.specs.Totals.{AreTotalsFor}
-use Rattle.cert_checker.specs.Kept.{AgreeBut}
-use Rattle.cert_checker.proofs.kept.follow.Given as goal
+use Rattle.kept_bounds.specs.Changes.{AgreeBut}
+use Rattle.kept_bounds.proofs.totals.follow.Given as goal
 
 abbrev pub invariant-loop-unit : goal.invariant-loop-unit
 invariant-loop-unit l = record {

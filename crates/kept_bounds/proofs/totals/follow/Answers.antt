@@ -1,6 +1,6 @@
 use Rattle.std.proofs.Common.{rules, ◌<◌, ◌≤◌, length, get_or, refl, sym, ◌∙◌, arith}
-use Rattle.cert_checker.proofs.KeptLemmas.{agree-next, agree-all}
-use Rattle.cert_checker.proofs.kept.follow.Goals as goal
+use Rattle.kept_bounds.proofs.ChangeLemmas.{agree-next, agree-all}
+use Rattle.kept_bounds.proofs.totals.follow.Goals as goal
 
 pub loop-unit-preserved : goal.loop-unit-preserved
 loop-unit-preserved c =
