@@ -10,6 +10,7 @@ use crate::studies::{Known, NODE_PIVOTS, study_nodes};
 use relaxed_problem::{End, Ended, Relaxation};
 use slot_text::Memory;
 use std::alloc::Global;
+use std::mem;
 use std::thread::Threads;
 
 /// Visits open nodes, the last one first, until none is left, so many were visited, or one stays
@@ -44,7 +45,10 @@ fn visit_next(alloc: Global, task: &Task<'_>, state: &mut State) -> Result<bool,
             state.add_open(open)?;
             Ok(true)
         }
-        Outcome::Done => Ok(true),
+        Outcome::Done => {
+            state.looker.spare(open.relaxation)?;
+            Ok(true)
+        }
         Outcome::Stays => {
             open.made = None;
             state.open.push(open)?;
@@ -72,6 +76,7 @@ fn study_ahead<R: Threads + Sync>(
         cost,
         base,
         scores,
+        looker,
         is_by_quotas,
         is_thorough,
         ..
@@ -86,7 +91,7 @@ fn study_ahead<R: Threads + Sync>(
         is_by_quotas: *is_by_quotas,
         looks: looks_of(*is_thorough),
     };
-    study_nodes(rt, alloc, task, known, helpers, open)
+    study_nodes(rt, alloc, task, known, looker, helpers, open)
 }
 
 // Whether the last open node was studied, or a vector that there is closes it.
@@ -176,7 +181,8 @@ fn first_end(
     open.forget_others(state.cost);
     let ended = match open.take_solved() {
         Some(solved) => {
-            open.relaxation = solved.relaxation;
+            let before = mem::replace(&mut open.relaxation, solved.relaxation);
+            state.looker.spare(before)?;
             solved.ended
         }
         None => solved(alloc, task, state, &mut open.relaxation)?,
@@ -367,7 +373,7 @@ fn push_part(
     let values = moved_values(alloc, task, state, open, split.unit, &allowed)?;
     let half = match open.take_part(split, is_high) {
         Some(half) => half,
-        None => state.looker.part(alloc, is_high)?,
+        None => state.looker.take_part(alloc, is_high)?,
     };
     state.add_open(Open {
         entry,

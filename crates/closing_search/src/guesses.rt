@@ -47,6 +47,10 @@ const VERY_FEW_STEPS: u64 = 1_000_000;
 
 const FEW_STEPS: u64 = 20_000_000;
 
+// In so many steps of a tree that found a better choice the looks at more splits of the next one
+// are paid for by the nodes that they spare.
+const MANY_STEPS: u64 = 200_000_000;
+
 // The first guess is above the bound by one part in so many, or by less where a fixing would leave
 // many alternatives for each unit; and no guess by more than the bound.
 const FIRST_PART: u64 = 1_000;
@@ -66,9 +70,10 @@ pub(crate) struct Guesses {
     steps: u64,
     // Whether the best choice is best, as far as a tree showed it that could not be listed.
     is_best: bool,
-    // How many trees the guess has had, and whether they look at more splits, for fewer vectors:
-    // after a tree that showed the best choice and could not be listed, and after one that began
-    // with the best choice and did not end.
+    // How many trees the guess has had, and whether they look at more splits, for fewer nodes and
+    // vectors: after a tree that showed the best choice and could not be listed, after one that
+    // found a better choice in many steps, and after one that began with the best choice and did
+    // not end.
     ways: usize,
     is_thorough: bool,
     // Within how many steps a tree must find a choice while none is known.
@@ -483,8 +488,9 @@ impl Guesses {
 
     // Notes what a tree of so many steps showed, which began with the best choice or not: whether
     // it ended, or was stopped since its bound did not rise. One that ended with a better choice
-    // and could not be listed is followed by one that looks at more splits; and one by numbers that
-    // found one and did not end by another one by numbers, since the bound did not rise by uses.
+    // and could not be listed, or found one in many steps, is followed by one that looks at more
+    // splits; and one by numbers that found one and did not end by another one by numbers, since
+    // the bound did not rise by uses.
     fn learn(
         &mut self,
         problem: &Problem,
@@ -501,7 +507,7 @@ impl Guesses {
             self.is_over = true;
         } else if is_better {
             self.is_best = is_ended;
-            self.is_thorough = self.is_thorough || is_ended;
+            self.is_thorough = self.is_thorough || is_ended || steps >= MANY_STEPS;
             self.ways = if is_ended { 0 } else { self.ways.min(1) };
             self.is_anew = false;
         } else if is_ended && is_known {

@@ -90,14 +90,6 @@ impl Half {
         })
     }
 
-    // A copy.
-    pub(crate) fn copy(&self, alloc: Global) -> Result<Half, Memory> {
-        Ok(Half {
-            relaxation: self.relaxation.copy(alloc)?,
-            ended: self.ended,
-        })
-    }
-
     // Goes on from the node in one part of a split.
     fn look(
         &mut self,
@@ -123,7 +115,8 @@ impl Half {
 }
 
 /// What looks are made with: two relaxations for the parts of a split, those of the parts of the
-/// best split so far, and which one that is.
+/// best split so far, and which one that is; and relaxations that nothing needs any more, in whose
+/// place others are written.
 #[derive(Drop)]
 pub(crate) struct Looker {
     pub(crate) work: Work,
@@ -132,6 +125,7 @@ pub(crate) struct Looker {
     low: Half,
     high: Half,
     kept: Option<Split>,
+    spares: Vec<Relaxation>,
 }
 
 impl Looker {
@@ -144,7 +138,40 @@ impl Looker {
             low: Half::new(alloc, root)?,
             high: Half::new(alloc, root)?,
             kept: None,
+            spares: Vec::new(alloc),
         })
+    }
+
+    // Keeps a relaxation that nothing needs any more.
+    pub(crate) fn spare(&mut self, relaxation: Relaxation) -> Result<(), Memory> {
+        self.spares.push(relaxation)?;
+        Ok(())
+    }
+
+    // Gives of its spares to another one, until that has so many.
+    pub(crate) fn share_spares(&mut self, other: &mut Looker, most: usize) -> Result<(), Memory> {
+        for _ in other.spares.len()..most {
+            let Some(relaxation) = self.spares.pop() else {
+                break;
+            };
+            other.spares.push(relaxation)?;
+        }
+        Ok(())
+    }
+
+    // A copy of a relaxation, in the place of a spare, if there is one.
+    pub(crate) fn copy_of(
+        &mut self,
+        alloc: Global,
+        relaxation: &Relaxation,
+    ) -> Result<Relaxation, Memory> {
+        match self.spares.pop() {
+            Some(mut copy) => {
+                copy.copy_from(relaxation)?;
+                Ok(copy)
+            }
+            None => relaxation.copy(alloc),
+        }
     }
 
     // Looks at the splits of a node in turn, as far as this was not done before, until so many
@@ -243,13 +270,22 @@ impl Looker {
             .look(alloc, task, field, split, is_high, &mut self.work)
     }
 
-    // A copy of the relaxation of a part of the best split.
-    pub(crate) fn part(&self, alloc: Global, is_high: bool) -> Result<Half, Memory> {
-        if is_high {
-            self.high.copy(alloc)
+    // Takes the relaxation of a part of the best split; a spare, or a new one, takes its place.
+    pub(crate) fn take_part(&mut self, alloc: Global, is_high: bool) -> Result<Half, Memory> {
+        let relaxation = match self.spares.pop() {
+            Some(relaxation) => relaxation,
+            None => self.one.relaxation.copy(alloc)?,
+        };
+        let other = Half {
+            relaxation,
+            ended: None,
+        };
+        let part = if is_high {
+            &mut self.high
         } else {
-            self.low.copy(alloc)
-        }
+            &mut self.low
+        };
+        Ok(mem::replace(part, other))
     }
 
     // Keeps the parts of a split, which were looked at last.

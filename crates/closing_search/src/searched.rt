@@ -46,8 +46,9 @@ const ROOT_PIVOTS: u32 = 50_000;
 /// each change of a range since one last named its vector, and one an alternative of each range
 /// that differs.
 ///
-/// Memory: for each open node a relaxation, and with several workers three more for each of at most
-/// 48 of them; and some 12 more, and with several workers four for each of these.
+/// Memory: as many relaxations as there were open nodes at a time, and with several workers three
+/// more for each of at most 48 of them; and some 12 more, and with several workers four for each of
+/// these.
 pub fn closing_search<R: Threads + Sync>(
     rt: &R,
     alloc: Global,

@@ -27,7 +27,7 @@ const FEW_LOOKS: Looks = Looks {
 
 const MANY_LOOKS: Looks = Looks {
     most: 64,
-    idle: 16,
+    idle: 8,
     pivots: 50,
 };
 

@@ -26,9 +26,12 @@ const AT_A_TIME: usize = 2;
 
 // How many of the nodes that are to be searched next may be studied, and of how many studies are
 // kept at most.
-const MOST_AHEAD: usize = 24;
+const MOST_AHEAD: usize = 64;
 
 const MOST_STUDIED: usize = 48;
+
+// How many relaxations a study keeps.
+const SPARES_OF_STUDY: usize = 3;
 
 /// What the threads of a tree know: the vectors, and whether there is room for more of them; the
 /// least cost, and the value above which a relaxation shows that no choice in its ranges is
@@ -135,8 +138,8 @@ fn parts_of(
     };
     Ok(Some(Parts {
         split,
-        low: Some(looker.part(alloc, false)?),
-        high: Some(looker.part(alloc, true)?),
+        low: Some(looker.take_part(alloc, false)?),
+        high: Some(looker.take_part(alloc, true)?),
     }))
 }
 
@@ -207,8 +210,7 @@ impl Open {
         }
     }
 
-    // Studies it, where no vector that there is closes it and it was not studied. Where memory runs
-    // out, it has no study.
+    // Studies it, where no vector that there is closes it. Where memory runs out, it has no study.
     fn study(&mut self, alloc: Global, task: &Task<'_>, known: Known<'_>, looker: &mut Looker) {
         self.study = match self.studied(alloc, task, known, looker) {
             Ok(study) => study,
@@ -228,7 +230,7 @@ impl Open {
         if closing(known.pricings, &self.values, known.cost).is_some() {
             return Ok(None);
         }
-        let mut relaxation = self.relaxation.copy(alloc)?;
+        let mut relaxation = looker.copy_of(alloc, &self.relaxation)?;
         let work = &mut looker.work;
         let ended = relaxation.solve_by(alloc, task.program, work, NODE_PIVOTS, known.enough)?;
         let mut study = Study {
@@ -324,11 +326,12 @@ pub(crate) fn study_nodes<R: Threads + Sync>(
     alloc: Global,
     task: &Task<'_>,
     known: Known<'_>,
+    looker: &mut Looker,
     helpers: &mut [Helper],
     nodes: &mut Vec<Open>,
 ) -> Result<(), Memory> {
     let end = nodes.len();
-    let lent = lend(known.cost, helpers, nodes)?;
+    let lent = lend(task, known, looker, helpers, nodes)?;
     let first = helpers.len().saturating_sub(lent);
     let errand = Errand { alloc, task, known };
     if first <= helpers.len() {
@@ -337,15 +340,21 @@ pub(crate) fn study_nodes<R: Threads + Sync>(
     take_back(helpers, nodes, end)
 }
 
-// Lends nodes that are not studied to helpers, the last one to the last. Answers how many there
+// Lends nodes that are to be studied to helpers, the last one to the last. Answers how many there
 // are.
-fn lend(cost: Option<u64>, helpers: &mut [Helper], nodes: &mut Vec<Open>) -> Result<usize, Memory> {
+fn lend(
+    task: &Task<'_>,
+    known: Known<'_>,
+    looker: &mut Looker,
+    helpers: &mut [Helper],
+    nodes: &mut Vec<Open>,
+) -> Result<usize, Memory> {
     let end = nodes.len();
-    let most = most_lent(cost, helpers.len(), nodes);
+    let most = most_lent(known.cost, helpers.len(), nodes);
     let mut lent: usize = 0;
     for place in (end.saturating_sub(MOST_AHEAD)..end).rev() {
-        if lent < most && !is_studied_at(nodes, place, cost) {
-            lend_one(helpers, nodes, place, lent)?;
+        if lent < most && is_due_at(task, known, nodes, place)? {
+            lend_one(looker, helpers, nodes, place, lent)?;
             lent = lent.saturating_add(1);
         }
     }
@@ -364,16 +373,27 @@ fn most_lent(cost: Option<u64>, helpers: usize, nodes: &[Open]) -> usize {
     most.min(helpers.saturating_mul(AT_A_TIME))
 }
 
-// Whether the node at a place was studied, or there is none.
-fn is_studied_at(nodes: &[Open], place: usize, cost: Option<u64>) -> bool {
-    match nodes.get(place) {
-        Some(open) => open.is_studied(cost),
-        None => true,
+// Whether the node at a place was not studied, and no vector that there is closes it.
+fn is_due_at(
+    task: &Task<'_>,
+    known: Known<'_>,
+    nodes: &mut [Open],
+    place: usize,
+) -> Result<bool, Memory> {
+    let Some(open) = nodes.get_mut(place) else {
+        return Ok(false);
+    };
+    if open.is_studied(known.cost) {
+        return Ok(false);
     }
+    open.complete_values(task, known.pricings)?;
+    Ok(closing(known.pricings, &open.values, known.cost).is_none())
 }
 
-// Lends the node at a place: one after another from the last helper to the first, and then back.
+// Lends the node at a place: one after another from the last helper to the first, and then back;
+// and with it spares for its study.
 fn lend_one(
+    looker: &mut Looker,
     helpers: &mut [Helper],
     nodes: &mut Vec<Open>,
     place: usize,
@@ -389,6 +409,8 @@ fn lend_one(
         if place < nodes.len() {
             let open = nodes.remove(place);
             helper.nodes.push(Lent { place, open })?;
+            let spares = helper.nodes.len().saturating_mul(SPARES_OF_STUDY);
+            looker.share_spares(&mut helper.looker, spares)?;
         }
     }
     Ok(())
