@@ -7,7 +7,8 @@ abbrev pub AgreeBut : List ℕ → List (ℕ × ℕ) → List (ℕ × ℕ) → T
 AgreeBut units one other =
     (u : ℕ) → (Contains units u → ⊥) → slice_index_or one u (0, 0) ≡ slice_index_or other u (0, 0)
 
--- at some ranges so many changes have been seen: all but the last ones, and those name each unit whose range is another now
+-- at some ranges so many changes have been seen: all but the last ones, and those name each unit
+-- whose range is another now
 pub record HasSeen (at ranges : List (ℕ × ℕ)) (changes : List ℕ) (seen : ℕ) : Type 0 where
   pub few : seen ≤ length changes
   pub others : AgreeBut (drop seen changes) at ranges
