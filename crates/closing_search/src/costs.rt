@@ -3,16 +3,15 @@
 use crate::pricings::Pricing;
 use crate::rules::unit_alts;
 use crate::states::Task;
-use choice_problem::Problem;
 use slot_text::Memory;
 use std::alloc::Global;
 
-/// For each vector the priced cost of each alternative, unit after unit: 8 bytes for each.
+/// For each unit the priced costs of its alternatives, vector after vector: 8 bytes for each.
 #[derive(Drop)]
 pub(crate) struct Costs {
-    // The place of each unit's first alternative among those of a vector, and how many these are.
+    // The number of vectors, and for each unit how many alternatives those before it have, and all.
+    vectors: usize,
     firsts: Vec<usize>,
-    alts: usize,
     costs: Vec<i64>,
 }
 
@@ -23,42 +22,45 @@ impl Costs {
         task: &Task<'_>,
         pricings: &[Pricing],
     ) -> Result<Costs, Memory> {
+        let units = task.problem.units();
         let mut costs = Costs {
-            firsts: Vec::with_capacity(alloc, task.problem.units() as usize)?,
-            alts: 0,
+            vectors: pricings.len(),
+            firsts: Vec::with_capacity(alloc, (units as usize).saturating_add(1))?,
             costs: Vec::new(alloc),
         };
-        costs.count(task.problem)?;
-        for pricing in pricings {
-            costs.add(task, pricing)?;
+        costs.firsts.push(0)?;
+        for unit in 0..units {
+            costs.add_unit(task, pricings, unit)?;
         }
         Ok(costs)
     }
 
-    // Notes the places of the alternatives.
-    fn count(&mut self, problem: &Problem) -> Result<(), Memory> {
-        for unit in 0..problem.units() {
-            self.firsts.push(self.alts)?;
-            self.alts = self.alts.saturating_add(problem.alts(unit) as usize);
-        }
-        Ok(())
-    }
-
-    // Adds those at a vector.
-    fn add(&mut self, task: &Task<'_>, pricing: &Pricing) -> Result<(), Memory> {
-        for unit in 0..task.problem.units() {
-            self.add_unit(task, pricing, unit)?;
+    // Adds those of a unit.
+    fn add_unit(&mut self, task: &Task<'_>, pricings: &[Pricing], unit: u32) -> Result<(), Memory> {
+        let before = self.first(unit);
+        let alts = task.problem.alts(unit) as usize;
+        self.firsts.push(before.saturating_add(alts))?;
+        for pricing in pricings {
+            self.add(task, pricing, unit)?;
         }
         Ok(())
     }
 
     // Adds those of a unit at a vector.
-    fn add_unit(&mut self, task: &Task<'_>, pricing: &Pricing, unit: u32) -> Result<(), Memory> {
+    fn add(&mut self, task: &Task<'_>, pricing: &Pricing, unit: u32) -> Result<(), Memory> {
         let first = task.reduced.first_part(unit);
         for alt in unit_alts(task.problem, unit) {
             self.costs.push(pricing.cost(alt, first))?;
         }
         Ok(())
+    }
+
+    // How many alternatives the units before one have.
+    fn first(&self, unit: u32) -> usize {
+        match self.firsts.get(unit as usize) {
+            Some(first) => *first,
+            None => usize::MAX,
+        }
     }
 
     /// Those at a vector of a unit's alternatives from one to another.
@@ -75,22 +77,11 @@ impl Costs {
 
     // The place of a unit's first alternative at a vector.
     fn place(&self, vector: u32, unit: u32) -> usize {
-        let start = self.alts.saturating_mul(vector as usize);
-        match self.firsts.get(unit as usize) {
-            Some(first) => start.saturating_add(*first),
-            None => usize::MAX,
-        }
+        let first = self.first(unit);
+        let alts = self.first(unit.saturating_add(1)).saturating_sub(first);
+        let before = first.saturating_mul(self.vectors);
+        before.saturating_add(alts.saturating_mul(vector as usize))
     }
-}
-
-/// The least and the greatest of costs.
-pub(crate) fn ends_of(costs: &[i64]) -> (i64, i64) {
-    let (mut least, mut greatest) = (i64::MAX, i64::MIN);
-    for cost in costs {
-        least = least.min(*cost);
-        greatest = greatest.max(*cost);
-    }
-    (least, greatest)
 }
 
 /// The least of costs.

@@ -1,25 +1,26 @@
 //! Fewer vectors for a tree of ranges: a leaf of a vector that few leaves name is split further, by
 //! what other vectors close, until one of them closes the rest.
 
-use crate::costs::{Costs, ends_of, least_of};
+use crate::costs::{Costs, least_of};
 use crate::pieces::{bit_of, leaf_by};
-use crate::pricings::Pricing;
 use crate::spans::Spans;
 use crate::states::{State, Task};
 use choice_problem::Node;
 use slot_text::Memory;
 use std::alloc::Global;
 
-// How many vectors leaves may name, so that there is room for that of a fixing; and how many are
-// spared at most.
+// How many vectors leaves may name, so that there is room for that of a fixing.
 const ROOM: u32 = 63;
 
-const MOST_SPARED: u32 = 32;
+// How many parts may be cut off a leaf.
+const MOST_PARTS: u32 = 64;
 
-// How many parts may be cut off a leaf at first, and how many then.
-const FEW_PARTS: u32 = 250;
+// A part is cut off where the bound of the rest at one of so many vectors is greater, those that
+// lack least of closing it.
+const NEAREST: usize = 8;
 
-const MANY_PARTS: u32 = 2_000;
+// A length that no run has.
+const NO_LENGTH: u32 = u32::MAX;
 
 // A problem, what is known of its tree, and the priced costs at the vectors of that.
 #[derive(Clone, Copy)]
@@ -38,8 +39,7 @@ pub(crate) fn with_fewer(
     most: u32,
     tree: (Vec<Node>, u128),
 ) -> Result<(Vec<Node>, u128), Memory> {
-    let mut tree = tree;
-    if has_room(tree.1) || count_of(tree.1) > ROOM + MOST_SPARED {
+    if has_room(tree.1) {
         return Ok(tree);
     }
     let costs = Costs::of(alloc, task, &state.pricings)?;
@@ -48,10 +48,7 @@ pub(crate) fn with_fewer(
         state,
         costs: &costs,
     };
-    for parts in [FEW_PARTS, MANY_PARTS] {
-        tree = spared(alloc, priced, (most, parts), tree)?;
-    }
-    Ok(tree)
+    spared(alloc, priced, most, tree)
 }
 
 // Whether there is room for vectors.
@@ -71,11 +68,11 @@ fn count_of(used: u128) -> u32 {
 }
 
 // Spares vectors, those that the fewest leaves name first, until there is room for the others, or
-// too few are left to be tried. The limits are those of the nodes and of the parts of a leaf.
+// too few are left to be tried. There may be so many nodes.
 fn spared(
     alloc: Global,
     priced: Priced<'_>,
-    limits: (u32, u32),
+    most: u32,
     tree: (Vec<Node>, u128),
 ) -> Result<(Vec<Node>, u128), Memory> {
     let (mut nodes, mut used) = tree;
@@ -89,7 +86,7 @@ fn spared(
         };
         left = without_bit(left, vector);
         let others = without_bit(used, vector);
-        let found = without(alloc, priced, limits, &nodes, vector, others)?;
+        let found = without(alloc, priced, most, &nodes, vector, others)?;
         if let Some(fewer) = found {
             nodes = fewer;
             used = others;
@@ -134,12 +131,12 @@ fn leaves_of(nodes: &[Node]) -> [u32; 128] {
     counts
 }
 
-// The nodes with each leaf of a vector split into parts that others close; none where that cannot
-// be within the limits.
+// The nodes, at most so many, with each leaf of a vector split into parts that others close; none
+// where that cannot be.
 fn without(
     alloc: Global,
     priced: Priced<'_>,
-    limits: (u32, u32),
+    most: u32,
     nodes: &[Node],
     vector: u32,
     others: u128,
@@ -154,14 +151,14 @@ fn without(
         };
         if is_leaf_of(node, vector) {
             let rest = Remainder::of(alloc, priced, &closers, spans)?;
-            if !rest.split_up(alloc, priced, limits.1, &mut made)? {
+            if !rest.split_up(alloc, priced, &mut made)? {
                 return Ok(None);
             }
         } else {
             made.push(*node)?;
             push_ranges(alloc, node, spans, &mut waiting)?;
         }
-        if made.len() > limits.0 as usize {
+        if made.len() > most as usize {
             return Ok(None);
         }
     }
@@ -207,16 +204,15 @@ fn push_ranges(
     Ok(())
 }
 
-// What is left of a leaf: its ranges, the vectors that may close it, its bounds at these, and the
-// unit that is looked at next.
+// What is left of a leaf: its ranges; the vectors that may close it, and how much its bound at each
+// lacks of closing it; for each unit the least priced cost in its range at each vector; and the
+// unit that is looked at.
 #[derive(Drop)]
 struct Remainder<'a> {
     spans: Spans,
     closers: &'a [u32],
-    values: Vec<i64>,
-    // For each vector and unit, by how much the priced costs in the unit's range of the leaf
-    // differ.
-    spreads: Vec<i64>,
+    lacks: Vec<i64>,
+    leasts: Vec<i64>,
     unit: u32,
 }
 
@@ -257,54 +253,58 @@ impl<'a> Remainder<'a> {
         closers: &'a [u32],
         spans: Spans,
     ) -> Result<Remainder<'a>, Memory> {
+        let units = priced.task.problem.units();
+        let costs = closers.len().saturating_mul(units as usize);
         let mut rest = Remainder {
             spans,
             closers,
-            values: Vec::with_capacity(alloc, closers.len())?,
-            spreads: Vec::new(alloc),
+            lacks: lacks_of(alloc, priced.state, closers)?,
+            leasts: Vec::with_capacity(alloc, costs)?,
             unit: 0,
         };
-        for vector in closers {
-            rest.add_bound(priced, *vector)?;
+        for unit in 0..units {
+            rest.unit = unit;
+            rest.add_leasts(priced)?;
         }
+        rest.unit = 0;
         Ok(rest)
     }
 
-    // Adds the bound at a vector, and the spreads of its costs.
-    fn add_bound(&mut self, priced: Priced<'_>, vector: u32) -> Result<(), Memory> {
-        let mut total: i64 = 0;
-        for unit in 0..priced.task.problem.units() {
-            let costs = priced.costs.within(vector, unit, self.spans.of(unit));
-            let (least, greatest) = ends_of(costs);
-            total = total.saturating_add(least);
-            self.spreads.push(greatest.saturating_sub(least))?;
+    // Adds the least costs in the unit's range.
+    fn add_leasts(&mut self, priced: Priced<'_>) -> Result<(), Memory> {
+        for place in 0..self.closers.len() {
+            let least = least_of(self.costs(priced, place));
+            self.leasts.push(least)?;
+            self.shorten(place, least);
         }
-        let limits = match priced.state.pricings.get(vector as usize) {
-            Some(pricing) => pricing.limits,
-            None => i64::MAX,
-        };
-        self.values.push(total.saturating_sub(limits))?;
         Ok(())
     }
 
-    // Cuts off runs of units in turn, at most so many, until a vector closes the rest. Adds the
-    // nodes of this, and answers whether it came to that.
+    // Takes so much off what the bound at the vector of a place lacks.
+    fn shorten(&mut self, place: usize, more: i64) {
+        if let Some(lack) = self.lacks.get_mut(place) {
+            *lack = lack.saturating_sub(more);
+        }
+    }
+
+    // Cuts off runs of units in turn, until a vector closes the rest. Adds the nodes of this, and
+    // answers whether it came to that.
     fn split_up(
         self,
         alloc: Global,
         priced: Priced<'_>,
-        most: u32,
         made: &mut Vec<Node>,
     ) -> Result<bool, Memory> {
         let mut rest = self;
         let mut behind = Vec::new(alloc);
-        for _ in 0..most {
-            if let Some(vector) = rest.closer(priced.state) {
+        for _ in 0..MOST_PARTS {
+            let nearest = rest.nearest(alloc)?;
+            if let Some(vector) = rest.closer(&nearest) {
                 made.push(leaf_by(priced.state, vector))?;
                 push_back(&behind, made)?;
                 return Ok(true);
             }
-            let Some(run) = rest.next_run(priced) else {
+            let Some(run) = rest.next_run(priced, &nearest) else {
                 return Ok(false);
             };
             rest.cut_off(priced, run, made, &mut behind)?;
@@ -312,23 +312,33 @@ impl<'a> Remainder<'a> {
         Ok(false)
     }
 
-    // The first vector that closes it, if one does.
-    fn closer(&self, state: &State) -> Option<u32> {
-        for (vector, value) in self.closers.iter().zip(&self.values) {
-            if let Some(pricing) = state.pricings.get(*vector as usize) {
-                if pricing.closes(*value, state.cost) {
-                    return Some(*vector);
-                }
-            }
+    // What the bounds lack that lack least, and the places of their vectors: the least first.
+    fn nearest(&self, alloc: Global) -> Result<Vec<(i64, usize)>, Memory> {
+        let mut lacks = Vec::with_capacity(alloc, self.lacks.len())?;
+        for (place, lack) in (0..).zip(&self.lacks) {
+            lacks.push((*lack, place))?;
         }
-        None
+        lacks.sort_unstable_by_key(|lack| *lack);
+        lacks.truncate(NEAREST);
+        Ok(lacks)
     }
 
-    // The longest run of the next unit that has one, if there is one.
-    fn next_run(&mut self, priced: Priced<'_>) -> Option<Run> {
+    // The first of the nearest vectors, if it closes what is left.
+    fn closer(&self, nearest: &[(i64, usize)]) -> Option<u32> {
+        match nearest.get(0) {
+            Some((lack, place)) if *lack <= 0 => match self.closers.get(*place) {
+                Some(vector) => Some(*vector),
+                None => None,
+            },
+            _ => None,
+        }
+    }
+
+    // The run of the next unit that has a useful one, if there is one.
+    fn next_run(&mut self, priced: Priced<'_>, nearest: &[(i64, usize)]) -> Option<Run> {
         let units = priced.task.problem.units();
         for _ in 0..units {
-            let found = self.longest_run(priced);
+            let found = self.useful_run(priced, nearest);
             if found.is_some() {
                 return found;
             }
@@ -338,49 +348,81 @@ impl<'a> Remainder<'a> {
         None
     }
 
-    // The longest run of the unit, if there is one.
-    fn longest_run(&self, priced: Priced<'_>) -> Option<Run> {
+    // The longest run at the low end of the unit, or at the high one, without which the bound at
+    // one of these vectors is greater.
+    fn useful_run(&self, priced: Priced<'_>, nearest: &[(i64, usize)]) -> Option<Run> {
+        for is_low in [true, false] {
+            let needed = self.useful_length(priced, nearest, is_low);
+            if needed < NO_LENGTH {
+                let run = self.longest_run(priced, needed, is_low);
+                if run.is_some() {
+                    return run;
+                }
+            }
+        }
+        None
+    }
+
+    // How long a run at an end of the unit must be at least, so that the bound at one of these
+    // vectors is greater without it: it has all alternatives of the least cost there.
+    fn useful_length(&self, priced: Priced<'_>, nearest: &[(i64, usize)], is_low: bool) -> u32 {
+        let mut needed = NO_LENGTH;
+        for (_, place) in nearest {
+            let costs = self.costs(priced, *place);
+            needed = needed.min(reach_of(costs, self.least(*place), is_low));
+        }
+        needed
+    }
+
+    // The longest run at an end of the unit that a vector closes, if one has so many alternatives.
+    fn longest_run(&self, priced: Priced<'_>, needed: u32, is_low: bool) -> Option<Run> {
         let mut found = None;
-        let mut longest: u32 = 0;
-        let mut place = self.unit as usize;
-        for (vector, value) in self.closers.iter().zip(&self.values) {
-            let (low, high) = self.runs(priced, *vector, *value, self.spread(place));
-            let length = low.max(high);
+        let mut longest = needed.saturating_sub(1);
+        for (place, vector) in (0..).zip(self.closers) {
+            let closed = self.least(place).saturating_add(self.lack(place));
+            let length = run_of(self.costs(priced, place), closed, is_low);
             if length > longest {
                 longest = length;
                 found = Some(Run {
                     vector: *vector,
                     length,
-                    is_low: low >= high,
+                    is_low,
                 });
             }
-            place = place.saturating_add(priced.task.problem.units() as usize);
         }
         found
     }
 
-    // The spread at a place.
-    fn spread(&self, place: usize) -> i64 {
-        match self.spreads.get(place) {
-            Some(spread) => *spread,
-            None => 0,
+    // The costs in the unit's range at the vector of a place.
+    fn costs<'b>(&self, priced: Priced<'b>, place: usize) -> &'b [i64] {
+        match self.closers.get(place) {
+            Some(vector) => priced
+                .costs
+                .within(*vector, self.unit, self.spans.of(self.unit)),
+            None => &[],
         }
     }
 
-    // How many of the lowest and of the highest alternatives of the unit a vector closes, whose
-    // bound is this; none, where it closes all. Their costs differ by no more than the spread.
-    fn runs(&self, priced: Priced<'_>, vector: u32, value: i64, spread: i64) -> (u32, u32) {
-        let Some(pricing) = priced.state.pricings.get(vector as usize) else {
-            return (0, 0);
-        };
-        let cost = priced.state.cost;
-        if !pricing.closes(value.saturating_add(spread), cost) {
-            return (0, 0);
+    // What the bound at the vector of a place lacks.
+    fn lack(&self, place: usize) -> i64 {
+        match self.lacks.get(place) {
+            Some(lack) => *lack,
+            None => i64::MAX,
         }
-        let span = self.spans.of(self.unit);
-        let costs = priced.costs.within(vector, self.unit, span);
-        let others = value.saturating_sub(least_of(costs));
-        ends_closed(pricing, cost, costs, others)
+    }
+
+    // The least cost in the unit's range at the vector of a place.
+    fn least(&self, place: usize) -> i64 {
+        match self.leasts.get(self.least_place(place)) {
+            Some(least) => *least,
+            None => i64::MAX,
+        }
+    }
+
+    // Where that stands.
+    fn least_place(&self, place: usize) -> usize {
+        let first = self.closers.len().saturating_mul(self.unit as usize);
+        first.saturating_add(place)
     }
 
     // Cuts a run of the unit off: adds the split and the leaf, or keeps that for behind the rest.
@@ -403,37 +445,85 @@ impl<'a> Remainder<'a> {
         } else {
             behind.push(leaf)?;
         }
-        self.shrink(priced, span, run.rest(span));
+        self.spans.set(self.unit, run.rest(span));
+        for place in 0..self.closers.len() {
+            self.raise(priced, place);
+        }
         Ok(())
     }
 
-    // Leaves the rest of the unit's range alone.
-    fn shrink(&mut self, priced: Priced<'_>, span: (u32, u32), rest: (u32, u32)) {
-        for (vector, value) in self.closers.iter().zip(self.values.iter_mut()) {
-            let before = least_of(priced.costs.within(*vector, self.unit, span));
-            let after = least_of(priced.costs.within(*vector, self.unit, rest));
-            *value = value.saturating_add(after.saturating_sub(before));
+    // Notes the least cost that the unit's range has now at the vector of a place.
+    fn raise(&mut self, priced: Priced<'_>, place: usize) {
+        let after = least_of(self.costs(priced, place));
+        let more = after.saturating_sub(self.least(place));
+        let at = self.least_place(place);
+        if let Some(least) = self.leasts.get_mut(at) {
+            *least = after;
         }
-        self.spans.set(self.unit, rest);
+        self.shorten(place, more);
     }
 }
 
-// How many of the first and of the last costs close ranges beside so much of the others; none where
-// all do.
-fn ends_closed(pricing: &Pricing, cost: Option<u64>, costs: &[i64], others: i64) -> (u32, u32) {
-    let (mut low, mut high, mut is_low) = (0, 0, true);
-    for more in costs {
-        if pricing.closes(others.saturating_add(*more), cost) {
-            high = u32::saturating_add(high, 1);
-            if is_low {
-                low = high;
-            }
-        } else {
-            high = 0;
-            is_low = false;
+// How much the bounds at vectors lack of closing ranges, while no unit costs anything.
+fn lacks_of(alloc: Global, state: &State, vectors: &[u32]) -> Result<Vec<i64>, Memory> {
+    let mut lacks = Vec::with_capacity(alloc, vectors.len())?;
+    for vector in vectors {
+        lacks.push(lack_of(state, *vector))?;
+    }
+    Ok(lacks)
+}
+
+// That of a vector.
+fn lack_of(state: &State, vector: u32) -> i64 {
+    let Some(pricing) = state.pricings.get(vector as usize) else {
+        return i64::MAX;
+    };
+    match pricing.needed(state.cost) {
+        Some(needed) => needed.saturating_add(pricing.limits),
+        None => i64::MAX,
+    }
+}
+
+// How many alternatives at an end of a range have all those that cost the least; no length, where
+// that is all of them.
+fn reach_of(costs: &[i64], least: i64, is_low: bool) -> u32 {
+    let mut reach: u32 = 0;
+    for (number, place) in (1..).zip(0..costs.len()) {
+        if end_cost(costs, place, is_low) == least {
+            reach = number;
         }
     }
-    if is_low { (0, 0) } else { (low, high) }
+    if (reach as usize) < costs.len() {
+        reach
+    } else {
+        NO_LENGTH
+    }
+}
+
+// How many alternatives at an end of a range cost so much at least.
+fn run_of(costs: &[i64], closed: i64, is_low: bool) -> u32 {
+    let mut length: u32 = 0;
+    for place in 0..costs.len() {
+        if end_cost(costs, place, is_low) < closed {
+            break;
+        }
+        length = length.saturating_add(1);
+    }
+    length
+}
+
+// The cost at a place from an end.
+fn end_cost(costs: &[i64], place: usize, is_low: bool) -> i64 {
+    let last = costs.len().saturating_sub(1);
+    let at = if is_low {
+        place
+    } else {
+        last.saturating_sub(place)
+    };
+    match costs.get(at) {
+        Some(cost) => *cost,
+        None => i64::MIN,
+    }
 }
 
 // Adds nodes to others, the last one first.

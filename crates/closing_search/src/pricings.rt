@@ -191,15 +191,24 @@ impl Pricing {
 
     /// Whether a bound closes ranges for a cost, or for none.
     pub(crate) fn closes(&self, value: i64, cost: Option<u64>) -> bool {
+        match self.needed(cost) {
+            Some(needed) => value >= needed,
+            None => false,
+        }
+    }
+
+    /// The least bound that closes ranges for a cost, or for none, if one does.
+    pub(crate) fn needed(&self, cost: Option<u64>) -> Option<i64> {
         if self.scale == 0 {
-            return value > 0;
+            return Some(1);
         }
         match cost {
             Some(cost) => {
                 let below = i64::try_from(cost).unwrap_or(i64::MAX).saturating_sub(1);
-                value > below.saturating_mul(i64::from(self.scale))
+                let scaled = below.saturating_mul(i64::from(self.scale));
+                Some(scaled.saturating_add(1))
             }
-            None => false,
+            None => None,
         }
     }
 }
