@@ -38,7 +38,7 @@ impl Costs {
     // Adds those of a unit.
     fn add_unit(&mut self, task: &Task<'_>, pricings: &[Pricing], unit: u32) -> Result<(), Memory> {
         let before = self.first(unit);
-        let alts = task.problem.alts(unit) as usize;
+        let alts = unit_alts(task.problem, unit).len();
         self.firsts.push(before.saturating_add(alts))?;
         for pricing in pricings {
             self.add(task, pricing, unit)?;
