@@ -111,7 +111,8 @@ fn eight_are_closed<R: Abort + Threads + Sync>(rt: &R, alloc: Global, last: u64)
     closed_at_least(rt, alloc, &problem, 8_000, last)
 }
 
-// The leaves of its tree name 67 vectors, and that of the fixing comes to these: four are spared.
+// The leaves of its tree name more vectors than there is room for beside that of the fixing: it is
+// closed since some are spared.
 #[test]
 fn a_problem_of_too_many_vectors_is_closed(rt: HostRuntime) {
     let outcome = eight_are_closed(&rt, rt.alloc(), 2_431_800_024_951_663_711);
